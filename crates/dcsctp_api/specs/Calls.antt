@@ -7,13 +7,13 @@ use Rattle.dcsctp_spec.specs.types.declared.ends.AbortReason.TheVariants.{CloseC
 use Rattle.dcsctp_spec.specs.endpoint.Event.{Event, event_map}
 use Rattle.dcsctp_spec.specs.Packet.{Emission, emission_bytes}
 use Rattle.dcsctp_spec.specs.endpoint.Endpoint.{Endpoint, Core, closed, cookie_wait, cookie_echoed, open_in, OpenPhase, established, shutdown_pending, shutdown_sent, shutdown_received, shutdown_ack_sent}
-use Rattle.dcsctp_spec.specs.queues.SendQueue.{stream_of}
+use Rattle.dcsctp_spec.specs.queues.SendQueue.{queue_stream}
 use Rattle.dcsctp_spec.specs.types.queues.SendStreams.{Stream}
 use Rattle.dcsctp_spec.specs.endpoint.Turn.{act_input}
 use Rattle.dcsctp_spec.specs.types.Setting.{Setting}
 use Rattle.dcsctp_spec.specs.endpoint.SettingOutcomes.{endpoint_with}
 use Rattle.dcsctp_spec.specs.association.Acts.{Act, connect, shut_down, abort_with}
-use Rattle.dcsctp_spec.specs.endpoint.CallTurns.{Turned, Turns, HandleInput, CutInput, after_all, words_of, pairs_of, events_of}
+use Rattle.dcsctp_spec.specs.endpoint.CallTurns.{Transition, Turns, HandleInput, CutInput, after_all, words_of, pairs_of, events_of}
 use Rattle.dcsctp_api.specs.declared.errors.SocketFault.{SocketFault}
 use Rattle.dcsctp_api.specs.declared.errors.SocketFault.TheVariants.{OutOfMemory, Failed}
 use Rattle.dcsctp_api.specs.declared.events.SocketEvent.{SocketEvent}
@@ -35,7 +35,7 @@ abbrev pub user_event : Ports → Event Emission → Event (List ℕ)
 user_event ports event = event_map (emission_bytes ports) event
 
 -- A call's turns lead from one view to the other, neither of which has failed.
-pub record Follows (old : UserView) (turns : List Turned) (new : UserView) : Type 0 where
+pub record Follows (old : UserView) (turns : List Transition) (new : UserView) : Type 0 where
   pub runs : old.failed ≡ false
   pub goes_on : new.failed ≡ false
   pub endpoint : new.endpoint ≡ after_all old.endpoint turns
@@ -44,19 +44,19 @@ pub record Follows (old : UserView) (turns : List Turned) (new : UserView) : Typ
   pub pairs : new.pairs ≡ pairs_of turns
 
 -- Events were added after those that wait: the first part of what these turns add.
-pub record AddsFront (ports : Ports) (turns : List Turned) (old new : List (Event (List ℕ))) : Type 0 where
+pub record AddsFirstEvents (ports : Ports) (turns : List Transition) (old new : List (Event (List ℕ))) : Type 0 where
   pub added : List (Event (List ℕ))
   pub rest : List (Event (List ℕ))
   pub behind : new ≡ old ++ added
   pub front : added ++ rest ≡ map (user_event ports) (events_of turns)
 
 -- An allocation failed, and the socket has failed. Earlier events stay, and the call added only events of its first turns.
-pub record RanOut (old : UserView) (FirstTurns : List Turned → Type 0) (new : UserView) : Type 0 where
+pub record RanOutOfMemory (old : UserView) (FirstTurns : List Transition → Type 0) (new : UserView) : Type 0 where
   pub runs : old.failed ≡ false
   pub fails : new.failed ≡ true
-  pub turns : List Turned
+  pub turns : List Transition
   pub are : FirstTurns turns
-  pub events : AddsFront (ports_of old.endpoint.options) turns old.events new.events
+  pub events : AddsFirstEvents (ports_of old.endpoint.options) turns old.events new.events
 
 -- The socket had failed, and nothing changes.
 pub record StaysFailed (old new : UserView) : Type 0 where
@@ -64,8 +64,8 @@ pub record StaysFailed (old new : UserView) : Type 0 where
   pub same : new ≡ old
 
 abbrev pub HandlesInput : UserView → List ℕ → Result (Unit {0}) SocketFault → UserView → Type 0
-HandlesInput old packet (Ok done) new = (turns : List Turned) × HandleInput old.endpoint packet turns × Follows old turns new
-HandlesInput old packet (Err OutOfMemory) new = RanOut old (CutInput old.endpoint packet) new
+HandlesInput old packet (Ok done) new = (turns : List Transition) × HandleInput old.endpoint packet turns × Follows old turns new
+HandlesInput old packet (Err OutOfMemory) new = RanOutOfMemory old (CutInput old.endpoint packet) new
 HandlesInput old packet (Err Failed) new = StaysFailed old new
 
 -- An allocation failed, and the socket has failed. Nothing else has changed but the words that were drawn.
@@ -74,20 +74,20 @@ pub record FailsWhole (old new : UserView) : Type 0 where
   pub only : new ≡ record old { words = new.words; pairs = new.pairs; failed = true }
 
 -- The call is the turn of this act.
-abbrev pub Makes : Act → UserView → UserView → Type 0
-Makes act old new = (turns : List Turned) × Turns old.endpoint (act_input act ∷ []) turns × Follows old turns new
+abbrev pub PerformsAct : Act → UserView → UserView → Type 0
+PerformsAct act old new = (turns : List Transition) × Turns old.endpoint (act_input act ∷ []) turns × Follows old turns new
 
 -- The call is one turn, or it changes nothing.
 abbrev pub Connects : UserView → Result (Unit {0}) SocketFault → UserView → Type 0
-Connects old (Ok done) new = Makes connect old new
+Connects old (Ok done) new = PerformsAct connect old new
 Connects old (Err OutOfMemory) new = FailsWhole old new
 Connects old (Err Failed) new = StaysFailed old new
 
 -- The call is one turn; or an allocation failed, and the first of the call's events may have been added.
-abbrev pub Closes : UserView → Result (Unit {0}) SocketFault → UserView → Type 0
-Closes old (Ok done) new = Makes (abort_with CloseCalled) old new
-Closes old (Err OutOfMemory) new = RanOut old (Turns old.endpoint (act_input (abort_with CloseCalled) ∷ [])) new
-Closes old (Err Failed) new = StaysFailed old new
+abbrev pub ClosesSocket : UserView → Result (Unit {0}) SocketFault → UserView → Type 0
+ClosesSocket old (Ok done) new = PerformsAct (abort_with CloseCalled) old new
+ClosesSocket old (Err OutOfMemory) new = RanOutOfMemory old (Turns old.endpoint (act_input (abort_with CloseCalled) ∷ [])) new
+ClosesSocket old (Err Failed) new = StaysFailed old new
 
 -- does the user's shutdown change anything?
 abbrev pub takes_shutdown_in : OpenPhase → Bool
@@ -102,8 +102,8 @@ takes_shutdown (open_in phase my held) = takes_shutdown_in phase
 
 -- The association is shut down.
 abbrev pub ShutsDown : UserView → Result (Unit {0}) SocketFault → UserView → Type 0
-ShutsDown old (Ok done) new = Makes shut_down old new
-ShutsDown old (Err OutOfMemory) new = RanOut old (Turns old.endpoint (act_input shut_down ∷ [])) new
+ShutsDown old (Ok done) new = PerformsAct shut_down old new
+ShutsDown old (Err OutOfMemory) new = RanOutOfMemory old (Turns old.endpoint (act_input shut_down ∷ [])) new
 ShutsDown old (Err Failed) new = StaysFailed old new
 
 -- what a socket is to its user once this is set; no word is drawn
@@ -118,7 +118,7 @@ Sets setting old (Err Failed) new = StaysFailed old new
 
 -- what waits to be sent on this stream, and how it is set
 abbrev pub stream_shown : UserView → ℕ → Stream
-stream_shown view id = stream_of view.endpoint.below.queue id
+stream_shown view id = queue_stream view.endpoint.queues.queue id
 
 -- The event that was added first is taken, and nothing else changes.
 abbrev pub PollsEvent : UserView → Option SocketEvent → UserView → Type 0

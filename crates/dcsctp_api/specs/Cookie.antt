@@ -17,10 +17,10 @@ cookie_of cookie =
     }
 
 -- A cookie that was written is read, and what is read is it.
-pub record ReadsBack (written : StateCookie) : Type 0 where
+pub record WrittenCookieReadsBack (written : StateCookie) : Type 0 where
   pub is_read : cookie_at (cookie_bytes (cookie_of written)) ≡ Ok (cookie_of written)
   pub same : (read : StateCookie) → cookie_at (cookie_bytes (cookie_of written)) ≡ Ok (cookie_of read) → read ≡ written
 
 -- Each number fits its field, and no tag is 0.
 abbrev pub StateCookieReadsBack : Type 0
-StateCookieReadsBack = (written : StateCookie) → FitsCookie (cookie_of written) → ReadsBack written
+StateCookieReadsBack = (written : StateCookie) → FitsCookie (cookie_of written) → WrittenCookieReadsBack written

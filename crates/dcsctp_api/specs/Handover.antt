@@ -5,7 +5,7 @@ use Rattle.dcsctp_spec.specs.Handover.{readiness_of}
 use Rattle.dcsctp_spec.specs.types.Snapshot.{Snapshot, snapshot, is_valid_snapshot}
 use Rattle.dcsctp_spec.specs.SocketSnapshot.{snapshot_of}
 use Rattle.dcsctp_spec.specs.HandoverInputs.{inputs_of_handover, inputs_of_restore}
-use Rattle.dcsctp_spec.specs.endpoint.CallTurns.{Turned, Turns}
+use Rattle.dcsctp_spec.specs.endpoint.CallTurns.{Transition, Turns}
 use Rattle.dcsctp_spec.specs.types.declared.snapshot.SocketHandoverState.{SocketHandoverState}
 use Rattle.dcsctp_api.specs.declared.errors.HandoverError.{HandoverError}
 use Rattle.dcsctp_api.specs.declared.errors.HandoverError.TheVariants.{NotReady}
@@ -13,7 +13,7 @@ use Rattle.dcsctp_api.specs.declared.errors.RestoreError.{RestoreError}
 use Rattle.dcsctp_api.specs.declared.errors.RestoreError.TheVariants.{SocketNotClosed}
 use Rattle.dcsctp_api.specs.declared.errors.SocketFault.{SocketFault}
 use Rattle.dcsctp_api.specs.declared.errors.SocketFault.TheVariants.{OutOfMemory, Failed}
-use Rattle.dcsctp_api.specs.Calls.{UserView, Follows, FailsWhole, RanOut, StaysFailed, is_closed}
+use Rattle.dcsctp_api.specs.Calls.{UserView, Follows, FailsWhole, RanOutOfMemory, StaysFailed, is_closed}
 
 -- What is answered: the snapshot of a socket that is ready, which is valid for its options, or why it isn't ready.
 abbrev pub IsHandoverAnswer : Endpoint → Result SocketHandoverState HandoverError → Type 0
@@ -25,7 +25,7 @@ IsHandoverAnswer e (Err (NotReady readiness)) = (readiness_of e ≢ 0) × (readi
 abbrev pub HandsOver : UserView → Result (Result SocketHandoverState HandoverError) SocketFault → UserView → Type 0
 HandsOver old (Ok answer) new =
     IsHandoverAnswer old.endpoint answer
-    × (turns : List Turned) × Turns old.endpoint (inputs_of_handover (readiness_of old.endpoint)) turns × Follows old turns new
+    × (turns : List Transition) × Turns old.endpoint (inputs_of_handover (readiness_of old.endpoint)) turns × Follows old turns new
 HandsOver old (Err OutOfMemory) new = FailsWhole old new
 HandsOver old (Err Failed) new = StaysFailed old new
 
@@ -35,12 +35,12 @@ IsRestoreAnswer core (Ok done) = is_closed core ≡ true
 IsRestoreAnswer core (Err SocketNotClosed) = is_closed core ≡ false
 
 -- the turns of a restore
-abbrev pub RestoreTurns : Endpoint → Snapshot → List Turned → Type 0
+abbrev pub RestoreTurns : Endpoint → Snapshot → List Transition → Type 0
 RestoreTurns e state turns = Turns e (inputs_of_restore e.core state) turns
 
 -- The call has the turns of a restore, and returns what it has to. Or an allocation failed, and the first of the call's events may
 -- have been added.
-abbrev pub Restores : Snapshot → UserView → Result (Result (Unit {0}) RestoreError) SocketFault → UserView → Type 0
-Restores state old (Ok answer) new = IsRestoreAnswer old.endpoint.core answer × (turns : List Turned) × RestoreTurns old.endpoint state turns × Follows old turns new
-Restores state old (Err OutOfMemory) new = RanOut old (λ turns. (turns ≡ []) ⊎ RestoreTurns old.endpoint state turns) new
-Restores state old (Err Failed) new = StaysFailed old new
+abbrev pub RestoresSocket : Snapshot → UserView → Result (Result (Unit {0}) RestoreError) SocketFault → UserView → Type 0
+RestoresSocket state old (Ok answer) new = IsRestoreAnswer old.endpoint.core answer × (turns : List Transition) × RestoreTurns old.endpoint state turns × Follows old turns new
+RestoresSocket state old (Err OutOfMemory) new = RanOutOfMemory old (λ turns. (turns ≡ []) ⊎ RestoreTurns old.endpoint state turns) new
+RestoresSocket state old (Err Failed) new = StaysFailed old new

@@ -10,13 +10,13 @@ use Rattle.dcsctp_spec.specs.endpoint.Outcome.{Outcome}
 use Rattle.dcsctp_spec.specs.endpoint.Turn.{Input, user_sends}
 use Rattle.dcsctp_spec.specs.endpoint.DataOutcomes.{ready_where, TakeTurn}
 use Rattle.dcsctp_spec.specs.endpoint.MessageOutcomes.{MessageRefusal, empty_payload, message_too_large, shutting_down, resource_exhaustion, message_refusal, sending_of, RefusedMessage, refused_from}
-use Rattle.dcsctp_spec.specs.endpoint.CallTurns.{Turned, Turns}
+use Rattle.dcsctp_spec.specs.endpoint.CallTurns.{Transition, Turns}
 use Rattle.dcsctp_api.specs.declared.errors.BatchSendError.{BatchSendError}
 use Rattle.dcsctp_api.specs.declared.errors.SendError.{SendError}
 use Rattle.dcsctp_api.specs.declared.errors.SendError.TheVariants.{EmptyPayload, MessageTooLarge, ResourceExhaustion, ShuttingDown}
 use Rattle.dcsctp_api.specs.declared.errors.SocketFault.{SocketFault}
 use Rattle.dcsctp_api.specs.declared.errors.SocketFault.TheVariants.{OutOfMemory, Failed}
-use Rattle.dcsctp_api.specs.Calls.{UserView, Follows, RanOut, StaysFailed}
+use Rattle.dcsctp_api.specs.Calls.{UserView, Follows, RanOutOfMemory, StaysFailed}
 
 -- ---- what is returned
 
@@ -45,47 +45,47 @@ IsBatchAnswer refused (Err error) = (refused_in error.0.items ≡ refused) × (r
 
 -- The call is the turn of this input.
 abbrev pub IsTurnOf : Input → UserView → UserView → Type 0
-IsTurnOf input old new = (turns : List Turned) × Turns old.endpoint (input ∷ []) turns × Follows old turns new
+IsTurnOf input old new = (turns : List Transition) × Turns old.endpoint (input ∷ []) turns × Follows old turns new
 
 -- The call is one turn, and returns whether the message was refused. Or an allocation failed, and the first of the call's
 -- events may have been added.
-abbrev pub Sends : MessageContent → SendOptions → UserView → Result (Result (Unit {0}) SendError) SocketFault → UserView → Type 0
-Sends message options old (Ok answer) new =
+abbrev pub SendsMessage : MessageContent → SendOptions → UserView → Result (Result (Unit {0}) SendError) SocketFault → UserView → Type 0
+SendsMessage message options old (Ok answer) new =
     (refusal_in answer ≡ message_refusal old.endpoint message.stream (length message.payload))
     × IsTurnOf (user_sends (sending_of options message ∷ [])) old new
-Sends message options old (Err OutOfMemory) new = RanOut old (Turns old.endpoint (user_sends (sending_of options message ∷ []) ∷ [])) new
-Sends message options old (Err Failed) new = StaysFailed old new
+SendsMessage message options old (Err OutOfMemory) new = RanOutOfMemory old (Turns old.endpoint (user_sends (sending_of options message ∷ []) ∷ [])) new
+SendsMessage message options old (Err Failed) new = StaysFailed old new
 
 -- the same for several messages
 abbrev pub SendsMany : List MessageContent → SendOptions → UserView → Result (Result (Unit {0}) BatchSendError) SocketFault → UserView → Type 0
 SendsMany messages options old (Ok answer) new =
     IsBatchAnswer (refused_from 0 old.endpoint (map (sending_of options) messages)) answer
     × IsTurnOf (user_sends (map (sending_of options) messages)) old new
-SendsMany messages options old (Err OutOfMemory) new = RanOut old (Turns old.endpoint (user_sends (map (sending_of options) messages) ∷ [])) new
+SendsMany messages options old (Err OutOfMemory) new = RanOutOfMemory old (Turns old.endpoint (user_sends (map (sending_of options) messages) ∷ [])) new
 SendsMany messages options old (Err Failed) new = StaysFailed old new
 
 -- ---- get_next_message
 
 -- the messages that can be taken, in order
 abbrev pub ready_messages : Endpoint → List MessageContent
-ready_messages e = ready_where e.left e.below.transfer
+ready_messages e = ready_where e.left e.queues.transfer
 
-abbrev pub streams_below : Option Transfer → List (ℕ × StreamModel)
-streams_below None = []
-streams_below (Some transfer) = transfer.reassembly.incoming.streams
+abbrev pub transfer_streams : Option Transfer → List (ℕ × StreamModel)
+transfer_streams None = []
+transfer_streams (Some transfer) = transfer.reassembly.incoming.streams
 
 -- what was received and isn't ready, by streams
 abbrev pub incoming_streams : Endpoint → List (ℕ × StreamModel)
-incoming_streams e = streams_below e.below.transfer
+incoming_streams e = transfer_streams e.queues.transfer
 
 -- It is the first of these, or there is none.
-abbrev pub IsFirst : List MessageContent → Option Message → Type 0
-IsFirst ready None = ready ≡ []
-IsFirst ready (Some message) = (rest : List MessageContent) × (ready ≡ message_content message ∷ rest)
+abbrev pub IsFirstMessage : List MessageContent → Option Message → Type 0
+IsFirstMessage ready None = ready ≡ []
+IsFirstMessage ready (Some message) = (rest : List MessageContent) × (ready ≡ message_content message ∷ rest)
 
 -- The first message that can be taken is taken. No event is added, and no word is drawn.
-pub record TakesNext (old : UserView) (result : Option Message) (new : UserView) : Type 0 where
-  pub first : IsFirst (ready_messages old.endpoint) result
+pub record TakesNextMessage (old : UserView) (result : Option Message) (new : UserView) : Type 0 where
+  pub first : IsFirstMessage (ready_messages old.endpoint) result
   pub outcome : Outcome
-  pub turn : TakeTurn old.endpoint old.endpoint.below.transfer outcome
+  pub turn : TakeTurn old.endpoint old.endpoint.queues.transfer outcome
   pub is : new ≡ record old { endpoint = outcome.after; words = []; pairs = [] }

@@ -56,14 +56,14 @@ pub record ShowsAssociation (e : Endpoint) (held : Held) (transfer : Transfer) (
   pub counts : ShowsCounts e.counts metrics
   pub peer : metrics.peer_implementation ≡ e.peer_implementation
   pub capabilities : ShowsCapabilities held.capabilities metrics
-  pub below : ShowsTransfer e.options.mtu e.below.queue transfer metrics
+  pub below : ShowsTransfer e.options.mtu e.queues.queue transfer metrics
 
 -- Metrics are shown where the peer is known.
-abbrev pub Shows : Endpoint → Option Held → Option Transfer → Option Metrics → Type 0
-Shows e (Some held) (Some transfer) (Some metrics) = ShowsAssociation e held transfer metrics
-Shows e (Some held) (Some transfer) None = ⊥
-Shows e (Some held) None metrics = metrics ≡ None
-Shows e None transfer metrics = metrics ≡ None
+abbrev pub ShowsKnownMetrics : Endpoint → Option Held → Option Transfer → Option Metrics → Type 0
+ShowsKnownMetrics e (Some held) (Some transfer) (Some metrics) = ShowsAssociation e held transfer metrics
+ShowsKnownMetrics e (Some held) (Some transfer) None = ⊥
+ShowsKnownMetrics e (Some held) None metrics = metrics ≡ None
+ShowsKnownMetrics e None transfer metrics = metrics ≡ None
 
 abbrev pub ShowsMetrics : Endpoint → Option Metrics → Type 0
-ShowsMetrics e metrics = Shows e (held_in e.core) e.below.transfer metrics
+ShowsMetrics e metrics = ShowsKnownMetrics e (held_in e.core) e.queues.transfer metrics

@@ -7,7 +7,7 @@ use Rattle.dcsctp_api.specs.declared.errors.ResetStreamsError.{ResetStreamsError
 use Rattle.dcsctp_api.specs.declared.errors.ResetStreamsError.TheVariants.{NotConnected, NotSupported}
 use Rattle.dcsctp_api.specs.declared.errors.SocketFault.{SocketFault}
 use Rattle.dcsctp_api.specs.declared.errors.SocketFault.TheVariants.{OutOfMemory, Failed}
-use Rattle.dcsctp_api.specs.Calls.{UserView, RanOut, StaysFailed}
+use Rattle.dcsctp_api.specs.Calls.{UserView, RanOutOfMemory, StaysFailed}
 use Rattle.dcsctp_api.specs.Messages.{IsTurnOf}
 
 -- the reason that an error gives
@@ -24,5 +24,5 @@ reset_refusal_in (Err error) = Some (reset_refusal_of error)
 -- been added.
 abbrev pub ResetsOwn : List ℕ → UserView → Result (Result (Unit {0}) ResetStreamsError) SocketFault → UserView → Type 0
 ResetsOwn ids old (Ok answer) new = (reset_refusal_in answer ≡ reset_refusal old.endpoint) × IsTurnOf (user_resets ids) old new
-ResetsOwn ids old (Err OutOfMemory) new = RanOut old (Turns old.endpoint (user_resets ids ∷ [])) new
+ResetsOwn ids old (Err OutOfMemory) new = RanOutOfMemory old (Turns old.endpoint (user_resets ids ∷ [])) new
 ResetsOwn ids old (Err Failed) new = StaysFailed old new

@@ -1,9 +1,9 @@
 //! The calls of a socket.
 
 ghost use Rattle.std.specs.Prelude.{◌≡◌, ◌≢◌, [], true, false, None, IsOk, ◌<◌, map, length};
-ghost use Rattle.dcsctp_api.specs.Calls.{UserView, PollsEvent, HandlesInput, Connects, Closes, ShutsDown, takes_shutdown, Sets, with_setting, stream_shown, is_closed, socket_state_of};
-ghost use Rattle.dcsctp_api.specs.Handover.{HandsOver, Restores};
-ghost use Rattle.dcsctp_api.specs.Messages.{Sends, SendsMany, TakesNext, ready_messages, incoming_streams};
+ghost use Rattle.dcsctp_api.specs.Calls.{UserView, PollsEvent, HandlesInput, Connects, ClosesSocket, ShutsDown, takes_shutdown, Sets, with_setting, stream_shown, is_closed, socket_state_of};
+ghost use Rattle.dcsctp_api.specs.Handover.{HandsOver, RestoresSocket};
+ghost use Rattle.dcsctp_api.specs.Messages.{SendsMessage, SendsMany, TakesNextMessage, ready_messages, incoming_streams};
 ghost use Rattle.dcsctp_spec.specs.queues.Incoming.{AreInOrder};
 ghost use Rattle.dcsctp_spec.specs.queues.SendQueue.{IsWellFormed};
 ghost use Rattle.dcsctp_api.specs.Metrics.{ShowsMetrics};
@@ -16,7 +16,7 @@ ghost use Rattle.dcsctp_spec.specs.types.queues.Messages.{message_content};
 ghost use Rattle.dcsctp_spec.specs.endpoint.PreparedResets.{reset_refusal};
 ghost use Rattle.dcsctp_spec.specs.types.Setting.{stream_priority, stream_low_threshold, longest_message};
 ghost use Rattle.dcsctp_spec.specs.endpoint.TimeTurns.{Waits, next_moment};
-ghost use Rattle.dcsctp_api.specs.Time.{Advances, OnlyMovesClock};
+ghost use Rattle.dcsctp_api.specs.Time.{AdvancesClock, OnlyMovesClock};
 
 use crate::errors::{
     BatchSendError, HandoverError, ResetStreamsError, RestoreError, SendError, SocketFault,
@@ -66,7 +66,7 @@ pub trait DcSctpSocket {
     /// fits `mtu`. The last event is `SocketEvent::OnClosed`. On a closed socket it returns `Ok`, changes
     /// nothing and allocates nothing.
     fn close(&mut self) -> Result<(), SocketFault>
-        ensures call { Closes (user_view self.old) result (user_view self.new) }
+        ensures call { ClosesSocket (user_view self.old) result (user_view self.new) }
         ensures closed { (user_view self.old).failed ≡ false
             → is_closed (user_view self.old).endpoint.core ≡ true → IsOk result };
 
@@ -93,7 +93,7 @@ pub trait DcSctpSocket {
     /// answer of `poll_timeout` only moves the clock. The exception is a socket that awaits a COOKIE ACK:
     /// there an acknowledgement may be due, of which `poll_timeout` says nothing.
     fn advance_time(&mut self, now: SocketTime) -> Result<(), SocketFault>
-        ensures call { Advances (user_view self.old) now result (user_view self.new) }
+        ensures call { AdvancesClock (user_view self.old) now result (user_view self.new) }
         ensures earlier { (user_view self.old).failed ≡ false
             → now < (user_view self.old).endpoint.moment → IsOk result }
         ensures waits { (user_view self.old).failed ≡ false → Waits (user_view self.old).endpoint now
@@ -115,7 +115,7 @@ pub trait DcSctpSocket {
         message: Message,
         options: &SendOptions,
     ) -> Result<Result<(), SendError>, SocketFault>
-        ensures { Sends (message_content message) options.now (user_view self.old) result
+        ensures { SendsMessage (message_content message) options.now (user_view self.old) result
             (user_view self.new) };
 
     /// Sends several messages, all with the same options, as `send` does one after another. But what waits is
@@ -153,7 +153,7 @@ pub trait DcSctpSocket {
     /// Messages that weren't taken when their association ended are lost. With `Options::follow_rfc` they can
     /// be taken until the next association begins, which starts without messages.
     fn get_next_message(&mut self) -> Option<Message>
-        ensures { TakesNext (user_view self.old) result (user_view self.new) };
+        ensures { TakesNextMessage (user_view self.old) result (user_view self.new) };
 
     /// How many messages can be taken. Allocates nothing.
     fn messages_ready_count(&self) -> usize
@@ -207,7 +207,7 @@ pub trait DcSctpSocket {
         state: &SocketHandoverState,
     ) -> Result<Result<(), RestoreError>, SocketFault>
         requires { is_valid_snapshot (user_view self.old).endpoint.options (snapshot state.now) ≡ true }
-        ensures call { Restores (snapshot state.now) (user_view self.old) result (user_view self.new) }
+        ensures call { RestoresSocket (snapshot state.now) (user_view self.old) result (user_view self.new) }
         ensures idle { (user_view self.old).failed ≡ false
             → inputs_of_restore (user_view self.old).endpoint.core (snapshot state.now) ≡ [] → IsOk result };
 
@@ -238,7 +238,7 @@ pub trait DcSctpSocket {
     /// message of which some fragments were sent is the oldest of its stream.
     fn buffered_amount(&self, stream_id: StreamId) -> usize
         ensures amount { result ≡ (stream_shown (user_view self.now) stream_id.0).amount }
-        ensures queue { IsWellFormed (user_view self.now).endpoint.below.queue };
+        ensures queue { IsWellFormed (user_view self.now).endpoint.queues.queue };
 
     /// The low threshold of a stream, in bytes. `SocketEvent::OnBufferedAmountLow` is added when its buffered
     /// amount falls from above the threshold to it or below. Allocates nothing.

@@ -18,7 +18,7 @@ pub enum Failure {
     NotConnected,
 
     /// A socket told an error of this kind.
-    Told(ErrorKind),
+    Reported(ErrorKind),
 
     /// An association ended.
     Ended,
@@ -40,7 +40,7 @@ impl Display for Failure {
             Failure::OutOfMemory => f.write_str("out of memory"),
             Failure::Output => f.write_str("the output could not be written"),
             Failure::NotConnected => f.write_str("not connected"),
-            Failure::Told(kind) => write!(f, "a socket told an error: {kind:?}"),
+            Failure::Reported(kind) => write!(f, "a socket told an error: {kind:?}"),
             Failure::Ended => f.write_str("an association ended"),
             Failure::Refused(error) => write!(f, "a message was refused: {error}"),
             Failure::Wrong(number) => write!(f, "message {number} is wrong"),

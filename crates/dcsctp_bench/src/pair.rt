@@ -128,7 +128,7 @@ impl Link {
 
 /// How often a socket has told what isn't a packet.
 #[derive(Clone, Copy)]
-pub struct Told {
+pub struct EventCounts {
     /// An association was made.
     pub connections: u32,
 
@@ -142,10 +142,10 @@ pub struct Told {
     pub resets: usize,
 }
 
-impl Told {
+impl EventCounts {
     // It has told nothing.
-    fn new() -> Told {
-        Told {
+    fn new() -> EventCounts {
+        EventCounts {
             connections: 0,
             closes: 0,
             aborts: 0,
@@ -175,7 +175,7 @@ impl Told {
 // Why a run fails by an event, if it bears no error and no end.
 fn failure_of(event: &SocketEvent) -> Option<Failure> {
     match event {
-        SocketEvent::OnError(kind, _) => Some(Failure::Told(*kind)),
+        SocketEvent::OnError(kind, _) => Some(Failure::Reported(*kind)),
         SocketEvent::OnClosed() | SocketEvent::OnAborted(..) => Some(Failure::Ended),
         _ => None,
     }
@@ -193,7 +193,7 @@ pub struct End {
     bears_ends: bool,
 
     /// What it has told beside packets.
-    pub told: Told,
+    pub told: EventCounts,
 
     /// How many packets it has sent.
     pub packets: u64,
@@ -214,7 +214,7 @@ impl End {
             socket: Socket::new(alloc, "bench", options, rng)?,
             peer,
             bears_ends: false,
-            told: Told::new(),
+            told: EventCounts::new(),
             packets: 0,
         })
     }

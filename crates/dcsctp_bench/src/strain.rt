@@ -253,7 +253,7 @@ impl<'p> Sender<'p> {
     fn drain(&mut self) -> Result<(), Failure> {
         for _ in 0..u64::MAX {
             match self.pair.b.socket.poll_event() {
-                Some(SocketEvent::OnError(kind, _)) => return Err(Failure::Told(kind)),
+                Some(SocketEvent::OnError(kind, _)) => return Err(Failure::Reported(kind)),
                 Some(_) => {}
                 None => break,
             }

@@ -47,16 +47,16 @@ CreatedIn numbers seed moment None result new =
 -- ---- what is taken
 
 -- what was taken, or else this
-abbrev pub told_or : {T : Type 0} → T → Option T → T
-told_or otherwise None = otherwise
-told_or otherwise (Some told) = told
+abbrev pub taken_or : {T : Type 0} → T → Option T → T
+taken_or otherwise None = otherwise
+taken_or otherwise (Some told) = told
 
 -- The next event is taken, and written; without one an event of kind 0 is.
 abbrev pub WritesEvent : Session → EventRecord → Status → EventRecord → Session → Type 0
 WritesEvent old before status after new =
-    (event : Option EventRecord) × EventTaken old event new × (status ≡ taken_status event) × (after ≡ told_or (plain_record 0) event)
+    (event : Option EventRecord) × EventTaken old event new × (status ≡ taken_status event) × (after ≡ taken_or (plain_record 0) event)
 
 -- The next message is taken, and written; without one all is 0.
 abbrev pub WritesMessage : Session → MessageRecord → Status → MessageRecord → Session → Type 0
 WritesMessage old before status after new =
-    (message : Option MessageRecord) × MessageTaken old message new × (status ≡ taken_status message) × (after ≡ told_or no_message message)
+    (message : Option MessageRecord) × MessageTaken old message new × (status ≡ taken_status message) × (after ≡ taken_or no_message message)

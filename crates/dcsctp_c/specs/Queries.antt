@@ -21,7 +21,7 @@ use Rattle.dcsctp_session.specs.Options.{ShowsOptions, has_options_size}
 use Rattle.dcsctp_session.specs.Records.{has_metrics_size, has_counts_size}
 use Rattle.dcsctp_session.specs.Status.{status_number, state_number, taken_status}
 use Rattle.dcsctp_session.specs.Views.{view}
-use Rattle.dcsctp_c.specs.Exports.{told_or}
+use Rattle.dcsctp_c.specs.Exports.{taken_or}
 
 -- The query is made of the session, if there is one, and may write to a place of the caller's: before, and after.
 abbrev pub Asked : {T : Type 0} → (Session → T → Status → T → Type 0) → Option Session → T → ℤ → T → Type 0
@@ -36,18 +36,18 @@ AskedIf true Query held before result after = Asked Query held before result aft
 -- ---- what is written
 
 -- What is said of the session is written.
-abbrev pub Tells : {T : Type 0} → (Session → T → Type 0) → Session → T → Status → T → Type 0
-Tells Says session before status after = Says session after × (status ≡ statuses.Done)
+abbrev pub WritesAnswer : {T : Type 0} → (Session → T → Type 0) → Session → T → Status → T → Type 0
+WritesAnswer Says session before status after = Says session after × (status ≡ statuses.Done)
 
-abbrev pub TellsOptions : Session → OptionsRecord → Status → OptionsRecord → Type 0
-TellsOptions = Tells (λ session told. ShowsOptions told (view session).endpoint.options)
+abbrev pub WritesOptions : Session → OptionsRecord → Status → OptionsRecord → Type 0
+WritesOptions = WritesAnswer (λ session told. ShowsOptions told (view session).endpoint.options)
 
 abbrev pub OptionsGiven : Option Session → OptionsRecord → ℤ → OptionsRecord → Type 0
-OptionsGiven held before result after = AskedIf (has_options_size before) TellsOptions held before result after
+OptionsGiven held before result after = AskedIf (has_options_size before) WritesOptions held before result after
 
 -- the payload bytes that wait on a stream; each stream stands once in the queue
 abbrev pub AmountIs : ℕ → Session → ℕ → Type 0
-AmountIs stream session told = (told ≡ (stream_shown (view session) stream).amount) × IsWellFormed (view session).endpoint.below.queue
+AmountIs stream session told = (told ≡ (stream_shown (view session) stream).amount) × IsWellFormed (view session).endpoint.queues.queue
 
 -- why the socket can't be handed over; of what was received, each stream stands once
 abbrev pub ReadinessIs : Session → ℕ → Type 0
@@ -56,14 +56,14 @@ ReadinessIs session told = (told ≡ readiness_of (view session).endpoint) × Ar
 -- The metrics are written, if there are any.
 abbrev pub TellsMetrics : Session → MetricsRecord → Status → MetricsRecord → Type 0
 TellsMetrics session before status after =
-    (metrics : Option MetricsRecord) × MetricsShown session metrics × (status ≡ taken_status metrics) × (after ≡ told_or before metrics)
+    (metrics : Option MetricsRecord) × MetricsShown session metrics × (status ≡ taken_status metrics) × (after ≡ taken_or before metrics)
 
 abbrev pub MetricsGiven : Option Session → MetricsRecord → ℤ → MetricsRecord → Type 0
 MetricsGiven held before result after = AskedIf (has_metrics_size before) TellsMetrics held before result after
 
 -- The counts are written.
 abbrev pub TellsCounts : Session → CountsRecord → Status → CountsRecord → Type 0
-TellsCounts = Tells CountsShown
+TellsCounts = WritesAnswer CountsShown
 
 abbrev pub CountsGiven : Option Session → CountsRecord → ℤ → CountsRecord → Type 0
 CountsGiven held before result after = AskedIf (has_counts_size before) TellsCounts held before result after
@@ -88,15 +88,15 @@ CopiesSnapshotFrom session before status after =
     CopiesSnapshot (view session).endpoint.options session.taken.snapshot before.numbers before.told status after.numbers after.told
 
 -- a place for a pointer, and one for a length
-pub record Place : Type 0 where
+pub record OutputPlace : Type 0 where
   pub at : Ptr
   pub told : ℕ
 
-abbrev pub place_of : Ptr → ℕ → Place
-place_of at told = record { at = at; told = told }
+abbrev pub output_place : Ptr → ℕ → OutputPlace
+output_place at told = record { at = at; told = told }
 
 -- Where the session has bytes is written.
-abbrev pub ShowsFrom : (Session → Option (Vec ℕ)) → Session → Place → Status → Place → Type 0
+abbrev pub ShowsFrom : (Session → Option (Vec ℕ)) → Session → OutputPlace → Status → OutputPlace → Type 0
 ShowsFrom bytes_of session before status after = ShowsPlace (bytes_of session) before.at status after.at after.told
 
 -- ---- what is returned by number

@@ -2,14 +2,14 @@
 
 ghost use Rattle.std.specs.Prelude.{◌≡◌};
 ghost use Rattle.dcsctp_session.specs.Status.{state_number, status_number, taken_status};
-ghost use Rattle.dcsctp_c.specs.Exports.{told_or};
+ghost use Rattle.dcsctp_c.specs.Exports.{taken_or};
 
 use dcsctp_session::{SocketState, Status};
 
 // Writes what a call took, or what stands for nothing.
 pub(crate) fn take<T: Copy>(taken: Option<T>, otherwise: T, place: &mut T) -> i32
     ensures result { result ≡ status_number (taken_status taken) }
-    ensures place { place.new ≡ told_or otherwise taken }
+    ensures place { place.new ≡ taken_or otherwise taken }
 {
     match taken {
         None => {

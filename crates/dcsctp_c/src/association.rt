@@ -2,7 +2,7 @@
 
 ghost use Rattle.std.specs.Prelude.{◌≡◌, map};
 ghost use Rattle.dcsctp_api.specs.types.Setting.{stream_priority, stream_low_threshold};
-ghost use Rattle.dcsctp_session.specs.Calls.{Connected, ShutDown, Closed, InputHandled, Advanced, SettingMade, SizeLimited, MessageSent, StreamsReset};
+ghost use Rattle.dcsctp_session.specs.Calls.{ConnectsSession, ShutDown, Closed, InputHandled, Advanced, SettingMade, SizeLimited, MessageSent, StreamsReset};
 ghost use Rattle.dcsctp_session.specs.Many.{ManySent};
 ghost use Rattle.dcsctp_c.specs.Exports.{Exported, Written};
 
@@ -12,7 +12,7 @@ use dcsctp_session::{OutgoingRecord, SendOptionsRecord, Status};
 /// Begins an association.
 #[unsafe(no_mangle)]
 pub extern "C" fn dcsctp_connect(handle: &mut Handle) -> i32
-    ensures { Exported Connected handle.old.slot.value result handle.new.slot.value }
+    ensures { Exported ConnectsSession handle.old.slot.value result handle.new.slot.value }
 {
     if !handle.is_open() {
         return Status::NoSocket.number();

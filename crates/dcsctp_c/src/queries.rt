@@ -6,7 +6,7 @@ ghost use Rattle.dcsctp_api.specs.Calls.{stream_shown};
 ghost use Rattle.dcsctp_api.specs.Messages.{ready_messages};
 ghost use Rattle.dcsctp_session.specs.Options.{never};
 ghost use Rattle.dcsctp_session.specs.Views.{view};
-ghost use Rattle.dcsctp_c.specs.Queries.{Asked, Tells, AmountIs, ReadinessIs, TellsOptions, OptionsGiven, TellsMetrics, MetricsGiven, TellsCounts, CountsGiven, ReturnsState, ReturnsFailed};
+ghost use Rattle.dcsctp_c.specs.Queries.{Asked, WritesAnswer, AmountIs, ReadinessIs, WritesOptions, OptionsGiven, TellsMetrics, MetricsGiven, TellsCounts, CountsGiven, ReturnsState, ReturnsFailed};
 
 use crate::answers::{state_number, take};
 use dcsctp_handle::Handle;
@@ -43,7 +43,7 @@ pub extern "C" fn dcsctp_has_failed(handle: &mut Handle) -> i32
 /// The socket's next deadline.
 #[unsafe(no_mangle)]
 pub extern "C" fn dcsctp_poll_timeout(handle: &mut Handle, moment: &mut u64) -> i32
-    ensures answer { Asked (Tells (λ session told. told ≡ min (next_moment (view session).endpoint) never))
+    ensures answer { Asked (WritesAnswer (λ session told. told ≡ min (next_moment (view session).endpoint) never))
         handle.old.slot.value moment.old result moment.new }
     ensures same { handle.new ≡ handle.old }
 {
@@ -56,7 +56,7 @@ pub extern "C" fn dcsctp_poll_timeout(handle: &mut Handle, moment: &mut u64) -> 
 
 // Writes the options of the socket, whatever the size that the record says.
 fn write_options(handle: &mut Handle, options: &mut OptionsRecord) -> i32
-    ensures answer { Asked TellsOptions handle.old.slot.value options.old result options.new }
+    ensures answer { Asked WritesOptions handle.old.slot.value options.old result options.new }
     ensures same { handle.new ≡ handle.old }
 {
     if !handle.is_open() {
@@ -85,7 +85,7 @@ pub extern "C" fn dcsctp_buffered_amount(
     stream_id: u16,
     bytes: &mut usize,
 ) -> i32
-    ensures answer { Asked (Tells (AmountIs stream_id)) handle.old.slot.value bytes.old result bytes.new }
+    ensures answer { Asked (WritesAnswer (AmountIs stream_id)) handle.old.slot.value bytes.old result bytes.new }
     ensures same { handle.new ≡ handle.old }
 {
     if !handle.is_open() {
@@ -102,7 +102,7 @@ pub extern "C" fn dcsctp_buffered_amount_low_threshold(
     stream_id: u16,
     bytes: &mut usize,
 ) -> i32
-    ensures answer { Asked (Tells (λ session told. told ≡ (stream_shown (view session) stream_id).threshold))
+    ensures answer { Asked (WritesAnswer (λ session told. told ≡ (stream_shown (view session) stream_id).threshold))
         handle.old.slot.value bytes.old result bytes.new }
     ensures same { handle.new ≡ handle.old }
 {
@@ -123,7 +123,7 @@ pub extern "C" fn dcsctp_get_stream_priority(
     stream_id: u16,
     priority: &mut u16,
 ) -> i32
-    ensures answer { Asked (Tells (λ session told. told ≡ (stream_shown (view session) stream_id).priority))
+    ensures answer { Asked (WritesAnswer (λ session told. told ≡ (stream_shown (view session) stream_id).priority))
         handle.old.slot.value priority.old result priority.new }
     ensures same { handle.new ≡ handle.old }
 {
@@ -137,7 +137,7 @@ pub extern "C" fn dcsctp_get_stream_priority(
 /// How many messages are ready to be taken.
 #[unsafe(no_mangle)]
 pub extern "C" fn dcsctp_messages_ready_count(handle: &mut Handle, count: &mut usize) -> i32
-    ensures answer { Asked (Tells (λ session told. told ≡ length (ready_messages (view session).endpoint)))
+    ensures answer { Asked (WritesAnswer (λ session told. told ≡ length (ready_messages (view session).endpoint)))
         handle.old.slot.value count.old result count.new }
     ensures same { handle.new ≡ handle.old }
 {
@@ -198,7 +198,7 @@ pub extern "C" fn dcsctp_get_counts(handle: &mut Handle, counts: &mut CountsReco
 /// Why the socket can't be handed over now.
 #[unsafe(no_mangle)]
 pub extern "C" fn dcsctp_get_handover_readiness(handle: &mut Handle, reasons: &mut u32) -> i32
-    ensures answer { Asked (Tells ReadinessIs) handle.old.slot.value reasons.old result reasons.new }
+    ensures answer { Asked (WritesAnswer ReadinessIs) handle.old.slot.value reasons.old result reasons.new }
     ensures same { handle.new ≡ handle.old }
 {
     if !handle.is_open() {

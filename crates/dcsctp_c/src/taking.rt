@@ -1,9 +1,9 @@
 //! Taking events and messages, and copying or showing what they hold.
 
 ghost use Rattle.std.specs.Prelude.{◌≡◌};
-ghost use Rattle.dcsctp_session.specs.Views.{bytes_in, packet_in, streams_in, payload_in, message_in};
+ghost use Rattle.dcsctp_session.specs.Views.{bytes_in, packet_in_event, streams_in_event, payload_in, message_in};
 ghost use Rattle.dcsctp_c.specs.Exports.{Written, WritesEvent, WritesMessage};
-ghost use Rattle.dcsctp_c.specs.Queries.{Asked, CopiesFrom, buffer_of, ShowsFrom, place_of};
+ghost use Rattle.dcsctp_c.specs.Queries.{Asked, CopiesFrom, buffer_of, ShowsFrom, output_place};
 
 use crate::answers::take;
 use dcsctp_handle::Handle;
@@ -48,8 +48,8 @@ pub extern "C" fn dcsctp_event_view(
     bytes: &mut *const u8,
     length: &mut usize,
 ) -> i32
-    ensures answer { Asked (ShowsFrom (λ session. packet_in session.taken.event)) handle.old.slot.value
-        (place_of bytes.old length.old) result (place_of bytes.new length.new) }
+    ensures answer { Asked (ShowsFrom (λ session. packet_in_event session.taken.event)) handle.old.slot.value
+        (output_place bytes.old length.old) result (output_place bytes.new length.new) }
     ensures same { handle.new ≡ handle.old }
 {
     if !handle.is_open() {
@@ -65,7 +65,7 @@ pub extern "C" fn dcsctp_event_streams(
     buffer: &mut [u16],
     count: &mut usize,
 ) -> i32
-    ensures answer { Asked (CopiesFrom (λ session. streams_in session.taken.event)) handle.old.slot.value
+    ensures answer { Asked (CopiesFrom (λ session. streams_in_event session.taken.event)) handle.old.slot.value
         (buffer_of buffer.old count.old) result (buffer_of buffer.new count.new) }
     ensures same { handle.new ≡ handle.old }
 {
@@ -116,7 +116,7 @@ pub extern "C" fn dcsctp_message_view(
     length: &mut usize,
 ) -> i32
     ensures answer { Asked (ShowsFrom (λ session. message_in session.taken.message)) handle.old.slot.value
-        (place_of bytes.old length.old) result (place_of bytes.new length.new) }
+        (output_place bytes.old length.old) result (output_place bytes.new length.new) }
     ensures same { handle.new ≡ handle.old }
 {
     if !handle.is_open() {

@@ -1,8 +1,8 @@
 -- What each step of a flush does, by whether an allocation failed.
-use Rattle.dcsctp_transfer.specs.spec.queues.SendQueue.{has_data, SendQueueState}
+use Rattle.dcsctp_transfer.specs.spec.queues.SendQueue.{has_queued_data, SendQueueState}
 use Rattle.dcsctp_core.proofs.FirstLemmas.{Forwarded, BeforeData, fills_first, forwarded_where, transfer_is, before_data, begun_in_view, fills_behind, handed_of, until_of, same_view}
-use Rattle.dcsctp_core.specs.Flushing.{Fills, AcknowledgesBelow, AskCut, AsksWith, BeginsAt, FillsWith, ForwardsAt, HasNoData, KeepsSize, SendsUnlessEmpty, TellsData, TellsForward, TriesData, can_send_below, packet_for}
-use Rattle.dcsctp_transfer.specs.Filling.{Acknowledges, is_sack_wanted}
+use Rattle.dcsctp_core.specs.Flushing.{FillsAskedPacket, AcknowledgesInQueues, AskCut, AsksWith, FillsResetRequest, FillsWith, ForwardsAt, HasNoData, KeepsSize, SendsUnlessEmpty, TellsData, TellsForward, TriesData, can_queues_send, packet_for}
+use Rattle.dcsctp_transfer.specs.Filling.{FillsRequestedSack, is_sack_wanted}
 use Rattle.std.proofs.Common.{◌≡◌, Bool, Err, IsOk, List, None, Ok, Option, Result, Some, [], ap, append_assoc, false, refl, subst, sym, true, ℕ, ◌++◌, ◌||◌, ◌∙◌}
 use Rattle.dcsctp_transfer.specs.spec.endpoint.FlushOutcomes.{Ask, FillsWhere, filled, first_ask, later_ask, may_abandon, may_forward, room_in, stage_of}
 use Rattle.dcsctp_transfer.specs.wire_build.Building.{Building, bytes_remaining}
@@ -29,16 +29,16 @@ busy_by : (b : Bool) (queue : SendQueueState) (transfer : Transfer) → is_idle 
 busy_by false queue transfer is not_idle = is
 busy_by true queue transfer is not_idle = absurd (not_idle is)
 
-later_cut : {R : Type 0} (found : Option Transfer) (old new : View R) (draft : Emission) (packet : Building) → old.endpoint.below.transfer ≡ found → packet ≡ packet_for old.endpoint.options draft
-    → (HasNoData old.endpoint.below.queue found → ⊥) → TellsData found old packet new → AskCut later_ask old draft new.events
+later_cut : {R : Type 0} (found : Option Transfer) (old new : View R) (draft : Emission) (packet : Building) → old.endpoint.queues.transfer ≡ found → packet ≡ packet_for old.endpoint.options draft
+    → (HasNoData old.endpoint.queues.queue found → ⊥) → TellsData found old packet new → AskCut later_ask old draft new.events
 later_cut None old new draft packet holds is some tells = cut_untold later_ask old draft new.events tells
 later_cut (Some transfer) old new draft packet holds is some tells =
     let e : Endpoint = old.endpoint in
     let room : bytes_remaining packet ≡ room_in e (filled draft []) = room_is_left e (filled draft []) packet (is ∙ ap (packet_for e.options) (sym (same_draft draft))) in
     let u : GivesUntilFull later_ask e draft transfer =
     later_until e draft transfer tells.sent
-    (subst (λ (n : ℕ). FillsWhere (may_give e.below.queue transfer.retransmission) e.moment (stage_of e.below.queue transfer.retransmission [] n) tells.sent) room tells.fills) in
-    let busy : is_idle e.below.queue transfer ≡ false = busy_by (is_idle e.below.queue transfer) e.below.queue transfer refl (λ idle. some (idle_parts e.below.queue transfer idle).0) in
+    (subst (λ (n : ℕ). FillsWhere (may_give e.queues.queue transfer.retransmission) e.moment (stage_of e.queues.queue transfer.retransmission [] n) tells.sent) room tells.fills) in
+    let busy : is_idle e.queues.queue transfer ≡ false = busy_by (is_idle e.queues.queue transfer) e.queues.queue transfer refl (λ idle. some (idle_parts e.queues.queue transfer idle).0) in
     cut_within later_ask old draft new.events u.sent.told tells.tells.front tells.tells.rest (answer_filling later_ask e draft transfer u holds busy) tells.tells.parts tells.tells.told
 
 pub later_returns : {R E : Type 0} (packet filled : Building) (old : Context R) (result : Result (Unit {0}) E) (new : Context R) → TriesData packet old result new filled
@@ -50,7 +50,7 @@ later_returns packet filled old (Err error) new h idle =
 -- ---- a FORWARD-TSN
 
 forward_cut : {R : Type 0} (old : Context R) (found : Option Transfer) (along : Bool) (state : State) (draft : Emission) (packet acked : Building) (new : View R) → transfer_of old.state ≡ found
-    → AcknowledgesBelow found along old.state packet state acked → TellsForward (transfer_of state) (view_of (record old { state = state })) new → AskCut first_ask (view_of old) draft new.events
+    → AcknowledgesInQueues found along old.state packet state acked → TellsForward (transfer_of state) (view_of (record old { state = state })) new → AskCut first_ask (view_of old) draft new.events
 forward_cut {R = R} old None along state draft packet acked new holds ack tells =
     let none : transfer_of state ≡ None = ap transfer_of ack.0 ∙ holds in
     cut_untold first_ask (view_of old) draft new.events (subst (λ (f : Option Transfer). TellsForward f (view_of (record old { state = state })) new) none tells)
@@ -60,24 +60,24 @@ forward_cut {R = R} old (Some transfer) along state draft packet acked new holds
     let here : TellsForward (Some mid) (view_of (record old { state = state })) new =
     subst (λ (f : Option Transfer). TellsForward f (view_of (record old { state = state })) new) (ap transfer_of ack.1 ∙ transfer_is old.state transfer mid holds) tells in
     let t = here.1 in
-    let gives_up : GivesUpAll e.moment (stage_of e.below.queue transfer.retransmission [] 0) t.gave_up =
-    subst (λ (r : RetransmissionState). GivesUpAll e.moment (stage_of e.below.queue r [] 0) t.gave_up) (unchanged (is_sack_wanted along transfer) mid ack.2) t.gives_up in
+    let gives_up : GivesUpAll e.moment (stage_of e.queues.queue transfer.retransmission [] 0) t.gave_up =
+    subst (λ (r : RetransmissionState). GivesUpAll e.moment (stage_of e.queues.queue r [] 0) t.gave_up) (unchanged (is_sack_wanted along transfer) mid ack.2) t.gives_up in
     cut_within first_ask (view_of old) draft new.events t.gave_up.told t.tells.front t.tells.rest
     (abandoning_completes (may_abandon transfer.retransmission) e draft transfer t.gave_up holds here.0 refl gives_up) t.tells.parts t.tells.told
   where
-    unchanged : (b : Bool) (mid : Transfer) → Acknowledges b transfer packet mid acked → mid.retransmission ≡ transfer.retransmission
+    unchanged : (b : Bool) (mid : Transfer) → FillsRequestedSack b transfer packet mid acked → mid.retransmission ≡ transfer.retransmission
     unchanged true mid h = ap (λ (t : Transfer). t.retransmission) h.0
     unchanged false mid h = ap (λ (t : Transfer). t.retransmission) h.0
 
 pub forward_refused : {R : Type 0} (packet acked : Building) (old : Context R) (along : Bool) (state : State) (draft : Emission) (new : Context R)
-    → AcknowledgesBelow (transfer_of old.state) along old.state packet state acked → TellsForward (transfer_of state) (view_of (record old { state = state })) (view_of new)
+    → AcknowledgesInQueues (transfer_of old.state) along old.state packet state acked → TellsForward (transfer_of state) (view_of (record old { state = state })) (view_of new)
     → AskCut first_ask (view_of old) draft (view_of new).events
 forward_refused packet acked old along state draft new ack tells = forward_cut old (transfer_of old.state) along state draft packet acked (view_of new) refl ack tells
 
 -- ---- a reset
 
 reset_cut : {R : Type 0} (old : Context R) (found : Option Transfer) (along : Bool) (state : State) (draft : Emission) (packet acked given_packet : Building) (given : View R) (events : List (Event (List ℕ)))
-    → transfer_of old.state ≡ found → along ≡ (has_data old.send_queue || can_send_below found) → packet ≡ packet_for old.options draft → AcknowledgesBelow found along old.state packet state acked
+    → transfer_of old.state ≡ found → along ≡ (has_queued_data old.send_queue || can_queues_send found) → packet ≡ packet_for old.options draft → AcknowledgesInQueues found along old.state packet state acked
     → ForwardsAt (transfer_of state) (view_of (record old { state = state })) acked given given_packet → events ≡ given.events → AskCut first_ask (view_of old) draft events
 reset_cut {R = R} old None along state draft packet acked given_packet given events holds is built ack forward same =
     let up : ForwardsAt None (view_of old) acked given given_packet =
@@ -92,8 +92,8 @@ reset_cut {R = R} old (Some transfer) along state draft packet acked given_packe
     (sym (append-nil f.gave_up.told)) (same ∙ ap (λ (v : View R). v.events) f.view)
 
 pub reset_refused : {R : Type 0} (packet acked given_packet : Building) (old : Context R) (along : Bool) (state : State) (given : Context R) (draft : Emission) (events : List (Event (List ℕ)))
-    → along ≡ (has_data old.send_queue || can_send_below (transfer_of old.state)) → packet ≡ packet_for old.options draft
-    → AcknowledgesBelow (transfer_of old.state) along old.state packet state acked → ForwardsAt (transfer_of state) (view_of (record old { state = state })) acked (view_of given) given_packet
+    → along ≡ (has_queued_data old.send_queue || can_queues_send (transfer_of old.state)) → packet ≡ packet_for old.options draft
+    → AcknowledgesInQueues (transfer_of old.state) along old.state packet state acked → ForwardsAt (transfer_of state) (view_of (record old { state = state })) acked (view_of given) given_packet
     → events ≡ (view_of given).events → AskCut first_ask (view_of old) draft events
 reset_refused packet acked given_packet old along state given draft events is built ack forward same =
     reset_cut old (transfer_of old.state) along state draft packet acked given_packet (view_of given) events refl is built ack forward same
@@ -101,34 +101,34 @@ reset_refused packet acked given_packet old along state given draft events is bu
 -- ---- data
 
 data_cut : {R : Type 0} (old : Context R) (found : Option Transfer) (along : Bool) (state : State) (draft : Emission) (packet acked given_packet request_packet : Building) (given here new : View R)
-    → transfer_of old.state ≡ found → along ≡ (has_data old.send_queue || can_send_below found) → packet ≡ packet_for old.options draft → AcknowledgesBelow found along old.state packet state acked
-    → ForwardsAt (transfer_of state) (view_of (record old { state = state })) acked given given_packet → BeginsAt given.endpoint.below.transfer given given_packet here request_packet
-    → (HasNoData here.endpoint.below.queue here.endpoint.below.transfer → ⊥) → TellsData here.endpoint.below.transfer here request_packet new → AskCut first_ask (view_of old) draft new.events
+    → transfer_of old.state ≡ found → along ≡ (has_queued_data old.send_queue || can_queues_send found) → packet ≡ packet_for old.options draft → AcknowledgesInQueues found along old.state packet state acked
+    → ForwardsAt (transfer_of state) (view_of (record old { state = state })) acked given given_packet → FillsResetRequest given.endpoint.queues.transfer given given_packet here request_packet
+    → (HasNoData here.endpoint.queues.queue here.endpoint.queues.transfer → ⊥) → TellsData here.endpoint.queues.transfer here request_packet new → AskCut first_ask (view_of old) draft new.events
 data_cut {R = R} old None along state draft packet acked given_packet request_packet given here new holds is built ack forward begin some tells =
     let same = same_view old along state given here packet acked given_packet request_packet holds ack forward begin in
     cut_untold first_ask (view_of old) draft new.events
-    (subst (λ (f : Option Transfer). TellsData f (view_of old) request_packet new) holds (subst (λ (v : View R). TellsData v.endpoint.below.transfer v request_packet new) same.0 tells))
+    (subst (λ (f : Option Transfer). TellsData f (view_of old) request_packet new) holds (subst (λ (v : View R). TellsData v.endpoint.queues.transfer v request_packet new) same.0 tells))
 data_cut {R = R} old (Some transfer) along state draft packet acked given_packet request_packet given here new holds is built ack forward begin some tells =
     let e : Endpoint = endpoint_of old in
     let d : BeforeData (view_of old) draft transfer here request_packet =
     before_data (view_of old) draft transfer given here given_packet request_packet (forwarded_where old transfer along state draft given packet acked given_packet holds is built ack forward) begin in
     let begun_view : View R = begun_in_view (view_of old) d.up.next d.up.gave_up (record transfer { tracker = d.up.tracker }) d.begun (handed_of d) in
-    let t : TellsData begun_view.endpoint.below.transfer begun_view request_packet new = subst (λ (v : View R). TellsData v.endpoint.below.transfer v request_packet new) d.view tells in
+    let t : TellsData begun_view.endpoint.queues.transfer begun_view request_packet new = subst (λ (v : View R). TellsData v.endpoint.queues.transfer v request_packet new) d.view tells in
     let u : GivesUntilFull first_ask e draft transfer =
     until_of (view_of old) draft transfer here request_packet d t.sent (fills_behind (view_of old) draft transfer here request_packet d t.sent t.fills) in
-    let nothing : is_idle e.below.queue transfer ≡ true → HasNoData begun_view.endpoint.below.queue begun_view.endpoint.below.transfer = λ idle.
+    let nothing : is_idle e.queues.queue transfer ≡ true → HasNoData begun_view.endpoint.queues.queue begun_view.endpoint.queues.transfer = λ idle.
     let n = idle_until first_ask e draft transfer u idle in (n.no_data, n.no_items) in
-    let busy : is_idle e.below.queue transfer ≡ false =
-    busy_by (is_idle e.below.queue transfer) e.below.queue transfer refl
-    (λ idle. some (subst (λ (v : View R). HasNoData v.endpoint.below.queue v.endpoint.below.transfer) (sym d.view) (nothing idle))) in
+    let busy : is_idle e.queues.queue transfer ≡ false =
+    busy_by (is_idle e.queues.queue transfer) e.queues.queue transfer refl
+    (λ idle. some (subst (λ (v : View R). HasNoData v.endpoint.queues.queue v.endpoint.queues.transfer) (sym d.view) (nothing idle))) in
     cut_within first_ask (view_of old) draft new.events u.sent.told (d.up.gave_up.told ++ t.tells.front) t.tells.rest (answer_filling first_ask e draft transfer u holds busy)
     (ap (λ (es : List (Event (List ℕ))). d.up.gave_up.told ++ es) t.tells.parts ∙ sym (append_assoc d.up.gave_up.told t.tells.front t.tells.rest))
     (t.tells.told ∙ append_assoc (view_of old).events d.up.gave_up.told t.tells.front)
 
 pub first_returns : {R E : Type 0} (packet acked given_packet request_packet filled : Building) (old : Context R) (along : Bool) (state : State) (given begun : Context R) (result : Result (Unit {0}) E) (new : Context R)
-    → along ≡ (has_data old.send_queue || can_send_below (transfer_of old.state)) → AcknowledgesBelow (transfer_of old.state) along old.state packet state acked
+    → along ≡ (has_queued_data old.send_queue || can_queues_send (transfer_of old.state)) → AcknowledgesInQueues (transfer_of old.state) along old.state packet state acked
     → ForwardsAt (transfer_of state) (view_of (record old { state = state })) acked (view_of given) given_packet
-    → BeginsAt (transfer_of given.state) (view_of given) given_packet (view_of begun) request_packet
+    → FillsResetRequest (transfer_of given.state) (view_of given) given_packet (view_of begun) request_packet
     → TriesData request_packet begun result new filled → (HasNoData begun.send_queue (transfer_of begun.state) → IsOk result) → FillsWith first_ask packet old result new filled
 first_returns packet acked given_packet request_packet filled old along state given begun (Ok done) new is ack forward begin h idle =
     λ draft built. fills_first old along state draft (view_of given) (view_of begun) (view_of new) packet acked given_packet request_packet filled is built ack forward begin h
@@ -139,7 +139,7 @@ first_returns packet acked given_packet request_packet filled old along state gi
 -- ---- and then the packet goes out
 
 pub asks_returns : {R E : Type 0} (stream : R → Stream) (ask : Ask) (packet filled : Building) (old mid : Context R) (result : Result Bool E) (new : Context R)
-    → ((draft : Emission) → packet ≡ packet_for old.options draft → Fills ask (view_of old) draft (view_of mid) filled) → SendsUnlessEmpty filled mid result new → KeepsSize filled
+    → ((draft : Emission) → packet ≡ packet_for old.options draft → FillsAskedPacket ask (view_of old) draft (view_of mid) filled) → SendsUnlessEmpty filled mid result new → KeepsSize filled
     → AsksWith stream ask packet old result new
 asks_returns stream ask packet filled old mid (Ok is_sent) new fills sends size =
     λ draft is. asks_for stream ask (view_of old) (view_of mid) (view_of new) draft filled is_sent (fills draft is) size sends.0 sends.1

@@ -20,9 +20,9 @@ use Rattle.dcsctp_core.specs.declared.context.Context.{Context}
 use Rattle.dcsctp_core.specs.declared.state.State.{State}
 use Rattle.dcsctp_core.specs.declared.transmission_control_block.TransmissionControlBlock.{TransmissionControlBlock}
 use Rattle.dcsctp_core.specs.View.{View, core_of, tcb_of, held_of, transfer_of, endpoint_of, view_of, Moves}
-use Rattle.dcsctp_core.specs.Handling.{TakesIn, CutIn}
-use Rattle.dcsctp_core.specs.Flushing.{packet_of, packet_for, empty_packet, sent_where, KeepsSize}
-use Rattle.dcsctp_core.specs.Below.{FillsAtOnceBelow, at_once_below, GoesAtOnce, AtOnceAt}
+use Rattle.dcsctp_core.specs.Handling.{TakesPossibleTurn, CutIn}
+use Rattle.dcsctp_core.specs.Flushing.{packet_being_built, packet_for, empty_packet, sent_where, KeepsSize}
+use Rattle.dcsctp_core.specs.Below.{FillsLostAtOnce, has_lost_data, GoesAtOnce, AtOnceAt}
 use Rattle.dcsctp_core.proofs.BelowLemmas.{below_view, moves_to, moves_from}
 use Rattle.dcsctp_core.proofs.Composing.{cut_first}
 use Rattle.dcsctp_core.proofs.FillLemmas.{data_fit, room_is_left}
@@ -34,7 +34,7 @@ use Rattle.dcsctp_transfer.proofs.spec_lemmas.LostOutcomes.{some_lost}
 
 -- the packet that was filled, if it holds a chunk
 goes : {R : Type 0} (stream : R → Stream) (v : View R) (after : Transfer) (with_checksum : Bool) (tag : ℕ) (contents : List Content) (packet : Building) (new : View R)
-    → packet ≡ packet_of v.endpoint.options with_checksum tag contents
+    → packet ≡ packet_being_built v.endpoint.options with_checksum tag contents
     → new ≡ sent_where (not (is_none contents)) packet (record v { endpoint = with_transfer v.endpoint after })
     → Moves stream v (goes_out (with_transfer v.endpoint after) [] with_checksum tag contents) new
 goes stream v after with_checksum tag [] packet new built is = moves_to stream v new (with_transfer v.endpoint after) is
@@ -46,17 +46,17 @@ goes stream v after with_checksum tag (content ∷ contents) packet new built is
     (sent_moves stream (record v { endpoint = e }) new emission bytes is (built_bytes v.endpoint.options packet with_checksum tag (content ∷ contents) bytes built refl))
 
 at_once_by : {R : Type 0} (stream : R → Stream) (v : View R) (held : Held) (transfer after : Transfer) (packet filled_packet : Building) (is_sent : Bool) (new : View R)
-    → has_fast_retransmit transfer.retransmission ≡ true → held_in v.endpoint.core ≡ Some held → v.endpoint.below.transfer ≡ Some transfer
+    → has_fast_retransmit transfer.retransmission ≡ true → held_in v.endpoint.core ≡ Some held → v.endpoint.queues.transfer ≡ Some transfer
     → packet ≡ packet_for v.endpoint.options (draft_to held) → FillsAtOnce v.endpoint.moment transfer packet after filled_packet → KeepsSize filled_packet
     → is_sent ≡ not (is_none filled_packet.body) → new ≡ sent_where is_sent filled_packet (record v { endpoint = with_transfer v.endpoint after })
-    → TakesIn stream AtOnceAt v new
+    → TakesPossibleTurn stream AtOnceAt v new
 at_once_by {R = R} stream v held transfer after packet filled_packet is_sent new fast holds below built fills size sent_is is =
     let e : Endpoint = v.endpoint in
     let draft : Emission = draft_to held in
     let chunks : List Plain = map unworked fills.chunks in
     let contents : List Content = plain_contents chunks in
     let left : Transfer = record transfer { retransmission = fills.left } in
-    let packed : filled_packet ≡ packet_of e.options draft.with_checksum draft.packet.tag contents =
+    let packed : filled_packet ≡ packet_being_built e.options draft.with_checksum draft.packet.tag contents =
     fills.adds
     ∙ ap (λ (b : Building). record b { body = b.body ++ flat_map chunk_bytes fills.chunks }) built
     ∙ ap (λ (bytes : List ℕ). record (packet_for e.options draft) { body = bytes }) (body_of_chunks fills.chunks) in
@@ -67,7 +67,7 @@ at_once_by {R = R} stream v held transfer after packet filled_packet is_sent new
     record {
       left = fills.left;
       tsns = fills.tsns;
-      sends = subst (λ (room : ℕ). SendsAtOnce e.moment room e.below.queue transfer.retransmission fills.left fills.tsns) (room_is_left e draft packet built) (fills.sends e.below.queue);
+      sends = subst (λ (room : ℕ). SendsAtOnce e.moment room e.queues.queue transfer.retransmission fills.left fills.tsns) (room_is_left e draft packet built) (fills.sends e.queues.queue);
       chunks = chunks;
       are = fills.are;
       fit = data_fit fills.chunks fills.fits;
@@ -77,18 +77,18 @@ at_once_by {R = R} stream v held transfer after packet filled_packet is_sent new
     let by_fast : FastRetransmits (has_fast_retransmit transfer.retransmission) e held transfer o = subst (λ (b : Bool). FastRetransmits b e held transfer o) (sym fast) turn in
     record {
       outcome = o;
-      turn = subst (λ (h : Option Held). GoesAtOnce e h e.below.transfer o) (sym holds) (subst (λ (t : Option Transfer). GoesAtOnce e (Some held) t o) (sym below) by_fast);
+      turn = subst (λ (h : Option Held). GoesAtOnce e h e.queues.transfer o) (sym holds) (subst (λ (t : Option Transfer). GoesAtOnce e (Some held) t o) (sym below) by_fast);
       moves = goes stream v left draft.with_checksum draft.packet.tag contents filled_packet new packed
           (is ∙ ap (λ (b : Bool). sent_where b filled_packet (record v { endpoint = with_transfer e after })) goes_if
           ∙ ap (λ (t : Transfer). sent_where (not (is_none contents)) filled_packet (record v { endpoint = with_transfer e t })) fills.is);
     }
 
 at_once_where : {R : Type 0} (stream : R → Stream) (old : Context R) (tcb : TransmissionControlBlock) (state : State) (packet filled_packet : Building) (is_sent : Bool) (new : View R) (found : Option Transfer)
-    → transfer_of old.state ≡ found → at_once_below found ≡ true → Some tcb ≡ tcb_of old.state
+    → transfer_of old.state ≡ found → has_lost_data found ≡ true → Some tcb ≡ tcb_of old.state
     → packet ≡ empty_packet old.options (tcb.capabilities.zero_checksum_method.0 == 0) tcb.peer.tag
-    → FillsAtOnceBelow old.moment found old.state packet state filled_packet → KeepsSize filled_packet
+    → FillsLostAtOnce old.moment found old.state packet state filled_packet → KeepsSize filled_packet
     → is_sent ≡ not (is_none filled_packet.body) → new ≡ sent_where is_sent filled_packet (view_of (record old { state = state }))
-    → TakesIn stream AtOnceAt (view_of old) new
+    → TakesPossibleTurn stream AtOnceAt (view_of old) new
 at_once_where stream old tcb state packet filled_packet is_sent new None below fast kept built fills size sent_is is = absurd (cc)
 at_once_where {R = R} stream old tcb state packet filled_packet is_sent new (Some transfer) below fast kept built fills size sent_is is =
     let held : Held = held_of tcb in
@@ -97,31 +97,31 @@ at_once_where {R = R} stream old tcb state packet filled_packet is_sent new (Som
     (is ∙ ap (λ (v : View R). sent_where is_sent filled_packet v) (below_view old state transfer fills.0 below fills.1))
 
 pub at_once_sent : {R : Type 0} (stream : R → Stream) (old : Context R) (tcb : TransmissionControlBlock) (state : State) (packet filled_packet : Building) (is_sent : Bool) (new : View R)
-    → at_once_below (transfer_of old.state) ≡ true → Some tcb ≡ tcb_of old.state
+    → has_lost_data (transfer_of old.state) ≡ true → Some tcb ≡ tcb_of old.state
     → packet ≡ empty_packet old.options (tcb.capabilities.zero_checksum_method.0 == 0) tcb.peer.tag
-    → FillsAtOnceBelow old.moment (transfer_of old.state) old.state packet state filled_packet → KeepsSize filled_packet
+    → FillsLostAtOnce old.moment (transfer_of old.state) old.state packet state filled_packet → KeepsSize filled_packet
     → is_sent ≡ not (is_none filled_packet.body) → new ≡ sent_where is_sent filled_packet (view_of (record old { state = state }))
-    → TakesIn stream AtOnceAt (view_of old) new
+    → TakesPossibleTurn stream AtOnceAt (view_of old) new
 at_once_sent stream old tcb state packet filled_packet is_sent new fast kept built fills size sent_is is =
     at_once_where stream old tcb state packet filled_packet is_sent new (transfer_of old.state) refl fast kept built fills size sent_is is
 
 -- ---- where nothing goes
 
-still_at_once : (e : Endpoint) (peer : Option Held) (found : Option Transfer) → at_once_below found ≡ false → GoesAtOnce e peer found (still e)
+still_at_once : (e : Endpoint) (peer : Option Held) (found : Option Transfer) → has_lost_data found ≡ false → GoesAtOnce e peer found (still e)
 still_at_once e None found none = refl
 still_at_once e (Some held) None none = refl
 still_at_once e (Some held) (Some transfer) none = subst (λ (b : Bool). FastRetransmits b e held transfer (still e)) (sym none) refl
 
-pub none_at_once : {R : Type 0} (stream : R → Stream) (old : Context R) → at_once_below (transfer_of old.state) ≡ false → TakesIn stream AtOnceAt (view_of old) (view_of old)
+pub none_at_once : {R : Type 0} (stream : R → Stream) (old : Context R) → has_lost_data (transfer_of old.state) ≡ false → TakesPossibleTurn stream AtOnceAt (view_of old) (view_of old)
 none_at_once stream old none =
     record { outcome = still (endpoint_of old); turn = still_at_once (endpoint_of old) (held_in (core_of old.state)) (transfer_of old.state) none; moves = moves_still stream (view_of old) }
 
-pub at_once_no_peer : {R : Type 0} (stream : R → Stream) (old : Context R) → None ≡ tcb_of old.state → TakesIn stream AtOnceAt (view_of old) (view_of old)
+pub at_once_no_peer : {R : Type 0} (stream : R → Stream) (old : Context R) → None ≡ tcb_of old.state → TakesPossibleTurn stream AtOnceAt (view_of old) (view_of old)
 at_once_no_peer stream old nobody =
     let e : Endpoint = endpoint_of old in
     record {
       outcome = still e;
-      turn = subst (λ (h : Option Held). GoesAtOnce e h e.below.transfer (still e)) (sym (none_by_tcb old.state nobody)) refl;
+      turn = subst (λ (h : Option Held). GoesAtOnce e h e.queues.transfer (still e)) (sym (none_by_tcb old.state nobody)) refl;
       moves = moves_still stream (view_of old);
     }
 
@@ -139,5 +139,5 @@ any_at_once e (Some held) (Some transfer) = any_fast e held transfer
 
 pub at_once_cut : {R : Type 0} (view : View R) (events : List (Event (List ℕ))) → events ≡ view.events → CutIn AtOnceAt view events
 at_once_cut view events same =
-    let any = any_at_once view.endpoint (held_in view.endpoint.core) view.endpoint.below.transfer in
+    let any = any_at_once view.endpoint (held_in view.endpoint.core) view.endpoint.queues.transfer in
     record { outcome = any.0; turn = any.1; cut = cut_first view any.0 events same }

@@ -24,10 +24,10 @@ use Rattle.dcsctp_transfer.specs.spec.endpoint.Event.{Event}
 use Rattle.dcsctp_transfer.specs.Sacks.{HandlesSack}
 use Rattle.dcsctp_transfer.specs.declared.sacks.HandledSack.{HandledSack}
 use Rattle.dcsctp_core.specs.View.{View, tcb_of, transfer_of, endpoint_of, view_of, Moves}
-use Rattle.dcsctp_core.specs.Handling.{TakesIn}
+use Rattle.dcsctp_core.specs.Handling.{TakesPossibleTurn}
 use Rattle.dcsctp_core.specs.Timing.{is_timer_due, ExpiryTurn, ExpiresAlways}
 use Rattle.dcsctp_core.specs.Flushing.{state_with}
-use Rattle.dcsctp_core.specs.Below.{ChangesBelow, ChangesWhere, LosesAt, SacksBelow, TakesFirst, TakesReady}
+use Rattle.dcsctp_core.specs.Below.{ChangesQueues, ChangesWhere, LosesAt, HandlesSackInTransfer, TakesFirst, TakesReady}
 use Rattle.dcsctp_core.proofs.FirstLemmas.{endpoint_with}
 use Rattle.dcsctp_core.proofs.LendingLemmas.{found, lent, left_with}
 
@@ -71,10 +71,10 @@ with_count view count = record view { endpoint = record view.endpoint { error_co
 
 -- What the retransmission timer brings.
 abbrev Lost : {R : Type 0} → (R → Stream) → Context R → View R → Type 0
-Lost stream old new = (is_timer_due (endpoint_of old) (own_timer retransmission) ≡ true) × TakesIn stream (ExpiryTurn (own_timer retransmission)) (view_of old) new
+Lost stream old new = (is_timer_due (endpoint_of old) (own_timer retransmission) ≡ true) × TakesPossibleTurn stream (ExpiryTurn (own_timer retransmission)) (view_of old) new
 
 lost : {R : Type 0} (stream : R → Stream) (old : Context R) (state : State) (count : ℕ) (found : Option Transfer) → transfer_of old.state ≡ found
-    → has_come old.moment (loss_deadline found) ≡ true → ChangesBelow (LosesAt old.moment) found old.state state
+    → has_come old.moment (loss_deadline found) ≡ true → ChangesQueues (LosesAt old.moment) found old.state state
     → count ≡ error_counted old.tx_error_counter.limit old.tx_error_counter.count
     → Lost stream old (with_count (view_of (record old { state = state })) count)
 lost stream old state count None holds due changes counts = absurd (cc)
@@ -111,9 +111,9 @@ loss_not_due stream old state b answer waits changes =
 -- ---- a SACK
 
 pub sacks_lent : (now : ℕ) (sack : SackContent) (old : State) (tcb : TransmissionControlBlock) (after : Transfer) (told telling : List (Event (List ℕ))) (result : Result HandledSack AllocError) → Some tcb ≡ tcb_of old
-    → HandlesSack now sack tcb.transfer told after telling result → SacksBelow now sack (transfer_of old) old told (left_with old tcb after) telling result
+    → HandlesSack now sack tcb.transfer told after telling result → HandlesSackInTransfer now sack (transfer_of old) old told (left_with old tcb after) telling result
 sacks_lent now sack old tcb after told telling result holds h =
-    subst (λ (f : Option Transfer). SacksBelow now sack f old told (left_with old tcb after) telling result) (sym (found old tcb holds)) (after, lent old tcb after holds, h)
+    subst (λ (f : Option Transfer). HandlesSackInTransfer now sack f old told (left_with old tcb after) telling result) (sym (found old tcb holds)) (after, lent old tcb after holds, h)
 
 -- ---- a message that is taken
 

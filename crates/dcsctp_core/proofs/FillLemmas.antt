@@ -1,5 +1,5 @@
 -- How a packet of a flush is filled, as an answer of the transfer layer.
-use Rattle.dcsctp_transfer.specs.spec.queues.Chunks.{AreChunks}
+use Rattle.dcsctp_transfer.specs.spec.queues.Chunks.{AreChunksOfTsns}
 use Rattle.std.proofs.Common.{◌≡◌, ◌==◌, ◌&&◌, ◌||◌, not, nat_le, ℕ, zero, suc, Bool, true, false, Option, None, Some, List, [], ◌∷◌, ◌++◌, length, map, take, refl, sym, ap, subst, ◌∙◌, append_assoc, arith, nat_lt}
 use Rattle.std.specs.Prelude.{if◌then◌else◌}
 use Rattle.std.specs.List.{AllByRecursion, flat_map}
@@ -15,18 +15,18 @@ use Rattle.dcsctp_transfer.specs.types.Settings.{Ports, ports_of}
 use Rattle.dcsctp_transfer.specs.spec.endpoint.Event.{Event}
 use Rattle.dcsctp_transfer.specs.spec.Packet.{Plain, plain, unworked, Content, Emission}
 use Rattle.dcsctp_transfer.specs.spec.queues.Tracker.{TrackerState, is_acknowledgement_due, owes_acknowledgement}
-use Rattle.dcsctp_transfer.specs.spec.queues.SendQueue.{SendQueueState, has_data}
+use Rattle.dcsctp_transfer.specs.spec.queues.SendQueue.{SendQueueState, has_queued_data}
 use Rattle.dcsctp_transfer.specs.spec.queues.Transfer.{Transfer, is_none_ready, is_idle, may_give}
 use Rattle.dcsctp_transfer.specs.spec.queues.Retransmission.{can_send, outstanding_count, RetransmissionState}
 use Rattle.dcsctp_transfer.specs.types.declared.association.Held.{Held}
 use Rattle.dcsctp_transfer.specs.spec.endpoint.Endpoint.{Endpoint, Timers, held_in}
 use Rattle.dcsctp_transfer.specs.spec.association.Choices.{plain_contents}
 use Rattle.dcsctp_transfer.specs.spec.endpoint.BegunResets.{BegunReset, stream_field, streams_within, last_assigned_tsn, begun_where, begun_in, request_contents, queue_requesting, after_begun, retransmission_begun}
-use Rattle.dcsctp_transfer.specs.spec.endpoint.FlushOutcomes.{Told, amount_is_low, total_amount_is_low, message_is_sent, message_may_have_expired, message_has_expired, message_ends, told_event, Answer, answer_contents, filled, Ask, first_ask, later_ask, room_in, where_fits, begun_at, wants_sack, FitsPlain, Gives, GivesWhere, AnsweredBelow, timers_with, nothing_waits, told_content, FillsWhere, GivesUpWhere, forward_where, may_abandon, may_forward, stage_of}
+use Rattle.dcsctp_transfer.specs.spec.endpoint.FlushOutcomes.{FillingEvent, amount_is_low, total_amount_is_low, message_is_sent, message_may_have_expired, message_has_expired, message_ends, filling_event, Answer, answer_contents, filled, Ask, first_ask, later_ask, room_in, where_fits, begun_at, wants_sack, FitsPlain, Gives, GivesWhere, IsAnswerOfQueues, timers_with, nothing_waits, filling_event_content, FillsWhere, GivesUpWhere, forward_where, may_abandon, may_forward, stage_of}
 use Rattle.dcsctp_transfer.specs.api.Calls.{user_event}
-use Rattle.dcsctp_transfer.specs.Filling.{has_chunks, FillsPacket, with_chunk}
+use Rattle.dcsctp_transfer.specs.Filling.{has_chunks, FillsDataPacket, with_chunk}
 use Rattle.dcsctp_core.specs.View.{View}
-use Rattle.dcsctp_core.specs.Flushing.{packet_for, timers_where, Fills, FillsData}
+use Rattle.dcsctp_core.specs.Flushing.{packet_for, timers_where, FillsAskedPacket, FillsPacketData}
 use Rattle.dcsctp_core.proofs.SentLemmas.{body_of, body_append, body_of_chunks, room_is}
 use Rattle.dcsctp_transfer.proofs.spec_lemmas.FilledAnswers.{GivesUntilFull}
 use Rattle.dcsctp_transfer.specs.spec.queues.Outstanding.{OutstandingState}
@@ -36,7 +36,7 @@ use Rattle.dcsctp_transfer.specs.spec.endpoint.FlushOutcomes as asks
 
 -- ---- what the user is told
 
-told_one : (ports : Ports) (told : Told) → user_event ports (told_event told) ≡ told_content told
+told_one : (ports : Ports) (told : FillingEvent) → user_event ports (filling_event told) ≡ filling_event_content told
 told_one ports (amount_is_low stream) = refl
 told_one ports total_amount_is_low = refl
 told_one ports (message_is_sent id) = refl
@@ -44,10 +44,10 @@ told_one ports (message_may_have_expired id) = refl
 told_one ports (message_has_expired id) = refl
 told_one ports (message_ends id) = refl
 
-pub told_user : (ports : Ports) (told : List Told) → map told_content told ≡ map (user_event ports) (map told_event told)
+pub told_user : (ports : Ports) (told : List FillingEvent) → map filling_event_content told ≡ map (user_event ports) (map filling_event told)
 told_user ports [] = refl
 told_user ports (first ∷ told) =
-    ap (λ (e : Event (List ℕ)). e ∷ map told_content told) (sym (told_one ports first)) ∙ ap (λ (es : List (Event (List ℕ))). user_event ports (told_event first) ∷ es) (told_user ports told)
+    ap (λ (e : Event (List ℕ)). e ∷ map filling_event_content told) (sym (told_one ports first)) ∙ ap (λ (es : List (Event (List ℕ))). user_event ports (filling_event first) ∷ es) (told_user ports told)
 
 -- ---- chunks with data
 
@@ -77,12 +77,12 @@ ready_of true r b c d is = absurd (cc)
 -- no stream is to be reset
 pub idle_ready : (queue : SendQueueState) (transfer : Transfer) → is_idle queue transfer ≡ true → is_none_ready (ready_streams queue) ≡ true
 idle_ready queue transfer is =
-    ready_of (has_data queue) (is_none_ready (ready_streams queue)) (outstanding_count transfer.retransmission == 0) (owes_acknowledgement transfer.tracker) (is_acknowledgement_due transfer.tracker) is
+    ready_of (has_queued_data queue) (is_none_ready (ready_streams queue)) (outstanding_count transfer.retransmission == 0) (owes_acknowledgement transfer.tracker) (is_acknowledgement_due transfer.tracker) is
 
 pub idle_parts : (queue : SendQueueState) (transfer : Transfer) → is_idle queue transfer ≡ true
-    → ((has_data queue ≡ false) × (outstanding_count transfer.retransmission ≡ 0)) × ((owes_acknowledgement transfer.tracker ≡ false) × (is_acknowledgement_due transfer.tracker ≡ false))
+    → ((has_queued_data queue ≡ false) × (outstanding_count transfer.retransmission ≡ 0)) × ((owes_acknowledgement transfer.tracker ≡ false) × (is_acknowledgement_due transfer.tracker ≡ false))
 idle_parts queue transfer is =
-    let parts = parts_of (has_data queue) (is_none_ready (ready_streams queue)) (outstanding_count transfer.retransmission == 0) (owes_acknowledgement transfer.tracker) (is_acknowledgement_due transfer.tracker) is in
+    let parts = parts_of (has_queued_data queue) (is_none_ready (ready_streams queue)) (outstanding_count transfer.retransmission == 0) (owes_acknowledgement transfer.tracker) (is_acknowledgement_due transfer.tracker) is in
     ((parts.0.0, zero_of (outstanding_count transfer.retransmission) parts.0.1), parts.1)
   where
     zero_of : (n : ℕ) → (n == 0) ≡ true → n ≡ 0
@@ -95,16 +95,16 @@ idle_wants : (ask : Ask) (queue : SendQueueState) (transfer : Transfer) → is_i
 idle_wants later_ask queue transfer is = refl
 idle_wants first_ask queue transfer is =
     let parts = idle_parts queue transfer is in
-    wants_by (is_acknowledgement_due transfer.tracker) (owes_acknowledgement transfer.tracker) (has_data queue || can_send transfer.retransmission) parts.1.0 parts.1.1
+    wants_by (is_acknowledgement_due transfer.tracker) (owes_acknowledgement transfer.tracker) (has_queued_data queue || can_send transfer.retransmission) parts.1.0 parts.1.1
 
 -- ---- an answer out of its parts
 
 -- what the transfer layer gave: what acknowledges or gives messages up, the request of a reset, and data
-abbrev answer_by : List Plain → Option BegunReset → List ChunkContent → List Told → Endpoint → Answer
+abbrev answer_by : List Plain → Option BegunReset → List ChunkContent → List FillingEvent → Endpoint → Answer
 answer_by sacks begun chunks told after = record { acknowledgements = sacks; begun = begun; data_chunks = map unworked chunks; told = told; after = after }
 
 -- the packet with all of it behind what it holds
-packet_is : (options : Options) (draft : Emission) (sacks : List Plain) (begun : Option BegunReset) (chunks : List ChunkContent) (told : List Told) (after : Endpoint) (filled_packet : Building)
+packet_is : (options : Options) (draft : Emission) (sacks : List Plain) (begun : Option BegunReset) (chunks : List ChunkContent) (told : List FillingEvent) (after : Endpoint) (filled_packet : Building)
     → filled_packet ≡ record (packet_for options (filled draft (plain_contents sacks ++ request_contents begun))) {
       body = (packet_for options (filled draft (plain_contents sacks ++ request_contents begun))).body ++ flat_map chunk_bytes chunks;
     }
@@ -160,7 +160,7 @@ transfer_after {transfer = transfer} u = record transfer { retransmission = u.se
 -- the endpoint with this below it
 abbrev pub endpoint_given : Endpoint → Option BegunReset → Bool → ℕ → SendQueueState → Transfer → Endpoint
 endpoint_given e begun any later left after =
-    record (after_begun begun e) { timers = timers_where any (after_begun begun e); no_forward_tsn_before = later; below = record { queue = left; transfer = Some after } }
+    record (after_begun begun e) { timers = timers_where any (after_begun begun e); no_forward_tsn_before = later; queues = record { queue = left; transfer = Some after } }
 
 abbrev pub given_endpoint : {ask : Ask} {e : Endpoint} {draft : Emission} {transfer : Transfer} → GivesUntilFull ask e draft transfer → Bool → Endpoint
 given_endpoint {e = e} u any = endpoint_given e u.begun any (forward_where u.next e.no_forward_tsn_before) u.sent.waiting (transfer_after u)
@@ -168,14 +168,14 @@ given_endpoint {e = e} u any = endpoint_given e u.begun any (forward_where u.nex
 -- A packet that was filled: what it came to up to the data, and the data in it.
 pub record Parts {R : Type 0} (ask : Ask) (old : View R) (draft : Emission) (transfer : Transfer) (new : View R) (filled_packet : Building) : Type 0 where
   pub until : GivesUntilFull ask old.endpoint draft transfer
-  pub still : has_data (start_of until).waiting ≡ false → outstanding_count (start_of until).queue ≡ 0 → until.sent ≡ start_of until
+  pub still : has_queued_data (start_of until).waiting ≡ false → outstanding_count (start_of until).queue ≡ 0 → until.sent ≡ start_of until
   pub chunks : List ChunkContent
-  pub are : AreChunks until.sent.queue.outstanding until.sent.tsns (map unworked chunks)
+  pub are : AreChunksOfTsns until.sent.queue.outstanding until.sent.tsns (map unworked chunks)
   pub fits : AllByRecursion FitsChunk chunks
   pub forwards_fit : AllByRecursion FitsPlain until.forwards
-  pub told : List Told
-  pub are_told : map told_content told ≡ until.sent.told
-  pub holds : old.endpoint.below.transfer ≡ Some transfer
+  pub told : List FillingEvent
+  pub are_told : map filling_event_content told ≡ until.sent.told
+  pub holds : old.endpoint.queues.transfer ≡ Some transfer
   pub adds : filled_packet
       ≡ record (packet_for old.endpoint.options (filled draft (plain_contents (until.sacks ++ until.forwards) ++ request_contents until.begun))) {
         body = (packet_for old.endpoint.options (filled draft (plain_contents (until.sacks ++ until.forwards) ++ request_contents until.begun))).body ++ flat_map chunk_bytes chunks;
@@ -205,11 +205,11 @@ no_forwards : (b : Bool) (now : ℕ) (transfer : Transfer) (room : ℕ) (old new
     → (new ≡ old) × (next ≡ None) × (chunks ≡ [])
 no_forwards b now transfer room old new next chunks is h = subst (λ (x : Bool). GivesUpWhere x now transfer room old new next chunks) is h
 
-no_chunks : (outstanding : OutstandingState) (chunks : List ChunkContent) → AreChunks outstanding [] (map unworked chunks) → chunks ≡ []
+no_chunks : (outstanding : OutstandingState) (chunks : List ChunkContent) → AreChunksOfTsns outstanding [] (map unworked chunks) → chunks ≡ []
 no_chunks outstanding [] h = refl
 no_chunks outstanding (chunk ∷ chunks) h = absurd h
 
-none_told : (told : List Told) → map told_content told ≡ [] → told ≡ []
+none_told : (told : List FillingEvent) → map filling_event_content told ≡ [] → told ≡ []
 none_told [] is = refl
 none_told (first ∷ told) is = absurd (cc)
 
@@ -220,21 +220,21 @@ pub record IdleUntil (ask : Ask) (e : Endpoint) (draft : Emission) (transfer : T
   pub forwards : u.forwards ≡ []
   pub next : u.next ≡ None
   pub begun : u.begun ≡ None
-  pub no_data : has_data (start_of u).waiting ≡ false
+  pub no_data : has_queued_data (start_of u).waiting ≡ false
   pub no_items : outstanding_count (start_of u).queue ≡ 0
-  pub waiting : (start_of u).waiting ≡ e.below.queue
+  pub waiting : (start_of u).waiting ≡ e.queues.queue
   pub queue : (start_of u).queue ≡ transfer.retransmission
   pub told : (start_of u).told ≡ []
 
-pub idle_until : (ask : Ask) (e : Endpoint) (draft : Emission) (transfer : Transfer) (u : GivesUntilFull ask e draft transfer) → is_idle e.below.queue transfer ≡ true → IdleUntil ask e draft transfer u
+pub idle_until : (ask : Ask) (e : Endpoint) (draft : Emission) (transfer : Transfer) (u : GivesUntilFull ask e draft transfer) → is_idle e.queues.queue transfer ≡ true → IdleUntil ask e draft transfer u
 idle_until ask e draft transfer u idle =
-    let parts = idle_parts e.below.queue transfer idle in
-    let none = no_sacks (wants_sack ask e.below.queue transfer) (room_in e draft) transfer u.tracker u.sacks (idle_wants ask e.below.queue transfer idle) u.acknowledges in
+    let parts = idle_parts e.queues.queue transfer idle in
+    let none = no_sacks (wants_sack ask e.queues.queue transfer) (room_in e draft) transfer u.tracker u.sacks (idle_wants ask e.queues.queue transfer idle) u.acknowledges in
     let up = no_forwards (may_forward ask e transfer.retransmission) e.moment transfer _ _ u.gave_up u.next u.forwards (may_not ask e transfer.retransmission parts.0.1) u.gives_up in
-    let waits : u.gave_up.waiting ≡ e.below.queue = ap (λ (s : Stage). s.waiting) up.0 in
-    let ready : is_none_ready (ready_streams u.gave_up.waiting) ≡ true = ap (λ (q : SendQueueState). is_none_ready (ready_streams q)) waits ∙ idle_ready e.below.queue transfer idle in
+    let waits : u.gave_up.waiting ≡ e.queues.queue = ap (λ (s : Stage). s.waiting) up.0 in
+    let ready : is_none_ready (ready_streams u.gave_up.waiting) ≡ true = ap (λ (q : SendQueueState). is_none_ready (ready_streams q)) waits ∙ idle_ready e.queues.queue transfer idle in
     let begun : u.begun ≡ None = u.begins ∙ none_begun ask (held_in e.core) _ (last_assigned_tsn u.gave_up.queue) u.gave_up.waiting ready in
-    let left : (start_of u).waiting ≡ e.below.queue = ap (λ (b : Option BegunReset). queue_requesting (streams_within (room_in e (filled draft (plain_contents (u.sacks ++ u.forwards))))) b u.gave_up.waiting) begun ∙ waits in
+    let left : (start_of u).waiting ≡ e.queues.queue = ap (λ (b : Option BegunReset). queue_requesting (streams_within (room_in e (filled draft (plain_contents (u.sacks ++ u.forwards))))) b u.gave_up.waiting) begun ∙ waits in
     let state : (start_of u).queue ≡ transfer.retransmission = ap (λ (b : Option BegunReset). retransmission_begun b u.gave_up.queue) begun ∙ ap (λ (s : Stage). s.queue) up.0 in
     record {
       sacks = none.1;
@@ -242,7 +242,7 @@ idle_until ask e draft transfer u idle =
       forwards = up.2;
       next = up.1;
       begun = begun;
-      no_data = ap has_data left ∙ parts.0.0;
+      no_data = ap has_queued_data left ∙ parts.0.0;
       no_items = ap outstanding_count state ∙ parts.0.1;
       waiting = left;
       queue = state;
@@ -250,34 +250,34 @@ idle_until ask e draft transfer u idle =
     }
 
 -- the answer out of these
-abbrev answer_out_of : Endpoint → Transfer → List Plain → Option BegunReset → List ChunkContent → List Told → Option ℕ → SendQueueState → RetransmissionState → TrackerState → Answer
+abbrev answer_out_of : Endpoint → Transfer → List Plain → Option BegunReset → List ChunkContent → List FillingEvent → Option ℕ → SendQueueState → RetransmissionState → TrackerState → Answer
 answer_out_of e transfer sacks begun chunks told next waiting queue tracker =
     answer_by sacks begun chunks told (record (after_begun begun e) {
       timers = timers_where (has_chunks chunks) (after_begun begun e);
       no_forward_tsn_before = forward_where next e.no_forward_tsn_before;
-      below = record { queue = waiting; transfer = Some (record transfer { retransmission = queue; tracker = tracker }) };
+      queues = record { queue = waiting; transfer = Some (record transfer { retransmission = queue; tracker = tracker }) };
     })
 
 idle_answer : {R : Type 0} (ask : Ask) (old : View R) (draft : Emission) (transfer : Transfer) (new : View R) (filled_packet : Building) (p : Parts ask old draft transfer new filled_packet)
-    → is_idle old.endpoint.below.queue transfer ≡ true → answer_of p ≡ nothing_waits old.endpoint
+    → is_idle old.endpoint.queues.queue transfer ≡ true → answer_of p ≡ nothing_waits old.endpoint
 idle_answer ask old draft transfer new filled_packet p idle =
     let e : Endpoint = old.endpoint in
     let u : GivesUntilFull ask e draft transfer = p.until in
     let n : IdleUntil ask e draft transfer u = idle_until ask e draft transfer u idle in
     let sent : u.sent ≡ start_of u = p.still n.no_data n.no_items in
     let chunks : p.chunks ≡ [] =
-    no_chunks u.sent.queue.outstanding p.chunks (subst (λ (tsns : List ℕ). AreChunks u.sent.queue.outstanding tsns (map unworked p.chunks)) (ap (λ (s : Stage). s.tsns) sent) p.are) in
+    no_chunks u.sent.queue.outstanding p.chunks (subst (λ (tsns : List ℕ). AreChunksOfTsns u.sent.queue.outstanding tsns (map unworked p.chunks)) (ap (λ (s : Stage). s.tsns) sent) p.are) in
     let told : p.told ≡ [] = none_told p.told (p.are_told ∙ (ap (λ (s : Stage). s.told) sent ∙ n.told)) in
     ap (λ (sacks : List Plain). answer_out_of e transfer (sacks ++ u.forwards) u.begun p.chunks p.told u.next u.sent.waiting u.sent.queue u.tracker) n.sacks
     ∙ ap (λ (forwards : List Plain). answer_out_of e transfer forwards u.begun p.chunks p.told u.next u.sent.waiting u.sent.queue u.tracker) n.forwards
     ∙ ap (λ (begun : Option BegunReset). answer_out_of e transfer [] begun p.chunks p.told u.next u.sent.waiting u.sent.queue u.tracker) n.begun
     ∙ ap (λ (chunks : List ChunkContent). answer_out_of e transfer [] None chunks p.told u.next u.sent.waiting u.sent.queue u.tracker) chunks
-    ∙ ap (λ (told : List Told). answer_out_of e transfer [] None [] told u.next u.sent.waiting u.sent.queue u.tracker) told
+    ∙ ap (λ (told : List FillingEvent). answer_out_of e transfer [] None [] told u.next u.sent.waiting u.sent.queue u.tracker) told
     ∙ ap (λ (next : Option ℕ). answer_out_of e transfer [] None [] [] next u.sent.waiting u.sent.queue u.tracker) n.next
     ∙ ap (λ (waiting : SendQueueState). answer_out_of e transfer [] None [] [] None waiting u.sent.queue u.tracker) (ap (λ (s : Stage). s.waiting) sent ∙ n.waiting)
-    ∙ ap (λ (queue : RetransmissionState). answer_out_of e transfer [] None [] [] None e.below.queue queue u.tracker) (ap (λ (s : Stage). s.queue) sent ∙ n.queue)
-    ∙ ap (λ (tracker : TrackerState). answer_out_of e transfer [] None [] [] None e.below.queue transfer.retransmission tracker) n.tracker
-    ∙ ap (λ (t : Option Transfer). answer_by [] None [] [] (record e { below = record e.below { transfer = t } })) (sym p.holds)
+    ∙ ap (λ (queue : RetransmissionState). answer_out_of e transfer [] None [] [] None e.queues.queue queue u.tracker) (ap (λ (s : Stage). s.queue) sent ∙ n.queue)
+    ∙ ap (λ (tracker : TrackerState). answer_out_of e transfer [] None [] [] None e.queues.queue transfer.retransmission tracker) n.tracker
+    ∙ ap (λ (t : Option Transfer). answer_by [] None [] [] (record e { queues = record e.queues { transfer = t } })) (sym p.holds)
 
 -- ---- where something waits
 
@@ -306,20 +306,20 @@ gives_by ask old draft transfer new filled_packet p =
     }
 
 gives_where : {R : Type 0} (ask : Ask) (old : View R) (draft : Emission) (transfer : Transfer) (new : View R) (filled_packet : Building) (p : Parts ask old draft transfer new filled_packet) (b : Bool)
-    → is_idle old.endpoint.below.queue transfer ≡ b → GivesWhere b ask old.endpoint draft transfer (answer_of p)
+    → is_idle old.endpoint.queues.queue transfer ≡ b → GivesWhere b ask old.endpoint draft transfer (answer_of p)
 gives_where ask old draft transfer new filled_packet p true is = idle_answer ask old draft transfer new filled_packet p is
 gives_where ask old draft transfer new filled_packet p false is = gives_by ask old draft transfer new filled_packet p
 
 pub fills_by : {R : Type 0} (ask : Ask) (old : View R) (draft : Emission) (transfer : Transfer) (new : View R) (filled_packet : Building)
-    → Parts ask old draft transfer new filled_packet → Fills ask old draft new filled_packet
+    → Parts ask old draft transfer new filled_packet → FillsAskedPacket ask old draft new filled_packet
 fills_by {R = R} ask old draft transfer new filled_packet p =
     let e : Endpoint = old.endpoint in
     let u : GivesUntilFull ask e draft transfer = p.until in
     record {
       answer = answer_of p;
-      kept = ap (λ (t : Timers). record (after_begun u.begun e) { timers = t; no_forward_tsn_before = forward_where u.next e.no_forward_tsn_before; below = record { queue = u.sent.waiting; transfer = Some (transfer_after u) } })
+      kept = ap (λ (t : Timers). record (after_begun u.begun e) { timers = t; no_forward_tsn_before = forward_where u.next e.no_forward_tsn_before; queues = record { queue = u.sent.waiting; transfer = Some (transfer_after u) } })
           (timers_are (after_begun u.begun e) p.chunks);
-      by_transfer = subst (AnsweredBelow ask e draft (answer_of p)) (sym p.holds) (gives_where ask old draft transfer new filled_packet p (is_idle e.below.queue transfer) refl);
+      by_transfer = subst (IsAnswerOfQueues ask e draft (answer_of p)) (sym p.holds) (gives_where ask old draft transfer new filled_packet p (is_idle e.queues.queue transfer) refl);
       endpoint = ap (λ (v : View R). v.endpoint) p.is;
       events = ap (λ (v : View R). v.events) p.is ∙ ap (λ (es : List (Event (List ℕ))). old.events ++ es) (sym p.are_told ∙ told_user (ports_of e.options) p.told);
       rest = p.is ∙ ap (λ (v : View R). record old { endpoint = v.endpoint; events = v.events }) (sym p.is);
@@ -343,14 +343,14 @@ stays_behind front waiting state room sent is =
 
 -- ---- where no peer is held
 
-pub fills_nothing : {R : Type 0} (ask : Ask) (old : View R) (draft : Emission) (new : View R) (filled_packet : Building) → old.endpoint.below.transfer ≡ None
-    → new ≡ old → filled_packet ≡ packet_for old.endpoint.options draft → Fills ask old draft new filled_packet
+pub fills_nothing : {R : Type 0} (ask : Ask) (old : View R) (draft : Emission) (new : View R) (filled_packet : Building) → old.endpoint.queues.transfer ≡ None
+    → new ≡ old → filled_packet ≡ packet_for old.endpoint.options draft → FillsAskedPacket ask old draft new filled_packet
 fills_nothing {R = R} ask old draft new filled_packet holds same is =
     let e : Endpoint = old.endpoint in
     record {
       answer = nothing_waits e;
       kept = refl;
-      by_transfer = subst (AnsweredBelow ask e draft (nothing_waits e)) (sym holds) refl;
+      by_transfer = subst (IsAnswerOfQueues ask e draft (nothing_waits e)) (sym holds) refl;
       endpoint = ap (λ (v : View R). v.endpoint) same;
       events = ap (λ (v : View R). v.events) same ∙ sym (append-nil old.events);
       rest = same ∙ ap (λ (v : View R). record old { endpoint = v.endpoint; events = v.events }) (sym same);
@@ -361,14 +361,14 @@ fills_nothing {R = R} ask old draft new filled_packet holds same is =
 
 -- what fills it is all it comes to
 abbrev pub later_until : (e : Endpoint) (draft : Emission) (transfer : Transfer) (sent : Stage)
-    → FillsWhere (may_give e.below.queue transfer.retransmission) e.moment (stage_of e.below.queue transfer.retransmission [] (room_in e (filled draft []))) sent → GivesUntilFull later_ask e draft transfer
+    → FillsWhere (may_give e.queues.queue transfer.retransmission) e.moment (stage_of e.queues.queue transfer.retransmission [] (room_in e (filled draft []))) sent → GivesUntilFull later_ask e draft transfer
 later_until e draft transfer sent fills =
     record {
       sacks = [];
       forwards = [];
       tracker = transfer.tracker;
       acknowledges = (refl, refl);
-      gave_up = stage_of e.below.queue transfer.retransmission [] 0;
+      gave_up = stage_of e.queues.queue transfer.retransmission [] 0;
       next = None;
       gives_up = (refl, refl, refl);
       begun = None;
@@ -387,11 +387,11 @@ room_is_left e draft packet is = ap bytes_remaining is ∙ room_is e draft
 -- the view with this below its endpoint
 abbrev filled_view : {R : Type 0} → View R → Bool → SendQueueState → Transfer → List (Event (List ℕ)) → View R
 filled_view old any left after telling =
-    record old { endpoint = record old.endpoint { timers = timers_where any old.endpoint; below = record { queue = left; transfer = Some after } }; events = telling }
+    record old { endpoint = record old.endpoint { timers = timers_where any old.endpoint; queues = record { queue = left; transfer = Some after } }; events = telling }
 
 -- what a packet that was filled leaves
 pub view_filled : {R : Type 0} (old : View R) (transfer after : Transfer) (left : SendQueueState) (packet filled_packet : Building) (any : Bool) (new : View R)
-    → (h : FillsPacket old.endpoint.moment transfer old.endpoint.below.queue old.events packet after left new.events filled_packet any) → new ≡ filled_view old any left after new.events
+    → (h : FillsDataPacket old.endpoint.moment transfer old.endpoint.queues.queue old.events packet after left new.events filled_packet any) → new ≡ filled_view old any left after new.events
     → new ≡ filled_view old (has_chunks h.chunks) h.sent.waiting (record transfer { retransmission = h.sent.queue }) (old.events ++ h.sent.told)
 view_filled old transfer after left packet filled_packet any new h is =
     is
@@ -400,8 +400,8 @@ view_filled old transfer after left packet filled_packet any new h is =
     ∙ ap (λ (t : Transfer). filled_view old (has_chunks h.chunks) h.sent.waiting t new.events) h.is
     ∙ ap (filled_view old (has_chunks h.chunks) h.sent.waiting (record transfer { retransmission = h.sent.queue })) h.tells
 
-later_by : {R : Type 0} (old : View R) (draft : Emission) (found : Option Transfer) (new : View R) (packet filled_packet : Building) → old.endpoint.below.transfer ≡ found
-    → packet ≡ packet_for old.endpoint.options draft → FillsData found old packet new filled_packet → Fills later_ask old draft new filled_packet
+later_by : {R : Type 0} (old : View R) (draft : Emission) (found : Option Transfer) (new : View R) (packet filled_packet : Building) → old.endpoint.queues.transfer ≡ found
+    → packet ≡ packet_for old.endpoint.options draft → FillsPacketData found old packet new filled_packet → FillsAskedPacket later_ask old draft new filled_packet
 later_by old draft None new packet filled_packet holds is h = fills_nothing later_ask old draft new filled_packet holds h.0 (h.1 ∙ is)
 later_by old draft (Some transfer) new packet filled_packet holds is h =
     let e : Endpoint = old.endpoint in
@@ -411,8 +411,8 @@ later_by old draft (Some transfer) new packet filled_packet holds is h =
     fills_by later_ask old draft transfer new filled_packet
     (record {
       until = later_until e draft transfer filling.sent
-          (subst (λ (n : ℕ). FillsWhere (may_give e.below.queue transfer.retransmission) e.moment (stage_of e.below.queue transfer.retransmission [] n) filling.sent) room filling.fills);
-      still = λ no_data no_items. filling.idle no_data no_items ∙ ap (stage_of e.below.queue transfer.retransmission []) room;
+          (subst (λ (n : ℕ). FillsWhere (may_give e.queues.queue transfer.retransmission) e.moment (stage_of e.queues.queue transfer.retransmission [] n) filling.sent) room filling.fills);
+      still = λ no_data no_items. filling.idle no_data no_items ∙ ap (stage_of e.queues.queue transfer.retransmission []) room;
       chunks = filling.chunks;
       are = filling.are;
       fits = filling.fits;
@@ -425,8 +425,8 @@ later_by old draft (Some transfer) new packet filled_packet holds is h =
     })
 
 pub fills_later : {R : Type 0} (old : View R) (draft : Emission) (new : View R) (packet filled_packet : Building) → packet ≡ packet_for old.endpoint.options draft
-    → FillsData old.endpoint.below.transfer old packet new filled_packet → Fills later_ask old draft new filled_packet
-fills_later old draft new packet filled_packet is h = later_by old draft old.endpoint.below.transfer new packet filled_packet refl is h
+    → FillsPacketData old.endpoint.queues.transfer old packet new filled_packet → FillsAskedPacket later_ask old draft new filled_packet
+fills_later old draft new packet filled_packet is h = later_by old draft old.endpoint.queues.transfer new packet filled_packet refl is h
 
 -- ---- the first packet
 

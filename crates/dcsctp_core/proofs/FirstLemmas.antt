@@ -6,22 +6,22 @@ use Rattle.dcsctp_transfer.specs.wire_build.Building.{Building, bytes_remaining}
 use Rattle.dcsctp_transfer.specs.spec.endpoint.Event.{Event}
 use Rattle.dcsctp_transfer.specs.spec.Packet.{Plain, plain, Content, chunk_out, Emission, plain_out}
 use Rattle.dcsctp_transfer.specs.spec.queues.Tracker.{sack_of, TrackerState, sacked}
-use Rattle.dcsctp_transfer.specs.spec.queues.SendQueue.{SendQueueState, has_data}
-use Rattle.dcsctp_transfer.specs.spec.queues.Transfer.{Transfer, window_told, may_give}
+use Rattle.dcsctp_transfer.specs.spec.queues.SendQueue.{SendQueueState, has_queued_data}
+use Rattle.dcsctp_transfer.specs.spec.queues.Transfer.{Transfer, advertised_window, may_give}
 use Rattle.dcsctp_transfer.specs.spec.queues.Retransmission.{RetransmissionState}
 use Rattle.dcsctp_transfer.specs.spec.endpoint.Endpoint.{Endpoint, Core, OutstandingRequest, held_in}
 use Rattle.dcsctp_transfer.specs.spec.endpoint.Timers.{RunningTimer, started}
 use Rattle.dcsctp_transfer.specs.spec.association.Choices.{plain_contents}
-use Rattle.dcsctp_transfer.specs.spec.endpoint.BegunResets.{BegunReset, streams_within, last_assigned_tsn, begun_in, request_contents, reconfiguration_settings, transfer_begun, rto_of, core_asking, after_begun, queue_requesting, retransmission_begun}
-use Rattle.dcsctp_transfer.specs.spec.endpoint.FlushOutcomes.{own_sack, filled, first_ask, room_in, where_fits, wants_sack, FitsPlain, FillsWhere, ForwardsWhere, GivesUpWhere, forward_where, Told, begun_at, may_abandon, may_forward, stage_of, told_content}
+use Rattle.dcsctp_transfer.specs.spec.endpoint.BegunResets.{BegunReset, streams_within, last_assigned_tsn, begun_in, request_contents, reconfiguration_settings, transfer_reset_begun, rto_of, core_asking, after_begun, queue_requesting, retransmission_begun}
+use Rattle.dcsctp_transfer.specs.spec.endpoint.FlushOutcomes.{own_sack, filled, first_ask, room_in, where_fits, wants_sack, FitsPlain, FillsWhere, ForwardsWhere, GivesUpWhere, forward_where, FillingEvent, begun_at, may_abandon, may_forward, stage_of, filling_event_content}
 use Rattle.dcsctp_transfer.specs.wire.Content.{ChunkContent, sack_chunk}
 use Rattle.dcsctp_transfer.specs.wire.Spelling.{chunk_bytes}
-use Rattle.dcsctp_transfer.specs.Filling.{is_sack_wanted, with_chunk, Acknowledges, has_chunks}
+use Rattle.dcsctp_transfer.specs.Filling.{is_sack_wanted, with_chunk, FillsRequestedSack, has_chunks}
 use Rattle.dcsctp_core.specs.declared.context.Context.{Context}
 use Rattle.dcsctp_core.specs.declared.state.State.{State}
 use Rattle.dcsctp_core.specs.declared.state.State.TheVariants.{Closed, CookieWait, CookieEchoed, Open}
 use Rattle.dcsctp_core.specs.View.{View, core_of, tie_of, t1_of, t2_of, outstanding_of, reconfiguration_of, transfer_of, endpoint_of, view_of}
-use Rattle.dcsctp_core.specs.Flushing.{packet_for, state_with, AcknowledgesBelow, ForwardsAt, BeginsAt, FillsData, timers_where, Fills, can_send_below, ForwardsNow, is_in_time}
+use Rattle.dcsctp_core.specs.Flushing.{packet_for, state_with, AcknowledgesInQueues, ForwardsAt, FillsResetRequest, FillsPacketData, timers_where, FillsAskedPacket, can_queues_send, ForwardsNow, is_in_time}
 use Rattle.dcsctp_core.proofs.FillLemmas.{fills_by, fills_nothing, chunk_packet, endpoint_given, room_is_left, same_draft, stays_behind, told_after, view_filled}
 use Rattle.dcsctp_core.proofs.SentLemmas.{body_append}
 use Rattle.dcsctp_transfer.proofs.spec_lemmas.FilledAnswers.{GivesUntilFull}
@@ -82,11 +82,11 @@ with_parts context core tie t1 t2 outstanding reconfiguration transfer =
       tie = tie;
       outstanding = outstanding;
       timers = record (endpoint_of context).timers { t1 = t1; t2 = t2; reconfiguration = reconfiguration };
-      below = record (endpoint_of context).below { transfer = transfer };
+      queues = record (endpoint_of context).queues { transfer = transfer };
     }
 
 pub endpoint_with : {R : Type 0} (context : Context R) (old transfer : Transfer) → transfer_of context.state ≡ Some old
-    → endpoint_of (record context { state = state_with context.state transfer }) ≡ record (endpoint_of context) { below = record (endpoint_of context).below { transfer = Some transfer } }
+    → endpoint_of (record context { state = state_with context.state transfer }) ≡ record (endpoint_of context) { queues = record (endpoint_of context).queues { transfer = Some transfer } }
 endpoint_with context old transfer holds =
     let s : State = context.state in
     let t : State = state_with s transfer in
@@ -108,12 +108,12 @@ record Acked (e : Endpoint) (draft : Emission) (b : Bool) (transfer mid : Transf
   mid_is : mid ≡ record transfer { tracker = tracker }
   is : packet ≡ packet_for e.options (filled draft (plain_contents sacks))
 
-acked : (e : Endpoint) (draft : Emission) (b : Bool) (transfer mid : Transfer) (before packet : Building) → before ≡ packet_for e.options draft → Acknowledges b transfer before mid packet
+acked : (e : Endpoint) (draft : Emission) (b : Bool) (transfer mid : Transfer) (before packet : Building) → before ≡ packet_for e.options draft → FillsRequestedSack b transfer before mid packet
     → Acked e draft b transfer mid packet
 acked e draft false transfer mid before packet is h =
     record { sacks = []; tracker = transfer.tracker; acknowledges = (refl, refl); mid_is = h.0; is = h.1 ∙ is ∙ ap (packet_for e.options) (sym (same_draft draft)) }
 acked e draft true transfer mid before packet is h =
-    let sack = sack_of transfer.tracker (window_told transfer) in
+    let sack = sack_of transfer.tracker (advertised_window transfer) in
     record {
       sacks = where_fits (room_in e draft) (own_sack transfer);
       tracker = sacked transfer.tracker;
@@ -124,7 +124,7 @@ acked e draft true transfer mid before packet is h =
 
 -- the view once what came in is acknowledged
 abbrev acknowledged_view : {R : Type 0} → View R → Transfer → View R
-acknowledged_view old transfer = record old { endpoint = record old.endpoint { below = record old.endpoint.below { transfer = Some transfer } } }
+acknowledged_view old transfer = record old { endpoint = record old.endpoint { queues = record old.endpoint.queues { transfer = Some transfer } } }
 
 -- the chunks of two lists, one behind the other
 filled_twice : (draft : Emission) (front back : List Plain) → filled (filled draft (plain_contents front)) (plain_contents back) ≡ filled draft (plain_contents (front ++ back))
@@ -157,7 +157,7 @@ forwarded_view old next gave_up mid =
     record old {
       endpoint = record old.endpoint {
         no_forward_tsn_before = forward_where next old.endpoint.no_forward_tsn_before;
-        below = record { queue = gave_up.waiting; transfer = Some (record mid { retransmission = gave_up.queue }) };
+        queues = record { queue = gave_up.waiting; transfer = Some (record mid { retransmission = gave_up.queue }) };
       };
       events = old.events ++ gave_up.told;
     }
@@ -168,18 +168,18 @@ record GivenUp {R : Type 0} (old : View R) (draft : Emission) (mid : Transfer) (
   next : Option ℕ
   forwards : List Plain
   gives_up : GivesUpWhere (may_forward first_ask old.endpoint mid.retransmission) old.endpoint.moment mid (room_in old.endpoint draft)
-      (stage_of old.endpoint.below.queue mid.retransmission [] 0) gave_up next forwards
+      (stage_of old.endpoint.queues.queue mid.retransmission [] 0) gave_up next forwards
   fit : AllByRecursion FitsPlain forwards
-  told : List Told
-  are_told : map told_content told ≡ gave_up.told
+  told : List FillingEvent
+  are_told : map filling_event_content told ≡ gave_up.told
   is : packet ≡ packet_for old.endpoint.options (filled draft (plain_contents forwards))
   view : given ≡ forwarded_view old next gave_up mid
 
-given_up : {R : Type 0} (old : View R) (draft : Emission) (mid : Transfer) (given : View R) (before packet : Building) (b : Bool) → is_in_time old.endpoint ≡ b → old.endpoint.below.transfer ≡ Some mid
+given_up : {R : Type 0} (old : View R) (draft : Emission) (mid : Transfer) (given : View R) (before packet : Building) (b : Bool) → is_in_time old.endpoint ≡ b → old.endpoint.queues.transfer ≡ Some mid
     → before ≡ packet_for old.endpoint.options draft → ForwardsNow b mid old before given packet → GivenUp old draft mid given packet
 given_up {R = R} old draft mid given before packet false early holds is h =
     let e : Endpoint = old.endpoint in
-    let start : Stage = stage_of e.below.queue mid.retransmission [] 0 in
+    let start : Stage = stage_of e.queues.queue mid.retransmission [] 0 in
     record {
       gave_up = start;
       next = None;
@@ -190,13 +190,13 @@ given_up {R = R} old draft mid given before packet false early holds is h =
       are_told = refl;
       is = h.1 ∙ is ∙ ap (packet_for e.options) (sym (same_draft draft));
       view = h.0
-          ∙ ap (λ (t : Option Transfer). record old { endpoint = record e { below = record e.below { transfer = t } } }) holds
-          ∙ ap (λ (es : List (Event (List ℕ))). record old { endpoint = record e { below = record { queue = e.below.queue; transfer = Some mid } }; events = es }) (sym (append-nil old.events));
+          ∙ ap (λ (t : Option Transfer). record old { endpoint = record e { queues = record e.queues { transfer = t } } }) holds
+          ∙ ap (λ (es : List (Event (List ℕ))). record old { endpoint = record e { queues = record { queue = e.queues.queue; transfer = Some mid } }; events = es }) (sym (append-nil old.events));
     }
 given_up {R = R} old draft mid given before packet true in_time holds is h =
     let e : Endpoint = old.endpoint in
     let forwards = h.3 in
-    let start : Stage = stage_of e.below.queue mid.retransmission [] 0 in
+    let start : Stage = stage_of e.queues.queue mid.retransmission [] 0 in
     record {
       gave_up = forwards.gave_up;
       next = h.0;
@@ -217,7 +217,7 @@ given_up {R = R} old draft mid given before packet true in_time holds is h =
     view_with : SendQueueState → Transfer → List (Event (List ℕ)) → View R
     view_with queue transfer events =
         record old {
-          endpoint = record old.endpoint { no_forward_tsn_before = forward_where h.0 old.endpoint.no_forward_tsn_before; below = record { queue = queue; transfer = Some transfer } };
+          endpoint = record old.endpoint { no_forward_tsn_before = forward_where h.0 old.endpoint.no_forward_tsn_before; queues = record { queue = queue; transfer = Some transfer } };
           events = events;
         }
 
@@ -228,7 +228,7 @@ abbrev pub begun_in_view : {R : Type 0} → View R → Option ℕ → Stage → 
 begun_in_view old next gave_up mid begun handed =
     record (forwarded_view old next gave_up mid) {
       endpoint = record (after_begun begun (forwarded_view old next gave_up mid).endpoint) {
-        below = record { queue = handed; transfer = Some (transfer_begun begun (record mid { retransmission = gave_up.queue })) };
+        queues = record { queue = handed; transfer = Some (transfer_reset_begun begun (record mid { retransmission = gave_up.queue })) };
       };
     }
 
@@ -248,24 +248,24 @@ gives_up_before true now transfer tracker room old new next chunks h =
 pub record Forwarded {R : Type 0} (old : View R) (draft : Emission) (transfer : Transfer) (given : View R) (packet : Building) : Type 0 where
   pub sacks : List Plain
   pub tracker : TrackerState
-  pub acknowledges : asks.Acknowledges (wants_sack first_ask old.endpoint.below.queue transfer) (room_in old.endpoint draft) transfer tracker sacks
+  pub acknowledges : asks.Acknowledges (wants_sack first_ask old.endpoint.queues.queue transfer) (room_in old.endpoint draft) transfer tracker sacks
   pub gave_up : Stage
   pub next : Option ℕ
   pub forwards : List Plain
   pub gives_up : GivesUpWhere (may_forward first_ask old.endpoint transfer.retransmission) old.endpoint.moment transfer (room_in old.endpoint (filled draft (plain_contents sacks)))
-      (stage_of old.endpoint.below.queue transfer.retransmission [] 0) gave_up next forwards
+      (stage_of old.endpoint.queues.queue transfer.retransmission [] 0) gave_up next forwards
   pub fit : AllByRecursion FitsPlain forwards
-  pub told : List Told
-  pub are_told : map told_content told ≡ gave_up.told
+  pub told : List FillingEvent
+  pub are_told : map filling_event_content told ≡ gave_up.told
   pub is : packet ≡ packet_for old.endpoint.options (filled draft (plain_contents (sacks ++ forwards)))
   pub view : given ≡ forwarded_view old next gave_up (record transfer { tracker = tracker })
 
 pub forwarded : {R : Type 0} (old : View R) (draft : Emission) (transfer mid : Transfer) (given : View R) (before acked_packet given_packet : Building) → before ≡ packet_for old.endpoint.options draft
-    → Acknowledges (wants_sack first_ask old.endpoint.below.queue transfer) transfer before mid acked_packet
+    → FillsRequestedSack (wants_sack first_ask old.endpoint.queues.queue transfer) transfer before mid acked_packet
     → ForwardsAt (Some mid) (acknowledged_view old mid) acked_packet given given_packet → Forwarded old draft transfer given given_packet
 forwarded {R = R} old draft transfer mid given before acked_packet given_packet built ack forward =
     let e : Endpoint = old.endpoint in
-    let a = acked e draft (wants_sack first_ask e.below.queue transfer) transfer mid before acked_packet built ack in
+    let a = acked e draft (wants_sack first_ask e.queues.queue transfer) transfer mid before acked_packet built ack in
     let now : Transfer = record transfer { tracker = a.tracker } in
     let up : GivenUp (acknowledged_view old now) (filled draft (plain_contents a.sacks)) now given given_packet =
     given_up (acknowledged_view old now) (filled draft (plain_contents a.sacks)) now given acked_packet given_packet (is_in_time e) refl refl a.is
@@ -278,7 +278,7 @@ forwarded {R = R} old draft transfer mid given before acked_packet given_packet 
       next = up.next;
       forwards = up.forwards;
       gives_up = gives_up_before (may_forward first_ask e transfer.retransmission) e.moment transfer a.tracker (room_in e (filled draft (plain_contents a.sacks)))
-          (stage_of e.below.queue transfer.retransmission [] 0) up.gave_up up.next up.forwards up.gives_up;
+          (stage_of e.queues.queue transfer.retransmission [] 0) up.gave_up up.next up.forwards up.gives_up;
       fit = up.fit;
       told = up.told;
       are_told = up.are_told;
@@ -303,12 +303,12 @@ pub record BeforeData {R : Type 0} (old : View R) (draft : Emission) (transfer :
       (queue_requesting (streams_within (room_in old.endpoint (behind_forwards up))) begun up.gave_up.waiting)
 
 pub before_data : {R : Type 0} (old : View R) (draft : Emission) (transfer : Transfer) (given here : View R) (given_packet packet : Building) → Forwarded old draft transfer given given_packet
-    → BeginsAt given.endpoint.below.transfer given given_packet here packet → BeforeData old draft transfer here packet
+    → FillsResetRequest given.endpoint.queues.transfer given given_packet here packet → BeforeData old draft transfer here packet
 before_data {R = R} old draft transfer given here given_packet packet up begin =
     let e : Endpoint = old.endpoint in
     let now : Transfer = record transfer { tracker = up.tracker } in
-    let begins : BeginsAt (Some (record now { retransmission = up.gave_up.queue })) (forwarded_view old up.next up.gave_up now) given_packet here packet =
-    subst (λ (v : View R). BeginsAt v.endpoint.below.transfer v given_packet here packet) up.view begin in
+    let begins : FillsResetRequest (Some (record now { retransmission = up.gave_up.queue })) (forwarded_view old up.next up.gave_up now) given_packet here packet =
+    subst (λ (v : View R). FillsResetRequest v.endpoint.queues.transfer v given_packet here packet) up.view begin in
     let room : bytes_remaining given_packet ≡ room_in e (behind_forwards up) = room_is_left e (behind_forwards up) given_packet up.is in
     record {
       given = given;
@@ -363,9 +363,9 @@ fills_behind old draft transfer here packet d sent fills =
     (subst (λ (now : ℕ). FillsWhere (may_give (handed_of d) (state_of d)) now (stage_of (handed_of d) (state_of d) [] (bytes_remaining packet)) sent) (moment_begun d.begun _) fills)
 
 -- What abandons messages leaves the retransmission timeout, and so a reset that is begun behind it starts the same timer.
-begun_behind : (begun : Option BegunReset) (e : Endpoint) (any : Bool) (later : ℕ) (waits handed left : SendQueueState) (given after : Transfer) → rto_of (Some given) ≡ rto_of e.below.transfer
-    → let f : Endpoint = record (after_begun begun (record e { no_forward_tsn_before = later; below = record { queue = waits; transfer = Some given } })) { below = record { queue = handed; transfer = Some (transfer_begun begun given) } } in
-    record f { timers = timers_where any f; below = record { queue = left; transfer = Some after } } ≡ endpoint_given e begun any later left after
+begun_behind : (begun : Option BegunReset) (e : Endpoint) (any : Bool) (later : ℕ) (waits handed left : SendQueueState) (given after : Transfer) → rto_of (Some given) ≡ rto_of e.queues.transfer
+    → let f : Endpoint = record (after_begun begun (record e { no_forward_tsn_before = later; queues = record { queue = waits; transfer = Some given } })) { queues = record { queue = handed; transfer = Some (transfer_reset_begun begun given) } } in
+    record f { timers = timers_where any f; queues = record { queue = left; transfer = Some after } } ≡ endpoint_given e begun any later left after
 begun_behind None e true later waits handed left given after same = refl
 begun_behind None e false later waits handed left given after same = refl
 begun_behind (Some begun) e true later waits handed left given after same =
@@ -374,25 +374,25 @@ begun_behind (Some begun) e true later waits handed left given after same =
       outstanding = Some (record { last_tsn = begun.reset.last_tsn; streams = begun.reset.streams; waits_for_retry = false });
       timers = record e.timers { reconfiguration = started e.moment (reconfiguration_settings rto) };
     } in
-    let g : Endpoint = record f { timers = timers_where true f; no_forward_tsn_before = later; below = record { queue = left; transfer = Some after } } in g) same
+    let g : Endpoint = record f { timers = timers_where true f; no_forward_tsn_before = later; queues = record { queue = left; transfer = Some after } } in g) same
 begun_behind (Some begun) e false later waits handed left given after same =
     ap (λ (rto : ℕ). let f : Endpoint = record e {
       core = core_asking e.core;
       outstanding = Some (record { last_tsn = begun.reset.last_tsn; streams = begun.reset.streams; waits_for_retry = false });
       timers = record e.timers { reconfiguration = started e.moment (reconfiguration_settings rto) };
       no_forward_tsn_before = later;
-      below = record { queue = left; transfer = Some after };
+      queues = record { queue = left; transfer = Some after };
     } in f) same
 
 -- ---- with data
 
-first_by : {R : Type 0} (old : View R) (draft : Emission) (transfer : Transfer) (here new : View R) (packet filled_packet : Building) → old.endpoint.below.transfer ≡ Some transfer
-    → (d : BeforeData old draft transfer here packet) → FillsData here.endpoint.below.transfer here packet new filled_packet → Fills first_ask old draft new filled_packet
+first_by : {R : Type 0} (old : View R) (draft : Emission) (transfer : Transfer) (here new : View R) (packet filled_packet : Building) → old.endpoint.queues.transfer ≡ Some transfer
+    → (d : BeforeData old draft transfer here packet) → FillsPacketData here.endpoint.queues.transfer here packet new filled_packet → FillsAskedPacket first_ask old draft new filled_packet
 first_by {R = R} old draft transfer here new packet filled_packet holds d data_in =
     let e : Endpoint = old.endpoint in
     let begun_view : View R = begun_in_view old d.up.next d.up.gave_up (record transfer { tracker = d.up.tracker }) d.begun (handed_of d) in
-    let there : FillsData (Some (transfer_begun d.begun (record transfer { tracker = d.up.tracker; retransmission = d.up.gave_up.queue }))) begun_view packet new filled_packet =
-    subst (λ (v : View R). FillsData v.endpoint.below.transfer v packet new filled_packet) d.view data_in in
+    let there : FillsPacketData (Some (transfer_reset_begun d.begun (record transfer { tracker = d.up.tracker; retransmission = d.up.gave_up.queue }))) begun_view packet new filled_packet =
+    subst (λ (v : View R). FillsPacketData v.endpoint.queues.transfer v packet new filled_packet) d.view data_in in
     let filling = there.3 in
     let room : bytes_remaining packet ≡ room_of d = room_is_left e _ packet d.is in
     fills_by first_ask old draft transfer new filled_packet
@@ -405,11 +405,11 @@ first_by {R = R} old draft transfer here new packet filled_packet holds d data_i
       fits = filling.fits;
       forwards_fit = d.up.fit;
       told = d.up.told ++ filling.told;
-      are_told = map-append told_content d.up.told filling.told
-          ∙ (ap (λ (es : List (Event (List ℕ))). es ++ map told_content filling.told) d.up.are_told ∙ ap (λ (es : List (Event (List ℕ))). d.up.gave_up.told ++ es) filling.are_told);
+      are_told = map-append filling_event_content d.up.told filling.told
+          ∙ (ap (λ (es : List (Event (List ℕ))). es ++ map filling_event_content filling.told) d.up.are_told ∙ ap (λ (es : List (Event (List ℕ))). d.up.gave_up.told ++ es) filling.are_told);
       holds = holds;
       adds = filling.adds ∙ ap (λ (b : Building). record b { body = b.body ++ flat_map chunk_bytes filling.chunks }) d.is;
-      is = view_filled begun_view (transfer_begun d.begun (record transfer { tracker = d.up.tracker; retransmission = d.up.gave_up.queue })) there.1 there.2 packet filled_packet there.0 new filling there.4
+      is = view_filled begun_view (transfer_reset_begun d.begun (record transfer { tracker = d.up.tracker; retransmission = d.up.gave_up.queue })) there.1 there.2 packet filled_packet there.0 new filling there.4
           ∙ ap (λ (x : Endpoint). record old { endpoint = x; events = old.events ++ d.up.gave_up.told ++ filling.sent.told })
           (begun_behind d.begun e (has_chunks filling.chunks) (forward_where d.up.next e.no_forward_tsn_before) d.up.gave_up.waiting (handed_of d) filling.sent.waiting (record transfer { tracker = d.up.tracker; retransmission = d.up.gave_up.queue })
           (record transfer { retransmission = filling.sent.queue; tracker = d.up.tracker }) (sym (ap rto_of holds)))
@@ -417,28 +417,28 @@ first_by {R = R} old draft transfer here new packet filled_packet holds d data_i
           (append_assoc old.events d.up.gave_up.told filling.sent.told);
     })
 
-along_is : (found : Option Transfer) (queue : SendQueueState) (transfer : Transfer) (along : Bool) → found ≡ Some transfer → along ≡ (has_data queue || can_send_below found)
+along_is : (found : Option Transfer) (queue : SendQueueState) (transfer : Transfer) (along : Bool) → found ≡ Some transfer → along ≡ (has_queued_data queue || can_queues_send found)
     → is_sack_wanted along transfer ≡ wants_sack first_ask queue transfer
-along_is found queue transfer along holds is = ap (λ (b : Bool). is_sack_wanted b transfer) (is ∙ ap (λ (f : Option Transfer). has_data queue || can_send_below f) holds)
+along_is found queue transfer along holds is = ap (λ (b : Bool). is_sack_wanted b transfer) (is ∙ ap (λ (f : Option Transfer). has_queued_data queue || can_queues_send f) holds)
 
 -- ---- as the context tells it
 
 -- no peer is known, so nothing has changed
 pub same_view : {R : Type 0} (old : Context R) (along : Bool) (state : State) (given here : View R) (packet acked_packet given_packet request_packet : Building) → transfer_of old.state ≡ None
-    → AcknowledgesBelow None along old.state packet state acked_packet → ForwardsAt (transfer_of state) (view_of (record old { state = state })) acked_packet given given_packet
-    → BeginsAt given.endpoint.below.transfer given given_packet here request_packet → (here ≡ view_of old) × (request_packet ≡ packet)
+    → AcknowledgesInQueues None along old.state packet state acked_packet → ForwardsAt (transfer_of state) (view_of (record old { state = state })) acked_packet given given_packet
+    → FillsResetRequest given.endpoint.queues.transfer given given_packet here request_packet → (here ≡ view_of old) × (request_packet ≡ packet)
 same_view {R = R} old along state given here packet acked_packet given_packet request_packet holds ack forward begin =
     let up : ForwardsAt None (view_of old) acked_packet given given_packet =
     subst (λ (f : Option Transfer). ForwardsAt f (view_of old) acked_packet given given_packet) holds
     (subst (λ (s : State). ForwardsAt (transfer_of s) (view_of (record old { state = s })) acked_packet given given_packet) ack.0 forward) in
-    let at : BeginsAt None (view_of old) given_packet here request_packet =
-    subst (λ (f : Option Transfer). BeginsAt f (view_of old) given_packet here request_packet) holds
-    (subst (λ (v : View R). BeginsAt v.endpoint.below.transfer v given_packet here request_packet) up.0 begin) in
+    let at : FillsResetRequest None (view_of old) given_packet here request_packet =
+    subst (λ (f : Option Transfer). FillsResetRequest f (view_of old) given_packet here request_packet) holds
+    (subst (λ (v : View R). FillsResetRequest v.endpoint.queues.transfer v given_packet here request_packet) up.0 begin) in
     (at.0, at.1 ∙ up.1 ∙ ack.1)
 
 pub forwarded_where : {R : Type 0} (old : Context R) (transfer : Transfer) (along : Bool) (state : State) (draft : Emission) (given : View R) (before acked_packet given_packet : Building)
-    → transfer_of old.state ≡ Some transfer → along ≡ (has_data old.send_queue || can_send_below (Some transfer)) → before ≡ packet_for old.options draft
-    → AcknowledgesBelow (Some transfer) along old.state before state acked_packet
+    → transfer_of old.state ≡ Some transfer → along ≡ (has_queued_data old.send_queue || can_queues_send (Some transfer)) → before ≡ packet_for old.options draft
+    → AcknowledgesInQueues (Some transfer) along old.state before state acked_packet
     → ForwardsAt (transfer_of state) (view_of (record old { state = state })) acked_packet given given_packet → Forwarded (view_of old) draft transfer given given_packet
 forwarded_where {R = R} old transfer along state draft given before acked_packet given_packet holds is built ack forward =
     let mid : Transfer = ack.0 in
@@ -449,21 +449,21 @@ forwarded_where {R = R} old transfer along state draft given before acked_packet
     let view : view_of (record old { state = state_with old.state mid }) ≡ acknowledged_view (view_of old) mid =
     ap (λ (e : Endpoint). record (view_of old) { endpoint = e }) (endpoint_with old transfer mid holds) in
     forwarded (view_of old) draft transfer mid given before acked_packet given_packet built
-    (subst (λ (b : Bool). Acknowledges b transfer before mid acked_packet) (along_is (Some transfer) old.send_queue transfer along refl is) ack.2)
+    (subst (λ (b : Bool). FillsRequestedSack b transfer before mid acked_packet) (along_is (Some transfer) old.send_queue transfer along refl is) ack.2)
     (subst (λ (v : View R). ForwardsAt (Some mid) v acked_packet given given_packet) view found)
 
 first_where : {R : Type 0} (old : Context R) (found : Option Transfer) (along : Bool) (state : State) (draft : Emission) (given here new : View R) (before acked_packet given_packet request_packet filled_packet : Building)
-    → transfer_of old.state ≡ found → along ≡ (has_data old.send_queue || can_send_below found) → before ≡ packet_for old.options draft
-    → AcknowledgesBelow found along old.state before state acked_packet
+    → transfer_of old.state ≡ found → along ≡ (has_queued_data old.send_queue || can_queues_send found) → before ≡ packet_for old.options draft
+    → AcknowledgesInQueues found along old.state before state acked_packet
     → ForwardsAt (transfer_of state) (view_of (record old { state = state })) acked_packet given given_packet
-    → BeginsAt given.endpoint.below.transfer given given_packet here request_packet
-    → FillsData here.endpoint.below.transfer here request_packet new filled_packet
-    → Fills first_ask (view_of old) draft new filled_packet
+    → FillsResetRequest given.endpoint.queues.transfer given given_packet here request_packet
+    → FillsPacketData here.endpoint.queues.transfer here request_packet new filled_packet
+    → FillsAskedPacket first_ask (view_of old) draft new filled_packet
 first_where {R = R} old None along state draft given here new before acked_packet given_packet request_packet filled_packet holds is built ack forward begin data_in =
     let same = same_view old along state given here before acked_packet given_packet request_packet holds ack forward begin in
-    let at : FillsData None (view_of old) request_packet new filled_packet =
-    subst (λ (f : Option Transfer). FillsData f (view_of old) request_packet new filled_packet) holds
-    (subst (λ (v : View R). FillsData v.endpoint.below.transfer v request_packet new filled_packet) same.0 data_in) in
+    let at : FillsPacketData None (view_of old) request_packet new filled_packet =
+    subst (λ (f : Option Transfer). FillsPacketData f (view_of old) request_packet new filled_packet) holds
+    (subst (λ (v : View R). FillsPacketData v.endpoint.queues.transfer v request_packet new filled_packet) same.0 data_in) in
     fills_nothing first_ask (view_of old) draft new filled_packet holds at.0 (at.1 ∙ same.1 ∙ built)
 first_where old (Some transfer) along state draft given here new before acked_packet given_packet request_packet filled_packet holds is built ack forward begin data_in =
     first_by (view_of old) draft transfer here new request_packet filled_packet holds
@@ -471,11 +471,11 @@ first_where old (Some transfer) along state draft given here new before acked_pa
     (forwarded_where old transfer along state draft given before acked_packet given_packet holds is built ack forward) begin) data_in
 
 pub fills_first : {R : Type 0} (old : Context R) (along : Bool) (state : State) (draft : Emission) (given here new : View R) (before acked_packet given_packet request_packet filled_packet : Building)
-    → along ≡ (has_data old.send_queue || can_send_below (transfer_of old.state)) → before ≡ packet_for old.options draft
-    → AcknowledgesBelow (transfer_of old.state) along old.state before state acked_packet
+    → along ≡ (has_queued_data old.send_queue || can_queues_send (transfer_of old.state)) → before ≡ packet_for old.options draft
+    → AcknowledgesInQueues (transfer_of old.state) along old.state before state acked_packet
     → ForwardsAt (transfer_of state) (view_of (record old { state = state })) acked_packet given given_packet
-    → BeginsAt given.endpoint.below.transfer given given_packet here request_packet
-    → FillsData here.endpoint.below.transfer here request_packet new filled_packet
-    → Fills first_ask (view_of old) draft new filled_packet
+    → FillsResetRequest given.endpoint.queues.transfer given given_packet here request_packet
+    → FillsPacketData here.endpoint.queues.transfer here request_packet new filled_packet
+    → FillsAskedPacket first_ask (view_of old) draft new filled_packet
 fills_first old along state draft given here new before acked_packet given_packet request_packet filled_packet is built ack forward begin data_in =
     first_where old (transfer_of old.state) along state draft given here new before acked_packet given_packet request_packet filled_packet refl is built ack forward begin data_in

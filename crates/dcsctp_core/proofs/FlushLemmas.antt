@@ -12,16 +12,16 @@ use Rattle.dcsctp_transfer.specs.types.Settings.{ports_of, packet_size_limit}
 use Rattle.dcsctp_transfer.specs.spec.endpoint.Event.{Event, sent}
 use Rattle.dcsctp_transfer.specs.spec.Packet.{Content, Emission, emission_bytes}
 use Rattle.dcsctp_transfer.specs.spec.endpoint.Endpoint.{Endpoint, Core, closed, cookie_wait, cookie_echoed, open_in, held_in}
-use Rattle.dcsctp_transfer.specs.spec.endpoint.Outcome.{Outcome, still, counted, contents_len, then_outcome, noting}
+use Rattle.dcsctp_transfer.specs.spec.endpoint.Outcome.{Outcome, still, packet_counted, contents_len, then_outcome, noting}
 use Rattle.dcsctp_transfer.specs.spec.association.Effect.{Effect, drawn_in}
 use Rattle.dcsctp_transfer.specs.spec.endpoint.BegunResets.{BegunReset, begun_effects}
-use Rattle.dcsctp_transfer.specs.spec.endpoint.FlushOutcomes.{told_event, Answer, answer_contents, filled, goes_out, asked, next_draft, draft_to, flush_of, Ask, later_ask, IsWithin, Answered, Answers, at_limit, at_empty, after_packet, is_none}
+use Rattle.dcsctp_transfer.specs.spec.endpoint.FlushOutcomes.{filling_event, Answer, answer_contents, filled, goes_out, asked, next_draft, draft_to, flush_of, Ask, later_ask, IsWithinMtu, IsFlushAnswer, AreFlushAnswers, at_limit, at_empty, after_packet, is_none}
 use Rattle.dcsctp_transfer.proofs.spec_lemmas.AnswerLemmas.{any_answers, answers_from}
 use Rattle.dcsctp_transfer.proofs.spec_lemmas.FlushKeeps.{Keeps, asked_keeps}
 use Rattle.dcsctp_transfer.proofs.spec_lemmas.TurnLists.{drawn_in-append}
 use Rattle.dcsctp_transfer.specs.api.Calls.{user_event}
 use Rattle.dcsctp_core.specs.View.{View, Moves}
-use Rattle.dcsctp_core.specs.Flushing.{packet_for, Fills, AskCut, AsksFor, FlushesFor, FlushCut, sent_where, KeepsSize}
+use Rattle.dcsctp_core.specs.Flushing.{packet_for, FillsAskedPacket, AskCut, AsksFor, FlushesFor, FlushCut, sent_where, KeepsSize}
 use Rattle.dcsctp_core.proofs.Moving.{Drawn-append, moves_still}
 use Rattle.dcsctp_core.proofs.Composing.{events_behind}
 use Rattle.dcsctp_core.proofs.SentLemmas.{body_len, none_as_bytes, built_bytes}
@@ -31,21 +31,21 @@ use Rattle.dcsctp_core.proofs.CutLemmas.{told_first}
 
 -- what it holds is within the limit
 pub fits_by : (e : Endpoint) (draft : Emission) (answer : Answer) (packet : Building) → packet ≡ packet_for e.options (filled draft (answer_contents answer)) → KeepsSize packet
-    → IsWithin e draft → IsWithin e (filled draft (answer_contents answer))
+    → IsWithinMtu e draft → IsWithinMtu e (filled draft (answer_contents answer))
 fits_by e draft answer packet is size within =
     let contents : List Content = (filled draft (answer_contents answer)).packet.contents in
     let len : length packet.body ≡ contents_len contents = ap (λ (b : Building). length b.body) is ∙ body_len contents in
     let limit : packet.size ≡ packet_size_limit e.options = ap (λ (b : Building). b.size) is in
     elim size [ inl empty ↦ let none : length packet.body ≡ 0 = ap length empty in omega (arith, within, len, none) | inr small ↦ omega (arith, small, len, limit) ]
 
-pub answered_by : {R : Type 0} (ask : Ask) (old mid : View R) (draft : Emission) (packet : Building) (f : Fills ask old draft mid packet) → KeepsSize packet → Answered ask old.endpoint draft f.answer
+pub answered_by : {R : Type 0} (ask : Ask) (old mid : View R) (draft : Emission) (packet : Building) (f : FillsAskedPacket ask old draft mid packet) → KeepsSize packet → IsFlushAnswer ask old.endpoint draft f.answer
 answered_by ask old mid draft packet f size =
     record { kept = f.kept; within = fits_by old.endpoint draft f.answer packet f.packet size; by_transfer = f.by_transfer }
 
 -- the turn, by what the packet holds
-out_moves : {R : Type 0} (stream : R → Stream) (ask : Ask) (old mid : View R) (draft : Emission) (packet : Building) (f : Fills ask old draft mid packet) (contents : List Content)
+out_moves : {R : Type 0} (stream : R → Stream) (ask : Ask) (old mid : View R) (draft : Emission) (packet : Building) (f : FillsAskedPacket ask old draft mid packet) (contents : List Content)
     → (filled draft (answer_contents f.answer)).packet.contents ≡ contents
-    → Moves stream old (goes_out f.answer.after (map told_event f.answer.told) draft.with_checksum draft.packet.tag contents) (sent_where (not (is_none contents)) packet mid)
+    → Moves stream old (goes_out f.answer.after (map filling_event f.answer.told) draft.with_checksum draft.packet.tag contents) (sent_where (not (is_none contents)) packet mid)
 out_moves {R = R} stream ask old mid draft packet f [] is =
     record {
       endpoint = f.endpoint;
@@ -61,9 +61,9 @@ out_moves {R = R} stream ask old mid draft packet f (content ∷ contents) is =
     f.packet ∙ ap (λ (cs : List Content). packet_for options (record { with_checksum = draft.with_checksum; packet = record { tag = draft.packet.tag; contents = cs } })) is in
     let bytes : packet_bytes_of packet.with_checksum (header_bytes packet.source_port packet.destination_port packet.verification_tag) packet.body ≡ emission_bytes (ports_of options) emission =
     built_bytes options packet draft.with_checksum draft.packet.tag (content ∷ contents) _ here refl in
-    let told : List (Event Emission) = map told_event f.answer.told in
+    let told : List (Event Emission) = map filling_event f.answer.told in
     record {
-      endpoint = ap counted f.endpoint;
+      endpoint = ap packet_counted f.endpoint;
       events = ap (λ (es : List (Event (List ℕ))). es ++ sent (packet_bytes_of packet.with_checksum (header_bytes packet.source_port packet.destination_port packet.verification_tag) packet.body) ∷ []) f.events
           ∙ append_assoc old.events (map (user_event (ports_of options)) told) (sent (packet_bytes_of packet.with_checksum (header_bytes packet.source_port packet.destination_port packet.verification_tag) packet.body) ∷ [])
           ∙ ap (λ (bs : List ℕ). old.events ++ (map (user_event (ports_of options)) told ++ sent bs ∷ [])) bytes
@@ -86,7 +86,7 @@ begun_moves : {R : Type 0} (stream : R → Stream) (old : View R) (begun : Optio
 begun_moves stream old begun o new m =
     record { endpoint = m.endpoint; events = m.events; words = m.words; pairs = m.pairs ∙ ap (λ (ps : List Pair). old.pairs ++ ps) (sym (begun_drawn begun o.effects)); drawn = m.drawn }
 
-pub asks_for : {R : Type 0} (stream : R → Stream) (ask : Ask) (old mid new : View R) (draft : Emission) (packet : Building) (is_sent : Bool) → Fills ask old draft mid packet → KeepsSize packet
+pub asks_for : {R : Type 0} (stream : R → Stream) (ask : Ask) (old mid new : View R) (draft : Emission) (packet : Building) (is_sent : Bool) → FillsAskedPacket ask old draft mid packet → KeepsSize packet
     → is_sent ≡ not (is_none packet.body) → new ≡ sent_where is_sent packet mid → AsksFor stream ask old draft is_sent new
 asks_for {R = R} stream ask old mid new draft packet is_sent f size goes is =
     let contents : List Content = (filled draft (answer_contents f.answer)).packet.contents in
@@ -99,13 +99,13 @@ asks_for {R = R} stream ask old mid new draft packet is_sent f size goes is =
     }
 
 -- the packet found no place among the events
-pub ask_cut : {R : Type 0} (ask : Ask) (old mid new : View R) (draft : Emission) (packet : Building) → Fills ask old draft mid packet → KeepsSize packet → new ≡ mid → AskCut ask old draft new.events
+pub ask_cut : {R : Type 0} (ask : Ask) (old mid new : View R) (draft : Emission) (packet : Building) → FillsAskedPacket ask old draft mid packet → KeepsSize packet → new ≡ mid → AskCut ask old draft new.events
 ask_cut {R = R} ask old mid new draft packet f size is =
-    let out = told_first f.answer.after (map told_event f.answer.told) draft.with_checksum draft.packet.tag (filled draft (answer_contents f.answer)).packet.contents in
+    let out = told_first f.answer.after (map filling_event f.answer.told) draft.with_checksum draft.packet.tag (filled draft (answer_contents f.answer)).packet.contents in
     record {
       answer = f.answer;
       allowed = answered_by ask old mid draft packet f size;
-      front = map told_event f.answer.told;
+      front = map filling_event f.answer.told;
       rest = out.0;
       parts = out.1;
       added = ap (λ (v : View R). v.events) is ∙ f.events;
@@ -157,9 +157,9 @@ flushes_further stream ask n old mid new draft next is_sent was_sent h follows r
     let e : Endpoint = old.endpoint in
     let o : Outcome = asked e draft h.answer in
     let keeps : Keeps h.answer.begun e o = asked_keeps ask e draft h.answer h.allowed in
-    let answers : Answers later_ask n o.after (next_draft e.core draft) rest.answers =
-    subst (λ (x : Endpoint). Answers later_ask n x (next_draft e.core draft) rest.answers) h.moves.endpoint
-    (subst (λ (d : Emission). Answers later_ask n mid.endpoint d rest.answers) (sym follows) rest.allowed) in
+    let answers : AreFlushAnswers later_ask n o.after (next_draft e.core draft) rest.answers =
+    subst (λ (x : Endpoint). AreFlushAnswers later_ask n x (next_draft e.core draft) rest.answers) h.moves.endpoint
+    (subst (λ (d : Emission). AreFlushAnswers later_ask n mid.endpoint d rest.answers) (sym follows) rest.allowed) in
     let moves : Moves stream mid (flush_of o.after (next_draft e.core draft) rest.answers) new =
     subst (λ (x : Endpoint). Moves stream mid (flush_of x (next_draft e.core draft) rest.answers) new) h.moves.endpoint
     (subst (λ (d : Emission). Moves stream mid (flush_of mid.endpoint d rest.answers) new) (sym follows) rest.moves) in
@@ -192,8 +192,8 @@ flush_cut_further stream ask n old mid draft next events is_sent was_sent h foll
     let o : Outcome = asked e draft h.answer in
     let keeps : Keeps h.answer.begun e o = asked_keeps ask e draft h.answer h.allowed in
     let same : mid.endpoint ≡ o.after = h.moves.endpoint in
-    let answers : Answers later_ask n o.after (next_draft e.core draft) rest.answers =
-    subst (λ (x : Endpoint). Answers later_ask n x (next_draft e.core draft) rest.answers) same (subst (λ (d : Emission). Answers later_ask n mid.endpoint d rest.answers) (sym follows) rest.allowed) in
+    let answers : AreFlushAnswers later_ask n o.after (next_draft e.core draft) rest.answers =
+    subst (λ (x : Endpoint). AreFlushAnswers later_ask n x (next_draft e.core draft) rest.answers) same (subst (λ (d : Emission). AreFlushAnswers later_ask n mid.endpoint d rest.answers) (sym follows) rest.allowed) in
     let parts : (flush_of o.after (next_draft e.core draft) rest.answers).events ≡ rest.front ++ rest.rest =
     subst (λ (x : Endpoint). (flush_of x (next_draft e.core draft) rest.answers).events ≡ rest.front ++ rest.rest) same
     (subst (λ (d : Emission). (flush_of mid.endpoint d rest.answers).events ≡ rest.front ++ rest.rest) (sym follows) rest.parts) in

@@ -5,25 +5,25 @@ use Rattle.dcsctp_transfer.specs.spec.endpoint.Event.{Event}
 use Rattle.dcsctp_transfer.specs.spec.queues.Transfer.{Transfer}
 use Rattle.dcsctp_transfer.specs.spec.queues.SendQueue.{SendQueueState}
 use Rattle.dcsctp_transfer.specs.spec.endpoint.Endpoint.{Endpoint}
-use Rattle.dcsctp_transfer.specs.Forwarding.{Forwards}
+use Rattle.dcsctp_transfer.specs.Forwarding.{MakesForwardTsn}
 use Rattle.dcsctp_core.specs.declared.context.Context.{Context}
 use Rattle.dcsctp_core.specs.declared.state.State.{State}
 use Rattle.dcsctp_core.specs.View.{View, transfer_of, endpoint_of, view_of}
-use Rattle.dcsctp_core.specs.Flushing.{ForwardsBelow, ForwardsNow, ForwardsAt}
+use Rattle.dcsctp_core.specs.Flushing.{ForwardsInQueues, ForwardsNow, ForwardsAt}
 use Rattle.dcsctp_transfer.specs.spec.endpoint.FlushOutcomes.{forward_where}
 use Rattle.dcsctp_core.proofs.FirstLemmas.{endpoint_with}
 use Rattle.std.proofs.lemmas.Bool.Decides.{nat_tests}
 
 -- the endpoint with this queue, once the next FORWARD-TSN was put off
 abbrev put_off : {R : Type 0} → Context R → SendQueueState → Option ℕ → Endpoint → Endpoint
-put_off old queue next e = record e { no_forward_tsn_before = forward_where next old.no_forward_tsn_before; below = record e.below { queue = queue } }
+put_off old queue next e = record e { no_forward_tsn_before = forward_where next old.no_forward_tsn_before; queues = record e.queues { queue = queue } }
 
 abbrev forwarded : {R : Type 0} → Context R → State → SendQueueState → List (Event (List ℕ)) → Option ℕ → View R
 forwarded old state queue events next = record (view_of old) { endpoint = put_off old queue next (endpoint_of (record old { state = state })); events = events }
 
 pub forwards_below : {R : Type 0} (old : Context R) (new : View R) (found : Option Transfer) (state : State) (queue : SendQueueState) (events : List (Event (List ℕ))) (next : Option ℕ) (packet filled : Building)
     → transfer_of old.state ≡ found → nat_le old.no_forward_tsn_before old.moment ≡ true → new ≡ forwarded old state queue events next
-    → ForwardsBelow old.moment found old.send_queue (view_of old).events packet old.state state queue events filled next → ForwardsAt found (view_of old) packet new filled
+    → ForwardsInQueues old.moment found old.send_queue (view_of old).events packet old.state state queue events filled next → ForwardsAt found (view_of old) packet new filled
 forwards_below old new None state queue events next packet filled holds in_time is h = (
   is
       ∙ ap (λ (s : State). forwarded old s queue events next) h.0
@@ -39,12 +39,12 @@ forwards_below {R = R} old new (Some transfer) state queue events next packet fi
       next,
       after,
       queue,
-      subst (λ (es : List (Event (List ℕ))). Forwards old.moment transfer old.send_queue (view_of old).events packet after queue es filled next) told h.2,
+      subst (λ (es : List (Event (List ℕ))). MakesForwardTsn old.moment transfer old.send_queue (view_of old).events packet after queue es filled next) told h.2,
       is
           ∙ ap (λ (s : State). forwarded old s queue events next) h.1
           ∙ ap (λ (e : Endpoint). record (view_of old) { endpoint = put_off old queue next e; events = events }) (endpoint_with old transfer after holds)
           ∙ ap (λ (es : List (Event (List ℕ))). record (view_of old) {
-            endpoint = record (endpoint_of old) { no_forward_tsn_before = forward_where next old.no_forward_tsn_before; below = record { queue = queue; transfer = Some after } };
+            endpoint = record (endpoint_of old) { no_forward_tsn_before = forward_where next old.no_forward_tsn_before; queues = record { queue = queue; transfer = Some after } };
             events = es;
           }) told,
     )

@@ -7,7 +7,7 @@ use Rattle.dcsctp_core.specs.declared.transmission_control_block.TransmissionCon
 use Rattle.dcsctp_core.specs.View.{tcb_of, transfer_in, transfer_of}
 use Rattle.dcsctp_core.specs.Reconfiguring.{tcb_changed}
 use Rattle.dcsctp_core.specs.Flushing.{state_with}
-use Rattle.dcsctp_core.specs.Below.{ChangesBelow, ChangesWhere}
+use Rattle.dcsctp_core.specs.Below.{ChangesQueues, ChangesWhere}
 
 pub within : {A : Type 0} {x y : A} → Some x ≡ Some y → x ≡ y
 within is = cc
@@ -36,12 +36,12 @@ pub nobody : (state : State) → None ≡ tcb_of state → transfer_of state ≡
 nobody state none = ap transfer_in (sym none)
 
 pub changes_lent : (Changes : Transfer → Transfer → Type 0) (state : State) (tcb : TransmissionControlBlock) (after : Transfer) → Some tcb ≡ tcb_of state → Changes tcb.transfer after
-    → ChangesBelow Changes (transfer_of state) state (left_with state tcb after)
+    → ChangesQueues Changes (transfer_of state) state (left_with state tcb after)
 changes_lent Changes state tcb after holds changes =
-    subst (λ (f : Option Transfer). ChangesBelow Changes f state (left_with state tcb after)) (sym (found state tcb holds)) (after, lent state tcb after holds, changes)
+    subst (λ (f : Option Transfer). ChangesQueues Changes f state (left_with state tcb after)) (sym (found state tcb holds)) (after, lent state tcb after holds, changes)
 
-pub changes_nobody : (Changes : Transfer → Transfer → Type 0) (state : State) → None ≡ tcb_of state → ChangesBelow Changes (transfer_of state) state state
-changes_nobody Changes state none = subst (λ (f : Option Transfer). ChangesBelow Changes f state state) (sym (nobody state none)) refl
+pub changes_nobody : (Changes : Transfer → Transfer → Type 0) (state : State) → None ≡ tcb_of state → ChangesQueues Changes (transfer_of state) state state
+changes_nobody Changes state none = subst (λ (f : Option Transfer). ChangesQueues Changes f state state) (sym (nobody state none)) refl
 
 pub changes_where : (b : Bool) (Changes : Transfer → Transfer → Type 0) (state : State) (tcb : TransmissionControlBlock) (after : Transfer) → Some tcb ≡ tcb_of state
     → (b ≡ true → Changes tcb.transfer after) → (b ≡ false → after ≡ tcb.transfer) → ChangesWhere b Changes (transfer_of state) state (left_with state tcb after)

@@ -4,56 +4,56 @@ use Rattle.std.specs.Prelude.{if◌then◌else◌}
 use Rattle.std.proofs.lemmas.Bool.Decides.{nat_tests}
 use Rattle.dcsctp_core.specs.declared.deadlines.DeadlineKind.{DeadlineKind}
 use Rattle.dcsctp_core.specs.declared.deadlines.Entry.{Entry}
-use Rattle.dcsctp_core.specs.Listing.{is_before, is_same, listed, placed, without, set_in, IsAbsent, IsFirst, IsListing}
+use Rattle.dcsctp_core.specs.Listing.{is_before, is_same_kind, listed, placed, without, set_in, IsAbsent, IsEarliestEntry, IsListing}
 
 -- ---- the order
 
 pub before-trans : (a b c : Entry) → is_before a b ≡ true → is_before b c ≡ true → is_before a c ≡ true
 before-trans a b c ab bc = grind (arith, nat_tests)
 
-pub before-total : (a b : Entry) → is_same a.kind b.kind ≡ false → is_before a b ≡ false → is_before b a ≡ true
+pub before-total : (a b : Entry) → is_same_kind a.kind b.kind ≡ false → is_before a b ≡ false → is_before b a ≡ true
 before-total a b other not = grind (arith, nat_tests)
 
-pub same-sym : (j k : DeadlineKind) → is_same j k ≡ is_same k j
+pub same-sym : (j k : DeadlineKind) → is_same_kind j k ≡ is_same_kind k j
 same-sym j k = grind (arith, nat_tests)
 
 pub without-absent : (kind : DeadlineKind) (xs : List Entry) → IsAbsent kind (without kind xs)
 without-absent kind [] = tt
-without-absent kind (x ∷ xs) = go (is_same kind x.kind) refl (without-absent kind xs)
+without-absent kind (x ∷ xs) = go (is_same_kind kind x.kind) refl (without-absent kind xs)
   where
-    go : (same : Bool) → is_same kind x.kind ≡ same → IsAbsent kind (without kind xs) → IsAbsent kind (if same then without kind xs else x ∷ without kind xs)
+    go : (same : Bool) → is_same_kind kind x.kind ≡ same → IsAbsent kind (without kind xs) → IsAbsent kind (if same then without kind xs else x ∷ without kind xs)
     go true is rest = rest
     go false is rest = (is, rest)
 
-first-without : (kind : DeadlineKind) (first : Entry) (xs : List Entry) → IsFirst first xs → IsFirst first (without kind xs)
+first-without : (kind : DeadlineKind) (first : Entry) (xs : List Entry) → IsEarliestEntry first xs → IsEarliestEntry first (without kind xs)
 first-without kind first [] is = tt
-first-without kind first (x ∷ xs) is = go (is_same kind x.kind) (first-without kind first xs is.2)
+first-without kind first (x ∷ xs) is = go (is_same_kind kind x.kind) (first-without kind first xs is.2)
   where
-    go : (same : Bool) → IsFirst first (without kind xs) → IsFirst first (if same then without kind xs else x ∷ without kind xs)
+    go : (same : Bool) → IsEarliestEntry first (without kind xs) → IsEarliestEntry first (if same then without kind xs else x ∷ without kind xs)
     go true rest = rest
     go false rest = (is.0, is.1, rest)
 
 pub listing-without : (kind : DeadlineKind) (xs : List Entry) → IsListing xs → IsListing (without kind xs)
 listing-without kind [] is = tt
-listing-without kind (x ∷ xs) is = go (is_same kind x.kind) (listing-without kind xs is.1)
+listing-without kind (x ∷ xs) is = go (is_same_kind kind x.kind) (listing-without kind xs is.1)
   where
     go : (same : Bool) → IsListing (without kind xs) → IsListing (if same then without kind xs else x ∷ without kind xs)
     go true rest = rest
     go false rest = (first-without kind x xs is.0, rest)
 
-pub first-absent : (first : Entry) (xs : List Entry) → IsFirst first xs → IsAbsent first.kind xs
+pub first-absent : (first : Entry) (xs : List Entry) → IsEarliestEntry first xs → IsAbsent first.kind xs
 first-absent first [] is = tt
 first-absent first (x ∷ xs) is = (is.1, first-absent first xs is.2)
 
-first-placed : (first x : Entry) (xs : List Entry) → is_before first x ≡ true → is_same first.kind x.kind ≡ false → IsFirst first xs → IsFirst first (placed x xs)
+first-placed : (first x : Entry) (xs : List Entry) → is_before first x ≡ true → is_same_kind first.kind x.kind ≡ false → IsEarliestEntry first xs → IsEarliestEntry first (placed x xs)
 first-placed first x [] before other is = (before, other, tt)
 first-placed first x (y ∷ ys) before other is = go (is_before x y) (first-placed first y ys is.0 is.1 is.2) (first-placed first x ys before other is.2)
   where
-    go : (b : Bool) → IsFirst first (placed y ys) → IsFirst first (placed x ys) → IsFirst first (if b then x ∷ placed y ys else y ∷ placed x ys)
+    go : (b : Bool) → IsEarliestEntry first (placed y ys) → IsEarliestEntry first (placed x ys) → IsEarliestEntry first (if b then x ∷ placed y ys else y ∷ placed x ys)
     go true carried kept = (before, other, carried)
     go false carried kept = (is.0, is.1, kept)
 
-first-further : (x y : Entry) (xs : List Entry) → is_before x y ≡ true → IsAbsent x.kind xs → IsFirst y xs → IsFirst x xs
+first-further : (x y : Entry) (xs : List Entry) → is_before x y ≡ true → IsAbsent x.kind xs → IsEarliestEntry y xs → IsEarliestEntry x xs
 first-further x y [] before absent is = tt
 first-further x y (z ∷ zs) before absent is = (before-trans x y z before is.0, absent.0, first-further x y zs before absent.1 is.2)
 
@@ -65,10 +65,10 @@ listing-placed x (y ∷ ys) absent is = go (is_before x y) refl (listing-placed 
     go true before carried kept = (first-placed x y ys before absent.0 (first-further x y ys before absent.1 is.0), carried)
     go false behind carried kept = (first-placed y x ys (before-total x y absent.0 behind) (same-sym y.kind x.kind ∙ absent.0) is.0, kept)
 
-pub same-absent : (j k : DeadlineKind) (xs : List Entry) → is_same j k ≡ true → IsAbsent k xs → IsAbsent j xs
+pub same-absent : (j k : DeadlineKind) (xs : List Entry) → is_same_kind j k ≡ true → IsAbsent k xs → IsAbsent j xs
 same-absent j k [] same absent = tt
 same-absent j k (x ∷ xs) same absent =
-    let head : is_same k x.kind ≡ false = absent.0 in
+    let head : is_same_kind k x.kind ≡ false = absent.0 in
     (grind (arith, nat_tests), same-absent j k xs same absent.1)
 
 -- ---- a deadline is set
@@ -79,28 +79,28 @@ listing-set kind (Some moment) xs is = listing-placed (record { moment = moment;
 
 -- ---- what `set` tells
 
-listed-without : (kind other : DeadlineKind) (xs : List Entry) → is_same other kind ≡ false → listed other (without kind xs) ≡ listed other xs
+listed-without : (kind other : DeadlineKind) (xs : List Entry) → is_same_kind other kind ≡ false → listed other (without kind xs) ≡ listed other xs
 listed-without kind other [] differ = refl
-listed-without kind other (x ∷ xs) differ = go (is_same kind x.kind) refl (listed-without kind other xs differ)
+listed-without kind other (x ∷ xs) differ = go (is_same_kind kind x.kind) refl (listed-without kind other xs differ)
   where
-    go : (same : Bool) → is_same kind x.kind ≡ same → listed other (without kind xs) ≡ listed other xs
-        → listed other (if same then without kind xs else x ∷ without kind xs) ≡ (if is_same other x.kind then Some x.moment else listed other xs)
+    go : (same : Bool) → is_same_kind kind x.kind ≡ same → listed other (without kind xs) ≡ listed other xs
+        → listed other (if same then without kind xs else x ∷ without kind xs) ≡ (if is_same_kind other x.kind then Some x.moment else listed other xs)
     go true same rest =
-        let apart : is_same other x.kind ≡ false = grind (arith, nat_tests) in
+        let apart : is_same_kind other x.kind ≡ false = grind (arith, nat_tests) in
         rest ∙ sym (ap (λ b. if b then Some x.moment else listed other xs) apart)
-    go false same rest = ap (λ others. if is_same other x.kind then Some x.moment else others) rest
+    go false same rest = ap (λ others. if is_same_kind other x.kind then Some x.moment else others) rest
 
 pub listed-absent : (kind : DeadlineKind) (xs : List Entry) → IsAbsent kind xs → listed kind xs ≡ None
 listed-absent kind [] absent = refl
 listed-absent kind (x ∷ xs) absent = ap (λ b. if b then Some x.moment else listed kind xs) absent.0 ∙ listed-absent kind xs absent.1
 
 -- two entries of different kinds may change places
-listed-swap : (kind : DeadlineKind) (x y : Entry) (xs : List Entry) → is_same x.kind y.kind ≡ false → listed kind (x ∷ y ∷ xs) ≡ listed kind (y ∷ x ∷ xs)
-listed-swap kind x y xs differ = go (is_same kind x.kind) (is_same kind y.kind) refl refl
+listed-swap : (kind : DeadlineKind) (x y : Entry) (xs : List Entry) → is_same_kind x.kind y.kind ≡ false → listed kind (x ∷ y ∷ xs) ≡ listed kind (y ∷ x ∷ xs)
+listed-swap kind x y xs differ = go (is_same_kind kind x.kind) (is_same_kind kind y.kind) refl refl
   where
-    go : (b c : Bool) → is_same kind x.kind ≡ b → is_same kind y.kind ≡ c
+    go : (b c : Bool) → is_same_kind kind x.kind ≡ b → is_same_kind kind y.kind ≡ c
         → (if b then Some x.moment else (if c then Some y.moment else listed kind xs)) ≡ (if c then Some y.moment else (if b then Some x.moment else listed kind xs))
-    go true true b c = let both : is_same x.kind y.kind ≡ true = grind (arith, nat_tests) in absurd (cc)
+    go true true b c = let both : is_same_kind x.kind y.kind ≡ true = grind (arith, nat_tests) in absurd (cc)
     go true false b c = refl
     go false true b c = refl
     go false false b c = refl
@@ -112,19 +112,19 @@ listed-placed kind x (y ∷ ys) absent is =
   where
     go : (b : Bool) → listed kind (placed y ys) ≡ listed kind (y ∷ ys) → listed kind (placed x ys) ≡ listed kind (x ∷ ys)
         → listed kind (if b then x ∷ placed y ys else y ∷ placed x ys) ≡ listed kind (x ∷ y ∷ ys)
-    go true carried kept = ap (λ rest. if is_same kind x.kind then Some x.moment else rest) carried
-    go false carried kept = ap (λ rest. if is_same kind y.kind then Some y.moment else rest) kept ∙ listed-swap kind y x ys (same-sym y.kind x.kind ∙ absent.0)
+    go true carried kept = ap (λ rest. if is_same_kind kind x.kind then Some x.moment else rest) carried
+    go false carried kept = ap (λ rest. if is_same_kind kind y.kind then Some y.moment else rest) kept ∙ listed-swap kind y x ys (same-sym y.kind x.kind ∙ absent.0)
 
 pub set_tells : (kind other : DeadlineKind) (deadline : Option ℕ) (xs : List Entry) → IsListing xs
-    → listed other (set_in kind deadline xs) ≡ (if is_same other kind then deadline else listed other xs)
-set_tells kind other None xs is = go (is_same other kind) refl
+    → listed other (set_in kind deadline xs) ≡ (if is_same_kind other kind then deadline else listed other xs)
+set_tells kind other None xs is = go (is_same_kind other kind) refl
   where
-    go : (same : Bool) → is_same other kind ≡ same → listed other (without kind xs) ≡ (if same then None else listed other xs)
+    go : (same : Bool) → is_same_kind other kind ≡ same → listed other (without kind xs) ≡ (if same then None else listed other xs)
     go true same = listed-absent other (without kind xs) (same-absent other kind (without kind xs) same (without-absent kind xs))
     go false differ = listed-without kind other xs differ
 set_tells kind other (Some moment) xs is =
-    listed-placed other (record { moment = moment; kind = kind }) (without kind xs) (without-absent kind xs) (listing-without kind xs is) ∙ go (is_same other kind) refl
+    listed-placed other (record { moment = moment; kind = kind }) (without kind xs) (without-absent kind xs) (listing-without kind xs is) ∙ go (is_same_kind other kind) refl
   where
-    go : (same : Bool) → is_same other kind ≡ same → (if same then Some moment else listed other (without kind xs)) ≡ (if same then Some moment else listed other xs)
+    go : (same : Bool) → is_same_kind other kind ≡ same → (if same then Some moment else listed other (without kind xs)) ≡ (if same then Some moment else listed other xs)
     go true same = refl
     go false differ = listed-without kind other xs differ

@@ -19,7 +19,7 @@ use Rattle.dcsctp_core.specs.declared.state.State.{State}
 use Rattle.dcsctp_core.specs.declared.state.State.TheVariants.{Closed, CookieWait, CookieEchoed, Open}
 use Rattle.dcsctp_core.specs.declared.transmission_control_block.TransmissionControlBlock.{TransmissionControlBlock}
 use Rattle.dcsctp_core.specs.View.{View, core_of, tcb_of, held_of, endpoint_of, view_of}
-use Rattle.dcsctp_core.specs.Handling.{TakesIn, CutIn, FlushAt}
+use Rattle.dcsctp_core.specs.Handling.{TakesPossibleTurn, CutIn, FlushAt}
 use Rattle.dcsctp_core.proofs.Moving.{moves_still}
 use Rattle.dcsctp_core.proofs.Composing.{cut_first, cut_after}
 use Rattle.dcsctp_core.specs.Flushing.{packet_for, empty_packet, AsksFor, AskCut, FlushesFor, FlushCut, FlushesBy}
@@ -173,7 +173,7 @@ flush_unmade old =
     let o : Outcome = flush_by e (held_in e.core) some.0 in
     record { outcome = o; turn = (some.0, some.1, refl); cut = cut_first (view_of old) o (view_of old).events refl }
 
-pub flush_no_peer : {R : Type 0} (stream : R → Stream) (old : Context R) → None ≡ tcb_of old.state → TakesIn stream FlushAt (view_of old) (view_of old)
+pub flush_no_peer : {R : Type 0} (stream : R → Stream) (old : Context R) → None ≡ tcb_of old.state → TakesPossibleTurn stream FlushAt (view_of old) (view_of old)
 flush_no_peer stream old none =
     let e : Endpoint = endpoint_of old in
     let nobody : held_in e.core ≡ None = none_by_tcb old.state none in
@@ -190,7 +190,7 @@ ToPeer old tcb Flushed =
     → empty_packet old.options (tcb.capabilities.zero_checksum_method.0 == 0) tcb.peer.tag ≡ packet_for old.options draft → Flushed draft
 
 pub flush_done : {R : Type 0} (stream : R → Stream) (old : Context R) (tcb : TransmissionControlBlock) (new : View R) → Some tcb ≡ tcb_of old.state
-    → ToPeer old tcb (λ draft. FlushesFor stream first_ask (packets_allowed old.options.max_burst (core_of old.state)) (view_of old) draft new) → TakesIn stream FlushAt (view_of old) new
+    → ToPeer old tcb (λ draft. FlushesFor stream first_ask (packets_allowed old.options.max_burst (core_of old.state)) (view_of old) draft new) → TakesPossibleTurn stream FlushAt (view_of old) new
 flush_done stream old tcb new kept flushes =
     let held : Held = held_of tcb in
     let holds : held_in (core_of old.state) ≡ Some held = held_by_tcb old.state tcb kept in

@@ -11,7 +11,7 @@ use Rattle.dcsctp_transfer.specs.spec.Packet.{Emission}
 use Rattle.dcsctp_transfer.specs.spec.endpoint.Endpoint.{Endpoint}
 use Rattle.dcsctp_transfer.specs.spec.endpoint.Outcome.{Outcome, still}
 use Rattle.dcsctp_transfer.specs.spec.association.Effect.{Effect, drawn_in}
-use Rattle.dcsctp_transfer.specs.spec.endpoint.CallTurns.{Turned, after_all, words_of, pairs_of, events_of}
+use Rattle.dcsctp_transfer.specs.spec.endpoint.CallTurns.{Transition, after_all, words_of, pairs_of, events_of}
 use Rattle.dcsctp_transfer.proofs.spec_lemmas.TurnLists.{after_all-append, words_of-append, pairs_of-append, events_of-append}
 use Rattle.dcsctp_transfer.specs.api.Calls.{user_event}
 use Rattle.dcsctp_core.specs.View.{View, Drawn, Moves, MovesAll}
@@ -21,7 +21,7 @@ Drawn-append s t u [] ys a b = subst (λ (v : Stream). Drawn v ys u) a b
 Drawn-append s t u (U32 word ∷ xs) ys a b = (a.0, Drawn-append (next_u32 s).1 t u xs ys a.1 b)
 Drawn-append s t u (U64 word ∷ xs) ys a b = (a.0, Drawn-append (next_u64 s).1 t u xs ys a.1 b)
 
-pub moves_one : {R : Type 0} (stream : R → Stream) (a b : View R) (t : Turned) → Moves stream a t.outcome b → MovesAll stream a (t ∷ []) b
+pub moves_one : {R : Type 0} (stream : R → Stream) (a b : View R) (t : Transition) → Moves stream a t.outcome b → MovesAll stream a (t ∷ []) b
 moves_one stream a b t m =
     let o : Outcome = t.outcome in
     record {
@@ -33,14 +33,14 @@ moves_one stream a b t m =
     }
 
 -- events that a user gets after others are had with them
-user_events_then : (ports : Ports) (old mid : List (Event (List ℕ))) (xs ys : List Turned) → mid ≡ old ++ map (user_event ports) (events_of xs) → mid ++ map (user_event ports) (events_of ys) ≡ old ++ map (user_event ports) (events_of (xs ++ ys))
+user_events_then : (ports : Ports) (old mid : List (Event (List ℕ))) (xs ys : List Transition) → mid ≡ old ++ map (user_event ports) (events_of xs) → mid ++ map (user_event ports) (events_of ys) ≡ old ++ map (user_event ports) (events_of (xs ++ ys))
 user_events_then ports old mid xs ys h =
     ap (λ (es : List (Event (List ℕ))). es ++ map (user_event ports) (events_of ys)) h
     ∙ append_assoc old (map (user_event ports) (events_of xs)) (map (user_event ports) (events_of ys))
     ∙ ap (λ (es : List (Event (List ℕ))). old ++ es) (sym (map-append (user_event ports) (events_of xs) (events_of ys)))
     ∙ ap (λ (es : List (Event Emission)). old ++ map (user_event ports) es) (sym (events_of-append xs ys))
 
-pub moves_then : {R : Type 0} (stream : R → Stream) (a b c : View R) (xs ys : List Turned) → ports_of (after_all a.endpoint xs).options ≡ ports_of a.endpoint.options → MovesAll stream a xs b → MovesAll stream b ys c → MovesAll stream a (xs ++ ys) c
+pub moves_then : {R : Type 0} (stream : R → Stream) (a b c : View R) (xs ys : List Transition) → ports_of (after_all a.endpoint xs).options ≡ ports_of a.endpoint.options → MovesAll stream a xs b → MovesAll stream b ys c → MovesAll stream a (xs ++ ys) c
 moves_then stream a b c xs ys same m n =
     let ports : ports_of b.endpoint.options ≡ ports_of a.endpoint.options = ap (λ (e : Endpoint). ports_of e.options) m.endpoint ∙ same in
     record {

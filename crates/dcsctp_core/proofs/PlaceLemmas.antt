@@ -5,53 +5,53 @@ use Rattle.std.proofs.lemmas.Bool.Decides.{nat_tests}
 use Rattle.std.proofs.lemmas.List.{take_more, take_more_set, take-set-le, take-take, take-append-drop}
 use Rattle.dcsctp_core.specs.declared.deadlines.DeadlineKind.{DeadlineKind}
 use Rattle.dcsctp_core.specs.declared.deadlines.Entry.{Entry}
-use Rattle.dcsctp_core.specs.Listing.{is_before, is_same, listed, besides, place_of, placed, rank, without, AllBelow, IsAbsent, IsFirst, IsListing, EndsBefore, BeginsAfter}
+use Rattle.dcsctp_core.specs.Listing.{is_before, is_same_kind, listed, besides, entry_place, placed, rank, without, AllBelow, IsAbsent, IsEarliestEntry, IsListing, EndsBefore, BeginsAfter}
 use Rattle.dcsctp_core.proofs.GapLemmas.{from_place, gap_filled}
 use Rattle.dcsctp_core.proofs.ListingLemmas.{before-total, same-sym, first-absent, same-absent}
 
 -- ---- looking for a kind
 
-place-append : (kind : DeadlineKind) (xs ys : List Entry) → place_of kind xs ≡ length xs → place_of kind (xs ++ ys) ≡ length xs + place_of kind ys
+place-append : (kind : DeadlineKind) (xs ys : List Entry) → entry_place kind xs ≡ length xs → entry_place kind (xs ++ ys) ≡ length xs + entry_place kind ys
 place-append kind [] ys none = omega arith
-place-append kind (x ∷ xs) ys none = go (is_same kind x.kind) none (place-append kind xs ys)
+place-append kind (x ∷ xs) ys none = go (is_same_kind kind x.kind) none (place-append kind xs ys)
   where
-    go : (same : Bool) → (if same then 0 else suc (place_of kind xs)) ≡ suc (length xs) → (place_of kind xs ≡ length xs → place_of kind (xs ++ ys) ≡ length xs + place_of kind ys)
-        → (if same then 0 else suc (place_of kind (xs ++ ys))) ≡ suc (length xs) + place_of kind ys
+    go : (same : Bool) → (if same then 0 else suc (entry_place kind xs)) ≡ suc (length xs) → (entry_place kind xs ≡ length xs → entry_place kind (xs ++ ys) ≡ length xs + entry_place kind ys)
+        → (if same then 0 else suc (entry_place kind (xs ++ ys))) ≡ suc (length xs) + entry_place kind ys
     go true none rest = absurd (omega (arith, none))
     go false none rest = omega (arith, rest (omega (arith, none)))
 
 -- one entry further
-pub place_further : (kind : DeadlineKind) (xs : List Entry) (i : ℕ) (d : Entry) → i < length xs → place_of kind (take i xs) ≡ i → is_same kind (get_or xs i d).kind ≡ false
-    → place_of kind (take (i + 1) xs) ≡ i + 1
+pub place_further : (kind : DeadlineKind) (xs : List Entry) (i : ℕ) (d : Entry) → i < length xs → entry_place kind (take i xs) ≡ i → is_same_kind kind (get_or xs i d).kind ≡ false
+    → entry_place kind (take (i + 1) xs) ≡ i + 1
 place_further kind xs i d within none other =
     let x = get_or xs i d in
-    ap (place_of kind) (take_more xs i d within) ∙ place-append kind (take i xs) (x ∷ []) (none ∙ sym (length-take-le i xs (omega arith)))
+    ap (entry_place kind) (take_more xs i d within) ∙ place-append kind (take i xs) (x ∷ []) (none ∙ sym (length-take-le i xs (omega arith)))
     ∙ ap₂ ◌+◌ (length-take-le i xs (omega arith)) (ap (λ b. if b then 0 else 1) other)
 
-pub place_found : (kind : DeadlineKind) (xs : List Entry) (i n : ℕ) (d : Entry) → i < n → n ≤ length xs → place_of kind (take i xs) ≡ i → is_same kind (get_or xs i d).kind ≡ true
-    → i ≡ place_of kind (take n xs)
+pub place_found : (kind : DeadlineKind) (xs : List Entry) (i n : ℕ) (d : Entry) → i < n → n ≤ length xs → entry_place kind (take i xs) ≡ i → is_same_kind kind (get_or xs i d).kind ≡ true
+    → i ≡ entry_place kind (take n xs)
 place_found kind xs i n d below within none same =
     let rest = drop (i + 1) (take n xs) in
     let parts : take n xs ≡ take i xs ++ get_or xs i d ∷ rest =
     sym (take-append-drop i (take n xs)) ∙ ap₂ ◌++◌ (take-take i n xs (omega arith)) (from_place xs i n d below within) in
-    sym (ap (place_of kind) parts ∙ place-append kind (take i xs) (get_or xs i d ∷ rest) (none ∙ sym (length-take-le i xs (omega arith)))
-    ∙ ap₂ ◌+◌ (length-take-le i xs (omega arith)) (ap (λ b. if b then 0 else suc (place_of kind rest)) same) ∙ omega arith)
+    sym (ap (entry_place kind) parts ∙ place-append kind (take i xs) (get_or xs i d ∷ rest) (none ∙ sym (length-take-le i xs (omega arith)))
+    ∙ ap₂ ◌+◌ (length-take-le i xs (omega arith)) (ap (λ b. if b then 0 else suc (entry_place kind rest)) same) ∙ omega arith)
 
-pub place-within : (kind : DeadlineKind) (xs : List Entry) → place_of kind xs ≤ length xs
+pub place-within : (kind : DeadlineKind) (xs : List Entry) → entry_place kind xs ≤ length xs
 place-within kind [] = omega arith
-place-within kind (x ∷ xs) = go (is_same kind x.kind) (place-within kind xs)
+place-within kind (x ∷ xs) = go (is_same_kind kind x.kind) (place-within kind xs)
   where
-    go : (same : Bool) → place_of kind xs ≤ length xs → (if same then 0 else suc (place_of kind xs)) ≤ suc (length xs)
+    go : (same : Bool) → entry_place kind xs ≤ length xs → (if same then 0 else suc (entry_place kind xs)) ≤ suc (length xs)
     go true rest = omega arith
     go false rest = omega (arith, rest)
 
 -- none is of the kind
-pub place-absent : (kind : DeadlineKind) (xs : List Entry) → place_of kind xs ≡ length xs → IsAbsent kind xs
+pub place-absent : (kind : DeadlineKind) (xs : List Entry) → entry_place kind xs ≡ length xs → IsAbsent kind xs
 place-absent kind [] none = tt
-place-absent kind (x ∷ xs) none = go (is_same kind x.kind) refl none (place-absent kind xs)
+place-absent kind (x ∷ xs) none = go (is_same_kind kind x.kind) refl none (place-absent kind xs)
   where
-    go : (same : Bool) → is_same kind x.kind ≡ same → (if same then 0 else suc (place_of kind xs)) ≡ suc (length xs) → (place_of kind xs ≡ length xs → IsAbsent kind xs)
-        → (is_same kind x.kind ≡ false) × IsAbsent kind xs
+    go : (same : Bool) → is_same_kind kind x.kind ≡ same → (if same then 0 else suc (entry_place kind xs)) ≡ suc (length xs) → (entry_place kind xs ≡ length xs → IsAbsent kind xs)
+        → (is_same_kind kind x.kind ≡ false) × IsAbsent kind xs
     go true same none rest = absurd (omega (arith, none))
     go false other none rest = (other, rest (omega (arith, none)))
 
@@ -61,17 +61,17 @@ absent-without kind (x ∷ xs) absent =
     ap (λ b. if b then without kind xs else x ∷ without kind xs) absent.0 ∙ ap (λ l. x ∷ l) (absent-without kind xs absent.1)
 
 -- the deadline of a kind, by its place
-listed-at : (kind : DeadlineKind) (xs : List Entry) (d : Entry) → place_of kind xs < length xs → listed kind xs ≡ Some (get_or xs (place_of kind xs) d).moment
+listed-at : (kind : DeadlineKind) (xs : List Entry) (d : Entry) → entry_place kind xs < length xs → listed kind xs ≡ Some (get_or xs (entry_place kind xs) d).moment
 listed-at kind [] d some = absurd (omega (arith, some))
-listed-at kind (x ∷ xs) d some = go (is_same kind x.kind) some (listed-at kind xs d)
+listed-at kind (x ∷ xs) d some = go (is_same_kind kind x.kind) some (listed-at kind xs d)
   where
-    go : (same : Bool) → (if same then 0 else suc (place_of kind xs)) < suc (length xs)
-        → (place_of kind xs < length xs → listed kind xs ≡ Some (get_or xs (place_of kind xs) d).moment)
-        → (if same then Some x.moment else listed kind xs) ≡ Some (get_or (x ∷ xs) (if same then 0 else suc (place_of kind xs)) d).moment
+    go : (same : Bool) → (if same then 0 else suc (entry_place kind xs)) < suc (length xs)
+        → (entry_place kind xs < length xs → listed kind xs ≡ Some (get_or xs (entry_place kind xs) d).moment)
+        → (if same then Some x.moment else listed kind xs) ≡ Some (get_or (x ∷ xs) (if same then 0 else suc (entry_place kind xs)) d).moment
     go true some rest = refl
     go false some rest = rest (omega (arith, some))
 
-pub listed_at : (kind : DeadlineKind) (xs : List Entry) (n p : ℕ) (d : Entry) → n ≤ length xs → p ≡ place_of kind (take n xs) → p < n → Some (get_or xs p d).moment ≡ listed kind (take n xs)
+pub listed_at : (kind : DeadlineKind) (xs : List Entry) (n p : ℕ) (d : Entry) → n ≤ length xs → p ≡ entry_place kind (take n xs) → p < n → Some (get_or xs p d).moment ≡ listed kind (take n xs)
 listed_at kind xs n p d within is below =
     ap (λ (x : Entry). Some x.moment) (sym (get_or-take n xs p d below) ∙ ap (λ q. get_or (take n xs) q d) is)
     ∙ sym (listed-at kind (take n xs) d (omega (arith, is, length-take-le n xs within)))
@@ -80,25 +80,25 @@ listed-absent : (kind : DeadlineKind) (xs : List Entry) → IsAbsent kind xs →
 listed-absent kind [] absent = refl
 listed-absent kind (x ∷ xs) absent = ap (λ b. if b then Some x.moment else listed kind xs) absent.0 ∙ listed-absent kind xs absent.1
 
-pub listed_nowhere : (kind : DeadlineKind) (xs : List Entry) → place_of kind xs ≡ length xs → listed kind xs ≡ None
+pub listed_nowhere : (kind : DeadlineKind) (xs : List Entry) → entry_place kind xs ≡ length xs → listed kind xs ≡ None
 listed_nowhere kind xs none = listed-absent kind xs (place-absent kind xs none)
 
 -- ---- the others
 
-others-without : (kind : DeadlineKind) (xs : List Entry) → place_of kind xs < length xs → IsListing xs
-    → take (place_of kind xs) xs ++ drop (place_of kind xs + 1) xs ≡ without kind xs
+others-without : (kind : DeadlineKind) (xs : List Entry) → entry_place kind xs < length xs → IsListing xs
+    → take (entry_place kind xs) xs ++ drop (entry_place kind xs + 1) xs ≡ without kind xs
 others-without kind [] some is = absurd (omega (arith, some))
-others-without kind (x ∷ xs) some is = go (is_same kind x.kind) refl some (λ more. others-without kind xs more is.1)
+others-without kind (x ∷ xs) some is = go (is_same_kind kind x.kind) refl some (λ more. others-without kind xs more is.1)
   where
-    go : (same : Bool) → is_same kind x.kind ≡ same → (if same then 0 else suc (place_of kind xs)) < suc (length xs)
-        → (place_of kind xs < length xs → take (place_of kind xs) xs ++ drop (place_of kind xs + 1) xs ≡ without kind xs)
-        → take (if same then 0 else suc (place_of kind xs)) (x ∷ xs) ++ drop ((if same then 0 else suc (place_of kind xs)) + 1) (x ∷ xs) ≡ (if same then without kind xs else x ∷ without kind xs)
+    go : (same : Bool) → is_same_kind kind x.kind ≡ same → (if same then 0 else suc (entry_place kind xs)) < suc (length xs)
+        → (entry_place kind xs < length xs → take (entry_place kind xs) xs ++ drop (entry_place kind xs + 1) xs ≡ without kind xs)
+        → take (if same then 0 else suc (entry_place kind xs)) (x ∷ xs) ++ drop ((if same then 0 else suc (entry_place kind xs)) + 1) (x ∷ xs) ≡ (if same then without kind xs else x ∷ without kind xs)
     go true same some rest = sym (absent-without kind xs (same-absent kind x.kind xs same (first-absent x xs is.0)))
     go false other some rest =
-        let behind : suc (place_of kind xs) + 1 ≡ suc (place_of kind xs + 1) = omega arith in
-        ap (λ n. x ∷ take (place_of kind xs) xs ++ drop n (x ∷ xs)) behind ∙ ap (λ l. x ∷ l) (rest (omega (arith, some)))
+        let behind : suc (entry_place kind xs) + 1 ≡ suc (entry_place kind xs + 1) = omega arith in
+        ap (λ n. x ∷ take (entry_place kind xs) xs ++ drop n (x ∷ xs)) behind ∙ ap (λ l. x ∷ l) (rest (omega (arith, some)))
 
-pub others_without : (kind : DeadlineKind) (xs : List Entry) (n p : ℕ) → n ≤ length xs → p ≡ place_of kind (take n xs) → p < n → IsListing (take n xs)
+pub others_without : (kind : DeadlineKind) (xs : List Entry) (n p : ℕ) → n ≤ length xs → p ≡ entry_place kind (take n xs) → p < n → IsListing (take n xs)
     → besides p n xs ≡ without kind (take n xs)
 others_without kind xs n p within is below listing =
     ap (λ l. l ++ drop (p + 1) (take n xs)) (sym (take-take p n xs (omega arith)))
@@ -157,7 +157,7 @@ begins_nowhere new xs i n all within = subst (BeginsAfter new) (sym (drop_all i 
 
 -- ---- a new entry is placed between these
 
-pub placed-listing : (x : Entry) (xs : List Entry) → IsFirst x xs → IsListing xs → placed x xs ≡ x ∷ xs
+pub placed-listing : (x : Entry) (xs : List Entry) → IsEarliestEntry x xs → IsListing xs → placed x xs ≡ x ∷ xs
 placed-listing x [] is listing = refl
 placed-listing x (y ∷ ys) is listing =
     ap (λ b. if b then x ∷ placed y ys else y ∷ placed x ys) is.0 ∙ ap (λ l. x ∷ l) (placed-listing y ys listing.0 listing.1)

@@ -5,7 +5,7 @@ use Rattle.std.proofs.lemmas.Bool.Decides.{nat_tests}
 use Rattle.dcsctp_core.specs.declared.deadlines.DeadlineKind.{DeadlineKind}
 use Rattle.dcsctp_core.specs.declared.deadlines.DeadlineKind.TheVariants.{AcknowledgementDelay, Retransmission, HeartbeatInterval, HeartbeatTimeout, Reconfiguration, T1, T2}
 use Rattle.dcsctp_core.specs.declared.deadlines.Entry.{Entry}
-use Rattle.dcsctp_core.specs.Listing.{is_before, is_same, listed, placed, rank, relisted, said_by, with_entry, AllBelow, IsAbsent, IsListing, RelistTells, Told}
+use Rattle.dcsctp_core.specs.Listing.{is_before, is_same_kind, listed, placed, rank, relisted, deadline_by_kind, with_entry, AllBelow, IsAbsent, IsListing, RelistTells, RunningDeadlines}
 use Rattle.dcsctp_core.proofs.ListingLemmas.{listing-placed, set_tells}
 use Rattle.dcsctp_core.proofs.PlaceLemmas.{absent-without}
 
@@ -40,43 +40,43 @@ listing-entry kind None xs absent is = is
 listing-entry kind (Some moment) xs absent is = listing-placed (record { moment = moment; kind = kind }) xs absent is
 
 entry-tells : (kind other : DeadlineKind) (deadline : Option ℕ) (xs : List Entry) → IsAbsent kind xs → IsListing xs
-    → listed other (with_entry kind deadline xs) ≡ (if is_same other kind then deadline else listed other xs)
+    → listed other (with_entry kind deadline xs) ≡ (if is_same_kind other kind then deadline else listed other xs)
 entry-tells kind other deadline xs absent is =
     ap (λ others. listed other (with_entry kind deadline others)) (sym (absent-without kind xs absent)) ∙ set_tells kind other deadline xs is
 
 -- ---- all of them, the last kind first
 
-abbrev list_of : Told → List DeadlineKind → List Entry
+abbrev list_of : RunningDeadlines → List DeadlineKind → List Entry
 list_of told [] = []
-list_of told (kind ∷ kinds) = with_entry kind (said_by told kind) (list_of told kinds)
+list_of told (kind ∷ kinds) = with_entry kind (deadline_by_kind told kind) (list_of told kinds)
 
-abbrev said_among : Told → List DeadlineKind → DeadlineKind → Option ℕ
+abbrev said_among : RunningDeadlines → List DeadlineKind → DeadlineKind → Option ℕ
 said_among told [] other = None
-said_among told (kind ∷ kinds) other = if is_same other kind then said_by told kind else said_among told kinds other
+said_among told (kind ∷ kinds) other = if is_same_kind other kind then deadline_by_kind told kind else said_among told kinds other
 
 abbrev Descend : ℕ → List DeadlineKind → Type 0
 Descend limit [] = Unit {0}
 Descend limit (kind ∷ kinds) = (rank kind < limit) × Descend (rank kind) kinds
 
-list-below : (told : Told) (limit : ℕ) (kinds : List DeadlineKind) → Descend limit kinds → AllBelow limit (list_of told kinds)
+list-below : (told : RunningDeadlines) (limit : ℕ) (kinds : List DeadlineKind) → Descend limit kinds → AllBelow limit (list_of told kinds)
 list-below told limit [] descend = tt
 list-below told limit (kind ∷ kinds) descend =
-    below-entry limit kind (said_by told kind) (list_of told kinds) descend.0
+    below-entry limit kind (deadline_by_kind told kind) (list_of told kinds) descend.0
     (below-more (rank kind) limit (list_of told kinds) (omega (arith, descend.0)) (list-below told (rank kind) kinds descend.1))
 
-list-absent : (told : Told) (kind : DeadlineKind) (kinds : List DeadlineKind) → Descend (rank kind) kinds → IsAbsent kind (list_of told kinds)
+list-absent : (told : RunningDeadlines) (kind : DeadlineKind) (kinds : List DeadlineKind) → Descend (rank kind) kinds → IsAbsent kind (list_of told kinds)
 list-absent told kind kinds descend = below-absent kind (list_of told kinds) (list-below told (rank kind) kinds descend)
 
-list-listing : (told : Told) (limit : ℕ) (kinds : List DeadlineKind) → Descend limit kinds → IsListing (list_of told kinds)
+list-listing : (told : RunningDeadlines) (limit : ℕ) (kinds : List DeadlineKind) → Descend limit kinds → IsListing (list_of told kinds)
 list-listing told limit [] descend = tt
 list-listing told limit (kind ∷ kinds) descend =
-    listing-entry kind (said_by told kind) (list_of told kinds) (list-absent told kind kinds descend.1) (list-listing told (rank kind) kinds descend.1)
+    listing-entry kind (deadline_by_kind told kind) (list_of told kinds) (list-absent told kind kinds descend.1) (list-listing told (rank kind) kinds descend.1)
 
-list-tells : (told : Told) (limit : ℕ) (kinds : List DeadlineKind) (other : DeadlineKind) → Descend limit kinds → listed other (list_of told kinds) ≡ said_among told kinds other
+list-tells : (told : RunningDeadlines) (limit : ℕ) (kinds : List DeadlineKind) (other : DeadlineKind) → Descend limit kinds → listed other (list_of told kinds) ≡ said_among told kinds other
 list-tells told limit [] other descend = refl
 list-tells told limit (kind ∷ kinds) other descend =
-    entry-tells kind other (said_by told kind) (list_of told kinds) (list-absent told kind kinds descend.1) (list-listing told (rank kind) kinds descend.1)
-    ∙ ap (λ rest. if is_same other kind then said_by told kind else rest) (list-tells told (rank kind) kinds other descend.1)
+    entry-tells kind other (deadline_by_kind told kind) (list_of told kinds) (list-absent told kind kinds descend.1) (list-listing told (rank kind) kinds descend.1)
+    ∙ ap (λ rest. if is_same_kind other kind then deadline_by_kind told kind else rest) (list-tells told (rank kind) kinds other descend.1)
 
 abbrev all_kinds : List DeadlineKind
 all_kinds = T2 ∷ T1 ∷ Reconfiguration ∷ HeartbeatTimeout ∷ HeartbeatInterval ∷ Retransmission ∷ AcknowledgementDelay ∷ []
@@ -87,7 +87,7 @@ descend = (omega arith, (omega arith, (omega arith, (omega arith, (omega arith, 
 pub relist_tells : RelistTells
 relist_tells told kind = list-tells told 7 all_kinds kind descend ∙ go kind
   where
-    go : (kind : DeadlineKind) → said_among told all_kinds kind ≡ said_by told kind
+    go : (kind : DeadlineKind) → said_among told all_kinds kind ≡ deadline_by_kind told kind
     go AcknowledgementDelay = refl
     go Retransmission = refl
     go HeartbeatInterval = refl

@@ -9,10 +9,10 @@ use Rattle.dcsctp_transfer.specs.wire.Spelling.{chunk_bytes}
 use Rattle.dcsctp_transfer.specs.spec.Packet.{chunk_out}
 use Rattle.dcsctp_transfer.specs.spec.Reconfiguration.{RequestedReset}
 use Rattle.dcsctp_transfer.specs.spec.association.FlushChanges.{reset_request}
-use Rattle.dcsctp_transfer.specs.spec.endpoint.BegunResets.{streams_within, stream_field, BegunReset, last_assigned_tsn, begun_in, begun_where, transfer_begun, rto_of, held_begun, core_asking, after_begun}
+use Rattle.dcsctp_transfer.specs.spec.endpoint.BegunResets.{streams_within, stream_field, BegunReset, last_assigned_tsn, begun_in, begun_where, transfer_reset_begun, rto_of, held_begun, core_asking, after_begun}
 use Rattle.dcsctp_transfer.proofs.spec_lemmas.PacketLengths.{request_len}
 use Rattle.std.proofs.lemmas.Bool.Decides.{nat_tests}
-use Rattle.dcsctp_core.specs.Resetting.{IsStream, StartsReset, BeginsReset, request_begun, timer_begun, Begins, BeginsIn, BeginsBelow}
+use Rattle.dcsctp_core.specs.Resetting.{IsStream, StartsReset, BeginsReset, request_begun, timer_begun, BeginsOwnReset, BeginsIn, BeginsResetInQueues}
 use Rattle.std.specs.List.{AllByRecursion}
 use Rattle.std.specs.Prelude.{is_some}
 use Rattle.std.specs.Option.{option_map}
@@ -26,7 +26,7 @@ use Rattle.dcsctp_core.specs.declared.transmission_control_block.TransmissionCon
 use Rattle.dcsctp_core.specs.Reconfiguring.{tcb_changed}
 use Rattle.dcsctp_core.proofs.LendingLemmas.{within, found}
 use Rattle.dcsctp_core.proofs.LoopLemmas.{held_by_tcb}
-use Rattle.dcsctp_core.specs.View.{number_of, tcb_of, held_of, core_of, phase_in, tie_of, t1_of, t2_of, outstanding_of, reconfiguration_of, transfer_of, endpoint_of, view_of, View}
+use Rattle.dcsctp_core.specs.View.{request_number, tcb_of, held_of, core_of, phase_in, tie_of, t1_of, t2_of, outstanding_of, reconfiguration_of, transfer_of, endpoint_of, view_of, View}
 use Rattle.dcsctp_transfer.specs.types.declared.association.Pair.{Pair}
 use Rattle.dcsctp_transfer.specs.types.declared.association.Held.{Held}
 use Rattle.dcsctp_transfer.specs.spec.endpoint.Endpoint.{Endpoint, Core, cookie_echoed, open_in, OpenPhase, OutstandingRequest}
@@ -34,7 +34,7 @@ use Rattle.dcsctp_transfer.specs.spec.endpoint.Timers.{RunningTimer}
 use Rattle.dcsctp_core.specs.declared.state.State.{State}
 use Rattle.dcsctp_core.specs.declared.state.State.TheVariants.{Closed, CookieWait, CookieEchoed, Open}
 use Rattle.dcsctp_core.specs.declared.context.Context.{Context}
-use Rattle.dcsctp_core.specs.Flushing.{BeginsAt, TriesReset}
+use Rattle.dcsctp_core.specs.Flushing.{FillsResetRequest, TriesReset}
 
 -- ---- the streams in bytes
 
@@ -94,7 +94,7 @@ begun_is None number last_tsn (stream ∷ streams) none some = refl
 begun_is (Some other) number last_tsn streams none some = absurd (cc)
 
 pub begins_with : (now max : ℕ) (ids : List ℕ) (queue : SendQueueState) (old : TransmissionControlBlock) (packet : Building) (left : SendQueueState) (new : TransmissionControlBlock) (filled : Building)
-    → number_of old.reset_request ≡ None → max ≡ streams_within (bytes_remaining packet) → ids ≡ take max (ready_streams queue) → (length ids == 0) ≡ false → left ≡ queue_handing_out max queue
+    → request_number old.reset_request ≡ None → max ≡ streams_within (bytes_remaining packet) → ids ≡ take max (ready_streams queue) → (length ids == 0) ≡ false → left ≡ queue_handing_out max queue
     → StartsReset now ids old packet new filled → BeginsReset now queue old packet left new filled
 begins_with now max ids queue old packet left new filled none is_max is some handed h =
     let last : ℕ = last_assigned_tsn old.transfer.retransmission in
@@ -102,8 +102,8 @@ begins_with now max ids queue old packet left new filled none is_max is some han
     record {
       begun = Some h.begun;
       is = ap (λ (b : BegunReset). Some b) h.is
-          ∙ begun_is (number_of old.reset_request) number last ids none some
-          ∙ ap (λ (streams : List ℕ). begun_where (number_of old.reset_request) number last streams)
+          ∙ begun_is (request_number old.reset_request) number last ids none some
+          ∙ ap (λ (streams : List ℕ). begun_where (request_number old.reset_request) number last streams)
           (sym (fields_same ids h.fit) ∙ ap (map stream_field) (is ∙ ap (λ (n : ℕ). take n (ready_streams queue)) is_max));
       begins = h.begins;
       packet_is = h.packet_is;
@@ -112,13 +112,13 @@ begins_with now max ids queue old packet left new filled none is_max is some han
 
 pub begins_by : (now max : ℕ) (ids : List ℕ) (queue : SendQueueState) (old : TransmissionControlBlock) (packet : Building) (left : SendQueueState) (new : TransmissionControlBlock) (filled : Building)
     (result : Result (Unit {0}) AllocError)
-    → number_of old.reset_request ≡ None → max ≡ streams_within (bytes_remaining packet) → ids ≡ take max (ready_streams queue) → (length ids == 0) ≡ false → left ≡ queue_handing_out max queue
+    → request_number old.reset_request ≡ None → max ≡ streams_within (bytes_remaining packet) → ids ≡ take max (ready_streams queue) → (length ids == 0) ≡ false → left ≡ queue_handing_out max queue
     → OnOk result (StartsReset now ids old packet new filled) → OnOk result (BeginsReset now queue old packet left new filled)
 begins_by now max ids queue old packet left new filled (Ok done) none is_max is some handed h = begins_with now max ids queue old packet left new filled none is_max is some handed h
 begins_by now max ids queue old packet left new filled (Err error) none is_max is some handed h = tt
 
 -- no request is outstanding
-pub none_outstanding : (request : Option ResetRequest) → is_some request ≡ false → number_of request ≡ None
+pub none_outstanding : (request : Option ResetRequest) → is_some request ≡ false → request_number request ≡ None
 none_outstanding None none = refl
 none_outstanding (Some request) none = absurd (cc)
 
@@ -139,8 +139,8 @@ begins_none now max ids queue old packet left is_max is none some handed =
     let empty : (length (take max (ready_streams queue)) == 0) ≡ true = subst (λ (ns : List ℕ). (length ns == 0) ≡ true) is none in
     record {
       begun = None;
-      is = sym (ap (λ (streams : List ℕ). begun_where (number_of old.reset_request) old.next_outgoing_reset_req_seq_nbr (last_assigned_tsn old.transfer.retransmission) (map stream_field streams))
-          (ap (λ (n : ℕ). take n (ready_streams queue)) (sym is_max) ∙ none_of (take max (ready_streams queue)) empty) ∙ begun_none (number_of old.reset_request) _ _);
+      is = sym (ap (λ (streams : List ℕ). begun_where (request_number old.reset_request) old.next_outgoing_reset_req_seq_nbr (last_assigned_tsn old.transfer.retransmission) (map stream_field streams))
+          (ap (λ (n : ℕ). take n (ready_streams queue)) (sym is_max) ∙ none_of (take max (ready_streams queue)) empty) ∙ begun_none (request_number old.reset_request) _ _);
       begins = record { held = refl; request = refl; timer = refl; my = refl; tie_tag = refl; transfer = refl };
       packet_is = ap (λ (body : List ℕ). record packet { body = body }) (sym (append-nil packet.body));
       hands_out = handed ∙ none_handed max queue (ready_streams queue) refl empty some;
@@ -165,7 +165,7 @@ core_where None core = core
 core_where (Some begun) core = core_asking core
 
 abbrev transfer_where : Option BegunReset → Option Transfer → Option Transfer
-transfer_where begun found = option_map (transfer_begun begun) found
+transfer_where begun found = option_map (transfer_reset_begun begun) found
 
 -- what the machine sees of a state in which this was begun
 record Stood (now : ℕ) (begun : Option BegunReset) (old new : State) : Type 0 where
@@ -223,18 +223,18 @@ with_parts context core tie t1 t2 outstanding reconfiguration transfer queue =
       tie = tie;
       outstanding = outstanding;
       timers = record (endpoint_of context).timers { t1 = t1; t2 = t2; reconfiguration = reconfiguration };
-      below = record { queue = queue; transfer = transfer };
+      queues = record { queue = queue; transfer = transfer };
     }
 
 begun_whole : {R : Type 0} (begun : Option BegunReset) (context : Context R) (queue : SendQueueState)
     → let s : State = context.state in
     with_parts context (core_where begun (core_of s)) (tie_of s) (t1_of s) (t2_of s) (request_begun begun (outstanding_of s)) (timer_begun begun context.moment (rto_of (transfer_of s)) (reconfiguration_of s)) (transfer_where begun (transfer_of s)) queue
-    ≡ record (after_begun begun (endpoint_of context)) { below = record { queue = queue; transfer = transfer_where begun (transfer_of s) } }
+    ≡ record (after_begun begun (endpoint_of context)) { queues = record { queue = queue; transfer = transfer_where begun (transfer_of s) } }
 begun_whole None context queue = refl
 begun_whole (Some begun) context queue = refl
 
 endpoint_begun : {R : Type 0} (context : Context R) (begun : Option BegunReset) (state : State) (queue : SendQueueState) → Stood context.moment begun context.state state
-    → endpoint_of (record context { state = state; send_queue = queue }) ≡ record (after_begun begun (endpoint_of context)) { below = record { queue = queue; transfer = transfer_where begun (transfer_of context.state) } }
+    → endpoint_of (record context { state = state; send_queue = queue }) ≡ record (after_begun begun (endpoint_of context)) { queues = record { queue = queue; transfer = transfer_where begun (transfer_of context.state) } }
 endpoint_begun context begun state queue h =
     let s : State = context.state in
     ap (λ (core : Core). with_parts context core (tie_of state) (t1_of state) (t2_of state) (outstanding_of state) (reconfiguration_of state) (transfer_of state) queue) h.core
@@ -248,39 +248,39 @@ endpoint_begun context begun state queue h =
     ∙ begun_whole begun context queue
 
 begun_below : {R : Type 0} (old : Context R) (found : Option Transfer) (state : State) (queue : SendQueueState) (packet filled : Building) → transfer_of old.state ≡ found
-    → BeginsBelow old.moment found old.send_queue old.state packet queue state filled → BeginsAt found (view_of old) packet (view_of (record old { state = state; send_queue = queue })) filled
+    → BeginsResetInQueues old.moment found old.send_queue old.state packet queue state filled → FillsResetRequest found (view_of old) packet (view_of (record old { state = state; send_queue = queue })) filled
 begun_below old None state queue packet filled holds h =
     (ap (λ (s : State). view_of (record old { state = s; send_queue = queue })) h.0 ∙ ap (λ (q : SendQueueState). view_of (record old { send_queue = q })) h.1, h.2)
 begun_below old (Some transfer) state queue packet filled holds h =
-    let below : Option Transfer → Endpoint = λ found. record (after_begun h.begun (endpoint_of old)) { below = record { queue = queue; transfer = transfer_where h.begun found } } in
+    let below : Option Transfer → Endpoint = λ found. record (after_begun h.begun (endpoint_of old)) { queues = record { queue = queue; transfer = transfer_where h.begun found } } in
     let is : endpoint_of (record old { state = state; send_queue = queue }) ≡ below (Some transfer) =
     endpoint_begun old h.begun state queue (stood old.moment h.begun old.state state transfer holds h.begins) ∙ ap below holds in
     (h.begun, queue, h.is, h.hands_out, h.packet_is, ap (λ (e : Endpoint). record (view_of old) { endpoint = e }) is)
 
 pub tries_reset : {R : Type 0} (old new : Context R) (state : State) (queue : SendQueueState) (packet filled : Building) (result : Result (Unit {0}) AllocError)
     → view_of new ≡ view_of (record old { state = state; send_queue = queue })
-    → OnOk result (BeginsBelow old.moment (transfer_of old.state) old.send_queue old.state packet queue state filled) → TriesReset packet old result new filled
+    → OnOk result (BeginsResetInQueues old.moment (transfer_of old.state) old.send_queue old.state packet queue state filled) → TriesReset packet old result new filled
 tries_reset {R = R} old new state queue packet filled (Ok done) same h =
-    subst (λ (v : View R). BeginsAt (transfer_of old.state) (view_of old) packet v filled) (sym same) (begun_below old (transfer_of old.state) state queue packet filled refl h)
+    subst (λ (v : View R). FillsResetRequest (transfer_of old.state) (view_of old) packet v filled) (sym same) (begun_below old (transfer_of old.state) state queue packet filled refl h)
 tries_reset {R = R} old new state queue packet filled (Err error) same h = ap (λ (v : View R). v.events) same
 
 -- ---- where the association was lent
 
-begins_in : (now : ℕ) (begun : Option BegunReset) (state : State) (tcb after : TransmissionControlBlock) → Some tcb ≡ tcb_of state → Begins now begun tcb after
+begins_in : (now : ℕ) (begun : Option BegunReset) (state : State) (tcb after : TransmissionControlBlock) → Some tcb ≡ tcb_of state → BeginsOwnReset now begun tcb after
     → BeginsIn now begun state (tcb_changed (λ _. after) state)
 begins_in now begun Closed tcb after holds begins = refl
 begins_in now begun (CookieWait wait) tcb after holds begins = refl
-begins_in now begun (CookieEchoed echoed) tcb after holds begins = (after, subst (λ (t : TransmissionControlBlock). Begins now begun t after) (within holds) begins, refl)
-begins_in now begun (Open opened) tcb after holds begins = (after, subst (λ (t : TransmissionControlBlock). Begins now begun t after) (within holds) begins, refl)
+begins_in now begun (CookieEchoed echoed) tcb after holds begins = (after, subst (λ (t : TransmissionControlBlock). BeginsOwnReset now begun t after) (within holds) begins, refl)
+begins_in now begun (Open opened) tcb after holds begins = (after, subst (λ (t : TransmissionControlBlock). BeginsOwnReset now begun t after) (within holds) begins, refl)
 
 pub begins_lent : {R : Type 0} (old : Context R) (tcb after : TransmissionControlBlock) (queue : SendQueueState) (packet filled : Building) (result : Result (Unit {0}) AllocError) → Some tcb ≡ tcb_of old.state
     → OnOk result (BeginsReset old.moment old.send_queue tcb packet queue after filled)
-    → OnOk result (BeginsBelow old.moment (transfer_of old.state) old.send_queue old.state packet queue (tcb_changed (λ _. after) old.state) filled)
+    → OnOk result (BeginsResetInQueues old.moment (transfer_of old.state) old.send_queue old.state packet queue (tcb_changed (λ _. after) old.state) filled)
 begins_lent old tcb after queue packet filled (Err error) holds h = h
 begins_lent old tcb after queue packet filled (Ok done) holds h =
     let room = bytes_remaining packet in
     let last = last_assigned_tsn tcb.transfer.retransmission in
-    subst (λ (f : Option Transfer). BeginsBelow old.moment f old.send_queue old.state packet queue (tcb_changed (λ _. after) old.state) filled) (sym (found old.state tcb holds))
+    subst (λ (f : Option Transfer). BeginsResetInQueues old.moment f old.send_queue old.state packet queue (tcb_changed (λ _. after) old.state) filled) (sym (found old.state tcb holds))
     (record {
       begun = h.begun;
       is = h.is ∙ ap (λ (held : Option Held). begun_in held room last old.send_queue) (sym (held_by_tcb old.state tcb holds));

@@ -7,18 +7,18 @@ use Rattle.rand_core.specs.Stream.{Stream}
 use Rattle.dcsctp_transfer.specs.spec.queues.OwnResets.{ready_streams}
 use Rattle.dcsctp_transfer.specs.types.declared.association.Held.{Held}
 use Rattle.dcsctp_transfer.specs.spec.Packet.{Emission}
-use Rattle.dcsctp_transfer.specs.spec.queues.SendQueue.{SendQueueState, has_data}
+use Rattle.dcsctp_transfer.specs.spec.queues.SendQueue.{SendQueueState, has_queued_data}
 use Rattle.dcsctp_transfer.specs.spec.queues.Transfer.{Transfer, is_none_ready, is_idle, may_give}
 use Rattle.dcsctp_transfer.specs.spec.queues.Retransmission.{RetransmissionState, can_send}
 use Rattle.dcsctp_transfer.specs.spec.queues.Items.{marked_items, is_first_abandoned}
 use Rattle.dcsctp_transfer.specs.spec.endpoint.Endpoint.{Endpoint, held_in}
 use Rattle.dcsctp_transfer.specs.spec.endpoint.BegunResets.{last_assigned_tsn}
 use Rattle.dcsctp_transfer.specs.spec.endpoint.DataOutcomes.{flush_by, AnswersTo}
-use Rattle.dcsctp_transfer.specs.spec.endpoint.FlushOutcomes.{draft_to, flush_of, packets_allowed, Ask, first_ask, later_ask, room_in, begun_at, Acknowledges, Gives, GivesWhere, AnsweredBelow, nothing_waits, FillsWhere, ForwardsWhere, GivesUpWhere, filled, may_forward, stage_of}
+use Rattle.dcsctp_transfer.specs.spec.endpoint.FlushOutcomes.{draft_to, flush_of, packets_allowed, Ask, first_ask, later_ask, room_in, begun_at, Acknowledges, Gives, GivesWhere, IsAnswerOfQueues, nothing_waits, FillsWhere, ForwardsWhere, GivesUpWhere, filled, may_forward, stage_of}
 use Rattle.dcsctp_core.specs.declared.context.Context.{Context}
 use Rattle.dcsctp_core.specs.declared.transmission_control_block.TransmissionControlBlock.{TransmissionControlBlock}
 use Rattle.dcsctp_core.specs.View.{View, core_of, tcb_of, transfer_of, held_of, endpoint_of, view_of}
-use Rattle.dcsctp_core.specs.Handling.{TakesIn, FlushAt}
+use Rattle.dcsctp_core.specs.Handling.{TakesPossibleTurn, FlushAt}
 use Rattle.dcsctp_core.specs.Flushing.{NeedsNone, AsksFor, FlushesFor}
 use Rattle.dcsctp_core.proofs.Moving.{moves_still}
 use Rattle.dcsctp_core.proofs.FillLemmas.{none_begun}
@@ -33,7 +33,7 @@ use Rattle.dcsctp_transfer.proofs.spec_lemmas.DueItemLemmas.{due_marked}
 
 -- No item waits to be sent again, so none is due to be abandoned.
 unmarked : (queue : SendQueueState) (state : RetransmissionState) → may_give queue state ≡ false → marked_items state.outstanding.items ≡ 0
-unmarked queue state is = go (marked_items state.outstanding.items) (has_data queue && can_send state) is
+unmarked queue state is = go (marked_items state.outstanding.items) (has_queued_data queue && can_send state) is
   where
     go : (n : ℕ) (b : Bool) → (nat_lt 0 n || b) ≡ false → n ≡ 0
     go zero b is = refl
@@ -63,61 +63,61 @@ rest_begun : (ask : Ask) (held : Option Held) (room last_tsn : ℕ) (queue : Sen
 rest_begun later_ask held room last_tsn queue none = refl
 rest_begun first_ask held room last_tsn queue none = sym (none_begun first_ask held room last_tsn queue (none refl))
 
-gives_none : (ask : Ask) (e : Endpoint) (draft : Emission) (transfer : Transfer) → e.below.transfer ≡ Some transfer → NeedsNone ask e.below.queue (Some transfer) → Gives ask e draft transfer (nothing_waits e)
+gives_none : (ask : Ask) (e : Endpoint) (draft : Emission) (transfer : Transfer) → e.queues.transfer ≡ Some transfer → NeedsNone ask e.queues.queue (Some transfer) → Gives ask e draft transfer (nothing_waits e)
 gives_none ask e draft transfer holds needs =
-    let start : Stage = stage_of e.below.queue transfer.retransmission [] (room_in e (filled draft [])) in
+    let start : Stage = stage_of e.queues.queue transfer.retransmission [] (room_in e (filled draft [])) in
     record {
       sacks = [];
       forwards = [];
       parts = refl;
       tracker = transfer.tracker;
       acknowledges = subst (λ (b : Bool). Acknowledges b (room_in e draft) transfer transfer.tracker []) (sym needs.0) (refl, refl);
-      gave_up = stage_of e.below.queue transfer.retransmission [] 0;
+      gave_up = stage_of e.queues.queue transfer.retransmission [] 0;
       next = None;
-      gives_up = no_forward (may_forward ask e transfer.retransmission) e.moment e.below.queue transfer _
+      gives_up = no_forward (may_forward ask e transfer.retransmission) e.moment e.queues.queue transfer _
           (in_first ask e transfer.retransmission (is_first_abandoned transfer.retransmission.outstanding.items) needs.2) needs.3;
       later = refl;
-      begins = rest_begun ask (held_in e.core) _ (last_assigned_tsn transfer.retransmission) e.below.queue needs.1;
+      begins = rest_begun ask (held_in e.core) _ (last_assigned_tsn transfer.retransmission) e.queues.queue needs.1;
       sent = start;
       fills = subst (λ (b : Bool). FillsWhere b e.moment start start) (sym needs.3) (inl refl);
       chunks = tt;
       forwards_fit = tt;
       data_fit = tt;
       told = refl;
-      below = ap (λ (t : Option Transfer). record e.below { transfer = t }) holds;
+      below = ap (λ (t : Option Transfer). record e.queues { transfer = t }) holds;
     }
 
-gives_where : (b : Bool) (ask : Ask) (e : Endpoint) (draft : Emission) (transfer : Transfer) → e.below.transfer ≡ Some transfer → NeedsNone ask e.below.queue (Some transfer)
+gives_where : (b : Bool) (ask : Ask) (e : Endpoint) (draft : Emission) (transfer : Transfer) → e.queues.transfer ≡ Some transfer → NeedsNone ask e.queues.queue (Some transfer)
     → GivesWhere b ask e draft transfer (nothing_waits e)
 gives_where true ask e draft transfer holds needs = refl
 gives_where false ask e draft transfer holds needs = gives_none ask e draft transfer holds needs
 
-none_below : (ask : Ask) (e : Endpoint) (draft : Emission) (below : Option Transfer) → e.below.transfer ≡ below → NeedsNone ask e.below.queue below → AnsweredBelow ask e draft (nothing_waits e) below
+none_below : (ask : Ask) (e : Endpoint) (draft : Emission) (below : Option Transfer) → e.queues.transfer ≡ below → NeedsNone ask e.queues.queue below → IsAnswerOfQueues ask e draft (nothing_waits e) below
 none_below ask e draft None holds needs = refl
-none_below ask e draft (Some transfer) holds needs = gives_where (is_idle e.below.queue transfer) ask e draft transfer holds needs
+none_below ask e draft (Some transfer) holds needs = gives_where (is_idle e.queues.queue transfer) ask e draft transfer holds needs
 
 -- ---- the ask of the packet that isn't made
 
-pub asks_none : {R : Type 0} (stream : R → Stream) (ask : Ask) (view : View R) (held : Held) → NeedsNone ask view.endpoint.below.queue view.endpoint.below.transfer
+pub asks_none : {R : Type 0} (stream : R → Stream) (ask : Ask) (view : View R) (held : Held) → NeedsNone ask view.endpoint.queues.queue view.endpoint.queues.transfer
     → AsksFor stream ask view (draft_to held) false view
 asks_none stream ask view held needs =
     let e : Endpoint = view.endpoint in
     record {
       answer = nothing_waits e;
-      allowed = record { kept = refl; within = λ within. within; by_transfer = none_below ask e (draft_to held) e.below.transfer refl needs };
+      allowed = record { kept = refl; within = λ within. within; by_transfer = none_below ask e (draft_to held) e.queues.transfer refl needs };
       goes = refl;
       moves = moves_still stream view;
     }
 
 -- ---- the flush
 
-pub flushes_rest : {R : Type 0} (stream : R → Stream) (ask : Ask) (count : ℕ) (view : View R) (held : Held) → NeedsNone ask view.endpoint.below.queue view.endpoint.below.transfer
+pub flushes_rest : {R : Type 0} (stream : R → Stream) (ask : Ask) (count : ℕ) (view : View R) (held : Held) → NeedsNone ask view.endpoint.queues.queue view.endpoint.queues.transfer
     → FlushesFor stream ask count view (draft_to held) view
 flushes_rest stream ask zero view held needs = flushes_none stream ask view (draft_to held)
 flushes_rest stream ask (suc more) view held needs = flushes_last stream ask more view view (draft_to held) false refl (asks_none stream ask view held needs)
 
 rests_by : {R : Type 0} (stream : R → Stream) (old : Context R) (tcb : Option TransmissionControlBlock) → tcb ≡ tcb_of old.state → NeedsNone first_ask old.send_queue (transfer_of old.state)
-    → TakesIn stream FlushAt (view_of old) (view_of old)
+    → TakesPossibleTurn stream FlushAt (view_of old) (view_of old)
 rests_by stream old None kept needs = flush_no_peer stream old kept
 rests_by stream old (Some tcb) kept needs =
     let held : Held = held_of tcb in
@@ -130,5 +130,5 @@ rests_by stream old (Some tcb) kept needs =
       moves = f.moves;
     }
 
-pub flush_rests : {R : Type 0} (stream : R → Stream) (old : Context R) → NeedsNone first_ask old.send_queue (transfer_of old.state) → TakesIn stream FlushAt (view_of old) (view_of old)
+pub flush_rests : {R : Type 0} (stream : R → Stream) (old : Context R) → NeedsNone first_ask old.send_queue (transfer_of old.state) → TakesPossibleTurn stream FlushAt (view_of old) (view_of old)
 flush_rests stream old needs = rests_by stream old (tcb_of old.state) refl needs

@@ -4,7 +4,7 @@ use Rattle.std.specs.Prelude.{nat_le}
 use Rattle.std.proofs.lemmas.List.{append-nil}
 use Rattle.std.specs.List.{flat_map}
 use Rattle.dcsctp_transfer.specs.wire.Content.{ChunkContent}
-use Rattle.dcsctp_transfer.specs.wire.Spelling.{Spelled, by_value, by_list, spelled, other_bytes, list_bytes, spelled_bytes, chunk_bytes, header_bytes, packet_bytes_of}
+use Rattle.dcsctp_transfer.specs.wire.Spelling.{Spelled, by_value, by_list, spelled, other_bytes, parameter_chunk_bytes, spelled_bytes, chunk_bytes, header_bytes, packet_bytes_of}
 use Rattle.dcsctp_transfer.specs.wire_build.Building.{Building, bytes_remaining}
 use Rattle.rand_core.specs.Stream.{Stream}
 use Rattle.dcsctp_transfer.specs.types.declared.options.Options.{Options}
@@ -12,16 +12,16 @@ use Rattle.dcsctp_transfer.specs.types.Settings.{ports_of, packet_size_limit}
 use Rattle.dcsctp_transfer.specs.spec.endpoint.Event.{sent}
 use Rattle.dcsctp_transfer.specs.spec.Packet.{Content, Emission, unworked, chunk_out, emission_bytes}
 use Rattle.dcsctp_transfer.specs.spec.endpoint.Endpoint.{Endpoint}
-use Rattle.dcsctp_transfer.specs.spec.endpoint.Outcome.{counted, sends, contents_len}
+use Rattle.dcsctp_transfer.specs.spec.endpoint.Outcome.{packet_counted, sends, contents_len}
 use Rattle.dcsctp_transfer.specs.spec.association.Choices.{plain_contents}
 use Rattle.dcsctp_transfer.specs.spec.endpoint.FlushOutcomes.{is_none, room_in}
 use Rattle.dcsctp_core.specs.View.{View, Moves}
-use Rattle.dcsctp_core.specs.Handling.{emitted}
-use Rattle.dcsctp_core.specs.Flushing.{packet_of, packet_for}
+use Rattle.dcsctp_core.specs.Handling.{chunk_emitted}
+use Rattle.dcsctp_core.specs.Flushing.{packet_being_built, packet_for}
 
 -- A chunk has bytes.
 spelled_is_not_empty : (s : Spelled) (rest : List ℕ) → spelled_bytes s ++ rest ≡ [] → ⊥
-unfolding list_bytes other_bytes
+unfolding parameter_chunk_bytes other_bytes
 spelled_is_not_empty (by_value chunk_type flags value) rest none = cc none
 spelled_is_not_empty (by_list chunk_type flags fields parameters) rest none = cc none
 
@@ -65,7 +65,7 @@ room_is e draft = ap (λ (n : ℕ). packet_size_limit e.options - 12 - n) (body_
 -- ---- a packet that goes out
 
 pub sent_moves : {R : Type 0} (stream : R → Stream) (a b : View R) (emission : Emission) (bytes : List ℕ)
-    → b ≡ record a { endpoint = counted a.endpoint; events = a.events ++ sent bytes ∷ [] }
+    → b ≡ record a { endpoint = packet_counted a.endpoint; events = a.events ++ sent bytes ∷ [] }
     → bytes ≡ emission_bytes (ports_of a.endpoint.options) emission
     → Moves stream a (sends a.endpoint [] [] emission) b
 sent_moves {R = R} stream a b emission bytes here is =
@@ -79,7 +79,7 @@ sent_moves {R = R} stream a b emission bytes here is =
 
 -- the bytes of a packet that was built
 pub built_bytes : (options : Options) (builder : Building) (with_checksum : Bool) (tag : ℕ) (contents : List Content) (bytes : List ℕ)
-    → builder ≡ packet_of options with_checksum tag contents
+    → builder ≡ packet_being_built options with_checksum tag contents
     → bytes ≡ packet_bytes_of builder.with_checksum (header_bytes builder.source_port builder.destination_port builder.verification_tag) builder.body
     → bytes ≡ emission_bytes (ports_of options) (record { with_checksum = with_checksum; packet = record { tag = tag; contents = contents } })
 built_bytes options builder with_checksum tag contents bytes is built =
@@ -88,13 +88,13 @@ built_bytes options builder with_checksum tag contents bytes is built =
 -- ---- a packet of one chunk that fits
 
 pub emitted_sends : {R : Type 0} (stream : R → Stream) (a b : View R) (with_checksum : Bool) (tag : ℕ) (content : Content)
-    → nat_le (12 + length (chunk_bytes (chunk_out content))) (packet_size_limit a.endpoint.options) ≡ true → b ≡ emitted with_checksum tag (chunk_out content) a
+    → nat_le (12 + length (chunk_bytes (chunk_out content))) (packet_size_limit a.endpoint.options) ≡ true → b ≡ chunk_emitted with_checksum tag (chunk_out content) a
     → Moves stream a (sends a.endpoint [] [] (record { with_checksum = with_checksum; packet = record { tag = tag; contents = content ∷ [] } })) b
 emitted_sends {R = R} stream a b with_checksum tag content fits here =
     let options : Options = a.endpoint.options in
     let header : List ℕ = header_bytes options.local_port options.remote_port tag in
     let bytes : List ℕ = packet_bytes_of with_checksum header (chunk_bytes (chunk_out content)) in
-    let out : View R = record a { endpoint = counted a.endpoint; events = a.events ++ sent bytes ∷ [] } in
+    let out : View R = record a { endpoint = packet_counted a.endpoint; events = a.events ++ sent bytes ∷ [] } in
     sent_moves stream a b (record { with_checksum = with_checksum; packet = record { tag = tag; contents = content ∷ [] } }) bytes
     (here ∙ ap (λ (test : Bool). cond test out a) fits)
     (ap (packet_bytes_of with_checksum header) (sym (append-nil (chunk_bytes (chunk_out content)))))

@@ -5,14 +5,14 @@ use Rattle.std.proofs.lemmas.Bool.Decides.{nat_tests}
 use Rattle.dcsctp_core.specs.declared.deadlines.DeadlineKind.{DeadlineKind}
 use Rattle.dcsctp_core.specs.declared.deadlines.DeadlineKind.TheVariants.{AcknowledgementDelay, Retransmission, HeartbeatInterval, HeartbeatTimeout, Reconfiguration, T1, T2}
 use Rattle.dcsctp_core.specs.declared.deadlines.Entry.{Entry}
-use Rattle.dcsctp_core.specs.Listing.{is_before, is_same, besides, listed, place_of, placed, rank, set_in, without, IsAbsent, IsFirst, IsListing}
+use Rattle.dcsctp_core.specs.Listing.{is_before, is_same_kind, besides, listed, entry_place, placed, rank, set_in, without, IsAbsent, IsEarliestEntry, IsListing}
 use Rattle.dcsctp_core.proofs.ListingLemmas.{first-absent, listing-without, same-absent, without-absent}
 use Rattle.dcsctp_core.proofs.PlaceLemmas.{absent-without, last_gap, others_without, place-absent, placed-listing}
 use Rattle.dcsctp_core.proofs.SevenLemmas.{six_absent}
 
 -- ---- the place is that of an entry
 
-module _ (kind : DeadlineKind) (xs : List Entry) (n p : ℕ) (fits : n ≤ 7) (long : length xs ≡ 7) (is : IsListing (take n xs)) (at : p ≡ place_of kind (take n xs)) (found : p < n) where
+module _ (kind : DeadlineKind) (xs : List Entry) (n p : ℕ) (fits : n ≤ 7) (long : length xs ≡ 7) (is : IsListing (take n xs)) (at : p ≡ entry_place kind (take n xs)) (found : p < n) where
   pub others_are : besides p n xs ≡ without kind (take n xs)
   others_are = others_without kind xs n p (omega (arith, fits, long)) at found is
 
@@ -37,7 +37,7 @@ module _ (kind : DeadlineKind) (xs : List Entry) (n : ℕ) (fits : n ≤ 7) (lon
   pub all_absent : IsAbsent kind (besides n (n + 1) xs)
   all_absent = subst (IsAbsent kind) (sym all_are) absent
 
-pub found_nowhere : (kind : DeadlineKind) (xs : List Entry) (n p : ℕ) → n ≤ 7 → length xs ≡ 7 → p ≡ place_of kind (take n xs) → p ≡ n → IsAbsent kind (take n xs)
+pub found_nowhere : (kind : DeadlineKind) (xs : List Entry) (n p : ℕ) → n ≤ 7 → length xs ≡ 7 → p ≡ entry_place kind (take n xs) → p ≡ n → IsAbsent kind (take n xs)
 found_nowhere kind xs n p fits long at last = place-absent kind (take n xs) (sym at ∙ last ∙ sym (length-take-le n xs (omega (arith, fits, long))))
 
 -- ---- the deadline is what it was
@@ -59,20 +59,20 @@ kind_back Reconfiguration = refl
 kind_back T1 = refl
 kind_back T2 = refl
 
-pub kinds_same : (j k : DeadlineKind) → is_same j k ≡ true → j ≡ k
+pub kinds_same : (j k : DeadlineKind) → is_same_kind j k ≡ true → j ≡ k
 kinds_same j k same = let ranks : rank j ≡ rank k = grind (arith, nat_tests) in sym (kind_back j) ∙ ap kind_at ranks ∙ kind_back k
 
-same-entry : (x : Entry) (kind : DeadlineKind) (moment : ℕ) → is_same kind x.kind ≡ true → Some x.moment ≡ Some moment → x ≡ record { moment = moment; kind = kind }
+same-entry : (x : Entry) (kind : DeadlineKind) (moment : ℕ) → is_same_kind kind x.kind ≡ true → Some x.moment ≡ Some moment → x ≡ record { moment = moment; kind = kind }
 same-entry x kind moment same some =
     let moments : x.moment ≡ moment = cc in
     ap₂ (λ m k. let e : Entry = record { moment = m; kind = k } in e) moments (sym (kinds_same kind x.kind same))
 
-before-listed : (first : Entry) (kind : DeadlineKind) (moment : ℕ) (xs : List Entry) → IsFirst first xs → listed kind xs ≡ Some moment
+before-listed : (first : Entry) (kind : DeadlineKind) (moment : ℕ) (xs : List Entry) → IsEarliestEntry first xs → listed kind xs ≡ Some moment
     → is_before first (record { moment = moment; kind = kind }) ≡ true
 before-listed first kind moment [] is some = absurd (cc)
-before-listed first kind moment (x ∷ xs) is some = go (is_same kind x.kind) refl some (before-listed first kind moment xs is.2)
+before-listed first kind moment (x ∷ xs) is some = go (is_same_kind kind x.kind) refl some (before-listed first kind moment xs is.2)
   where
-    go : (same : Bool) → is_same kind x.kind ≡ same → (if same then Some x.moment else listed kind xs) ≡ Some moment
+    go : (same : Bool) → is_same_kind kind x.kind ≡ same → (if same then Some x.moment else listed kind xs) ≡ Some moment
         → (listed kind xs ≡ Some moment → is_before first (record { moment = moment; kind = kind }) ≡ true) → is_before first (record { moment = moment; kind = kind }) ≡ true
     go true same some rest = subst (λ (e : Entry). is_before first e ≡ true) (same-entry x kind moment same some) is.0
     go false other some rest = rest some
@@ -82,9 +82,9 @@ not-after a b before = grind (arith, nat_tests)
 
 pub unchanged : (kind : DeadlineKind) (moment : ℕ) (xs : List Entry) → IsListing xs → listed kind xs ≡ Some moment → set_in kind (Some moment) xs ≡ xs
 unchanged kind moment [] is none = absurd (cc)
-unchanged kind moment (x ∷ xs) is some = go (is_same kind x.kind) refl some (unchanged kind moment xs is.1)
+unchanged kind moment (x ∷ xs) is some = go (is_same_kind kind x.kind) refl some (unchanged kind moment xs is.1)
   where
-    go : (same : Bool) → is_same kind x.kind ≡ same → (if same then Some x.moment else listed kind xs) ≡ Some moment
+    go : (same : Bool) → is_same_kind kind x.kind ≡ same → (if same then Some x.moment else listed kind xs) ≡ Some moment
         → (listed kind xs ≡ Some moment → set_in kind (Some moment) xs ≡ xs)
         → placed (record { moment = moment; kind = kind }) (if same then without kind xs else x ∷ without kind xs) ≡ x ∷ xs
     go true same some rest =

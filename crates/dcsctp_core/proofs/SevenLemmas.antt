@@ -4,7 +4,7 @@ use Rattle.std.proofs.lemmas.Bool.Decides.{nat_tests}
 use Rattle.dcsctp_core.specs.declared.deadlines.DeadlineKind.{DeadlineKind}
 use Rattle.dcsctp_core.specs.declared.deadlines.DeadlineKind.TheVariants.{AcknowledgementDelay, Retransmission, HeartbeatInterval, HeartbeatTimeout, Reconfiguration, T1, T2}
 use Rattle.dcsctp_core.specs.declared.deadlines.Entry.{Entry}
-use Rattle.dcsctp_core.specs.Listing.{is_same, without, IsAbsent, IsFirst, IsListing}
+use Rattle.dcsctp_core.specs.Listing.{is_same_kind, without, IsAbsent, IsEarliestEntry, IsListing}
 use Rattle.dcsctp_core.proofs.ListingLemmas.{listing-without, without-absent, first-absent, same-absent}
 
 abbrev one_if : Bool → ℕ
@@ -13,11 +13,11 @@ one_if false = 0
 
 abbrev count : DeadlineKind → List Entry → ℕ
 count kind [] = 0
-count kind (x ∷ xs) = one_if (is_same kind x.kind) + count kind xs
+count kind (x ∷ xs) = one_if (is_same_kind kind x.kind) + count kind xs
 
 one_of_seven : (kind : DeadlineKind) →
-    one_if (is_same AcknowledgementDelay kind) + one_if (is_same Retransmission kind) + one_if (is_same HeartbeatInterval kind) + one_if (is_same HeartbeatTimeout kind)
-    + one_if (is_same Reconfiguration kind) + one_if (is_same T1 kind) + one_if (is_same T2 kind) ≡ 1
+    one_if (is_same_kind AcknowledgementDelay kind) + one_if (is_same_kind Retransmission kind) + one_if (is_same_kind HeartbeatInterval kind) + one_if (is_same_kind HeartbeatTimeout kind)
+    + one_if (is_same_kind Reconfiguration kind) + one_if (is_same_kind T1 kind) + one_if (is_same_kind T2 kind) ≡ 1
 one_of_seven AcknowledgementDelay = refl
 one_of_seven Retransmission = refl
 one_of_seven HeartbeatInterval = refl
@@ -38,9 +38,9 @@ count-absent kind (x ∷ xs) absent = omega (arith, ap one_if absent.0, count-ab
 
 count-once : (kind : DeadlineKind) (xs : List Entry) → IsListing xs → count kind xs ≤ 1
 count-once kind [] is = omega arith
-count-once kind (x ∷ xs) is = go (is_same kind x.kind) refl (count-once kind xs is.1)
+count-once kind (x ∷ xs) is = go (is_same_kind kind x.kind) refl (count-once kind xs is.1)
   where
-    go : (same : Bool) → is_same kind x.kind ≡ same → count kind xs ≤ 1 → one_if same + count kind xs ≤ 1
+    go : (same : Bool) → is_same_kind kind x.kind ≡ same → count kind xs ≤ 1 → one_if same + count kind xs ≤ 1
     go true same once = omega (arith, count-absent kind xs (same-absent kind x.kind xs same (first-absent x xs is.0)))
     go false other once = omega arith
 

@@ -3,14 +3,14 @@ use Rattle.std.proofs.Common.{◌≡◌, ℕ, ◌≤◌, ◌⊎◌, inl, inr, mi
 use Rattle.std.specs.Prelude.{if◌then◌else◌}
 use Rattle.std.proofs.lemmas.Bool.Decides.{nat_tests}
 use Rattle.dcsctp_transfer.specs.spec.endpoint.Endpoint.{Endpoint, Core, closed, cookie_wait, cookie_echoed, open_in}
-use Rattle.dcsctp_transfer.specs.spec.endpoint.TimeTurns.{Timer, t1_timer, own_timer, t2_timer, timers_in, timers_told, deadline, deadline_of, delay_deadline, loss_deadline, with_deadline, deadlines_of, earliest, next_of, next_moment, has_come, NoneIsDue}
+use Rattle.dcsctp_transfer.specs.spec.endpoint.TimeTurns.{Timer, t1_timer, own_timer, t2_timer, timers_in, timers_counted, deadline, deadline_of, delay_deadline, loss_deadline, with_deadline, deadlines_of, earliest, next_of, next_moment, has_come, NoneIsDue}
 use Rattle.dcsctp_transfer.specs.spec.endpoint.OwnTimers.{acknowledgement_delay, retransmission, heartbeat_interval, heartbeat_timeout, reconfiguration}
 use Rattle.dcsctp_transfer.specs.spec.endpoint.Turn.{clock_at}
 use Rattle.dcsctp_core.specs.declared.deadlines.DeadlineKind.{DeadlineKind}
 use Rattle.dcsctp_core.specs.declared.deadlines.DeadlineKind.TheVariants.{AcknowledgementDelay, Retransmission, HeartbeatInterval, HeartbeatTimeout, Reconfiguration, T1, T2}
 use Rattle.dcsctp_core.specs.declared.deadlines.Entry.{Entry}
-use Rattle.dcsctp_core.specs.Listing.{is_before, is_same, listed, first_of, relisted, said_by, IsFirst, IsListing, Told}
-use Rattle.dcsctp_core.specs.Timeout.{kind_of, told_among, told_in, next_by, is_later, is_quiet, IsTold}
+use Rattle.dcsctp_core.specs.Listing.{is_before, is_same_kind, listed, first_moment, relisted, deadline_by_kind, IsEarliestEntry, IsListing, RunningDeadlines}
+use Rattle.dcsctp_core.specs.Timeout.{kind_of, deadline_among, deadline_in_phase, next_by, is_deadline_later, is_quiet, ListsDeadlines}
 use Rattle.dcsctp_core.proofs.RelistLemmas.{relist_tells}
 
 -- ---- the first entry is the least
@@ -22,22 +22,22 @@ AtLeast m (Some deadline) = m ≤ deadline
 before_le : (a b : Entry) → is_before a b ≡ true → a.moment ≤ b.moment
 before_le a b before = grind (arith, nat_tests)
 
-others_later : (first : Entry) (xs : List Entry) → IsFirst first xs → (kind : DeadlineKind) → AtLeast first.moment (listed kind xs)
+others_later : (first : Entry) (xs : List Entry) → IsEarliestEntry first xs → (kind : DeadlineKind) → AtLeast first.moment (listed kind xs)
 others_later first [] is kind = tt
-others_later first (x ∷ xs) is kind = go (is_same kind x.kind) (others_later first xs is.2 kind)
+others_later first (x ∷ xs) is kind = go (is_same_kind kind x.kind) (others_later first xs is.2 kind)
   where
     go : (same : Bool) → AtLeast first.moment (listed kind xs) → AtLeast first.moment (if same then Some x.moment else listed kind xs)
     go true rest = before_le first x is.0
     go false rest = rest
 
-all_later : (first : Entry) (xs : List Entry) → IsFirst first xs → (kind : DeadlineKind) → AtLeast first.moment (listed kind (first ∷ xs))
-all_later first xs is kind = go (is_same kind first.kind)
+all_later : (first : Entry) (xs : List Entry) → IsEarliestEntry first xs → (kind : DeadlineKind) → AtLeast first.moment (listed kind (first ∷ xs))
+all_later first xs is kind = go (is_same_kind kind first.kind)
   where
     go : (same : Bool) → AtLeast first.moment (if same then Some first.moment else listed kind xs)
     go true = omega arith
     go false = others_later first xs is kind
 
-same_self : (kind : DeadlineKind) → is_same kind kind ≡ true
+same_self : (kind : DeadlineKind) → is_same_kind kind kind ≡ true
 same_self kind = grind (arith, nat_tests)
 
 -- ---- the timers that count, by their kinds
@@ -46,7 +46,7 @@ abbrev ForEach : (Timer → Type 0) → List Timer → Type 0
 ForEach P [] = Unit {0}
 ForEach P (timer ∷ timers) = P timer × ForEach P timers
 
-each_told : (e : Endpoint) (P : Option ℕ → Type 0) (core : Core) → ((kind : DeadlineKind) → P (told_among e (timers_told core) kind)) → ForEach (λ timer. P (deadline e timer)) (timers_told core)
+each_told : (e : Endpoint) (P : Option ℕ → Type 0) (core : Core) → ((kind : DeadlineKind) → P (deadline_among e (timers_counted core) kind)) → ForEach (λ timer. P (deadline e timer)) (timers_counted core)
 each_told e P closed holds = tt
 each_told e P (cookie_wait mine) holds = (holds T1, tt)
 each_told e P (cookie_echoed mine held cookie) holds = (holds T1, tt)
@@ -89,12 +89,12 @@ with_among m (Some d) ds among = inr among
 with_this : (m : ℕ) (o : Option ℕ) (ds : List ℕ) → o ≡ Some m → IsAmong m (with_deadline o ds)
 with_this m o ds is = subst (λ p. IsAmong m (with_deadline p ds)) (sym is) (inl refl)
 
-is_among : (e : Endpoint) (m : ℕ) (kind : DeadlineKind) (timers : List Timer) → told_among e timers kind ≡ Some m → IsAmong m (deadlines_of e timers)
+is_among : (e : Endpoint) (m : ℕ) (kind : DeadlineKind) (timers : List Timer) → deadline_among e timers kind ≡ Some m → IsAmong m (deadlines_of e timers)
 is_among e m kind [] is = absurd (cc)
-is_among e m kind (timer ∷ timers) is = go (is_same kind (kind_of timer)) is (is_among e m kind timers)
+is_among e m kind (timer ∷ timers) is = go (is_same_kind kind (kind_of timer)) is (is_among e m kind timers)
   where
-    go : (same : Bool) → (if same then deadline e timer else told_among e timers kind) ≡ Some m
-        → (told_among e timers kind ≡ Some m → IsAmong m (deadlines_of e timers)) → IsAmong m (with_deadline (deadline e timer) (deadlines_of e timers))
+    go : (same : Bool) → (if same then deadline e timer else deadline_among e timers kind) ≡ Some m
+        → (deadline_among e timers kind ≡ Some m → IsAmong m (deadlines_of e timers)) → IsAmong m (with_deadline (deadline e timer) (deadlines_of e timers))
     go true is rest = with_this m (deadline e timer) (deadlines_of e timers) is
     go false is rest = with_among m (deadline e timer) (deadlines_of e timers) (rest is)
 
@@ -103,17 +103,17 @@ no_deadline e [] each = refl
 no_deadline e (timer ∷ timers) each = ap (λ o. with_deadline o (deadlines_of e timers)) each.0 ∙ no_deadline e timers each.1
 
 -- The first entry says the next moment of the socket.
-pub first_is_next : (e : Endpoint) (entries : List Entry) → IsListing entries → IsTold e entries → next_by e.moment (first_of entries) ≡ next_moment e
+pub first_is_next : (e : Endpoint) (entries : List Entry) → IsListing entries → ListsDeadlines e entries → next_by e.moment (first_moment entries) ≡ next_moment e
 first_is_next e [] listing told =
-    sym (ap (next_of e.moment) (no_deadline e (timers_told e.core) (each_told e (λ o. o ≡ None) e.core (λ kind. sym (told kind)))))
+    sym (ap (next_of e.moment) (no_deadline e (timers_counted e.core) (each_told e (λ o. o ≡ None) e.core (λ kind. sym (told kind)))))
 first_is_next e (x ∷ xs) listing told =
-    let all = all_least e x.moment (timers_told e.core) (each_told e (AtLeast x.moment) e.core (λ kind. subst (AtLeast x.moment) (told kind) (all_later x xs listing.0 kind))) in
-    let among = is_among e x.moment x.kind (timers_told e.core) (sym (told x.kind) ∙ ap (λ same. if same then Some x.moment else listed x.kind xs) (same_self x.kind)) in
-    sym (next_is e.moment x.moment (deadlines_of e (timers_told e.core)) all among)
+    let all = all_least e x.moment (timers_counted e.core) (each_told e (AtLeast x.moment) e.core (λ kind. subst (AtLeast x.moment) (told kind) (all_later x xs listing.0 kind))) in
+    let among = is_among e x.moment x.kind (timers_counted e.core) (sym (told x.kind) ∙ ap (λ same. if same then Some x.moment else listed x.kind xs) (same_self x.kind)) in
+    sym (next_is e.moment x.moment (deadlines_of e (timers_counted e.core)) all among)
 
 -- ---- advance_time
 
-none_has_come : (moment : ℕ) (entries : List Entry) → IsListing entries → is_later moment (first_of entries) ≡ true → (kind : DeadlineKind) → has_come moment (listed kind entries) ≡ false
+none_has_come : (moment : ℕ) (entries : List Entry) → IsListing entries → is_deadline_later moment (first_moment entries) ≡ true → (kind : DeadlineKind) → has_come moment (listed kind entries) ≡ false
 none_has_come moment [] listing later kind = refl
 none_has_come moment (x ∷ xs) listing later kind = go (listed kind (x ∷ xs)) (all_later x xs listing.0 kind)
   where
@@ -135,12 +135,12 @@ none_due e moment (timer ∷ timers) each = (go timer each.0, none_due e moment 
     go t2_timer is = is
 
 -- Where the list is quiet at a moment, nothing is due then.
-pub none_is_due : (e : Endpoint) (moment : ℕ) (entries : List Entry) → IsListing entries → IsTold e entries → is_quiet e.core moment entries ≡ true
+pub none_is_due : (e : Endpoint) (moment : ℕ) (entries : List Entry) → IsListing entries → ListsDeadlines e entries → is_quiet e.core moment entries ≡ true
     → NoneIsDue (clock_at moment e) (timers_in e.core)
 none_is_due e moment entries listing told quiet =
     go e.core quiet (λ later. each_told e (λ o. has_come moment o ≡ false) e.core (λ kind. subst (λ o. has_come moment o ≡ false) (told kind) (none_has_come moment entries listing later kind)))
   where
-    go : (core : Core) → is_quiet core moment entries ≡ true → (is_later moment (first_of entries) ≡ true → ForEach (λ timer. has_come moment (deadline e timer) ≡ false) (timers_told core))
+    go : (core : Core) → is_quiet core moment entries ≡ true → (is_deadline_later moment (first_moment entries) ≡ true → ForEach (λ timer. has_come moment (deadline e timer) ≡ false) (timers_counted core))
         → NoneIsDue (clock_at moment e) (timers_in core)
     go closed quiet each = tt
     go (cookie_wait mine) quiet each = none_due e moment (timers_in (cookie_wait mine)) (each quiet)
@@ -150,23 +150,23 @@ none_is_due e moment entries listing told quiet =
 -- ---- what keeps the list
 
 -- what the timers of a phase say
-abbrev pub told_by : Endpoint → Core → Told
+abbrev pub told_by : Endpoint → Core → RunningDeadlines
 told_by e core =
     record {
-      acknowledgement_delay = told_among e (timers_told core) AcknowledgementDelay;
-      retransmission = told_among e (timers_told core) Retransmission;
-      heartbeat_interval = told_among e (timers_told core) HeartbeatInterval;
-      heartbeat_timeout = told_among e (timers_told core) HeartbeatTimeout;
-      reconfiguration = told_among e (timers_told core) Reconfiguration;
-      t1 = told_among e (timers_told core) T1;
-      t2 = told_among e (timers_told core) T2;
+      acknowledgement_delay = deadline_among e (timers_counted core) AcknowledgementDelay;
+      retransmission = deadline_among e (timers_counted core) Retransmission;
+      heartbeat_interval = deadline_among e (timers_counted core) HeartbeatInterval;
+      heartbeat_timeout = deadline_among e (timers_counted core) HeartbeatTimeout;
+      reconfiguration = deadline_among e (timers_counted core) Reconfiguration;
+      t1 = deadline_among e (timers_counted core) T1;
+      t2 = deadline_among e (timers_counted core) T2;
     }
 
 -- The list that is made of it has what counts.
-pub relisted_is_told : (e : Endpoint) (core : Core) → e.core ≡ core → IsTold e (relisted (told_by e core))
-relisted_is_told e core is = subst (λ phase. IsTold e (relisted (told_by e phase))) is (λ kind. relist_tells (told_by e e.core) kind ∙ go kind)
+pub relisted_is_told : (e : Endpoint) (core : Core) → e.core ≡ core → ListsDeadlines e (relisted (told_by e core))
+relisted_is_told e core is = subst (λ phase. ListsDeadlines e (relisted (told_by e phase))) is (λ kind. relist_tells (told_by e e.core) kind ∙ go kind)
   where
-    go : (kind : DeadlineKind) → said_by (told_by e e.core) kind ≡ told_in e kind
+    go : (kind : DeadlineKind) → deadline_by_kind (told_by e e.core) kind ≡ deadline_in_phase e kind
     go AcknowledgementDelay = refl
     go Retransmission = refl
     go HeartbeatInterval = refl
@@ -177,10 +177,10 @@ relisted_is_told e core is = subst (λ phase. IsTold e (relisted (told_by e phas
 
 -- What changes neither the phase nor a timer keeps the list.
 pub told_kept : (old new : Endpoint) (entries : List Entry) → new.core ≡ old.core → new.timers ≡ old.timers
-    → delay_deadline new.below.transfer ≡ delay_deadline old.below.transfer → loss_deadline new.below.transfer ≡ loss_deadline old.below.transfer
-    → IsTold old entries → IsTold new entries
+    → delay_deadline new.queues.transfer ≡ delay_deadline old.queues.transfer → loss_deadline new.queues.transfer ≡ loss_deadline old.queues.transfer
+    → ListsDeadlines old entries → ListsDeadlines new entries
 told_kept old new entries phase timers delay loss told kind =
-    told kind ∙ sym (ap (λ core. told_among new (timers_told core) kind) phase ∙ all (timers_told old.core))
+    told kind ∙ sym (ap (λ core. deadline_among new (timers_counted core) kind) phase ∙ all (timers_counted old.core))
   where
     same : (t : Timer) → deadline new t ≡ deadline old t
     same t1_timer = ap (λ ts. deadline_of ts.t1) timers
@@ -191,7 +191,7 @@ told_kept old new entries phase timers delay loss told kind =
     same (own_timer reconfiguration) = ap (λ ts. deadline_of ts.reconfiguration) timers
     same t2_timer = ap (λ ts. deadline_of ts.t2) timers
 
-    all : (ts : List Timer) → told_among new ts kind ≡ told_among old ts kind
+    all : (ts : List Timer) → deadline_among new ts kind ≡ deadline_among old ts kind
     all [] = refl
-    all (t ∷ ts) = ap (λ o. if is_same kind (kind_of t) then o else told_among new ts kind) (same t)
-        ∙ ap (λ rest. if is_same kind (kind_of t) then deadline old t else rest) (all ts)
+    all (t ∷ ts) = ap (λ o. if is_same_kind kind (kind_of t) then o else deadline_among new ts kind) (same t)
+        ∙ ap (λ rest. if is_same_kind kind (kind_of t) then deadline old t else rest) (all ts)

@@ -22,13 +22,13 @@ use Rattle.dcsctp_core.specs.View.{View}
 use Rattle.dcsctp_core.specs.Flushing.{state_with}
 
 -- What lies below the association has changed in this way; without one nothing has changed.
-abbrev pub ChangesBelow : (Transfer → Transfer → Type 0) → Option Transfer → State → State → Type 0
-ChangesBelow Changes None old new = new ≡ old
-ChangesBelow Changes (Some transfer) old new = (after : Transfer) × (new ≡ state_with old after) × Changes transfer after
+abbrev pub ChangesQueues : (Transfer → Transfer → Type 0) → Option Transfer → State → State → Type 0
+ChangesQueues Changes None old new = new ≡ old
+ChangesQueues Changes (Some transfer) old new = (after : Transfer) × (new ≡ state_with old after) × Changes transfer after
 
 -- That is so, or nothing has changed.
 abbrev pub ChangesWhere : Bool → (Transfer → Transfer → Type 0) → Option Transfer → State → State → Type 0
-ChangesWhere true Changes found old new = ChangesBelow Changes found old new
+ChangesWhere true Changes found old new = ChangesQueues Changes found old new
 ChangesWhere false Changes found old new = new ≡ old
 
 -- The first of the messages that are ready is taken at this moment, if one is ready.
@@ -47,24 +47,24 @@ abbrev pub LosesAt : ℕ → Transfer → Transfer → Type 0
 LosesAt now old new = new ≡ lost_all now old
 
 -- All of a packet was handled, at this moment.
-abbrev pub EndsBelow : ℕ → Transfer → Transfer → Type 0
-EndsBelow now old new = new ≡ record old { tracker = after_packet_end now old.tracker }
+abbrev pub EndsPacketInQueues : ℕ → Transfer → Transfer → Type 0
+EndsPacketInQueues now old new = new ≡ record old { tracker = after_packet_end now old.tracker }
 
 -- A SACK was taken into account at this moment, if the peer is known.
-abbrev pub SacksBelow : ℕ → SackContent → Option Transfer → State → List (Event (List ℕ)) → State → List (Event (List ℕ)) → Result HandledSack AllocError → Type 0
-SacksBelow now sack None old told new telling result = (new ≡ old) × (telling ≡ told)
-SacksBelow now sack (Some transfer) old told new telling result =
+abbrev pub HandlesSackInTransfer : ℕ → SackContent → Option Transfer → State → List (Event (List ℕ)) → State → List (Event (List ℕ)) → Result HandledSack AllocError → Type 0
+HandlesSackInTransfer now sack None old told new telling result = (new ≡ old) × (telling ≡ told)
+HandlesSackInTransfer now sack (Some transfer) old told new telling result =
     (after : Transfer) × (new ≡ state_with old after) × HandlesSack now sack transfer told after telling result
 
 -- What was lost was put into a packet.
-abbrev pub FillsAtOnceBelow : ℕ → Option Transfer → State → Building → State → Building → Type 0
-FillsAtOnceBelow now None old packet new filled = (new ≡ old) × (filled ≡ packet)
-FillsAtOnceBelow now (Some transfer) old packet new filled = (after : Transfer) × (new ≡ state_with old after) × FillsAtOnce now transfer packet after filled
+abbrev pub FillsLostAtOnce : ℕ → Option Transfer → State → Building → State → Building → Type 0
+FillsLostAtOnce now None old packet new filled = (new ≡ old) × (filled ≡ packet)
+FillsLostAtOnce now (Some transfer) old packet new filled = (after : Transfer) × (new ≡ state_with old after) × FillsAtOnce now transfer packet after filled
 
 -- does something wait that was lost, and is to be sent at once?
-abbrev pub at_once_below : Option Transfer → Bool
-at_once_below None = false
-at_once_below (Some transfer) = has_fast_retransmit transfer.retransmission
+abbrev pub has_lost_data : Option Transfer → Bool
+has_lost_data None = false
+has_lost_data (Some transfer) = has_fast_retransmit transfer.retransmission
 
 -- A packet of it is sent to the peer.
 abbrev pub GoesAtOnce : Endpoint → Option Held → Option Transfer → Outcome → Type 0
@@ -72,9 +72,9 @@ GoesAtOnce e (Some held) (Some transfer) o = FastRetransmits (has_fast_retransmi
 GoesAtOnce e held transfer o = o ≡ still e
 
 abbrev pub AtOnceAt : {R : Type 0} → View R → Outcome → Type 0
-AtOnceAt view o = GoesAtOnce view.endpoint (held_in view.endpoint.core) view.endpoint.below.transfer o
+AtOnceAt view o = GoesAtOnce view.endpoint (held_in view.endpoint.core) view.endpoint.queues.transfer o
 
 -- is an acknowledgement due to the peer, if it is known?
-abbrev pub is_due_below : Option Transfer → Bool
-is_due_below None = false
-is_due_below (Some transfer) = is_acknowledgement_due transfer.tracker
+abbrev pub is_peer_acknowledgement_due : Option Transfer → Bool
+is_peer_acknowledgement_due None = false
+is_peer_acknowledgement_due (Some transfer) = is_acknowledgement_due transfer.tracker

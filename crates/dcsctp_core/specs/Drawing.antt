@@ -41,7 +41,7 @@ pub record KeepsLast {R : Type 0} (old : Context R) (pair : Pair) (new : Context
   pub only : OnlyDraws old new
 
 -- A pair was kept; or an allocation failed, and nothing has changed.
-abbrev pub Keeps : {R E : Type 0} → Context R → Pair → Result (Unit {0}) E → Context R → Type 0
-Keeps old pair (Ok done) new = KeepsLast old pair new
-Keeps old pair (Err error) new =
+abbrev pub KeepsPair : {R E : Type 0} → Context R → Pair → Result (Unit {0}) E → Context R → Type 0
+KeepsPair old pair (Ok done) new = KeepsLast old pair new
+KeepsPair old pair (Err error) new =
     OnlyDraws old new × (new.pairs.items ≡ old.pairs.items) × (new.words ≡ old.words) × (new.generator ≡ old.generator)

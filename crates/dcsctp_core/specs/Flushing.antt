@@ -9,26 +9,26 @@ use Rattle.dcsctp_transfer.specs.types.declared.options.Options.{Options}
 use Rattle.dcsctp_transfer.specs.types.Settings.{ports_of, packet_size_limit}
 use Rattle.dcsctp_transfer.specs.spec.endpoint.Event.{Event, sent}
 use Rattle.dcsctp_transfer.specs.spec.Packet.{Content, chunk_out, Emission}
-use Rattle.dcsctp_transfer.specs.spec.queues.SendQueue.{SendQueueState, has_data}
+use Rattle.dcsctp_transfer.specs.spec.queues.SendQueue.{SendQueueState, has_queued_data}
 use Rattle.dcsctp_transfer.specs.spec.queues.Transfer.{Transfer, is_none_ready, may_give}
 use Rattle.dcsctp_transfer.specs.spec.queues.Items.{is_first_abandoned}
 use Rattle.dcsctp_transfer.specs.spec.queues.Retransmission.{can_send, outstanding_count}
 use Rattle.dcsctp_transfer.specs.spec.endpoint.Endpoint.{Endpoint, Timers, heartbeats_begun, held_in}
 use Rattle.dcsctp_transfer.specs.types.declared.association.Held.{Held}
-use Rattle.dcsctp_transfer.specs.spec.endpoint.Outcome.{counted}
-use Rattle.dcsctp_transfer.specs.spec.endpoint.BegunResets.{BegunReset, last_assigned_tsn, begun_in, request_contents, after_begun, streams_within, queue_requesting, transfer_begun}
-use Rattle.dcsctp_transfer.specs.spec.endpoint.FlushOutcomes.{told_event, Answer, answer_contents, filled, asked, flush_of, packets_allowed, Ask, first_ask, wants_sack, AnsweredBelow, timers_with, Answered, Answers, is_none, later_ask, draft_to, forward_where}
+use Rattle.dcsctp_transfer.specs.spec.endpoint.Outcome.{packet_counted}
+use Rattle.dcsctp_transfer.specs.spec.endpoint.BegunResets.{BegunReset, last_assigned_tsn, begun_in, request_contents, after_begun, streams_within, queue_requesting, transfer_reset_begun}
+use Rattle.dcsctp_transfer.specs.spec.endpoint.FlushOutcomes.{filling_event, Answer, answer_contents, filled, asked, flush_of, packets_allowed, Ask, first_ask, wants_sack, IsAnswerOfQueues, timers_with, IsFlushAnswer, AreFlushAnswers, is_none, later_ask, draft_to, forward_where}
 use Rattle.dcsctp_transfer.specs.api.Calls.{user_event}
-use Rattle.dcsctp_transfer.specs.Filling.{FillsPacket, TellsFilling, Acknowledges, is_sack_wanted}
-use Rattle.dcsctp_transfer.specs.Forwarding.{Forwards, TellsAbandoning}
+use Rattle.dcsctp_transfer.specs.Filling.{FillsDataPacket, TellsFilling, FillsRequestedSack, is_sack_wanted}
+use Rattle.dcsctp_transfer.specs.Forwarding.{MakesForwardTsn, TellsAbandoning}
 use Rattle.dcsctp_core.specs.declared.context.Context.{Context}
 use Rattle.dcsctp_core.specs.declared.state.State.{State}
 use Rattle.dcsctp_core.specs.Reconfiguring.{tcb_changed}
 use Rattle.dcsctp_core.specs.View.{View, core_of, endpoint_of, view_of, transfer_of, Moves}
 
 -- a packet of these chunks that is being built, under this tag
-abbrev pub packet_of : Options → Bool → ℕ → List Content → Building
-packet_of options with_checksum tag contents =
+abbrev pub packet_being_built : Options → Bool → ℕ → List Content → Building
+packet_being_built options with_checksum tag contents =
     record {
       source_port = options.local_port;
       destination_port = options.remote_port;
@@ -39,11 +39,11 @@ packet_of options with_checksum tag contents =
     }
 
 abbrev pub empty_packet : Options → Bool → ℕ → Building
-empty_packet options with_checksum tag = packet_of options with_checksum tag []
+empty_packet options with_checksum tag = packet_being_built options with_checksum tag []
 
 -- the same for what is sent
 abbrev pub packet_for : Options → Emission → Building
-packet_for options draft = packet_of options draft.with_checksum draft.packet.tag draft.packet.contents
+packet_for options draft = packet_being_built options draft.with_checksum draft.packet.tag draft.packet.contents
 
 -- ---- below an association
 
@@ -52,22 +52,22 @@ abbrev pub state_with : State → Transfer → State
 state_with state transfer = tcb_changed (λ tcb. record tcb { transfer = transfer }) state
 
 -- What was received is acknowledged, if that is asked for.
-abbrev pub AcknowledgesBelow : Option Transfer → Bool → State → Building → State → Building → Type 0
-AcknowledgesBelow None along old packet new filled = (new ≡ old) × (filled ≡ packet)
-AcknowledgesBelow (Some transfer) along old packet new filled =
-    (after : Transfer) × (new ≡ state_with old after) × Acknowledges (is_sack_wanted along transfer) transfer packet after filled
+abbrev pub AcknowledgesInQueues : Option Transfer → Bool → State → Building → State → Building → Type 0
+AcknowledgesInQueues None along old packet new filled = (new ≡ old) × (filled ≡ packet)
+AcknowledgesInQueues (Some transfer) along old packet new filled =
+    (after : Transfer) × (new ≡ state_with old after) × FillsRequestedSack (is_sack_wanted along transfer) transfer packet after filled
 
 -- Messages may have been abandoned, if the peer is known; if a FORWARD-TSN was made, the result says when the next one may be.
-abbrev pub ForwardsBelow : ℕ → Option Transfer → SendQueueState → List (Event (List ℕ)) → Building → State → State → SendQueueState → List (Event (List ℕ)) → Building → Option ℕ → Type 0
-ForwardsBelow now None waiting events packet old new left telling filled next =
+abbrev pub ForwardsInQueues : ℕ → Option Transfer → SendQueueState → List (Event (List ℕ)) → Building → State → State → SendQueueState → List (Event (List ℕ)) → Building → Option ℕ → Type 0
+ForwardsInQueues now None waiting events packet old new left telling filled next =
     (new ≡ old) × (left ≡ waiting) × (telling ≡ events) × (filled ≡ packet) × (next ≡ None)
-ForwardsBelow now (Some transfer) waiting events packet old new left telling filled next =
-    (after : Transfer) × (new ≡ state_with old after) × Forwards now transfer waiting events packet after left telling filled next
+ForwardsInQueues now (Some transfer) waiting events packet old new left telling filled next =
+    (after : Transfer) × (new ≡ state_with old after) × MakesForwardTsn now transfer waiting events packet after left telling filled next
 
 -- Without a peer, and where nothing waits and nothing is outstanding, there is no data.
 abbrev pub HasNoData : SendQueueState → Option Transfer → Type 0
 HasNoData queue None = Unit {0}
-HasNoData queue (Some transfer) = (has_data queue ≡ false) × (outstanding_count transfer.retransmission ≡ 0)
+HasNoData queue (Some transfer) = (has_queued_data queue ≡ false) × (outstanding_count transfer.retransmission ≡ 0)
 
 -- No stream is ready to be reset, if the peer is known.
 abbrev pub HasNoReset : SendQueueState → Option Transfer → Type 0
@@ -90,9 +90,9 @@ WantsNone None along = Unit {0}
 WantsNone (Some transfer) along = is_sack_wanted along transfer ≡ false
 
 -- may data be sent to the peer, if it is known?
-abbrev pub can_send_below : Option Transfer → Bool
-can_send_below None = false
-can_send_below (Some transfer) = can_send transfer.retransmission
+abbrev pub can_queues_send : Option Transfer → Bool
+can_queues_send None = false
+can_queues_send (Some transfer) = can_send transfer.retransmission
 
 -- ---- one packet of it
 
@@ -106,11 +106,11 @@ abbrev pub ForwardsNow : {R : Type 0} → Bool → Transfer → View R → Build
 ForwardsNow false transfer old packet new filled = (new ≡ old) × (filled ≡ packet)
 ForwardsNow true transfer old packet new filled =
     (next : Option ℕ) × (after : Transfer) × (left : SendQueueState)
-    × Forwards old.endpoint.moment transfer old.endpoint.below.queue old.events packet after left new.events filled next
+    × MakesForwardTsn old.endpoint.moment transfer old.endpoint.queues.queue old.events packet after left new.events filled next
     × (new ≡ record old {
       endpoint = record old.endpoint {
         no_forward_tsn_before = forward_where next old.endpoint.no_forward_tsn_before;
-        below = record { queue = left; transfer = Some after };
+        queues = record { queue = left; transfer = Some after };
       };
       events = new.events;
     })
@@ -125,47 +125,47 @@ ForwardsAt None old packet new filled = (new ≡ old) × (filled ≡ packet)
 ForwardsAt (Some transfer) old packet new filled = ForwardsNow (is_in_time old.endpoint) transfer old packet new filled
 
 -- A reset was begun if none is outstanding, one is ready and it fits. Its request is in the packet, and nothing else has changed.
-abbrev pub BeginsAt : {R : Type 0} → Option Transfer → View R → Building → View R → Building → Type 0
-BeginsAt None old packet new filled = (new ≡ old) × (filled ≡ packet)
-BeginsAt (Some transfer) old packet new filled =
+abbrev pub FillsResetRequest : {R : Type 0} → Option Transfer → View R → Building → View R → Building → Type 0
+FillsResetRequest None old packet new filled = (new ≡ old) × (filled ≡ packet)
+FillsResetRequest (Some transfer) old packet new filled =
     (begun : Option BegunReset) × (left : SendQueueState)
-    × (begun ≡ begun_in (held_in old.endpoint.core) (bytes_remaining packet) (last_assigned_tsn transfer.retransmission) old.endpoint.below.queue)
-    × (left ≡ queue_requesting (streams_within (bytes_remaining packet)) begun old.endpoint.below.queue)
+    × (begun ≡ begun_in (held_in old.endpoint.core) (bytes_remaining packet) (last_assigned_tsn transfer.retransmission) old.endpoint.queues.queue)
+    × (left ≡ queue_requesting (streams_within (bytes_remaining packet)) begun old.endpoint.queues.queue)
     × (filled ≡ record packet { body = packet.body ++ flat_map chunk_bytes (map chunk_out (request_contents begun)) })
     × (new ≡ record old {
-      endpoint = record (after_begun begun old.endpoint) { below = record { queue = left; transfer = Some (transfer_begun begun transfer) } };
+      endpoint = record (after_begun begun old.endpoint) { queues = record { queue = left; transfer = Some (transfer_reset_begun begun transfer) } };
     })
 
 -- A packet was filled with data, and nothing else has moved.
-abbrev pub FillsData : {R : Type 0} → Option Transfer → View R → Building → View R → Building → Type 0
-FillsData None old packet new filled = (new ≡ old) × (filled ≡ packet)
-FillsData (Some transfer) old packet new filled =
+abbrev pub FillsPacketData : {R : Type 0} → Option Transfer → View R → Building → View R → Building → Type 0
+FillsPacketData None old packet new filled = (new ≡ old) × (filled ≡ packet)
+FillsPacketData (Some transfer) old packet new filled =
     (any : Bool) × (after : Transfer) × (left : SendQueueState)
-    × FillsPacket old.endpoint.moment transfer old.endpoint.below.queue old.events packet after left new.events filled any
+    × FillsDataPacket old.endpoint.moment transfer old.endpoint.queues.queue old.events packet after left new.events filled any
     × (new ≡ record old {
-      endpoint = record old.endpoint { timers = timers_where any old.endpoint; below = record { queue = left; transfer = Some after } };
+      endpoint = record old.endpoint { timers = timers_where any old.endpoint; queues = record { queue = left; transfer = Some after } };
       events = new.events;
     })
 
 -- A packet that was asked to be filled: what it holds now, and what else has moved.
-pub record Fills {R : Type 0} (ask : Ask) (old : View R) (draft : Emission) (new : View R) (filled_packet : Building) : Type 0 where
+pub record FillsAskedPacket {R : Type 0} (ask : Ask) (old : View R) (draft : Emission) (new : View R) (filled_packet : Building) : Type 0 where
   pub answer : Answer
   pub kept : answer.after
       ≡ record (after_begun answer.begun old.endpoint) {
         timers = timers_with (after_begun answer.begun old.endpoint) answer.data_chunks;
         no_forward_tsn_before = answer.after.no_forward_tsn_before;
-        below = answer.after.below;
+        queues = answer.after.queues;
       }
-  pub by_transfer : AnsweredBelow ask old.endpoint draft answer old.endpoint.below.transfer
+  pub by_transfer : IsAnswerOfQueues ask old.endpoint draft answer old.endpoint.queues.transfer
   pub endpoint : new.endpoint ≡ answer.after
-  pub events : new.events ≡ old.events ++ map (user_event (ports_of old.endpoint.options)) (map told_event answer.told)
+  pub events : new.events ≡ old.events ++ map (user_event (ports_of old.endpoint.options)) (map filling_event answer.told)
   pub rest : new ≡ record old { endpoint = new.endpoint; events = new.events }
   pub packet : filled_packet ≡ packet_for old.endpoint.options (filled draft (answer_contents answer))
 
 -- The turn of a packet that is asked to be filled was cut.
 pub record AskCut {R : Type 0} (ask : Ask) (old : View R) (draft : Emission) (events : List (Event (List ℕ))) : Type 0 where
   pub answer : Answer
-  pub allowed : Answered ask old.endpoint draft answer
+  pub allowed : IsFlushAnswer ask old.endpoint draft answer
   -- what was added of it
   pub front : List (Event Emission)
   pub rest : List (Event Emission)
@@ -175,14 +175,14 @@ pub record AskCut {R : Type 0} (ask : Ask) (old : View R) (draft : Emission) (ev
 -- whatever the machine calls the chunks that the packet holds
 abbrev pub FillsWith : {R E : Type 0} → Ask → Building → Context R → Result (Unit {0}) E → Context R → Building → Type 0
 FillsWith ask packet old (Ok done) new filled_packet =
-    (draft : Emission) → packet ≡ packet_for old.options draft → Fills ask (view_of old) draft (view_of new) filled_packet
+    (draft : Emission) → packet ≡ packet_for old.options draft → FillsAskedPacket ask (view_of old) draft (view_of new) filled_packet
 FillsWith ask packet old (Err error) new filled_packet =
     (draft : Emission) → packet ≡ packet_for old.options draft → AskCut ask (view_of old) draft (view_of new).events
 
 -- Its turn took place; the result says whether the packet was sent.
 pub record AsksFor {R : Type 0} (stream : R → Stream) (ask : Ask) (old : View R) (draft : Emission) (is_sent : Bool) (new : View R) : Type 0 where
   pub answer : Answer
-  pub allowed : Answered ask old.endpoint draft answer
+  pub allowed : IsFlushAnswer ask old.endpoint draft answer
   pub goes : is_sent ≡ not (is_none (filled draft (answer_contents answer)).packet.contents)
   pub moves : Moves stream old (asked old.endpoint draft answer) new
 
@@ -196,11 +196,11 @@ AsksWith stream ask packet old (Err error) new =
 abbrev pub TellsData : {R : Type 0} → Option Transfer → View R → Building → View R → Type 0
 TellsData None old packet new = new.events ≡ old.events
 TellsData (Some transfer) old packet new =
-    TellsFilling old.endpoint.moment (bytes_remaining packet) transfer old.endpoint.below.queue old.events new.events
+    TellsFilling old.endpoint.moment (bytes_remaining packet) transfer old.endpoint.queues.queue old.events new.events
 
 -- What fills a packet with data does, by whether an allocation failed.
 abbrev pub TriesData : {R E : Type 0} → Building → Context R → Result (Unit {0}) E → Context R → Building → Type 0
-TriesData packet old (Ok done) new filled = FillsData (transfer_of old.state) (view_of old) packet (view_of new) filled
+TriesData packet old (Ok done) new filled = FillsPacketData (transfer_of old.state) (view_of old) packet (view_of new) filled
 TriesData packet old (Err error) new filled = TellsData (transfer_of old.state) (view_of old) packet (view_of new)
 
 -- If an allocation failed for a FORWARD-TSN, the first events about messages that are abandoned were added; the packet may be made
@@ -208,7 +208,7 @@ TriesData packet old (Err error) new filled = TellsData (transfer_of old.state) 
 abbrev pub TellsForward : {R : Type 0} → Option Transfer → View R → View R → Type 0
 TellsForward None old new = new.events ≡ old.events
 TellsForward (Some transfer) old new =
-    (is_in_time old.endpoint ≡ true) × TellsAbandoning old.endpoint.moment transfer old.endpoint.below.queue old.events new.events
+    (is_in_time old.endpoint ≡ true) × TellsAbandoning old.endpoint.moment transfer old.endpoint.queues.queue old.events new.events
 
 -- The FORWARD-TSN, by whether an allocation failed.
 abbrev pub TriesForward : {R E : Type 0} → Building → Context R → Result (Unit {0}) E → Context R → Building → Type 0
@@ -217,7 +217,7 @@ TriesForward packet old (Err error) new filled = TellsForward (transfer_of old.s
 
 -- What begins a reset, by whether an allocation failed.
 abbrev pub TriesReset : {R E : Type 0} → Building → Context R → Result (Unit {0}) E → Context R → Building → Type 0
-TriesReset packet old (Ok done) new filled = BeginsAt (transfer_of old.state) (view_of old) packet (view_of new) filled
+TriesReset packet old (Ok done) new filled = FillsResetRequest (transfer_of old.state) (view_of old) packet (view_of new) filled
 TriesReset packet old (Err error) new filled = (view_of new).events ≡ (view_of old).events
 
 -- ---- as many as may be
@@ -225,13 +225,13 @@ TriesReset packet old (Err error) new filled = (view_of new).events ≡ (view_of
 -- A flush of at most that many packets took place, of which this is the first.
 pub record FlushesFor {R : Type 0} (stream : R → Stream) (ask : Ask) (count : ℕ) (old : View R) (draft : Emission) (new : View R) : Type 0 where
   pub answers : List Answer
-  pub allowed : Answers ask count old.endpoint draft answers
+  pub allowed : AreFlushAnswers ask count old.endpoint draft answers
   pub moves : Moves stream old (flush_of old.endpoint draft answers) new
 
 -- The same, cut.
 pub record FlushCut {R : Type 0} (ask : Ask) (count : ℕ) (old : View R) (draft : Emission) (events : List (Event (List ℕ))) : Type 0 where
   pub answers : List Answer
-  pub allowed : Answers ask count old.endpoint draft answers
+  pub allowed : AreFlushAnswers ask count old.endpoint draft answers
   pub front : List (Event Emission)
   pub rest : List (Event Emission)
   pub parts : (flush_of old.endpoint draft answers).events ≡ front ++ rest
@@ -257,7 +257,7 @@ Flushes stream packet old result new =
 abbrev pub sent_as_built : {R : Type 0} → Building → View R → View R
 sent_as_built packet view =
     record view {
-      endpoint = counted view.endpoint;
+      endpoint = packet_counted view.endpoint;
       events = view.events
           ++ sent (packet_bytes_of packet.with_checksum (header_bytes packet.source_port packet.destination_port packet.verification_tag) packet.body) ∷ [];
     }

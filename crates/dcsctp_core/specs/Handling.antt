@@ -9,7 +9,7 @@ use Rattle.dcsctp_transfer.specs.types.Settings.{packet_size_limit}
 use Rattle.dcsctp_transfer.specs.spec.Packet.{Emission}
 use Rattle.dcsctp_transfer.specs.spec.endpoint.Event.{Event, sent, aborted}
 use Rattle.dcsctp_transfer.specs.spec.endpoint.Event as events
-use Rattle.dcsctp_transfer.specs.spec.endpoint.Outcome.{Outcome, counted, reports}
+use Rattle.dcsctp_transfer.specs.spec.endpoint.Outcome.{Outcome, packet_counted, reports}
 use Rattle.dcsctp_transfer.specs.spec.endpoint.Following.{next_chunk, packet_end, dropped_rest}
 use Rattle.dcsctp_transfer.specs.spec.endpoint.Following as machine
 use Rattle.dcsctp_transfer.specs.spec.endpoint.Turn.{arrival_outcome}
@@ -37,13 +37,13 @@ TriesDrawing stream turn old (Ok done) new = Moves stream (view_of old) (turn (v
 TriesDrawing stream turn old (Err error) new = OnlyDrew (view_of old) (view_of new)
 
 -- The turn took place; or an allocation failed, and the first of its events may have been added.
-abbrev pub Takes : {R E : Type 0} → (R → Stream) → (View R → Outcome) → Context R → Result (Unit {0}) E → Context R → Type 0
-Takes stream turn old (Ok done) new = Moves stream (view_of old) (turn (view_of old)) (view_of new)
-Takes stream turn old (Err error) new = CutTurn (view_of old) (turn (view_of old)) (view_of new).events
+abbrev pub TakesTurn : {R E : Type 0} → (R → Stream) → (View R → Outcome) → Context R → Result (Unit {0}) E → Context R → Type 0
+TakesTurn stream turn old (Ok done) new = Moves stream (view_of old) (turn (view_of old)) (view_of new)
+TakesTurn stream turn old (Err error) new = CutTurn (view_of old) (turn (view_of old)) (view_of new).events
 
 -- A turn with more than one possible outcome took place; or an allocation failed, and the first of its events may have been
 -- added.
-pub record TakesIn {R : Type 0} (stream : R → Stream) (Turn : View R → Outcome → Type 0) (old new : View R) : Type 0 where
+pub record TakesPossibleTurn {R : Type 0} (stream : R → Stream) (Turn : View R → Outcome → Type 0) (old new : View R) : Type 0 where
   pub outcome : Outcome
   pub turn : Turn old outcome
   pub moves : Moves stream old outcome new
@@ -54,7 +54,7 @@ pub record CutIn {R : Type 0} (Turn : View R → Outcome → Type 0) (old : View
   pub cut : CutTurn old outcome events
 
 abbrev pub TakesOne : {R E : Type 0} → (R → Stream) → (View R → Outcome → Type 0) → Context R → Result (Unit {0}) E → Context R → Type 0
-TakesOne stream Turn old (Ok done) new = TakesIn stream Turn (view_of old) (view_of new)
+TakesOne stream Turn old (Ok done) new = TakesPossibleTurn stream Turn (view_of old) (view_of new)
 TakesOne stream Turn old (Err error) new = CutIn Turn (view_of old) (view_of new).events
 
 -- ---- a chunk's turn, with what follows in its packet
@@ -65,19 +65,19 @@ following_of PacketEnd = packet_end
 following_of DroppedRest = dropped_rest
 
 -- A turn of this outcome, and what the code says follows.
-pub record Handles {R : Type 0} (stream : R → Stream) (old : View R) (outcome : Outcome) (next : Following) (new : View R) : Type 0 where
+pub record IsHandledTurn {R : Type 0} (stream : R → Stream) (old : View R) (outcome : Outcome) (next : Following) (new : View R) : Type 0 where
   pub moves : Moves stream old outcome new
   pub following : outcome.following ≡ following_of next
 
 -- The turn took place; or an allocation failed, and the first of its events may have been added.
-abbrev pub Works : {R E : Type 0} → (R → Stream) → (View R → Outcome) → Context R → Result Following E → Context R → Type 0
-Works stream turn old (Ok next) new = Handles stream (view_of old) (turn (view_of old)) next (view_of new)
-Works stream turn old (Err error) new = CutTurn (view_of old) (turn (view_of old)) (view_of new).events
+abbrev pub HandlesTurn : {R E : Type 0} → (R → Stream) → (View R → Outcome) → Context R → Result Following E → Context R → Type 0
+HandlesTurn stream turn old (Ok next) new = IsHandledTurn stream (view_of old) (turn (view_of old)) next (view_of new)
+HandlesTurn stream turn old (Err error) new = CutTurn (view_of old) (turn (view_of old)) (view_of new).events
 
 -- The turn took place; or an allocation failed, and nothing has changed.
-abbrev pub WorksWhole : {R E : Type 0} → (R → Stream) → (View R → Outcome) → Context R → Result Following E → Context R → Type 0
-WorksWhole stream turn old (Ok next) new = Handles stream (view_of old) (turn (view_of old)) next (view_of new)
-WorksWhole stream turn old (Err error) new = view_of new ≡ view_of old
+abbrev pub HandlesWholeTurn : {R E : Type 0} → (R → Stream) → (View R → Outcome) → Context R → Result Following E → Context R → Type 0
+HandlesWholeTurn stream turn old (Ok next) new = IsHandledTurn stream (view_of old) (turn (view_of old)) next (view_of new)
+HandlesWholeTurn stream turn old (Err error) new = view_of new ≡ view_of old
 
 -- the same for a chunk's turn with more than one possible outcome
 pub record HandlesIn {R : Type 0} (stream : R → Stream) (Turn : View R → Outcome → Type 0) (old : View R) (next : Following) (new : View R) : Type 0 where
@@ -86,9 +86,9 @@ pub record HandlesIn {R : Type 0} (stream : R → Stream) (Turn : View R → Out
   pub moves : Moves stream old outcome new
   pub following : outcome.following ≡ following_of next
 
-abbrev pub WorksOne : {R E : Type 0} → (R → Stream) → (View R → Outcome → Type 0) → Context R → Result Following E → Context R → Type 0
-WorksOne stream Turn old (Ok next) new = HandlesIn stream Turn (view_of old) next (view_of new)
-WorksOne stream Turn old (Err error) new = CutIn Turn (view_of old) (view_of new).events
+abbrev pub HandlesPossibleTurn : {R E : Type 0} → (R → Stream) → (View R → Outcome → Type 0) → Context R → Result Following E → Context R → Type 0
+HandlesPossibleTurn stream Turn old (Ok next) new = HandlesIn stream Turn (view_of old) next (view_of new)
+HandlesPossibleTurn stream Turn old (Err error) new = CutIn Turn (view_of old) (view_of new).events
 
 -- ---- the turns of what all handlers share
 
@@ -113,17 +113,17 @@ abbrev pub close_turn : {R : Type 0} → Event Emission → View R → Outcome
 close_turn event view = close_outcome view.endpoint view.endpoint.core event
 
 -- A chunk that fits `mtu` is sent: its bytes are one more event, and it is counted.
-abbrev pub emitted : {R : Type 0} → Bool → ℕ → ChunkContent → View R → View R
-emitted with_checksum tag chunk view =
+abbrev pub chunk_emitted : {R : Type 0} → Bool → ℕ → ChunkContent → View R → View R
+chunk_emitted with_checksum tag chunk view =
     let options = view.endpoint.options in
     if nat_le (12 + length (chunk_bytes chunk)) (packet_size_limit options)
     then record view {
-      endpoint = counted view.endpoint;
+      endpoint = packet_counted view.endpoint;
       events = view.events ++ sent (packet_bytes_of with_checksum (header_bytes options.local_port options.remote_port tag) (chunk_bytes chunk)) ∷ [];
     }
     else view
 
 -- A packet of this chunk was sent, if it fits; or an allocation failed, and nothing has changed.
 abbrev pub Emits : {R E : Type 0} → Bool → ℕ → ChunkContent → Context R → Result (Unit {0}) E → Context R → Type 0
-Emits with_checksum tag chunk old (Ok done) new = view_of new ≡ emitted with_checksum tag chunk (view_of old)
+Emits with_checksum tag chunk old (Ok done) new = view_of new ≡ chunk_emitted with_checksum tag chunk (view_of old)
 Emits with_checksum tag chunk old (Err error) new = view_of new ≡ view_of old

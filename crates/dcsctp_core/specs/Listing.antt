@@ -5,7 +5,7 @@ use Rattle.dcsctp_core.specs.declared.deadlines.DeadlineKind.TheVariants.{Acknow
 use Rattle.dcsctp_core.specs.declared.deadlines.Entry.{Entry}
 
 -- the deadline of each kind, if it runs
-pub record Told : Type 0 where
+pub record RunningDeadlines : Type 0 where
   pub acknowledgement_delay : Option ℕ
   pub retransmission : Option ℕ
   pub heartbeat_interval : Option ℕ
@@ -24,8 +24,8 @@ rank Reconfiguration = 4
 rank T1 = 5
 rank T2 = 6
 
-abbrev pub is_same : DeadlineKind → DeadlineKind → Bool
-is_same kind other = nat_eq (rank kind) (rank other)
+abbrev pub is_same_kind : DeadlineKind → DeadlineKind → Bool
+is_same_kind kind other = nat_eq (rank kind) (rank other)
 
 -- by moment, and then by kind
 abbrev pub is_before : Entry → Entry → Bool
@@ -34,22 +34,22 @@ is_before entry other = nat_lt entry.moment other.moment || (nat_eq entry.moment
 -- the deadline of a kind
 abbrev pub listed : DeadlineKind → List Entry → Option ℕ
 listed kind [] = None
-listed kind (entry ∷ entries) = if is_same kind entry.kind then Some entry.moment else listed kind entries
+listed kind (entry ∷ entries) = if is_same_kind kind entry.kind then Some entry.moment else listed kind entries
 
 -- the place of the first entry of a kind; how many entries there are if none is of it
-abbrev pub place_of : DeadlineKind → List Entry → ℕ
-place_of kind [] = 0
-place_of kind (entry ∷ entries) = if is_same kind entry.kind then 0 else suc (place_of kind entries)
+abbrev pub entry_place : DeadlineKind → List Entry → ℕ
+entry_place kind [] = 0
+entry_place kind (entry ∷ entries) = if is_same_kind kind entry.kind then 0 else suc (entry_place kind entries)
 
 -- the moment of the first entry
-abbrev pub first_of : List Entry → Option ℕ
-first_of [] = None
-first_of (entry ∷ entries) = Some entry.moment
+abbrev pub first_moment : List Entry → Option ℕ
+first_moment [] = None
+first_moment (entry ∷ entries) = Some entry.moment
 
 -- the entries of the other kinds
 abbrev pub without : DeadlineKind → List Entry → List Entry
 without kind [] = []
-without kind (entry ∷ entries) = if is_same kind entry.kind then without kind entries else entry ∷ without kind entries
+without kind (entry ∷ entries) = if is_same_kind kind entry.kind then without kind entries else entry ∷ without kind entries
 
 -- the entries with one more, in its place
 abbrev pub placed : Entry → List Entry → List Entry
@@ -71,7 +71,7 @@ set_in kind deadline entries = with_entry kind deadline (without kind entries)
 -- None of these is of the kind.
 abbrev pub IsAbsent : DeadlineKind → List Entry → Type 0
 IsAbsent kind [] = Unit {0}
-IsAbsent kind (entry ∷ entries) = (is_same kind entry.kind ≡ false) × IsAbsent kind entries
+IsAbsent kind (entry ∷ entries) = (is_same_kind kind entry.kind ≡ false) × IsAbsent kind entries
 
 -- Each of these is of a kind whose place is below this one.
 abbrev pub AllBelow : ℕ → List Entry → Type 0
@@ -90,37 +90,37 @@ BeginsAfter new [] = Unit {0}
 BeginsAfter new (entry ∷ entries) = is_before entry new ≡ false
 
 -- None of these is before the entry, and none is of its kind.
-abbrev pub IsFirst : Entry → List Entry → Type 0
-IsFirst first [] = Unit {0}
-IsFirst first (entry ∷ entries) = (is_before first entry ≡ true) × (is_same first.kind entry.kind ≡ false) × IsFirst first entries
+abbrev pub IsEarliestEntry : Entry → List Entry → Type 0
+IsEarliestEntry first [] = Unit {0}
+IsEarliestEntry first (entry ∷ entries) = (is_before first entry ≡ true) × (is_same_kind first.kind entry.kind ≡ false) × IsEarliestEntry first entries
 
 -- The entries are in order, and no two are of a kind.
 abbrev pub IsListing : List Entry → Type 0
 IsListing [] = Unit {0}
-IsListing (entry ∷ entries) = IsFirst entry entries × IsListing entries
+IsListing (entry ∷ entries) = IsEarliestEntry entry entries × IsListing entries
 
 -- What `set` does to the deadlines: that of the kind is the new one, and the others stay.
 abbrev pub SetTells : Type 0
 SetTells =
     (kind other : DeadlineKind) (deadline : Option ℕ) (entries : List Entry) → IsListing entries
-    → listed other (set_in kind deadline entries) ≡ (if is_same other kind then deadline else listed other entries)
+    → listed other (set_in kind deadline entries) ≡ (if is_same_kind other kind then deadline else listed other entries)
 
 -- the list of what the timers say
-abbrev pub relisted : Told → List Entry
+abbrev pub relisted : RunningDeadlines → List Entry
 relisted told =
     with_entry T2 told.t2 (with_entry T1 told.t1 (with_entry Reconfiguration told.reconfiguration (with_entry HeartbeatTimeout told.heartbeat_timeout
     (with_entry HeartbeatInterval told.heartbeat_interval (with_entry Retransmission told.retransmission (with_entry AcknowledgementDelay told.acknowledgement_delay []))))))
 
 -- what they say of a kind
-abbrev pub said_by : Told → DeadlineKind → Option ℕ
-said_by told AcknowledgementDelay = told.acknowledgement_delay
-said_by told Retransmission = told.retransmission
-said_by told HeartbeatInterval = told.heartbeat_interval
-said_by told HeartbeatTimeout = told.heartbeat_timeout
-said_by told Reconfiguration = told.reconfiguration
-said_by told T1 = told.t1
-said_by told T2 = told.t2
+abbrev pub deadline_by_kind : RunningDeadlines → DeadlineKind → Option ℕ
+deadline_by_kind told AcknowledgementDelay = told.acknowledgement_delay
+deadline_by_kind told Retransmission = told.retransmission
+deadline_by_kind told HeartbeatInterval = told.heartbeat_interval
+deadline_by_kind told HeartbeatTimeout = told.heartbeat_timeout
+deadline_by_kind told Reconfiguration = told.reconfiguration
+deadline_by_kind told T1 = told.t1
+deadline_by_kind told T2 = told.t2
 
 -- It holds what each timer says, and nothing else.
 abbrev pub RelistTells : Type 0
-RelistTells = (told : Told) (kind : DeadlineKind) → listed kind (relisted told) ≡ said_by told kind
+RelistTells = (told : RunningDeadlines) (kind : DeadlineKind) → listed kind (relisted told) ≡ deadline_by_kind told kind

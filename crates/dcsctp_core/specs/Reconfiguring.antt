@@ -32,15 +32,15 @@ renumbered_by (Some request) tcb =
       reset_request = Some (record request { number = tcb.next_outgoing_reset_req_seq_nbr });
     }
 
-abbrev pub renumbered : TransmissionControlBlock → TransmissionControlBlock
-renumbered tcb = renumbered_by tcb.reset_request tcb
+abbrev pub request_renumbered : TransmissionControlBlock → TransmissionControlBlock
+request_renumbered tcb = renumbered_by tcb.reset_request tcb
 
 -- the request once its timer has come to this moment
-abbrev pub request_told : ℕ → ResetRequest → ResetRequest
-request_told moment request = record request { timer = timer_after moment request.timer }
+abbrev pub request_at_moment : ℕ → ResetRequest → ResetRequest
+request_at_moment moment request = record request { timer = timer_after moment request.timer }
 
-abbrev pub reconfiguration_told : ℕ → TransmissionControlBlock → TransmissionControlBlock
-reconfiguration_told moment tcb = record tcb { reset_request = option_map (request_told moment) tcb.reset_request }
+abbrev pub reconfiguration_at_moment : ℕ → TransmissionControlBlock → TransmissionControlBlock
+reconfiguration_at_moment moment tcb = record tcb { reset_request = option_map (request_at_moment moment) tcb.reset_request }
 
 -- ---- of a state
 

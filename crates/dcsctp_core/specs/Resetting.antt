@@ -11,7 +11,7 @@ use Rattle.dcsctp_transfer.specs.spec.queues.SendQueue.{SendQueueState}
 use Rattle.dcsctp_transfer.specs.spec.queues.Transfer.{Transfer}
 use Rattle.dcsctp_transfer.specs.spec.endpoint.Endpoint.{OutstandingRequest, held_in}
 use Rattle.dcsctp_transfer.specs.spec.endpoint.Timers.{RunningTimer, started}
-use Rattle.dcsctp_transfer.specs.spec.endpoint.BegunResets.{BegunReset, streams_within, last_assigned_tsn, begun_in, request_contents, queue_requesting, transfer_begun, held_begun, reconfiguration_settings}
+use Rattle.dcsctp_transfer.specs.spec.endpoint.BegunResets.{BegunReset, streams_within, last_assigned_tsn, begun_in, request_contents, queue_requesting, transfer_reset_begun, held_begun, reconfiguration_settings}
 use Rattle.dcsctp_core.specs.declared.state.State.{State}
 use Rattle.dcsctp_core.specs.declared.state.State.TheVariants.{Closed, CookieWait, CookieEchoed, Open}
 use Rattle.dcsctp_core.specs.declared.transmission_control_block.ResetRequest.{ResetRequest}
@@ -29,9 +29,9 @@ reset_of request = record { last_tsn = request.last_tsn; streams = stream_number
 -- ---- in a packet
 
 -- Its chunk fits into the packet, if there is one.
-abbrev pub HasRoom : Option ResetRequest → Building → Type 0
-HasRoom None packet = Unit {0}
-HasRoom (Some request) packet = length (chunk_bytes (chunk_out (reset_request request.number (reset_of request)))) ≤ bytes_remaining packet
+abbrev pub HasRoomForRequest : Option ResetRequest → Building → Type 0
+HasRoomForRequest None packet = Unit {0}
+HasRoomForRequest (Some request) packet = length (chunk_bytes (chunk_out (reset_request request.number (reset_of request)))) ≤ bytes_remaining packet
 
 -- Its chunk was added, and its streams are numbers of 16 bits.
 abbrev pub AddsRequest : Option ResetRequest → Building → Building → Type 0
@@ -52,13 +52,13 @@ timer_begun None now rto timer = timer
 timer_begun (Some begun) now rto timer = started now (reconfiguration_settings rto)
 
 -- This was begun, and nothing else has moved.
-pub record Begins (now : ℕ) (begun : Option BegunReset) (old new : TransmissionControlBlock) : Type 0 where
+pub record BeginsOwnReset (now : ℕ) (begun : Option BegunReset) (old new : TransmissionControlBlock) : Type 0 where
   pub held : held_of new ≡ held_begun begun (held_of old)
   pub request : request_of new.reset_request ≡ request_begun begun (request_of old.reset_request)
   pub timer : timer_of new.reset_request ≡ timer_begun begun now old.transfer.timeout.rto (timer_of old.reset_request)
   pub my : new.my ≡ old.my
   pub tie_tag : new.tie_tag ≡ old.tie_tag
-  pub transfer : new.transfer ≡ transfer_begun begun old.transfer
+  pub transfer : new.transfer ≡ transfer_reset_begun begun old.transfer
 
 -- the packet with its request
 abbrev pub with_request : Option BegunReset → Building → Building
@@ -70,14 +70,14 @@ pub record StartsReset (now : ℕ) (streams : List ℕ) (old : TransmissionContr
   pub is : begun
       ≡ record { number = old.next_outgoing_reset_req_seq_nbr; reset = record { last_tsn = last_assigned_tsn old.transfer.retransmission; streams = streams } }
   pub fit : AllByRecursion IsStream streams
-  pub begins : Begins now (Some begun) old new
+  pub begins : BeginsOwnReset now (Some begun) old new
   pub packet_is : filled ≡ with_request (Some begun) packet
 
 -- A reset was begun, or none was.
 pub record BeginsReset (now : ℕ) (queue : SendQueueState) (old : TransmissionControlBlock) (packet : Building) (left : SendQueueState) (new : TransmissionControlBlock) (filled : Building) : Type 0 where
   pub begun : Option BegunReset
   pub is : begun ≡ begun_in (Some (held_of old)) (bytes_remaining packet) (last_assigned_tsn old.transfer.retransmission) queue
-  pub begins : Begins now begun old new
+  pub begins : BeginsOwnReset now begun old new
   pub packet_is : filled ≡ with_request begun packet
   pub hands_out : left ≡ queue_requesting (streams_within (bytes_remaining packet)) begun queue
 
@@ -87,8 +87,8 @@ abbrev pub BeginsIn : ℕ → Option BegunReset → State → State → Type 0
 BeginsIn now begun Closed new = new ≡ Closed
 BeginsIn now begun (CookieWait wait) new = new ≡ CookieWait wait
 BeginsIn now begun (CookieEchoed echoed) new =
-    (tcb : TransmissionControlBlock) × Begins now begun echoed.tcb tcb × (new ≡ CookieEchoed (record echoed { tcb = tcb }))
-BeginsIn now begun (Open opened) new = (tcb : TransmissionControlBlock) × Begins now begun opened.tcb tcb × (new ≡ Open (record opened { tcb = tcb }))
+    (tcb : TransmissionControlBlock) × BeginsOwnReset now begun echoed.tcb tcb × (new ≡ CookieEchoed (record echoed { tcb = tcb }))
+BeginsIn now begun (Open opened) new = (tcb : TransmissionControlBlock) × BeginsOwnReset now begun opened.tcb tcb × (new ≡ Open (record opened { tcb = tcb }))
 
 pub record BeginsWhere (now : ℕ) (transfer : Transfer) (queue : SendQueueState) (old : State) (packet : Building) (left : SendQueueState) (new : State) (filled : Building) : Type 0 where
   pub begun : Option BegunReset
@@ -98,6 +98,6 @@ pub record BeginsWhere (now : ℕ) (transfer : Transfer) (queue : SendQueueState
   pub hands_out : left ≡ queue_requesting (streams_within (bytes_remaining packet)) begun queue
 
 -- Nothing happens if the peer isn't known.
-abbrev pub BeginsBelow : ℕ → Option Transfer → SendQueueState → State → Building → SendQueueState → State → Building → Type 0
-BeginsBelow now None queue old packet left new filled = (new ≡ old) × (left ≡ queue) × (filled ≡ packet)
-BeginsBelow now (Some transfer) queue old packet left new filled = BeginsWhere now transfer queue old packet left new filled
+abbrev pub BeginsResetInQueues : ℕ → Option Transfer → SendQueueState → State → Building → SendQueueState → State → Building → Type 0
+BeginsResetInQueues now None queue old packet left new filled = (new ≡ old) × (left ≡ queue) × (filled ≡ packet)
+BeginsResetInQueues now (Some transfer) queue old packet left new filled = BeginsWhere now transfer queue old packet left new filled

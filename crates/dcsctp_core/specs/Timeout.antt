@@ -2,12 +2,12 @@
 use Rattle.std.specs.Prelude.{◌≡◌, ℕ, max, Bool, true, false, nat_lt, if◌then◌else◌, Option, None, Some, List, [], ◌∷◌}
 use Rattle.std.specs.Duration.{max_nanos}
 use Rattle.dcsctp_transfer.specs.spec.endpoint.Endpoint.{Endpoint, Core, closed, cookie_wait, cookie_echoed, open_in}
-use Rattle.dcsctp_transfer.specs.spec.endpoint.TimeTurns.{Timer, t1_timer, own_timer, t2_timer, timers_told, deadline}
+use Rattle.dcsctp_transfer.specs.spec.endpoint.TimeTurns.{Timer, t1_timer, own_timer, t2_timer, timers_counted, deadline}
 use Rattle.dcsctp_transfer.specs.spec.endpoint.OwnTimers.{acknowledgement_delay, retransmission, heartbeat_interval, heartbeat_timeout, reconfiguration}
 use Rattle.dcsctp_core.specs.declared.deadlines.DeadlineKind.{DeadlineKind}
 use Rattle.dcsctp_core.specs.declared.deadlines.DeadlineKind.TheVariants.{AcknowledgementDelay, Retransmission, HeartbeatInterval, HeartbeatTimeout, Reconfiguration, T1, T2}
 use Rattle.dcsctp_core.specs.declared.deadlines.Entry.{Entry}
-use Rattle.dcsctp_core.specs.Listing.{is_same, listed, first_of, with_entry}
+use Rattle.dcsctp_core.specs.Listing.{is_same_kind, listed, first_moment, with_entry}
 
 -- the kind of a timer's deadline
 abbrev pub kind_of : Timer → DeadlineKind
@@ -20,13 +20,13 @@ kind_of (own_timer reconfiguration) = Reconfiguration
 kind_of t2_timer = T2
 
 -- the deadline of a kind, if its timer is among these and runs
-abbrev pub told_among : Endpoint → List Timer → DeadlineKind → Option ℕ
-told_among e [] kind = None
-told_among e (timer ∷ timers) kind = if is_same kind (kind_of timer) then deadline e timer else told_among e timers kind
+abbrev pub deadline_among : Endpoint → List Timer → DeadlineKind → Option ℕ
+deadline_among e [] kind = None
+deadline_among e (timer ∷ timers) kind = if is_same_kind kind (kind_of timer) then deadline e timer else deadline_among e timers kind
 
 -- the deadline of a kind, if it counts in the phase
-abbrev pub told_in : Endpoint → DeadlineKind → Option ℕ
-told_in e kind = told_among e (timers_told e.core) kind
+abbrev pub deadline_in_phase : Endpoint → DeadlineKind → Option ℕ
+deadline_in_phase e kind = deadline_among e (timers_counted e.core) kind
 
 -- the list of the six deadlines of an open association
 abbrev pub listed_open : Endpoint → List Entry
@@ -36,8 +36,8 @@ listed_open e =
     (with_entry AcknowledgementDelay (deadline e (own_timer acknowledgement_delay)) [])))))
 
 -- The list has exactly the running deadlines that count in the phase.
-abbrev pub IsTold : Endpoint → List Entry → Type 0
-IsTold e entries = (kind : DeadlineKind) → listed kind entries ≡ told_in e kind
+abbrev pub ListsDeadlines : Endpoint → List Entry → Type 0
+ListsDeadlines e entries = (kind : DeadlineKind) → listed kind entries ≡ deadline_in_phase e kind
 
 -- a deadline, but not before the present moment; the last moment if there is none
 abbrev pub next_by : ℕ → Option ℕ → ℕ
@@ -45,13 +45,13 @@ next_by moment None = max_nanos
 next_by moment (Some deadline) = max deadline moment
 
 -- Is the first deadline later than a moment, or is there none?
-abbrev pub is_later : ℕ → Option ℕ → Bool
-is_later moment None = true
-is_later moment (Some deadline) = nat_lt moment deadline
+abbrev pub is_deadline_later : ℕ → Option ℕ → Bool
+is_deadline_later moment None = true
+is_deadline_later moment (Some deadline) = nat_lt moment deadline
 
 -- Does the list say that nothing is due at a moment? In CookieEchoed it doesn't have the delay of an acknowledgement.
 abbrev pub is_quiet : Core → ℕ → List Entry → Bool
-is_quiet closed moment entries = is_later moment (first_of entries)
-is_quiet (cookie_wait mine) moment entries = is_later moment (first_of entries)
+is_quiet closed moment entries = is_deadline_later moment (first_moment entries)
+is_quiet (cookie_wait mine) moment entries = is_deadline_later moment (first_moment entries)
 is_quiet (cookie_echoed mine held cookie) moment entries = false
-is_quiet (open_in phase mine held) moment entries = is_later moment (first_of entries)
+is_quiet (open_in phase mine held) moment entries = is_deadline_later moment (first_moment entries)

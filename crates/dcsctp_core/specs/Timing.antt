@@ -2,13 +2,13 @@
 use Rattle.std.specs.Prelude.{◌≡◌, ℕ, Bool, true, false, Option, None, Some, Result, Ok, Err}
 use Rattle.rand_core.specs.Stream.{Stream}
 use Rattle.dcsctp_transfer.specs.spec.endpoint.Endpoint.{Endpoint}
-use Rattle.dcsctp_transfer.specs.spec.endpoint.Timers.{RunningTimer, is_due, is_restarted, TimerModel, running_after}
+use Rattle.dcsctp_transfer.specs.spec.endpoint.Timers.{RunningTimer, is_timer_expired, is_restarted, TimerModel, running_after}
 use Rattle.dcsctp_transfer.specs.spec.endpoint.Outcome.{Outcome}
 use Rattle.dcsctp_transfer.specs.spec.endpoint.TimeTurns.{Timer, deadline, has_come, expiry_input}
 use Rattle.dcsctp_transfer.specs.spec.endpoint.Turn.{Turn}
 use Rattle.dcsctp_core.specs.declared.context.Context.{Context}
 use Rattle.dcsctp_core.specs.View.{View, view_of}
-use Rattle.dcsctp_core.specs.Handling.{TakesIn, CutIn}
+use Rattle.dcsctp_core.specs.Handling.{TakesPossibleTurn, CutIn}
 use Rattle.dcsctp_core.specs.declared.expiry.Expiry.{Expiry}
 use Rattle.dcsctp_core.specs.declared.expiry.Expiry.TheVariants.{NotDue, Again, GaveUp}
 use Rattle.dcsctp_core.specs.declared.state.State.{State}
@@ -23,7 +23,7 @@ expiry_where false restarts = NotDue
 -- what is said of a timer, if it runs
 abbrev pub expiry_of : ℕ → Option RunningTimer → Expiry
 expiry_of moment None = NotDue
-expiry_of moment (Some timer) = expiry_where (is_due moment timer) (is_restarted timer)
+expiry_of moment (Some timer) = expiry_where (is_timer_expired moment timer) (is_restarted timer)
 
 -- a timer once this moment has come
 abbrev pub timer_after : ℕ → TimerModel → TimerModel
@@ -53,11 +53,11 @@ ExpiryTurn timer view o = Turn view.endpoint (expiry_input view.endpoint timer) 
 
 -- The timer expired, and its turn took place; or it isn't due, and nothing has changed; or an allocation failed in its turn.
 abbrev pub Expires : {R E : Type 0} → (R → Stream) → Timer → Context R → Result Bool E → Context R → Type 0
-Expires stream timer old (Ok true) new = (is_timer_due (view_of old).endpoint timer ≡ true) × TakesIn stream (ExpiryTurn timer) (view_of old) (view_of new)
+Expires stream timer old (Ok true) new = (is_timer_due (view_of old).endpoint timer ≡ true) × TakesPossibleTurn stream (ExpiryTurn timer) (view_of old) (view_of new)
 Expires stream timer old (Ok false) new = (is_timer_due (view_of old).endpoint timer ≡ false) × (view_of new ≡ view_of old)
 Expires stream timer old (Err error) new = (is_timer_due (view_of old).endpoint timer ≡ true) × CutIn (ExpiryTurn timer) (view_of old) (view_of new).events
 
 -- the same for a timer whose turn allocates nothing
 abbrev pub ExpiresAlways : {R : Type 0} → (R → Stream) → Timer → Context R → Bool → Context R → Type 0
-ExpiresAlways stream timer old true new = (is_timer_due (view_of old).endpoint timer ≡ true) × TakesIn stream (ExpiryTurn timer) (view_of old) (view_of new)
+ExpiresAlways stream timer old true new = (is_timer_due (view_of old).endpoint timer ≡ true) × TakesPossibleTurn stream (ExpiryTurn timer) (view_of old) (view_of new)
 ExpiresAlways stream timer old false new = (is_timer_due (view_of old).endpoint timer ≡ false) × (view_of new ≡ view_of old)

@@ -17,7 +17,7 @@ use Rattle.dcsctp_transfer.specs.spec.endpoint.Outcome.{Outcome, count_up}
 use Rattle.dcsctp_transfer.specs.spec.endpoint.Following.{next_chunk}
 use Rattle.dcsctp_transfer.specs.spec.association.HandshakeChanges.{new_held}
 use Rattle.dcsctp_transfer.specs.spec.association.Effect.{drawn_in}
-use Rattle.dcsctp_transfer.specs.spec.endpoint.CallTurns.{Turned, after_all, words_of, effects_of, events_of}
+use Rattle.dcsctp_transfer.specs.spec.endpoint.CallTurns.{Transition, after_all, words_of, effects_of, events_of}
 use Rattle.dcsctp_transfer.specs.types.Settings.{ports_of}
 use Rattle.dcsctp_transfer.specs.api.Events.{event_content}
 use Rattle.dcsctp_transfer.specs.api.Calls.{user_event}
@@ -40,9 +40,9 @@ pub record View (R : Type 0) : Type 0 where
   pub generator : R
 
 -- the number of our own request to reset streams, and what it wants
-abbrev pub number_of : Option ResetRequest → Option ℕ
-number_of None = None
-number_of (Some request) = Some request.number
+abbrev pub request_number : Option ResetRequest → Option ℕ
+request_number None = None
+request_number (Some request) = Some request.number
 
 abbrev pub request_of : Option ResetRequest → Option OutstandingRequest
 request_of None = None
@@ -60,7 +60,7 @@ held_of tcb =
       peer = tcb.peer;
       capabilities = tcb.capabilities;
       own_next = tcb.next_outgoing_reset_req_seq_nbr;
-      own_outstanding = number_of tcb.reset_request;
+      own_outstanding = request_number tcb.reset_request;
       peer_last = tcb.last_processed_req_seq_nbr;
       peer_result = tcb.last_processed_req_result;
     }
@@ -167,7 +167,7 @@ endpoint_of context =
       counts = record { packets_received = context.rx_packets_count; packets_sent = context.tx_packets_count; messages_queued = context.tx_messages_count };
       no_forward_tsn_before = context.no_forward_tsn_before;
       peer_implementation = context.peer_implementation;
-      below = record { queue = context.send_queue; transfer = transfer_of context.state };
+      queues = record { queue = context.send_queue; transfer = transfer_of context.state };
       left = map message_content context.left.items;
     }
 
@@ -197,8 +197,8 @@ Drawn old (U32 word ∷ words) new = (word ≡ (next_u32 old).0) × Drawn (next_
 Drawn old (U64 word ∷ words) new = (word ≡ (next_u64 old).0) × Drawn (next_u64 old).1 words new
 
 -- the view once its association was dropped and these messages are left; the heartbeat's timers go on
-abbrev pub dropped : {R : Type 0} → View R → List MessageContent → View R
-dropped view left =
+abbrev pub association_dropped : {R : Type 0} → View R → List MessageContent → View R
+association_dropped view left =
     let e : Endpoint = view.endpoint in
     let timers : Timers = record stopped_timers { heartbeat_interval = e.timers.heartbeat_interval; heartbeat_timeout = e.timers.heartbeat_timeout } in
     record view { endpoint = record (closed_after e) { timers = timers; left = left } }
@@ -216,7 +216,7 @@ pub record Moves {R : Type 0} (stream : R → Stream) (old : View R) (outcome : 
   pub drawn : Drawn (stream old.generator) outcome.words (stream new.generator)
 
 -- several turns, one after another
-abbrev pub MovesAll : {R : Type 0} → (R → Stream) → View R → List Turned → View R → Type 0
+abbrev pub MovesAll : {R : Type 0} → (R → Stream) → View R → List Transition → View R → Type 0
 MovesAll stream old turns new =
     Moves stream old (record {
       words = words_of turns;
@@ -231,7 +231,7 @@ abbrev pub call_start : {R : Type 0} → View R → View R
 call_start view = record view { words = []; pairs = [] }
 
 -- the turns of a whole call
-abbrev pub CallMoves : {R : Type 0} → (R → Stream) → View R → List Turned → View R → Type 0
+abbrev pub CallMoves : {R : Type 0} → (R → Stream) → View R → List Transition → View R → Type 0
 CallMoves stream old turns new = MovesAll stream (call_start old) turns new
 
 -- The turn was cut by an allocation that failed, after it had added that many of its events.

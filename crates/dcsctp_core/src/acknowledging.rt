@@ -2,7 +2,7 @@
 
 ghost use Rattle.std.specs.Prelude.{IsOk, OnOk};
 ghost use Rattle.dcsctp_core.specs.View.{transfer_of};
-ghost use Rattle.dcsctp_core.specs.Flushing.{AcknowledgesBelow, WantsNone};
+ghost use Rattle.dcsctp_core.specs.Flushing.{AcknowledgesInQueues, WantsNone};
 
 use crate::state::State;
 use dcsctp_transfer::wire_build::SctpPacketBuilder;
@@ -16,7 +16,7 @@ impl State {
         also_if_delayed: bool,
         packet: &mut SctpPacketBuilder,
     ) -> Result<(), AllocError>
-        ensures ok { OnOk result (AcknowledgesBelow (transfer_of self.old) also_if_delayed self.old packet.old self.new packet.new) }
+        ensures ok { OnOk result (AcknowledgesInQueues (transfer_of self.old) also_if_delayed self.old packet.old self.new packet.new) }
         ensures idle { WantsNone (transfer_of self.old) also_if_delayed → IsOk result }
     {
         match self.tcb_mut() {

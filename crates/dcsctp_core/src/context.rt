@@ -93,7 +93,7 @@ impl<R: Rng> Context<R> {
     ghost use Rattle.std.specs.Prelude.{◌≡◌, ◌+◌, Bool, ℕ, List, length, map, nat_le, string_bytes};
     ghost use Rattle.rand_core.specs.Stream.{next_u32, next_u64};
     ghost use Rattle.dcsctp_transfer.specs.types.declared.word.Word.TheVariants.{U32, U64};
-    ghost use Rattle.dcsctp_transfer.specs.spec.endpoint.Outcome.{counted};
+    ghost use Rattle.dcsctp_transfer.specs.spec.endpoint.Outcome.{packet_counted};
     ghost use Rattle.dcsctp_transfer.specs.spec.endpoint.EndOutcomes.{left_by};
     ghost use Rattle.dcsctp_transfer.specs.types.queues.Messages.{message_content};
     ghost use Rattle.dcsctp_transfer.specs.wire.Content.{chunk_content};
@@ -105,8 +105,8 @@ impl<R: Rng> Context<R> {
     ghost use Rattle.dcsctp_transfer.specs.spec.endpoint.Timers.{running_deadline};
     ghost use Rattle.dcsctp_core.specs.Timing.{where_expired, is_timer_due, ExpiresAlways};
     ghost use Rattle.dcsctp_core.specs.Reconfiguring.{request_over};
-    ghost use Rattle.dcsctp_core.specs.View.{Moves, view_of, endpoint_of, outstanding_of, transfer_of, dropped, begun_heartbeats, message_counted, fresh_view, call_start};
-    ghost use Rattle.dcsctp_core.specs.Drawing.{Draws, Keeps};
+    ghost use Rattle.dcsctp_core.specs.View.{Moves, view_of, endpoint_of, outstanding_of, transfer_of, association_dropped, begun_heartbeats, message_counted, fresh_view, call_start};
+    ghost use Rattle.dcsctp_core.specs.Drawing.{Draws, KeepsPair};
     ghost use Rattle.dcsctp_core.specs.Handling.{Tries, Emits, arrival_turn, report_turn, close_turn, end_event};
 
     /// A closed socket with these options, at moment zero.
@@ -169,7 +169,7 @@ impl<R: Rng> Context<R> {
     /// Keeps a pair that was made of words among those of the present call. `Err`: an allocation failed, and
     /// nothing has changed.
     pub fn keep_pair(&mut self, pair: Pair) -> Result<(), AllocError>
-        ensures { Keeps self.old pair result self.new }
+        ensures { KeepsPair self.old pair result self.new }
     {
         self.pairs.push(pair)?;
         Ok(())
@@ -243,7 +243,7 @@ impl<R: Rng> Context<R> {
     // Counts a packet that was emitted; the count saturates.
     pub(crate) fn count_emitted(&mut self)
         ensures { view_of self.new ≡ record (view_of self.old) {
-          endpoint = counted
+          endpoint = packet_counted
               (endpoint_of self.old);
         } }
     {
@@ -400,7 +400,7 @@ impl<R: Rng> Context<R> {
     fn drop_association(&mut self)
         ensures left { map message_content self.new.left.items ≡ left_by self.old.options
             (transfer_of self.old.state) (map message_content self.old.left.items) }
-        ensures view { view_of self.new ≡ dropped (view_of self.old)
+        ensures view { view_of self.new ≡ association_dropped (view_of self.old)
             (map message_content self.new.left.items) }
     {
         let ended = std::mem::replace(&mut self.state, State::Closed);

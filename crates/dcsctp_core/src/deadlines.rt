@@ -2,7 +2,7 @@
 //! `advance_time` handles no timer before it. The last call of a socket has made the list. No call allocates.
 
 ghost use Rattle.std.specs.Prelude.{◌≡◌, ◌≤◌, ◌<◌, ◌+◌, ◌-◌, nat_lt, length, take, drop};
-ghost use Rattle.dcsctp_core.specs.Listing.{is_before, is_same, besides, place_of, placed, rank, AllBelow, BeginsAfter, EndsBefore, IsAbsent, IsListing, RelistTells, SetTells};
+ghost use Rattle.dcsctp_core.specs.Listing.{is_before, is_same_kind, besides, entry_place, placed, rank, AllBelow, BeginsAfter, EndsBefore, IsAbsent, IsListing, RelistTells, SetTells};
 
 use dcsctp_transfer::api::SocketTime;
 use std::marker::Model;
@@ -58,7 +58,7 @@ fn rank(kind: DeadlineKind) -> u8
 }
 
 fn is_same(kind: DeadlineKind, other: DeadlineKind) -> bool
-    ensures { result ≡ is_same kind other }
+    ensures { result ≡ is_same_kind kind other }
 {
     rank(kind) == rank(other)
 }
@@ -82,7 +82,7 @@ fn place_of(entries: &[Entry; 7], count: usize, kind: DeadlineKind) -> usize
     requires count { count ≤ 7 }
     requires all { length entries.now ≡ 7 }
     ensures within { result ≤ count }
-    ensures place { result ≡ place_of kind (take count entries.now) }
+    ensures place { result ≡ entry_place kind (take count entries.now) }
 {
     for index in 0..count {
         if is_same(kind, entries[index].kind) {
@@ -224,7 +224,7 @@ impl Model for Deadlines {
 
 impl Deadlines {
     ghost use Rattle.std.specs.Prelude.{◌≡◌, ◌+◌, []};
-    ghost use Rattle.dcsctp_core.specs.Listing.{listed, first_of, rank, set_in, with_entry, AllBelow, IsListing};
+    ghost use Rattle.dcsctp_core.specs.Listing.{listed, first_moment, rank, set_in, with_entry, AllBelow, IsListing};
 
     /// No deadline runs.
     pub fn new() -> Deadlines
@@ -253,7 +253,7 @@ impl Deadlines {
 
     /// The earliest deadline, if one runs.
     pub fn first(&self) -> Option<SocketTime>
-        ensures first { result ≡ first_of self.now }
+        ensures first { result ≡ first_moment self.now }
         ensures listing { IsListing self.now }
     {
         if self.count == 0 {

@@ -1,11 +1,11 @@
 //! A flush: what waits is sent, in as many packets as are allowed (RFC 9260, section 6.1).
 
 ghost use Rattle.std.specs.Prelude.{◌≡◌, ◌||◌, false, Some, IsOk};
-ghost use Rattle.dcsctp_transfer.specs.spec.queues.SendQueue.{has_data};
+ghost use Rattle.dcsctp_transfer.specs.spec.queues.SendQueue.{has_queued_data};
 ghost use Rattle.dcsctp_transfer.specs.spec.endpoint.FlushOutcomes.{packets_allowed, first_ask, later_ask, forward_where};
 ghost use Rattle.dcsctp_core.specs.View.{core_of, transfer_of, endpoint_of, view_of};
 ghost use Rattle.dcsctp_core.specs.Below.{AtOnceAt};
-ghost use Rattle.dcsctp_core.specs.Flushing.{Flushes, FurtherAt, AsksWith, FillsWith, TriesForward, TriesReset, TriesData, HasNoData, HasNoReset, NeedsNone, can_send_below, SendsUnlessEmpty, KeepsSize};
+ghost use Rattle.dcsctp_core.specs.Flushing.{Flushes, FurtherAt, AsksWith, FillsWith, TriesForward, TriesReset, TriesData, HasNoData, HasNoReset, NeedsNone, can_queues_send, SendsUnlessEmpty, KeepsSize};
 ghost use Rattle.dcsctp_core.specs.Handling.{TakesOne, FlushAt};
 
 use crate::context::Context;
@@ -198,7 +198,7 @@ impl<R: Rng> Context<R> {
 
     // May data follow: does some wait, or do the windows allow it?
     fn may_send_data(&self) -> bool
-        ensures { result ≡ (has_data self.now.send_queue || can_send_below (transfer_of self.now.state)) }
+        ensures { result ≡ (has_queued_data self.now.send_queue || can_queues_send (transfer_of self.now.state)) }
     {
         let can_send = match self.state.tcb() {
             None => false,

@@ -3,7 +3,7 @@
 
 ghost use Rattle.std.specs.Prelude.{◌≡◌};
 ghost use Rattle.dcsctp_transfer.specs.spec.endpoint.Timers.{running_deadline, expires_at};
-ghost use Rattle.dcsctp_core.specs.Reconfiguring.{is_unanswered, without_retry, renumbered, reconfiguration_told};
+ghost use Rattle.dcsctp_core.specs.Reconfiguring.{is_unanswered, without_retry, request_renumbered, reconfiguration_at_moment};
 ghost use Rattle.dcsctp_core.specs.View.{timer_of};
 
 use crate::transmission_control_block::TransmissionControlBlock;
@@ -14,7 +14,7 @@ impl TransmissionControlBlock {
     // goes on then.
     pub(crate) fn expire_reconfiguration(&mut self, now: SocketTime) -> bool
         ensures answer { result ≡ expires_at now (timer_of self.old.reset_request) }
-        ensures left { self.new ≡ reconfiguration_told now self.old }
+        ensures left { self.new ≡ reconfiguration_at_moment now self.old }
     {
         match &mut self.reset_request {
             None => false,
@@ -47,7 +47,7 @@ impl TransmissionControlBlock {
     /// Our outstanding request, if there is one, takes the next number in place of its own (RFC 6525, section
     /// 5.2.7). Allocates nothing.
     pub fn renumber_reset(&mut self)
-        ensures { self.new ≡ renumbered self.old }
+        ensures { self.new ≡ request_renumbered self.old }
     {
         let number = self.next_outgoing_reset_req_seq_nbr;
         match &mut self.reset_request {

@@ -13,7 +13,7 @@ ghost use Rattle.dcsctp_transfer.specs.spec.Packet.{chunk_out};
 ghost use Rattle.dcsctp_transfer.specs.spec.queues.Transfer.{is_none_ready};
 ghost use Rattle.dcsctp_transfer.specs.spec.association.FlushChanges.{reset_request};
 ghost use Rattle.dcsctp_transfer.specs.spec.endpoint.BegunResets.{streams_within, reconfiguration_settings};
-ghost use Rattle.dcsctp_core.specs.Resetting.{AddsRequest, HasRoom, IsStream, StartsReset, BeginsReset, reset_of};
+ghost use Rattle.dcsctp_core.specs.Resetting.{AddsRequest, HasRoomForRequest, IsStream, StartsReset, BeginsReset, reset_of};
 
 use crate::transmission_control_block::{ResetRequest, TransmissionControlBlock};
 use dcsctp_transfer::SendQueue;
@@ -98,7 +98,7 @@ impl TransmissionControlBlock {
         alloc: Global,
         packet: &mut SctpPacketBuilder,
     ) -> Result<(), AllocError>
-        requires { HasRoom self.now.reset_request packet.old }
+        requires { HasRoomForRequest self.now.reset_request packet.old }
         ensures { OnOk result (AddsRequest self.now.reset_request packet.old packet.new) }
     {
         match &self.reset_request {

@@ -4,7 +4,7 @@ ghost use Rattle.std.specs.Prelude.{◌≡◌, Some};
 ghost use Rattle.dcsctp_transfer.specs.types.declared.association.Held.{Held};
 ghost use Rattle.dcsctp_transfer.specs.spec.endpoint.Endpoint.{established, held_in};
 ghost use Rattle.dcsctp_transfer.specs.spec.Handover.{readiness_of, readiness_open};
-ghost use Rattle.dcsctp_transfer.specs.spec.Soundness.{IsSoundBelow};
+ghost use Rattle.dcsctp_transfer.specs.spec.Soundness.{AreQueuesSound};
 ghost use Rattle.dcsctp_transfer.specs.spec.queues.Incoming.{AreInOrder};
 ghost use Rattle.dcsctp_transfer.specs.api.Messages.{incoming_streams};
 ghost use Rattle.dcsctp_transfer.specs.api.Metrics.{counts_of, ShowsMetrics};
@@ -55,7 +55,7 @@ impl<R> Context<R> {
         ensures reasons { (held : Held) → held_in (endpoint_of self.now).core ≡ Some held
             → result.0 ≡ readiness_open (endpoint_of self.now) established held }
         ensures streams { AreInOrder (incoming_streams (endpoint_of self.now)) }
-        ensures below { IsSoundBelow (endpoint_of self.now) }
+        ensures below { AreQueuesSound (endpoint_of self.now) }
     {
         let with_data = self.options.enable_handover_with_outstanding_data;
         let of_queue = self.send_queue.get_handover_readiness(with_data);
@@ -69,7 +69,7 @@ impl<R> Context<R> {
     pub fn get_handover_readiness(&self) -> HandoverReadiness
         ensures reasons { result.0 ≡ readiness_of (endpoint_of self.now) }
         ensures streams { AreInOrder (incoming_streams (endpoint_of self.now)) }
-        ensures below { IsSoundBelow (endpoint_of self.now) }
+        ensures below { AreQueuesSound (endpoint_of self.now) }
     {
         let of_parts = self.readiness_of_parts();
         match &self.state {

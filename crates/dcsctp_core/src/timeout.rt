@@ -5,7 +5,7 @@ ghost use Rattle.dcsctp_transfer.specs.spec.endpoint.Turn.{clock_at};
 ghost use Rattle.dcsctp_transfer.specs.spec.endpoint.TimeTurns.{deadline, next_moment, own_timer, t1_timer, t2_timer, timers_in, NoneIsDue};
 ghost use Rattle.dcsctp_transfer.specs.spec.endpoint.OwnTimers.{acknowledgement_delay, reconfiguration, retransmission};
 ghost use Rattle.dcsctp_core.specs.View.{core_of, endpoint_of};
-ghost use Rattle.dcsctp_core.specs.Timeout.{is_later, is_quiet, listed_open, next_by, IsTold};
+ghost use Rattle.dcsctp_core.specs.Timeout.{is_deadline_later, is_quiet, listed_open, next_by, ListsDeadlines};
 
 use crate::context::Context;
 use crate::deadlines::{DeadlineKind, Deadlines};
@@ -88,7 +88,7 @@ fn list_open<R: Rng>(context: &Context<R>, deadlines: &mut Deadlines)
 /// Makes the list anew from the timers. Each call that may move a timer ends with it. During the handshake
 /// T1's deadline alone counts, and on an open association those of the other six.
 pub fn list_deadlines<R: Rng>(context: &Context<R>, deadlines: &mut Deadlines)
-    ensures { IsTold (endpoint_of context.now) deadlines.new }
+    ensures { ListsDeadlines (endpoint_of context.now) deadlines.new }
 {
     deadlines.clear();
     match context.state {
@@ -102,7 +102,7 @@ pub fn list_deadlines<R: Rng>(context: &Context<R>, deadlines: &mut Deadlines)
 /// The next deadline, never before the present moment; the last moment if there is none. During the handshake
 /// it is T1's, and on an open association the first of its own timers'.
 pub fn poll_timeout<R: Rng>(context: &Context<R>, deadlines: &Deadlines) -> SocketTime
-    requires { IsTold (endpoint_of context.now) deadlines.now }
+    requires { ListsDeadlines (endpoint_of context.now) deadlines.now }
     ensures { result ≡ next_moment (endpoint_of context.now) }
 {
     not_before(context.moment, deadlines.first())
@@ -122,7 +122,7 @@ fn not_before(moment: SocketTime, deadline: Option<SocketTime>) -> SocketTime
 /// Does the list say that nothing is due at a moment? While a COOKIE ACK is awaited it doesn't, since the
 /// delay of an acknowledgement isn't in the list then.
 pub fn is_quiet<R: Rng>(context: &Context<R>, deadlines: &Deadlines, now: SocketTime) -> bool
-    requires { IsTold (endpoint_of context.now) deadlines.now }
+    requires { ListsDeadlines (endpoint_of context.now) deadlines.now }
     ensures answer { result ≡ is_quiet (core_of context.now.state) now deadlines.now }
     ensures quiet { result ≡ true → NoneIsDue (clock_at now (endpoint_of context.now))
         (timers_in (core_of context.now.state)) }
@@ -137,7 +137,7 @@ pub fn is_quiet<R: Rng>(context: &Context<R>, deadlines: &Deadlines, now: Socket
 
 // Is a deadline later than a moment, or is there none?
 fn is_later(moment: SocketTime, deadline: Option<SocketTime>) -> bool
-    ensures { result ≡ is_later moment deadline }
+    ensures { result ≡ is_deadline_later moment deadline }
 {
     match deadline {
         None => true,

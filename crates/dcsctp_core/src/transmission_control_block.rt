@@ -8,7 +8,7 @@ ghost use Rattle.dcsctp_transfer.specs.spec.queues.Chunks.{chunk_said};
 ghost use Rattle.dcsctp_transfer.specs.spec.queues.Outstanding.{header_of};
 ghost use Rattle.dcsctp_transfer.specs.spec.queues.Readiness.{transfer_readiness};
 ghost use Rattle.dcsctp_transfer.specs.wire.Content.{chunk_content};
-ghost use Rattle.dcsctp_core.specs.View.{held_of, number_of, IsNew};
+ghost use Rattle.dcsctp_core.specs.View.{held_of, request_number, IsNew};
 ghost use Rattle.dcsctp_core.specs.Flushing.{empty_packet};
 
 use dcsctp_transfer::api::{
@@ -159,7 +159,7 @@ impl TransmissionControlBlock {
 
     /// The number of our outstanding request, if there is one. Allocates nothing.
     pub fn outstanding_number(&self) -> Option<u32>
-        ensures { result ≡ number_of self.now.reset_request }
+        ensures { result ≡ request_number self.now.reset_request }
     {
         match &self.reset_request {
             None => None,

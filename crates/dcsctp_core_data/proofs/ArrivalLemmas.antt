@@ -18,7 +18,7 @@ use Rattle.dcsctp_core.specs.spec.endpoint.TransferMoves.{has_room, dropping, Ad
 use Rattle.dcsctp_core.specs.spec.endpoint.DataOutcomes.{with_transfer, no_user_data_outcome, not_connected_text, ReceiveTurn, DataWhere, ForwardTurn}
 use Rattle.dcsctp_core.specs.declared.context.Context.{Context}
 use Rattle.dcsctp_core.specs.View.{View, tcb_of, transfer_of, endpoint_of, view_of}
-use Rattle.dcsctp_core.specs.Handling.{Tries, Takes, report_turn, TakesIn, CutIn, TakesOne}
+use Rattle.dcsctp_core.specs.Handling.{Tries, TakesTurn, report_turn, TakesPossibleTurn, CutIn, TakesOne}
 use Rattle.dcsctp_core.specs.declared.transmission_control_block.TransmissionControlBlock.{TransmissionControlBlock}
 use Rattle.dcsctp_core.proofs.BelowLemmas.{below_moves}
 use Rattle.dcsctp_core.proofs.LendingLemmas.{found, nobody, lent, left_with}
@@ -46,7 +46,7 @@ any_received e (Some transfer) arrived =
 
 any_data : (e : Endpoint) (arrived : Arrival) (payload : List ℕ) → (o : Outcome) × DataWhere e arrived payload o
 any_data e arrived [] = (no_user_data_outcome e (held_in e.core) arrived.tsn, refl)
-any_data e arrived (byte ∷ bytes) = any_received e e.below.transfer arrived
+any_data e arrived (byte ∷ bytes) = any_received e e.queues.transfer arrived
 
 pub data_cut : {R : Type 0} (view : View R) (arrived : Arrival) → CutIn (DataAt arrived) view view.events
 data_cut view arrived =
@@ -71,7 +71,7 @@ any_forward e (Some transfer) tsn entries =
 
 pub forward_cut : {R : Type 0} (view : View R) (tsn : ℕ) (entries : List SkippedTo) → CutIn (ForwardAt tsn entries) view view.events
 forward_cut view tsn entries =
-    let any = any_forward view.endpoint view.endpoint.below.transfer tsn entries in
+    let any = any_forward view.endpoint view.endpoint.queues.transfer tsn entries in
     cut_before (ForwardAt tsn entries) view any.0 any.1
 
 -- ---- data
@@ -85,12 +85,12 @@ empty_where e arrived (byte ∷ bytes) empty = absurd (not_none (length bytes) e
     not_none n none = grind (arith, nat_tests, none)
 
 -- with one
-some_where : (e : Endpoint) (arrived : Arrival) (payload : List ℕ) (o : Outcome) → (length payload == 0) ≡ false → ReceiveTurn e e.below.transfer arrived o → DataWhere e arrived payload o
+some_where : (e : Endpoint) (arrived : Arrival) (payload : List ℕ) (o : Outcome) → (length payload == 0) ≡ false → ReceiveTurn e e.queues.transfer arrived o → DataWhere e arrived payload o
 some_where e arrived [] o some turn = absurd (cc)
 some_where e arrived (byte ∷ bytes) o some turn = turn
 
 pub empty_refused : {R E : Type 0} (stream : R → Stream) (old : Context R) (result : Result (Unit {0}) E) (new : Context R) (arrived : Arrival)
-    → (length arrived.chunk.payload == 0) ≡ true → Takes stream (no_user_data_turn arrived.tsn) old result new → TakesOne stream (DataAt arrived) old result new
+    → (length arrived.chunk.payload == 0) ≡ true → TakesTurn stream (no_user_data_turn arrived.tsn) old result new → TakesOne stream (DataAt arrived) old result new
 empty_refused stream old result new arrived empty h =
     takes_one stream (no_user_data_turn arrived.tsn) (DataAt arrived) old result new (empty_where (endpoint_of old) arrived arrived.chunk.payload empty) h
 
@@ -107,7 +107,7 @@ not_connected stream old result new arrived some none h =
     (some_where e arrived arrived.chunk.payload (reports e NotConnected not_connected_text) some (no_peer e (transfer_of old.state) arrived (ap is_some (nobody old.state none)))) h
 
 received : {R : Type 0} (stream : R → Stream) (old : Context R) (tcb : TransmissionControlBlock) (after : Transfer) (arrived : Arrival) → (length arrived.chunk.payload == 0) ≡ false
-    → Some tcb ≡ tcb_of old.state → ReceivesData arrived tcb.transfer after → TakesIn stream (DataAt arrived) (view_of old) (view_of (record old { state = left_with old.state tcb after }))
+    → Some tcb ≡ tcb_of old.state → ReceivesData arrived tcb.transfer after → TakesPossibleTurn stream (DataAt arrived) (view_of old) (view_of (record old { state = left_with old.state tcb after }))
 received stream old tcb after arrived some holds receives =
     let e : Endpoint = endpoint_of old in
     let o : Outcome = still (with_transfer e after) in
@@ -121,19 +121,19 @@ pub data_worked : {R : Type 0} (stream : R → Stream) (old new : Context R) (tc
     → view_of new ≡ view_of (record old { state = left_with old.state tcb after }) → (length arrived.chunk.payload == 0) ≡ false → Some tcb ≡ tcb_of old.state
     → OnOk result (ReceivesData arrived tcb.transfer after) → TakesOne stream (DataAt arrived) old result new
 data_worked {R = R} stream old new tcb after (Ok done) arrived same some holds receives =
-    subst (λ (v : View R). TakesIn stream (DataAt arrived) (view_of old) v) (sym same) (received stream old tcb after arrived some holds receives)
+    subst (λ (v : View R). TakesPossibleTurn stream (DataAt arrived) (view_of old) v) (sym same) (received stream old tcb after arrived some holds receives)
 data_worked {R = R} stream old new tcb after (Err error) arrived same some holds receives =
     subst (λ (v : View R). CutIn (DataAt arrived) (view_of old) v.events) (sym same) (data_cut (view_of old) arrived)
 
 -- ---- what the peer gave up
 
-pub forward_unasked : {R : Type 0} (stream : R → Stream) (old : Context R) (tsn : ℕ) (entries : List SkippedTo) → None ≡ tcb_of old.state → TakesIn stream (ForwardAt tsn entries) (view_of old) (view_of old)
+pub forward_unasked : {R : Type 0} (stream : R → Stream) (old : Context R) (tsn : ℕ) (entries : List SkippedTo) → None ≡ tcb_of old.state → TakesPossibleTurn stream (ForwardAt tsn entries) (view_of old) (view_of old)
 forward_unasked stream old tsn entries none =
     let e : Endpoint = endpoint_of old in
     record { outcome = still e; turn = subst (λ (f : Option Transfer). ForwardTurn e f tsn entries (still e)) (sym (nobody old.state none)) refl; moves = moves_still stream (view_of old) }
 
 forwarded : {R : Type 0} (stream : R → Stream) (old : Context R) (tcb : TransmissionControlBlock) (after : Transfer) (tsn : ℕ) (entries : List SkippedTo) → Some tcb ≡ tcb_of old.state → MovesForward tsn entries tcb.transfer after
-    → TakesIn stream (ForwardAt tsn entries) (view_of old) (view_of (record old { state = left_with old.state tcb after }))
+    → TakesPossibleTurn stream (ForwardAt tsn entries) (view_of old) (view_of (record old { state = left_with old.state tcb after }))
 forwarded stream old tcb after tsn entries holds moves =
     let e : Endpoint = endpoint_of old in
     let o : Outcome = still (with_transfer e after) in
@@ -146,6 +146,6 @@ forwarded stream old tcb after tsn entries holds moves =
 pub forward_worked : {R : Type 0} (stream : R → Stream) (old new : Context R) (tcb : TransmissionControlBlock) (after : Transfer) (result : Result (Unit {0}) AllocError) (tsn : ℕ) (entries : List SkippedTo)
     → view_of new ≡ view_of (record old { state = left_with old.state tcb after }) → Some tcb ≡ tcb_of old.state → OnOk result (MovesForward tsn entries tcb.transfer after) → TakesOne stream (ForwardAt tsn entries) old result new
 forward_worked {R = R} stream old new tcb after (Ok done) tsn entries same holds moves =
-    subst (λ (v : View R). TakesIn stream (ForwardAt tsn entries) (view_of old) v) (sym same) (forwarded stream old tcb after tsn entries holds moves)
+    subst (λ (v : View R). TakesPossibleTurn stream (ForwardAt tsn entries) (view_of old) v) (sym same) (forwarded stream old tcb after tsn entries holds moves)
 forward_worked {R = R} stream old new tcb after (Err error) tsn entries same holds moves =
     subst (λ (v : View R). CutIn (ForwardAt tsn entries) (view_of old) v.events) (sym same) (forward_cut (view_of old) tsn entries)

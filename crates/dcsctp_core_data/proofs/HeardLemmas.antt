@@ -19,7 +19,7 @@ use Rattle.dcsctp_core.specs.declared.state.State.{State}
 use Rattle.dcsctp_core.specs.declared.state.State.TheVariants.{Closed, CookieWait, CookieEchoed, Open}
 use Rattle.dcsctp_core.specs.declared.transmission_control_block.TransmissionControlBlock.{TransmissionControlBlock}
 use Rattle.dcsctp_core.specs.View.{View, core_of, held_of, phase_in, transfer_of, endpoint_of, view_of, Moves}
-use Rattle.dcsctp_core.specs.Handling.{Takes, TakesIn, CutIn, TakesOne}
+use Rattle.dcsctp_core.specs.Handling.{TakesTurn, TakesPossibleTurn, CutIn, TakesOne}
 use Rattle.dcsctp_core.specs.Phases.{phase_set}
 use Rattle.dcsctp_core.proofs.BelowLemmas.{moves_from}
 use Rattle.dcsctp_core_ends.specs.Shutdown.{shutdown_turn}
@@ -35,14 +35,14 @@ unheeded_by e phase my held None tsn none = refl
 unheeded_by e phase my held (Some transfer) tsn none =
     subst (λ (b : Bool). ShutdownWhere b e phase my held transfer tsn (shutdown_outcome e (open_in phase my held))) (sym none) refl
 
-unheeded : (e : Endpoint) (core : Core) (tsn : ℕ) → heeds_in e core e.below.transfer tsn ≡ false → ShutdownTurn e core tsn (shutdown_outcome e core)
+unheeded : (e : Endpoint) (core : Core) (tsn : ℕ) → heeds_in e core e.queues.transfer tsn ≡ false → ShutdownTurn e core tsn (shutdown_outcome e core)
 unheeded e closed tsn none = refl
 unheeded e (cookie_wait my) tsn none = refl
 unheeded e (cookie_echoed my held cookie) tsn none = refl
-unheeded e (open_in phase my held) tsn none = unheeded_by e phase my held e.below.transfer tsn none
+unheeded e (open_in phase my held) tsn none = unheeded_by e phase my held e.queues.transfer tsn none
 
 pub heard_alone : {R E : Type 0} (stream : R → Stream) (old : Context R) (result : Result (Unit {0}) E) (new : Context R) (tsn : ℕ) → heeds_in (endpoint_of old) (core_of old.state) (transfer_of old.state) tsn ≡ false
-    → Takes stream shutdown_turn old result new → TakesOne stream (ShutdownAt tsn) old result new
+    → TakesTurn stream shutdown_turn old result new → TakesOne stream (ShutdownAt tsn) old result new
 heard_alone stream old result new tsn none h = takes_one stream shutdown_turn (ShutdownAt tsn) old result new (unheeded (endpoint_of old) (core_of old.state) tsn none) h
 
 -- ---- where it acknowledges
@@ -112,7 +112,7 @@ heard_turn : {R : Type 0} (old : Context R) (tsn window : ℕ) (o : Outcome) →
 heard_turn old tsn window o r is h =
     let e : Endpoint = endpoint_of old in
     let there : Endpoint = phase_at e shutdown_received r.my r.held in
-    let first : SackTurn there (transfer_of old.state) (said tsn window) o = subst (λ (x : Endpoint). SackTurn x x.below.transfer (said tsn window) o) r.at h in
+    let first : SackTurn there (transfer_of old.state) (said tsn window) o = subst (λ (x : Endpoint). SackTurn x x.queues.transfer (said tsn window) o) r.at h in
     let second : SackWhere (is_sack_valid r.transfer.retransmission tsn) there r.held r.transfer (said tsn window) o =
     subst (λ (f : Option Transfer). SackTurn there f (said tsn window) o) r.below first in
     let third : AcknowledgesBy there r.held r.transfer (said tsn window) o = subst (λ (b : Bool). SackWhere b there r.held r.transfer (said tsn window) o) r.valid second in

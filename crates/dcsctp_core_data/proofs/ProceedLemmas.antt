@@ -13,7 +13,7 @@ use Rattle.dcsctp_core.specs.spec.endpoint.ShutdownOutcomes.{may_go_on, step_by,
 use Rattle.dcsctp_core.proofs.spec_lemmas.AnswerLemmas.{any_answers}
 use Rattle.dcsctp_core.specs.declared.context.Context.{Context}
 use Rattle.dcsctp_core.specs.View.{View, core_of, transfer_of, endpoint_of, view_of, Moves}
-use Rattle.dcsctp_core.specs.Handling.{TakesIn, CutIn}
+use Rattle.dcsctp_core.specs.Handling.{TakesPossibleTurn, CutIn}
 use Rattle.dcsctp_core.proofs.AtOnceLemmas.{any_fast}
 use Rattle.dcsctp_core.proofs.Composing.{moves_behind, cut_behind, cut_first}
 use Rattle.dcsctp_core_ends.specs.Shutdown.{step_turn}
@@ -26,7 +26,7 @@ record StepKeeps (e : Endpoint) (o : Outcome) : Type 0 where
   words : o.words ≡ []
   effects : o.effects ≡ []
   holds : held_in o.after.core ≡ held_in e.core
-  below : o.after.below.transfer ≡ e.below.transfer
+  below : o.after.queues.transfer ≡ e.queues.transfer
   options : o.after.options ≡ e.options
 
 by_keeps : (b : Bool) (e : Endpoint) (phase : OpenPhase) (my : Pair) (held : Held) → held_in e.core ≡ Some held → StepKeeps e (step_by b e phase my held)
@@ -77,12 +77,12 @@ both old mid b later at second =
     let e : Endpoint = endpoint_of old in
     let stepped : Outcome = step_outcome e e.core in
     let keeps : StepKeeps e stepped = step_keeps e e.core refl in
-    let there : Resends stepped.after (held_in stepped.after.core) stepped.after.below.transfer later =
-    subst (λ (x : Endpoint). Resends x (held_in x.core) x.below.transfer later) at second in
+    let there : Resends stepped.after (held_in stepped.after.core) stepped.after.queues.transfer later =
+    subst (λ (x : Endpoint). Resends x (held_in x.core) x.queues.transfer later) at second in
     proceeds_held e (held_in e.core) (transfer_of old.state) b.held b.transfer (behind [] stepped.events later) b.holds b.below
     (record {
       later = later;
-      resends = resends_held stepped.after (held_in stepped.after.core) stepped.after.below.transfer b.held b.transfer later (keeps.holds ∙ b.holds) (keeps.below ∙ b.below) there;
+      resends = resends_held stepped.after (held_in stepped.after.core) stepped.after.queues.transfer b.held b.transfer later (keeps.holds ∙ b.holds) (keeps.below ∙ b.below) there;
       is = refl;
     })
 
@@ -90,7 +90,7 @@ both old mid b later at second =
 pub stepped_held : {R : Type 0} (stream : R → Stream) (old mid : Context R) → is_some (transfer_of old.state) ≡ true → Moves stream (view_of old) (step_turn (view_of old)) (view_of mid)
     → is_some (transfer_of mid.state) ≡ true
 stepped_held stream old mid some m =
-    ap (λ (x : Endpoint). is_some x.below.transfer) m.endpoint ∙ ap (λ (f : Option Transfer). is_some f) (step_keeps (endpoint_of old) (core_of old.state) refl).below ∙ some
+    ap (λ (x : Endpoint). is_some x.queues.transfer) m.endpoint ∙ ap (λ (f : Option Transfer). is_some f) (step_keeps (endpoint_of old) (core_of old.state) refl).below ∙ some
 
 -- refused in the step
 pub proceed_cut : {R : Type 0} (old : Context R) (events : List (Event (List ℕ))) → is_some (transfer_of old.state) ≡ true → events ≡ (view_of old).events → CutIn ProceedsAt (view_of old) events
@@ -104,7 +104,7 @@ proceed_cut old events some same =
     }
 
 pub proceeded : {R : Type 0} (stream : R → Stream) (old mid new : Context R) → is_some (transfer_of old.state) ≡ true → Moves stream (view_of old) (step_turn (view_of old)) (view_of mid)
-    → TakesIn stream ResendsAt (view_of mid) (view_of new) → TakesIn stream ProceedsAt (view_of old) (view_of new)
+    → TakesPossibleTurn stream ResendsAt (view_of mid) (view_of new) → TakesPossibleTurn stream ProceedsAt (view_of old) (view_of new)
 proceeded stream old mid new some first second =
     let b = below_of old.state some in
     let stepped : Outcome = step_turn (view_of old) in

@@ -11,9 +11,9 @@ use Rattle.dcsctp_core.specs.spec.endpoint.DataOutcomes.{no_user_data_text, no_u
 use Rattle.dcsctp_core.specs.View.{View, Moves, CutTurn}
 use Rattle.dcsctp_core.specs.Handling.{report_turn}
 use Rattle.dcsctp_core.proofs.Composing.{behind, Adds, Draws, moves_behind, moves_as, cut_after}
-use Rattle.dcsctp_core_data.specs.Data.{told_outcome, no_user_data_told, no_user_data_turn}
+use Rattle.dcsctp_core_data.specs.Data.{empty_data_outcome, empty_data_turn, no_user_data_turn}
 
-told_is : (e : Endpoint) (core : Core) (tsn : ℕ) → no_user_data_outcome e (held_in core) tsn ≡ behind [] (error ProtocolViolation no_user_data_text ∷ []) (told_outcome e core tsn)
+told_is : (e : Endpoint) (core : Core) (tsn : ℕ) → no_user_data_outcome e (held_in core) tsn ≡ behind [] (error ProtocolViolation no_user_data_text ∷ []) (empty_data_outcome e core tsn)
 told_is e closed tsn = refl
 told_is e (cookie_wait my) tsn = refl
 told_is e (cookie_echoed my held cookie) tsn = refl
@@ -25,15 +25,15 @@ told_adds stream a b moves = record { ports = ap (λ (e : Endpoint). ports_of e.
 told_draws : {R : Type 0} (stream : R → Stream) (a b : View R) → Moves stream a (report_turn ProtocolViolation no_user_data_text a) b → Draws stream a [] b
 told_draws stream a b moves = record { words = moves.words; pairs = moves.pairs ∙ append-nil a.pairs; drawn = moves.drawn }
 
-pub told_moves : {R : Type 0} (stream : R → Stream) (a b c : View R) (tsn : ℕ) → Moves stream a (report_turn ProtocolViolation no_user_data_text a) b → Moves stream b (no_user_data_told tsn b) c
+pub told_moves : {R : Type 0} (stream : R → Stream) (a b c : View R) (tsn : ℕ) → Moves stream a (report_turn ProtocolViolation no_user_data_text a) b → Moves stream b (empty_data_turn tsn b) c
     → Moves stream a (no_user_data_turn tsn a) c
 told_moves stream a b c tsn first second =
-    let here : Moves stream b (told_outcome a.endpoint a.endpoint.core tsn) c = subst (λ (e : Endpoint). Moves stream b (told_outcome e e.core tsn) c) first.endpoint second in
+    let here : Moves stream b (empty_data_outcome a.endpoint a.endpoint.core tsn) c = subst (λ (e : Endpoint). Moves stream b (empty_data_outcome e e.core tsn) c) first.endpoint second in
     moves_as stream a c _ _ (told_is a.endpoint a.endpoint.core tsn)
-    (moves_behind stream a b c [] (error ProtocolViolation no_user_data_text ∷ []) (told_outcome a.endpoint a.endpoint.core tsn) (told_adds stream a b first) (told_draws stream a b first) here)
+    (moves_behind stream a b c [] (error ProtocolViolation no_user_data_text ∷ []) (empty_data_outcome a.endpoint a.endpoint.core tsn) (told_adds stream a b first) (told_draws stream a b first) here)
 
 pub told_cut : {R : Type 0} (stream : R → Stream) (a b c : View R) (tsn : ℕ) → Moves stream a (report_turn ProtocolViolation no_user_data_text a) b → c ≡ b → CutTurn a (no_user_data_turn tsn a) c.events
 told_cut {R = R} stream a b c tsn first same =
-    cut_after a (no_user_data_turn tsn a) c.events (error ProtocolViolation no_user_data_text ∷ []) (told_outcome a.endpoint a.endpoint.core tsn).events
+    cut_after a (no_user_data_turn tsn a) c.events (error ProtocolViolation no_user_data_text ∷ []) (empty_data_outcome a.endpoint a.endpoint.core tsn).events
     (ap (λ (o : Outcome). o.events) (told_is a.endpoint a.endpoint.core tsn))
     (ap (λ (v : View R). v.events) same ∙ (told_adds stream a b first).events)

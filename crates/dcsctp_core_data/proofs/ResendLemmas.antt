@@ -21,7 +21,7 @@ use Rattle.dcsctp_core.specs.declared.context.Context.{Context}
 use Rattle.dcsctp_core.specs.declared.state.State.{State}
 use Rattle.dcsctp_core.specs.declared.state.State.TheVariants.{Closed, CookieWait, CookieEchoed, Open}
 use Rattle.dcsctp_core.specs.View.{View, core_of, held_of, transfer_of, endpoint_of, view_of, Drawn, Moves}
-use Rattle.dcsctp_core.specs.Handling.{TakesIn, CutIn, FlushAt}
+use Rattle.dcsctp_core.specs.Handling.{TakesPossibleTurn, CutIn, FlushAt}
 use Rattle.dcsctp_core.specs.Below.{GoesAtOnce, AtOnceAt}
 use Rattle.dcsctp_core.proofs.Composing.{behind, Adds, Draws, moves_behind, cut_behind, cut_longer}
 use Rattle.dcsctp_core_data.specs.Sacks.{ResendsBy, Resends, ResendsAt}
@@ -123,8 +123,8 @@ plain_of : {R : Type 0} (old : Context R) (b : Below old.state) (fast : Outcome)
 plain_of old b fast first =
     fast_plain (has_fast_retransmit b.transfer.retransmission) (endpoint_of old) b.held b.transfer fast (at_held (endpoint_of old) (held_in (core_of old.state)) (transfer_of old.state) b.held b.transfer fast b.holds b.below first)
 
-pub resent : {R : Type 0} (stream : R → Stream) (old mid new : Context R) → is_some (transfer_of old.state) ≡ true → TakesIn stream AtOnceAt (view_of old) (view_of mid)
-    → TakesIn stream FlushAt (view_of mid) (view_of new) → TakesIn stream ResendsAt (view_of old) (view_of new)
+pub resent : {R : Type 0} (stream : R → Stream) (old mid new : Context R) → is_some (transfer_of old.state) ≡ true → TakesPossibleTurn stream AtOnceAt (view_of old) (view_of mid)
+    → TakesPossibleTurn stream FlushAt (view_of mid) (view_of new) → TakesPossibleTurn stream ResendsAt (view_of old) (view_of new)
 resent stream old mid new some first second =
     let b = below_of old.state some in
     let fast : Outcome = first.outcome in
@@ -136,7 +136,7 @@ resent stream old mid new some first second =
           (fast_draws stream (view_of old) (view_of mid) fast plain.words plain.effects first.moves) second.moves;
     }
 
-pub resend_cut_later : {R : Type 0} (stream : R → Stream) (old mid : Context R) (events : List (Event (List ℕ))) → is_some (transfer_of old.state) ≡ true → TakesIn stream AtOnceAt (view_of old) (view_of mid)
+pub resend_cut_later : {R : Type 0} (stream : R → Stream) (old mid : Context R) (events : List (Event (List ℕ))) → is_some (transfer_of old.state) ≡ true → TakesPossibleTurn stream AtOnceAt (view_of old) (view_of mid)
     → CutIn FlushAt (view_of mid) events → CutIn ResendsAt (view_of old) events
 resend_cut_later stream old mid events some first second =
     let b = below_of old.state some in

@@ -16,9 +16,9 @@ use Rattle.dcsctp_core.specs.spec.endpoint.Outcome.{Outcome, still, reports}
 use Rattle.dcsctp_core.specs.spec.endpoint.FlushOutcomes.{draft_to, flush_of}
 use Rattle.dcsctp_core.specs.spec.endpoint.TransferMoves.{TakesSack, timed_by}
 use Rattle.dcsctp_core.specs.spec.endpoint.DataOutcomes.{with_transfer, no_tcb_text, heeds_window, shows_peer, sack_taken, AcknowledgesBy, SackWhere, SackBy, SackTurn}
-use Rattle.dcsctp_core.specs.spec.queues.Acknowledging.{is_sack_valid, has_acknowledged, ends_delivery, told_by, delivered, delivered_by}
+use Rattle.dcsctp_core.specs.spec.queues.Acknowledging.{is_sack_valid, has_acknowledged, ends_delivery, lifecycle_events_by, delivered_events, delivered_by}
 use Rattle.dcsctp_core.specs.spec.queues.Items.{Item}
-use Rattle.dcsctp_core.specs.spec.queues.Outstanding.{acknowledged_by}
+use Rattle.dcsctp_core.specs.spec.queues.Outstanding.{acknowledged_count}
 use Rattle.dcsctp_core.specs.spec.queues.Retransmission.{RetransmissionState}
 use Rattle.dcsctp_core.proofs.spec_lemmas.SackOutcomeLemmas.{some_taken}
 use Rattle.dcsctp_core.specs.spec.endpoint.ShutdownOutcomes.{step_outcome}
@@ -29,9 +29,9 @@ use Rattle.dcsctp_core.specs.transfer.declared.sacks.HandledSack.TheVariants.{In
 use Rattle.dcsctp_core.specs.declared.context.Context.{Context}
 use Rattle.dcsctp_core.specs.declared.state.State.{State}
 use Rattle.dcsctp_core.specs.View.{View, tcb_of, transfer_of, endpoint_of, view_of, Moves, CutTurn}
-use Rattle.dcsctp_core.specs.Handling.{Tries, report_turn, TakesIn, CutIn, TakesOne}
+use Rattle.dcsctp_core.specs.Handling.{Tries, report_turn, TakesPossibleTurn, CutIn, TakesOne}
 use Rattle.dcsctp_core.proofs.LendingLemmas.{nobody}
-use Rattle.dcsctp_core.specs.Below.{SacksBelow}
+use Rattle.dcsctp_core.specs.Below.{HandlesSackInTransfer}
 use Rattle.dcsctp_core.proofs.BelowLemmas.{below_view}
 use Rattle.dcsctp_core.proofs.Composing.{behind, Adds, moves_behind, moves_as, cut_behind, cut_first}
 use Rattle.dcsctp_core.proofs.Moving.{moves_still}
@@ -41,20 +41,20 @@ use Rattle.dcsctp_core_data.proofs.ResendLemmas.{Below, below_of}
 use Rattle.dcsctp_core_data.proofs.ProceedLemmas.{some_proceeds}
 
 -- what is told of messages that were delivered, as the user gets it
-told_one : (ports : Ports) (name : Option ℕ) (ends : Bool) → map (user_event ports) (told_by name ends) ≡ told_by name ends
+told_one : (ports : Ports) (name : Option ℕ) (ends : Bool) → map (user_event ports) (lifecycle_events_by name ends) ≡ lifecycle_events_by name ends
 told_one ports None ends = refl
 told_one ports (Some id) true = refl
 told_one ports (Some id) false = refl
 
-told_items : (ports : Ports) (items : List Item) → map (user_event ports) (delivered items) ≡ delivered items
+told_items : (ports : Ports) (items : List Item) → map (user_event ports) (delivered_events items) ≡ delivered_events items
 told_items ports [] = refl
 told_items ports (item ∷ items) =
-    map-append (user_event ports) (told_by item.fragment.lifecycle (ends_delivery item)) (delivered items)
-    ∙ (ap (λ (es : List (Event (List ℕ))). es ++ map (user_event ports) (delivered items)) (told_one ports item.fragment.lifecycle (ends_delivery item))
-    ∙ ap (λ (es : List (Event (List ℕ))). told_by item.fragment.lifecycle (ends_delivery item) ++ es) (told_items ports items))
+    map-append (user_event ports) (lifecycle_events_by item.fragment.lifecycle (ends_delivery item)) (delivered_events items)
+    ∙ (ap (λ (es : List (Event (List ℕ))). es ++ map (user_event ports) (delivered_events items)) (told_one ports item.fragment.lifecycle (ends_delivery item))
+    ∙ ap (λ (es : List (Event (List ℕ))). lifecycle_events_by item.fragment.lifecycle (ends_delivery item) ++ es) (told_items ports items))
 
 told_delivered : (ports : Ports) (tsn : ℕ) (state : RetransmissionState) → map (user_event ports) (delivered_by tsn state) ≡ delivered_by tsn state
-told_delivered ports tsn state = told_items ports (take (acknowledged_by state.outstanding tsn) state.outstanding.items)
+told_delivered ports tsn state = told_items ports (take (acknowledged_count state.outstanding tsn) state.outstanding.items)
 
 -- ---- where it is valid
 
@@ -100,7 +100,7 @@ delivered_adds v transfer after tsn =
 
 taken_at : {R : Type 0} (stream : R → Stream) (old : Context R) (b : Below old.state) (after : Transfer) (sack : SackContent) (new : View R)
     → is_sack_valid b.transfer.retransmission sack.cumulative_tsn_ack ≡ true → TakesSack old.moment sack b.transfer after
-    → TakesIn stream ProceedsAt (sacked_view (view_of old) b.transfer after sack.cumulative_tsn_ack) new → TakesIn stream (SackAt sack) (view_of old) new
+    → TakesPossibleTurn stream ProceedsAt (sacked_view (view_of old) b.transfer after sack.cumulative_tsn_ack) new → TakesPossibleTurn stream (SackAt sack) (view_of old) new
 taken_at stream old b after sack new valid takes h =
     let v = view_of old in
     let e : Endpoint = endpoint_of old in
@@ -155,7 +155,7 @@ pub record Taken {R : Type 0} (old : Context R) (sack : SackContent) (shows : Bo
 
 taken_by : {R : Type 0} (old : Context R) (sack : SackContent) (acknowledges shows : Bool) (state : State) (events : List SocketEvent) (b : Below old.state)
     → shows ≡ (acknowledges || heeds_window old.options sack.a_rwnd)
-    → SacksBelow old.moment sack (Some b.transfer) old.state (map event_content old.events) state (map event_content events) (Ok (Valid acknowledges)) → Taken old sack shows state events
+    → HandlesSackInTransfer old.moment sack (Some b.transfer) old.state (map event_content old.events) state (map event_content events) (Ok (Valid acknowledges)) → Taken old sack shows state events
 taken_by {R = R} old sack acknowledges shows state events b is h =
     let after : Transfer = h.0 in
     let seen : shows ≡ shows_peer old.options b.transfer after =
@@ -174,21 +174,21 @@ taken_by {R = R} old sack acknowledges shows state events b is h =
 
 pub taken : {R : Type 0} (old : Context R) (sack : SackContent) (acknowledges shows : Bool) (state : State) (events : List SocketEvent) → is_some (transfer_of old.state) ≡ true
     → shows ≡ (acknowledges || heeds_window old.options sack.a_rwnd)
-    → SacksBelow old.moment sack (transfer_of old.state) old.state (map event_content old.events) state (map event_content events) (Ok (Valid acknowledges)) → Taken old sack shows state events
+    → HandlesSackInTransfer old.moment sack (transfer_of old.state) old.state (map event_content old.events) state (map event_content events) (Ok (Valid acknowledges)) → Taken old sack shows state events
 taken old sack acknowledges shows state events some is h =
     let b = below_of old.state some in
     taken_by old sack acknowledges shows state events b is
-    (subst (λ (f : Option Transfer). SacksBelow old.moment sack f old.state (map event_content old.events) state (map event_content events) (Ok (Valid acknowledges))) b.below h)
+    (subst (λ (f : Option Transfer). HandlesSackInTransfer old.moment sack f old.state (map event_content old.events) state (map event_content events) (Ok (Valid acknowledges))) b.below h)
 
 -- a peer is still held then
 pub still_held : {R : Type 0} (old : Context R) (sack : SackContent) (acknowledges : Bool) (state : State) (events : List SocketEvent) (mid : Context R) → Taken old sack acknowledges state events
     → view_of mid ≡ heeded acknowledges (with_both old state events) → is_some (transfer_of mid.state) ≡ true
-still_held {R = R} old sack acknowledges state events mid t is = ap (λ (v : View R). is_some v.endpoint.below.transfer) (is ∙ t.view)
+still_held {R = R} old sack acknowledges state events mid t is = ap (λ (v : View R). is_some v.endpoint.queues.transfer) (is ∙ t.view)
 
 pub sack_done : {R : Type 0} (stream : R → Stream) (old : Context R) (sack : SackContent) (acknowledges : Bool) (state : State) (events : List SocketEvent) (mid new : Context R) → Taken old sack acknowledges state events
-    → view_of mid ≡ heeded acknowledges (with_both old state events) → TakesIn stream ProceedsAt (view_of mid) (view_of new) → TakesIn stream (SackAt sack) (view_of old) (view_of new)
+    → view_of mid ≡ heeded acknowledges (with_both old state events) → TakesPossibleTurn stream ProceedsAt (view_of mid) (view_of new) → TakesPossibleTurn stream (SackAt sack) (view_of old) (view_of new)
 sack_done {R = R} stream old sack acknowledges state events mid new t is h =
-    taken_at stream old t.b t.after sack (view_of new) t.valid t.takes (subst (λ (v : View R). TakesIn stream ProceedsAt v (view_of new)) (is ∙ t.view) h)
+    taken_at stream old t.b t.after sack (view_of new) t.valid t.takes (subst (λ (v : View R). TakesPossibleTurn stream ProceedsAt v (view_of new)) (is ∙ t.view) h)
 
 pub sack_cut : {R : Type 0} (old : Context R) (sack : SackContent) (acknowledges : Bool) (state : State) (events : List SocketEvent) (mid new : Context R) → Taken old sack acknowledges state events
     → view_of mid ≡ heeded acknowledges (with_both old state events) → CutIn ProceedsAt (view_of mid) (view_of new).events → CutIn (SackAt sack) (view_of old) (view_of new).events
@@ -198,11 +198,11 @@ sack_cut {R = R} old sack acknowledges state events mid new t is h =
 -- ---- where it isn't valid
 
 ignored_by : {R : Type 0} (stream : R → Stream) (old : Context R) (sack : SackContent) (state : State) (events : List SocketEvent) (b : Below old.state)
-    → SacksBelow old.moment sack (Some b.transfer) old.state (map event_content old.events) state (map event_content events) (Ok Invalid) → TakesIn stream (SackAt sack) (view_of old) (with_both old state events)
+    → HandlesSackInTransfer old.moment sack (Some b.transfer) old.state (map event_content old.events) state (map event_content events) (Ok Invalid) → TakesPossibleTurn stream (SackAt sack) (view_of old) (with_both old state events)
 ignored_by {R = R} stream old sack state events b h =
     let e : Endpoint = endpoint_of old in
     let same = below_view old state b.transfer h.0 b.below h.1 in
-    let left : with_transfer e h.0 ≡ e = ap (with_transfer e) h.2.1 ∙ ap (λ (f : Option Transfer). let x : Endpoint = record e { below = record e.below { transfer = f } } in x) (sym b.below) in
+    let left : with_transfer e h.0 ≡ e = ap (with_transfer e) h.2.1 ∙ ap (λ (f : Option Transfer). let x : Endpoint = record e { queues = record e.queues { transfer = f } } in x) (sym b.below) in
     let is : with_both old state events ≡ view_of old =
     ap (λ (v : View R). let x : View R = record v { events = map event_content events } in x) same
     ∙ ap (λ (es : List (Event (List ℕ))). let x : View R = record (view_of old) { endpoint = with_transfer e h.0; events = es } in x) h.2.2
@@ -214,11 +214,11 @@ ignored_by {R = R} stream old sack state events b h =
     }
 
 pub sack_ignored : {R : Type 0} (stream : R → Stream) (old : Context R) (sack : SackContent) (state : State) (events : List SocketEvent) → is_some (transfer_of old.state) ≡ true
-    → SacksBelow old.moment sack (transfer_of old.state) old.state (map event_content old.events) state (map event_content events) (Ok Invalid) → TakesIn stream (SackAt sack) (view_of old) (with_both old state events)
+    → HandlesSackInTransfer old.moment sack (transfer_of old.state) old.state (map event_content old.events) state (map event_content events) (Ok Invalid) → TakesPossibleTurn stream (SackAt sack) (view_of old) (with_both old state events)
 sack_ignored stream old sack state events some h =
     let b = below_of old.state some in
     ignored_by stream old sack state events b
-    (subst (λ (f : Option Transfer). SacksBelow old.moment sack f old.state (map event_content old.events) state (map event_content events) (Ok Invalid)) b.below h)
+    (subst (λ (f : Option Transfer). HandlesSackInTransfer old.moment sack f old.state (map event_content old.events) state (map event_content events) (Ok Invalid)) b.below h)
 
 -- ---- without a peer
 
@@ -275,10 +275,10 @@ refused_where old b sack front rest telling false valid parts told nothing =
     }
 
 pub sack_refused : {R : Type 0} (old : Context R) (sack : SackContent) (state : State) (events : List SocketEvent) (error : AllocError) → is_some (transfer_of old.state) ≡ true
-    → SacksBelow old.moment sack (transfer_of old.state) old.state (map event_content old.events) state (map event_content events) (Err error) → CutIn (SackAt sack) (view_of old) (map event_content events)
+    → HandlesSackInTransfer old.moment sack (transfer_of old.state) old.state (map event_content old.events) state (map event_content events) (Err error) → CutIn (SackAt sack) (view_of old) (map event_content events)
 sack_refused old sack state events error some h =
     let b = below_of old.state some in
-    let here : SacksBelow old.moment sack (Some b.transfer) old.state (map event_content old.events) state (map event_content events) (Err error) =
-    subst (λ (f : Option Transfer). SacksBelow old.moment sack f old.state (map event_content old.events) state (map event_content events) (Err error)) b.below h in
+    let here : HandlesSackInTransfer old.moment sack (Some b.transfer) old.state (map event_content old.events) state (map event_content events) (Err error) =
+    subst (λ (f : Option Transfer). HandlesSackInTransfer old.moment sack f old.state (map event_content old.events) state (map event_content events) (Err error)) b.below h in
     let tells = here.2.1 in
     refused_where old b sack tells.front tells.rest (map event_content events) (is_sack_valid b.transfer.retransmission sack.cumulative_tsn_ack) refl tells.parts tells.told here.2.2

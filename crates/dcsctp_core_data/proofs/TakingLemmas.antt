@@ -4,11 +4,11 @@ use Rattle.rand_core.specs.Stream.{Stream}
 use Rattle.dcsctp_core.specs.spec.endpoint.Outcome.{Outcome}
 use Rattle.dcsctp_core.specs.declared.context.Context.{Context}
 use Rattle.dcsctp_core.specs.View.{View, view_of}
-use Rattle.dcsctp_core.specs.Handling.{Tries, Takes, CutIn, TakesOne}
+use Rattle.dcsctp_core.specs.Handling.{Tries, TakesTurn, CutIn, TakesOne}
 use Rattle.dcsctp_core.proofs.Composing.{cut_first}
 
 pub takes_one : {R E : Type 0} (stream : R → Stream) (turn : View R → Outcome) (Turn : View R → Outcome → Type 0) (old : Context R) (result : Result (Unit {0}) E) (new : Context R)
-    → Turn (view_of old) (turn (view_of old)) → Takes stream turn old result new → TakesOne stream Turn old result new
+    → Turn (view_of old) (turn (view_of old)) → TakesTurn stream turn old result new → TakesOne stream Turn old result new
 takes_one stream turn Turn old (Ok done) new allowed h = record { outcome = turn (view_of old); turn = allowed; moves = h }
 takes_one stream turn Turn old (Err error) new allowed h = record { outcome = turn (view_of old); turn = allowed; cut = h }
 

@@ -14,7 +14,7 @@ use Rattle.dcsctp_core_data.specs.declared.arrival.DataPart.{DataPart}
 use Rattle.dcsctp_core.specs.declared.context.Context.{Context}
 use Rattle.dcsctp_core.specs.View.{View, transfer_of}
 use Rattle.dcsctp_core.specs.Handling.{TakesOne}
-use Rattle.dcsctp_core.specs.Below.{is_due_below}
+use Rattle.dcsctp_core.specs.Below.{is_peer_acknowledgement_due}
 
 -- what a DATA or I-DATA chunk carries, as the machine has it
 abbrev pub part_arrival : DataPart → Arrival
@@ -37,13 +37,13 @@ abbrev pub DataAt : {R : Type 0} → Arrival → View R → Outcome → Type 0
 DataAt arrived view o = DataTurn view.endpoint arrived o
 
 -- The peer is told that its data has no payload, if it is known.
-abbrev pub told_outcome : Endpoint → Core → ℕ → Outcome
-told_outcome e (cookie_echoed my held cookie) tsn = emits e [] (to_peer held (plain (error_of (no_user_data tsn ∷ []))))
-told_outcome e (open_in phase my held) tsn = emits e [] (to_peer held (plain (error_of (no_user_data tsn ∷ []))))
-told_outcome e core tsn = still e
+abbrev pub empty_data_outcome : Endpoint → Core → ℕ → Outcome
+empty_data_outcome e (cookie_echoed my held cookie) tsn = emits e [] (to_peer held (plain (error_of (no_user_data tsn ∷ []))))
+empty_data_outcome e (open_in phase my held) tsn = emits e [] (to_peer held (plain (error_of (no_user_data tsn ∷ []))))
+empty_data_outcome e core tsn = still e
 
-abbrev pub no_user_data_told : {R : Type 0} → ℕ → View R → Outcome
-no_user_data_told tsn view = told_outcome view.endpoint view.endpoint.core tsn
+abbrev pub empty_data_turn : {R : Type 0} → ℕ → View R → Outcome
+empty_data_turn tsn view = empty_data_outcome view.endpoint view.endpoint.core tsn
 
 -- The user is told, and then the peer.
 abbrev pub no_user_data_turn : {R : Type 0} → ℕ → View R → Outcome
@@ -51,20 +51,20 @@ no_user_data_turn tsn view = no_user_data_outcome view.endpoint (held_in view.en
 
 -- A FORWARD-TSN or I-FORWARD-TSN with this new cumulative TSN was received, which names these messages.
 abbrev pub ForwardAt : {R : Type 0} → ℕ → List SkippedTo → View R → Outcome → Type 0
-ForwardAt tsn entries view o = ForwardTurn view.endpoint view.endpoint.below.transfer tsn entries o
+ForwardAt tsn entries view o = ForwardTurn view.endpoint view.endpoint.queues.transfer tsn entries o
 
 -- All of a packet was handled.
 abbrev pub EndsAt : {R : Type 0} → View R → Outcome → Type 0
-EndsAt view o = EndsBy view.endpoint view.endpoint.below.transfer o
+EndsAt view o = EndsBy view.endpoint view.endpoint.queues.transfer o
 
 -- What was received is acknowledged at once, if the peer is known.
-abbrev pub AnswersBelow : Endpoint → Option Held → Option Transfer → Outcome → Type 0
-AnswersBelow e (Some held) (Some transfer) o = AnswersPacket e held transfer transfer.tracker o
-AnswersBelow e held transfer o = o ≡ still e
+abbrev pub AnswersData : Endpoint → Option Held → Option Transfer → Outcome → Type 0
+AnswersData e (Some held) (Some transfer) o = AnswersPacket e held transfer transfer.tracker o
+AnswersData e held transfer o = o ≡ still e
 
 abbrev pub AnswersAt : {R : Type 0} → View R → Outcome → Type 0
-AnswersAt view o = AnswersBelow view.endpoint (held_in view.endpoint.core) view.endpoint.below.transfer o
+AnswersAt view o = AnswersData view.endpoint (held_in view.endpoint.core) view.endpoint.queues.transfer o
 
 -- That is so if an acknowledgement is due.
 abbrev pub AcknowledgesAt : {R E : Type 0} → (R → Stream) → Context R → Result (Unit {0}) E → Context R → Type 0
-AcknowledgesAt stream old result new = is_due_below (transfer_of old.state) ≡ true → TakesOne stream AnswersAt old result new
+AcknowledgesAt stream old result new = is_peer_acknowledgement_due (transfer_of old.state) ≡ true → TakesOne stream AnswersAt old result new

@@ -16,7 +16,7 @@ use Rattle.dcsctp_core.specs.Handling.{TakesOne}
 
 -- This SACK was received.
 abbrev pub SackAt : {R : Type 0} → SackContent → View R → Outcome → Type 0
-SackAt sack view o = SackTurn view.endpoint view.endpoint.below.transfer sack o
+SackAt sack view o = SackTurn view.endpoint view.endpoint.queues.transfer sack o
 
 -- What was lost is sent at once, if it is to, and then what waits.
 pub record ResendsBy (e : Endpoint) (held : Held) (transfer : Transfer) (o : Outcome) : Type 0 where
@@ -31,7 +31,7 @@ Resends e (Some held) (Some transfer) o = ResendsBy e held transfer o
 Resends e held transfer o = o ≡ still e
 
 abbrev pub ResendsAt : {R : Type 0} → View R → Outcome → Type 0
-ResendsAt view o = Resends view.endpoint (held_in view.endpoint.core) view.endpoint.below.transfer o
+ResendsAt view o = Resends view.endpoint (held_in view.endpoint.core) view.endpoint.queues.transfer o
 
 -- A shutdown under way goes on first.
 pub record ProceedsBy (e : Endpoint) (held : Held) (transfer : Transfer) (o : Outcome) : Type 0 where
@@ -44,7 +44,7 @@ Proceeds e (Some held) (Some transfer) o = ProceedsBy e held transfer o
 Proceeds e held transfer o = o ≡ still e
 
 abbrev pub ProceedsAt : {R : Type 0} → View R → Outcome → Type 0
-ProceedsAt view o = Proceeds view.endpoint (held_in view.endpoint.core) view.endpoint.below.transfer o
+ProceedsAt view o = Proceeds view.endpoint (held_in view.endpoint.core) view.endpoint.queues.transfer o
 
 -- That is so if the peer is known.
 abbrev pub ProceedsWhereHeld : {R E : Type 0} → (R → Stream) → Context R → Result (Unit {0}) E → Context R → Type 0

@@ -3,8 +3,8 @@
 ghost use Rattle.std.specs.Prelude.{[], ◌∷◌};
 ghost use Rattle.dcsctp_core.specs.wire.Content.{error_chunk, no_user_data};
 ghost use Rattle.dcsctp_core.specs.spec.endpoint.DataOutcomes.{not_connected_text, no_user_data_text};
-ghost use Rattle.dcsctp_core.specs.Handling.{Emits, Takes, Tries, report_turn};
-ghost use Rattle.dcsctp_core_data.specs.Data.{no_user_data_told, no_user_data_turn};
+ghost use Rattle.dcsctp_core.specs.Handling.{Emits, TakesTurn, Tries, report_turn};
+ghost use Rattle.dcsctp_core_data.specs.Data.{empty_data_turn, no_user_data_turn};
 
 use dcsctp_core::Context;
 use dcsctp_core::api::ErrorKind;
@@ -57,7 +57,7 @@ fn emit_no_user_data<R: Rng>(
 // Tells the peer, if it is known, that its data has no payload. `Err`: an allocation failed, and nothing has
 // changed.
 fn tell_no_user_data<R: Rng>(context: &mut Context<R>, tsn: u32) -> Result<(), AllocError>
-    ensures { Tries R.stream (no_user_data_told tsn) context.old result context.new }
+    ensures { Tries R.stream (empty_data_turn tsn) context.old result context.new }
 {
     match context.state.tcb() {
         None => {}
@@ -73,7 +73,7 @@ fn tell_no_user_data<R: Rng>(context: &mut Context<R>, tsn: u32) -> Result<(), A
 // Refuses data without a payload, whose TSN is this (RFC 9260, section 3.3.10.9). `Err`: an allocation
 // failed; the first of its events may already have been added.
 pub(crate) fn refuse_empty<R: Rng>(context: &mut Context<R>, tsn: u32) -> Result<(), AllocError>
-    ensures { Takes R.stream (no_user_data_turn tsn) context.old result context.new }
+    ensures { TakesTurn R.stream (no_user_data_turn tsn) context.old result context.new }
 {
     report_no_user_data(context)?;
     tell_no_user_data(context, tsn)?;

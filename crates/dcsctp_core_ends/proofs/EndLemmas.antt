@@ -15,11 +15,11 @@ use Rattle.dcsctp_core.specs.spec.endpoint.EndOutcomes.{closed_after, ended_outc
 use Rattle.dcsctp_core.specs.spec.endpoint.ShutdownOutcomes.{completed_outcome}
 use Rattle.dcsctp_core.specs.api.Calls.{is_closed}
 use Rattle.dcsctp_core.specs.declared.following.Following.TheVariants.{DroppedRest}
-use Rattle.dcsctp_core.specs.Handling.{Handles}
+use Rattle.dcsctp_core.specs.Handling.{IsHandledTurn}
 use Rattle.dcsctp_core.specs.View.{View, Moves, CutTurn}
 use Rattle.dcsctp_core.proofs.Composing.{behind, moves_behind, moves_as, cut_after}
 use Rattle.dcsctp_core.proofs.EndLemmas.{close_where_open}
-use Rattle.dcsctp_core_ends.specs.Shutdown.{to_held, is_open, sends_complete, complete_sent_turn, completed_turn}
+use Rattle.dcsctp_core_ends.specs.Shutdown.{to_held, is_open_core, sends_complete, complete_sent_turn, completed_turn}
 
 runs_with_peer : (core : Core) (held : Held) → held_in core ≡ Some held → is_closed core ≡ false
 runs_with_peer closed held is = absurd (cc)
@@ -46,7 +46,7 @@ ends_after_sent stream a b c emission event runs first second =
 abbrev pub complete_to : Held → Emission
 complete_to held = to_peer held (shutdown_complete false)
 
-held_where_open : (core : Core) → is_open core ≡ true → (held : Held) × (held_in core ≡ Some held)
+held_where_open : (core : Core) → is_open_core core ≡ true → (held : Held) × (held_in core ≡ Some held)
 held_where_open closed opens = absurd (cc)
 held_where_open (cookie_wait my) opens = absurd (cc)
 held_where_open (cookie_echoed my own cookie) opens = absurd (cc)
@@ -54,19 +54,19 @@ held_where_open (open_in phase my own) opens = (own, refl)
 
 completes_to : {R : Type 0} (stream : R → Stream) (a b c : View R) (held : Held) → held_in a.endpoint.core ≡ Some held
     → Moves stream a (sends a.endpoint [] [] (complete_to held)) b → Moves stream b (close_outcome b.endpoint b.endpoint.core events.closed) c
-    → Handles stream a (completed_turn a) DroppedRest c
+    → IsHandledTurn stream a (completed_turn a) DroppedRest c
 completes_to stream a b c held is first second =
     let m : Moves stream a (completed_outcome a.endpoint held) c = ends_after_sent stream a b c (complete_to held) events.closed (runs_with_peer a.endpoint.core held is) first second in
-    subst (λ (peer : Option Held). Handles stream a (to_held completed_outcome a.endpoint peer) DroppedRest c) (sym is) (record { moves = m; following = refl })
+    subst (λ (peer : Option Held). IsHandledTurn stream a (to_held completed_outcome a.endpoint peer) DroppedRest c) (sym is) (record { moves = m; following = refl })
 
-pub completes : {R : Type 0} (stream : R → Stream) (a b c : View R) → is_open a.endpoint.core ≡ true
+pub completes : {R : Type 0} (stream : R → Stream) (a b c : View R) → is_open_core a.endpoint.core ≡ true
     → Moves stream a (complete_sent_turn a) b → Moves stream b (close_outcome b.endpoint b.endpoint.core events.closed) c
-    → Handles stream a (completed_turn a) DroppedRest c
+    → IsHandledTurn stream a (completed_turn a) DroppedRest c
 completes stream a b c opens first second =
     let peer = held_where_open a.endpoint.core opens in
     completes_to stream a b c peer.0 peer.1 (subst (λ (p : Option Held). Moves stream a (to_held sends_complete a.endpoint p) b) peer.1 first) second
 
-pub completes_in_part : {R : Type 0} (stream : R → Stream) (a b c : View R) → is_open a.endpoint.core ≡ true → Moves stream a (complete_sent_turn a) b → c ≡ b
+pub completes_in_part : {R : Type 0} (stream : R → Stream) (a b c : View R) → is_open_core a.endpoint.core ≡ true → Moves stream a (complete_sent_turn a) b → c ≡ b
     → CutTurn a (completed_turn a) c.events
 completes_in_part {R = R} stream a b c opens first same =
     let peer = held_where_open a.endpoint.core opens in

@@ -1,7 +1,7 @@
 -- What is known of T2 where it goes on.
 use Rattle.std.proofs.Common.{◌≡◌, ℕ, Bool, true, false, Option, None, Some, List, refl, sym, subst}
 use Rattle.dcsctp_core.specs.spec.endpoint.Event.{Event}
-use Rattle.dcsctp_core.specs.spec.endpoint.Timers.{RunningTimer, is_due, is_restarted}
+use Rattle.dcsctp_core.specs.spec.endpoint.Timers.{RunningTimer, is_timer_expired, is_restarted}
 use Rattle.dcsctp_core.specs.spec.endpoint.TimeTurns.{deadline_of, has_come, has_restart, t2_timer, t2_input}
 use Rattle.dcsctp_core.specs.spec.endpoint.Turn.{Turn}
 use Rattle.dcsctp_core.specs.spec.endpoint.ShutdownOutcomes.{t2_again_outcome}
@@ -20,7 +20,7 @@ again_both false restarts is = absurd (cc)
 -- It is due, and goes on.
 again_is : (moment : ℕ) (t2 : Option RunningTimer) → Again ≡ expiry_of moment t2 → (has_come moment (deadline_of t2) ≡ true) × (has_restart t2 ≡ true)
 again_is moment None is = absurd (cc)
-again_is moment (Some timer) is = again_both (is_due moment timer) (is_restarted timer) is
+again_is moment (Some timer) is = again_both (is_timer_expired moment timer) (is_restarted timer) is
 
 again_turn : {R : Type 0} (old : Context R) → Again ≡ expiry_of old.moment (t2_of old.state) → ExpiryTurn t2_timer (view_of old) (t2_again_outcome (endpoint_of old))
 again_turn old is =

@@ -6,7 +6,7 @@ use Rattle.dcsctp_core.specs.spec.Packet.{Content, shutdown_complete}
 use Rattle.dcsctp_core.specs.spec.endpoint.Endpoint.{Endpoint, Core, cookie_echoed, open_in, OpenPhase, shutdown_pending, shutdown_sent, shutdown_received, held_in}
 use Rattle.dcsctp_core.specs.spec.endpoint.Outcome.{Outcome, still, sends, to_peer}
 use Rattle.dcsctp_core.specs.spec.endpoint.EndOutcomes.{reflected_outcome}
-use Rattle.dcsctp_core.specs.spec.endpoint.ShutdownOutcomes.{sends_shutdown, sends_shutdown_ack, shutdown_is_sent, shutdown_ack_is_sent, step_outcome, step_from, t1_stopped, shut_down_outcome, shutdown_outcome, completed_outcome, shutdown_ack_outcome, shutdown_complete_outcome, sent_again, shutdown_repeated}
+use Rattle.dcsctp_core.specs.spec.endpoint.ShutdownOutcomes.{sends_shutdown, sends_shutdown_ack, shutdown_is_sent, shutdown_ack_is_sent, step_outcome, step_from, t1_stopped, shut_down_outcome, shutdown_outcome, completed_outcome, shutdown_ack_outcome, shutdown_complete_outcome, shutdown_sent_again, shutdown_repeated}
 use Rattle.dcsctp_core.specs.View.{View}
 
 -- ---- one packet
@@ -34,9 +34,9 @@ packet_turn with_checksum tag content view =
 
 -- ---- where an association is open
 
-abbrev pub is_open : Core → Bool
-is_open (open_in phase my held) = true
-is_open core = false
+abbrev pub is_open_core : Core → Bool
+is_open_core (open_in phase my held) = true
+is_open_core core = false
 
 -- no T2
 abbrev pub t2_stopped : Endpoint → Endpoint
@@ -91,11 +91,11 @@ complete_turn view = shutdown_complete_outcome view.endpoint view.endpoint.core
 -- ---- T2, and data
 
 abbrev pub again_turn : {R : Type 0} → View R → Outcome
-again_turn view = sent_again view.endpoint view.endpoint.core
+again_turn view = shutdown_sent_again view.endpoint view.endpoint.core
 
 abbrev pub repeated_in : Endpoint → OpenPhase → Pair → Held → Outcome
 repeated_in e shutdown_sent my held = shutdown_repeated e held
 repeated_in e phase my held = still e
 
-abbrev pub answer_turn : {R : Type 0} → View R → Outcome
-answer_turn view = where_open repeated_in view.endpoint view.endpoint.core
+abbrev pub shutdown_answer_turn : {R : Type 0} → View R → Outcome
+shutdown_answer_turn view = where_open repeated_in view.endpoint view.endpoint.core

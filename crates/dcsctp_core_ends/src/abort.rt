@@ -2,7 +2,7 @@
 
 ghost use Rattle.std.specs.Prelude.{map};
 ghost use Rattle.dcsctp_core.specs.wire.Content.{cause_content};
-ghost use Rattle.dcsctp_core.specs.Handling.{WorksWhole};
+ghost use Rattle.dcsctp_core.specs.Handling.{HandlesWholeTurn};
 ghost use Rattle.dcsctp_core_ends.specs.Ends.{abort_turn};
 
 use dcsctp_core::api::ErrorKind;
@@ -19,7 +19,7 @@ pub fn handle_abort<R: Rng>(
     context: &mut Context<R>,
     abort: &AbortChunk<'_>,
 ) -> Result<Following, AllocError>
-    ensures { WorksWhole R.stream (abort_turn (map cause_content abort.now.error_causes.items))
+    ensures { HandlesWholeTurn R.stream (abort_turn (map cause_content abort.now.error_causes.items))
         context.old result context.new }
 {
     match context.state {

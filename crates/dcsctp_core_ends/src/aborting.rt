@@ -6,7 +6,7 @@ ghost use Rattle.dcsctp_core.specs.spec.endpoint.Cause.{reason_text, causes_of};
 ghost use Rattle.dcsctp_core.specs.spec.endpoint.EndOutcomes.{end_of};
 ghost use Rattle.dcsctp_core.specs.api.Calls.{is_closed};
 ghost use Rattle.dcsctp_core.specs.View.{core_of};
-ghost use Rattle.dcsctp_core.specs.Handling.{Tries, Takes, Emits, close_turn};
+ghost use Rattle.dcsctp_core.specs.Handling.{Tries, TakesTurn, Emits, close_turn};
 ghost use Rattle.dcsctp_core_ends.specs.Ends.{abort_sent_turn, aborting_turn};
 
 use dcsctp_core::Context;
@@ -121,7 +121,7 @@ pub fn abort_association<R: Rng>(
     context: &mut Context<R>,
     reason: AbortReason,
 ) -> Result<(), AllocError>
-    ensures turn { Takes R.stream (aborting_turn reason) context.old result context.new }
+    ensures turn { TakesTurn R.stream (aborting_turn reason) context.old result context.new }
     ensures closed { is_closed (core_of context.old.state) ≡ true → IsOk result }
 {
     if context.state.is_closed() {

@@ -5,7 +5,7 @@ ghost use Rattle.dcsctp_core.specs.spec.endpoint.Endpoint.{closed};
 ghost use Rattle.dcsctp_core.specs.types.Snapshot.{snapshot, is_valid_send_part};
 ghost use Rattle.dcsctp_core.specs.spec.endpoint.RestoreOutcomes.{capabilities_restored, own_pair, peer_pair, was_reset};
 ghost use Rattle.dcsctp_core.specs.View.{core_of};
-ghost use Rattle.dcsctp_core_handover.specs.Handover.{IsRestored, Restores};
+ghost use Rattle.dcsctp_core_handover.specs.Handover.{IsRestoredAssociation, RestoresAssociation};
 
 use dcsctp_core::api::handover::{HandoverCapabilities, SocketHandoverState};
 use dcsctp_core::api::{
@@ -70,7 +70,7 @@ fn restored_association(
     state: &SocketHandoverState,
 ) -> Result<TransmissionControlBlock, AllocError>
     requires { is_valid_send_part (snapshot state.now).tx ≡ true }
-    ensures { IfOk result (IsRestored options.now now (snapshot state.now)) }
+    ensures { IfOk result (IsRestoredAssociation options.now now (snapshot state.now)) }
 {
     let peer = Peer {
         pair: peer_pair(state),
@@ -94,7 +94,7 @@ pub fn restore<R: Rng>(
 ) -> Result<(), AllocError>
     requires closed { core_of context.old.state ≡ closed }
     requires valid { is_valid_send_part (snapshot state.now).tx ≡ true }
-    ensures { Restores R.stream (snapshot state.now) context.old result context.new }
+    ensures { RestoresAssociation R.stream (snapshot state.now) context.old result context.new }
 {
     let now = context.moment;
     let tcb = restored_association(context.alloc, &context.options, now, state)?;

@@ -19,11 +19,11 @@ use Rattle.dcsctp_core.specs.declared.state.State.{State}
 use Rattle.dcsctp_core.specs.declared.state.State.TheVariants.{Closed, CookieWait, CookieEchoed, Open}
 use Rattle.dcsctp_core.specs.declared.transmission_control_block.TransmissionControlBlock.{TransmissionControlBlock}
 use Rattle.dcsctp_core.specs.View.{View, core_of, tcb_of, held_of, view_of, endpoint_of}
-use Rattle.dcsctp_core.specs.Handling.{TakesIn, CutIn}
+use Rattle.dcsctp_core.specs.Handling.{TakesPossibleTurn, CutIn}
 use Rattle.dcsctp_core.specs.Flushing.{empty_packet, packet_for, FlushesFor, FlushCut}
 use Rattle.dcsctp_core.proofs.Moving.{moves_still}
 use Rattle.dcsctp_core.proofs.Composing.{cut_first, cut_after}
-use Rattle.dcsctp_core_handshake.specs.Echoes.{cookie_ack_to, acknowledges_by, acknowledged_by, AcknowledgedAnswers, AcknowledgementAt}
+use Rattle.dcsctp_core_handshake.specs.Echoes.{cookie_ack_to, acknowledges_by, peer_acknowledged, AcknowledgedAnswers, AcknowledgementAt}
 use Rattle.dcsctp_core_handshake.proofs.FlushSteps.{moves_flushed}
 
 -- ---- COOKIE ACK
@@ -68,28 +68,28 @@ pub ack_unmade : {R : Type 0} (old : Context R) → CutIn AcknowledgementAt (vie
 ack_unmade old =
     let e : Endpoint = endpoint_of old in
     let some = any_acknowledged e (held_in e.core) in
-    let o : Outcome = acknowledged_by (flush_answered some.0) e (held_in e.core) in
+    let o : Outcome = peer_acknowledged (flush_answered some.0) e (held_in e.core) in
     record { outcome = o; turn = (some.0, some.1, refl); cut = cut_first (view_of old) o (view_of old).events refl }
 
-pub ack_no_peer : {R : Type 0} (stream : R → Stream) (old : Context R) → None ≡ tcb_of old.state → TakesIn stream AcknowledgementAt (view_of old) (view_of old)
+pub ack_no_peer : {R : Type 0} (stream : R → Stream) (old : Context R) → None ≡ tcb_of old.state → TakesPossibleTurn stream AcknowledgementAt (view_of old) (view_of old)
 ack_no_peer stream old none =
     let e : Endpoint = endpoint_of old in
     let nobody : held_in e.core ≡ None = none_by_tcb old.state none in
     record {
       outcome = still e;
-      turn = ([], subst (λ (peer : Option Held). AcknowledgedAnswers e peer []) (sym nobody) refl, sym (ap (λ (peer : Option Held). acknowledged_by (flush_answered []) e peer) nobody));
+      turn = ([], subst (λ (peer : Option Held). AcknowledgedAnswers e peer []) (sym nobody) refl, sym (ap (λ (peer : Option Held). peer_acknowledged (flush_answered []) e peer) nobody));
       moves = moves_still stream (view_of old);
     }
 
 pub ack_done : {R : Type 0} (stream : R → Stream) (old : Context R) (tcb : TransmissionControlBlock) (new : View R) → Some tcb ≡ tcb_of old.state
     → FlushesFor stream first_ask (packets_allowed old.options.max_burst (core_of old.state)) (view_of old) (cookie_ack_to (held_of tcb)) new
-    → TakesIn stream AcknowledgementAt (view_of old) new
+    → TakesPossibleTurn stream AcknowledgementAt (view_of old) new
 ack_done stream old tcb new kept f =
     let e : Endpoint = endpoint_of old in
     let holds : held_in (core_of old.state) ≡ Some (held_of tcb) = held_by_tcb old.state tcb kept in
     record {
       outcome = acknowledges_by (flush_answered f.answers) e (held_of tcb) [];
-      turn = (f.answers, subst (λ (peer : Option Held). AcknowledgedAnswers e peer f.answers) (sym holds) f.allowed, sym (ap (λ (peer : Option Held). acknowledged_by (flush_answered f.answers) e peer) holds));
+      turn = (f.answers, subst (λ (peer : Option Held). AcknowledgedAnswers e peer f.answers) (sym holds) f.allowed, sym (ap (λ (peer : Option Held). peer_acknowledged (flush_answered f.answers) e peer) holds));
       moves = moves_flushed stream (view_of old) new (flush_of e (cookie_ack_to (held_of tcb)) f.answers) f.moves;
     }
 
@@ -101,7 +101,7 @@ ack_cut old tcb events kept f =
     let holds : held_in (core_of old.state) ≡ Some (held_of tcb) = held_by_tcb old.state tcb kept in
     record {
       outcome = acknowledges_by (flush_answered f.answers) e (held_of tcb) [];
-      turn = (f.answers, subst (λ (peer : Option Held). AcknowledgedAnswers e peer f.answers) (sym holds) f.allowed, sym (ap (λ (peer : Option Held). acknowledged_by (flush_answered f.answers) e peer) holds));
+      turn = (f.answers, subst (λ (peer : Option Held). AcknowledgedAnswers e peer f.answers) (sym holds) f.allowed, sym (ap (λ (peer : Option Held). peer_acknowledged (flush_answered f.answers) e peer) holds));
       cut = cut_after (view_of old) (acknowledges_by (flush_answered f.answers) e (held_of tcb) []) events f.front f.rest f.parts f.added;
     }
 

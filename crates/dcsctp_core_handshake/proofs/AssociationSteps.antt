@@ -8,13 +8,13 @@ use Rattle.dcsctp_core.specs.types.Settings.{ports_of}
 use Rattle.dcsctp_core.specs.spec.Cookie.{Cookie}
 use Rattle.dcsctp_core.specs.spec.endpoint.Event.{Event, connected, connection_restarted}
 use Rattle.dcsctp_core.specs.spec.Packet.{Emission, cookie_ack}
-use Rattle.dcsctp_core.specs.spec.queues.SendQueue.{SendQueueState, restarted}
+use Rattle.dcsctp_core.specs.spec.queues.SendQueue.{SendQueueState, queue_restarted}
 use Rattle.dcsctp_core.specs.spec.endpoint.Endpoint.{Endpoint, held_in}
 use Rattle.dcsctp_core.specs.spec.endpoint.Outcome.{Outcome}
-use Rattle.dcsctp_core.specs.spec.association.Effect.{Effect, holds, connects, link_of}
+use Rattle.dcsctp_core.specs.spec.association.Effect.{Effect, holds, connects, identity_of}
 use Rattle.dcsctp_core.specs.spec.association.CookieEchoChanges.{held_by_cookie}
 use Rattle.dcsctp_core.specs.spec.endpoint.FlushOutcomes.{Answer, first_ask, flush_answered, packets_allowed}
-use Rattle.dcsctp_core.specs.spec.endpoint.CookieEchoOutcomes.{established_by, acknowledgement, establish_by, queue_where, queue_begun, EstablishAnswers}
+use Rattle.dcsctp_core.specs.spec.endpoint.CookieEchoOutcomes.{established_by, cookie_ack_emission, establish_by, queue_where, queue_begun, EstablishAnswers}
 use Rattle.dcsctp_core.proofs.spec_lemmas.AnswerLemmas.{any_answers}
 use Rattle.dcsctp_core.specs.api.Calls.{user_event}
 use Rattle.dcsctp_core.specs.api.declared.events.SocketEvent.{SocketEvent}
@@ -22,9 +22,9 @@ use Rattle.dcsctp_core.specs.api.declared.events.SocketEvent.TheVariants.{OnConn
 use Rattle.dcsctp_core.specs.declared.context.Context.{Context}
 use Rattle.dcsctp_core.specs.View.{View, Moves, CutTurn, view_of, endpoint_of}
 use Rattle.dcsctp_core.specs.Drawing.{long_word, DrawsNext}
-use Rattle.dcsctp_core.specs.Handling.{TakesIn, CutIn}
+use Rattle.dcsctp_core.specs.Handling.{TakesPossibleTurn, CutIn}
 use Rattle.dcsctp_core.proofs.Composing.{behind, Draws, moves_behind, cut_behind, moves_noting, cut_noting, cut_first, added_one}
-use Rattle.dcsctp_core_handshake.specs.Echoes.{acknowledges_by, acknowledged_by, AcknowledgedAnswers, AcknowledgementAt, AssociationAt, EstablishAt, ReplaceAt, RestartAt, established_with}
+use Rattle.dcsctp_core_handshake.specs.Echoes.{acknowledges_by, peer_acknowledged, AcknowledgedAnswers, AcknowledgementAt, AssociationAt, EstablishAt, ReplaceAt, RestartAt, established_with}
 
 -- ---- a flush at the endpoint that a cookie makes
 
@@ -38,19 +38,19 @@ there mid e held o turn here kept =
     let answers : List Answer = turn.0 in
     record {
       allowed = subst (λ (peer : Option Held). AcknowledgedAnswers e peer answers) kept (subst (λ (x : Endpoint). AcknowledgedAnswers x (held_in x.core) answers) here turn.1);
-      is = turn.2 ∙ ap (λ (x : Endpoint). acknowledged_by (flush_answered answers) x (held_in x.core)) here ∙ ap (λ (peer : Option Held). acknowledged_by (flush_answered answers) e peer) kept;
+      is = turn.2 ∙ ap (λ (x : Endpoint). peer_acknowledged (flush_answered answers) x (held_in x.core)) here ∙ ap (λ (peer : Option Held). peer_acknowledged (flush_answered answers) e peer) kept;
     }
 
 -- ---- an association that is made, and acknowledged
 
 abbrev effects_of : Endpoint → Cookie → List Effect
-effects_of e cookie = holds (link_of cookie.maker (held_by_cookie e.options cookie)) ∷ connects (link_of cookie.maker (held_by_cookie e.options cookie)) ∷ []
+effects_of e cookie = holds (identity_of cookie.maker (held_by_cookie e.options cookie)) ∷ connects (identity_of cookie.maker (held_by_cookie e.options cookie)) ∷ []
 
 -- after these events and this word
 pub associates : {R : Type 0} (stream : R → Stream) (old mid new : View R) (cookie : Cookie) (queue : SendQueueState) (tie : ℕ) (events : List (Event Emission))
     → tie ≡ long_word (stream old.generator) → mid.endpoint ≡ established_by old.endpoint cookie queue tie
     → mid.events ≡ old.events ++ map (user_event (ports_of old.endpoint.options)) events → Draws stream old (U64 tie ∷ []) mid
-    → TakesIn stream AcknowledgementAt mid new → TakesIn stream (AssociationAt stream cookie queue events) old new
+    → TakesPossibleTurn stream AcknowledgementAt mid new → TakesPossibleTurn stream (AssociationAt stream cookie queue events) old new
 associates {R = R} stream old mid new cookie queue tie events drawn here added draws t =
     let e : Endpoint = established_by old.endpoint cookie queue tie in
     let held : Held = held_by_cookie old.endpoint.options cookie in
@@ -58,10 +58,10 @@ associates {R = R} stream old mid new cookie queue tie events drawn here added d
     let a : AcknowledgedThere e answers held t.outcome = there mid e held t.outcome t.turn here refl in
     let m : Moves stream mid (acknowledges_by (flush_answered answers) e held []) new = subst (λ (o : Outcome). Moves stream mid o new) a.is t.moves in
     let all : Moves stream old (establish_by (flush_answered answers) old.endpoint cookie queue tie events) new =
-    moves_noting stream old new (effects_of old.endpoint cookie) (flush_answered answers e (U64 tie ∷ []) events (acknowledgement held cookie).with_checksum cookie.addressee.tag (cookie_ack ∷ [])) refl
+    moves_noting stream old new (effects_of old.endpoint cookie) (flush_answered answers e (U64 tie ∷ []) events (cookie_ack_emission held cookie).with_checksum cookie.addressee.tag (cookie_ack ∷ [])) refl
     (moves_behind stream old mid new (U64 tie ∷ []) events (acknowledges_by (flush_answered answers) e held [])
     (record { ports = ap (λ (x : Endpoint). ports_of x.options) here; events = added }) draws m) in
-    subst (λ (word : ℕ). (answered : List Answer) × EstablishAnswers old.endpoint cookie queue word answered × Moves stream old (establish_by (flush_answered answered) old.endpoint cookie queue word events) new → TakesIn stream (AssociationAt stream cookie queue events) old new)
+    subst (λ (word : ℕ). (answered : List Answer) × EstablishAnswers old.endpoint cookie queue word answered × Moves stream old (establish_by (flush_answered answered) old.endpoint cookie queue word events) new → TakesPossibleTurn stream (AssociationAt stream cookie queue events) old new)
     (sym drawn) (λ h. record { outcome = establish_by (flush_answered h.0) old.endpoint cookie queue (long_word (stream old.generator)) events; turn = (h.0, h.1, refl); moves = h.2 })
     (answers, a.allowed, all)
 
@@ -77,7 +77,7 @@ associates_cut {R = R} stream old mid es cookie queue tie events drawn here adde
     let a : AcknowledgedThere e answers held t.outcome = there mid e held t.outcome t.turn here refl in
     let m : CutTurn mid (acknowledges_by (flush_answered answers) e held []) es = subst (λ (o : Outcome). CutTurn mid o es) a.is t.cut in
     let all : CutTurn old (establish_by (flush_answered answers) old.endpoint cookie queue tie events) es =
-    cut_noting old (effects_of old.endpoint cookie) (flush_answered answers e (U64 tie ∷ []) events (acknowledgement held cookie).with_checksum cookie.addressee.tag (cookie_ack ∷ [])) es
+    cut_noting old (effects_of old.endpoint cookie) (flush_answered answers e (U64 tie ∷ []) events (cookie_ack_emission held cookie).with_checksum cookie.addressee.tag (cookie_ack ∷ [])) es
     (cut_behind old mid (U64 tie ∷ []) events (acknowledges_by (flush_answered answers) e held []) es
     (record { ports = ap (λ (x : Endpoint). ports_of x.options) here; events = added }) m) in
     subst (λ (word : ℕ). (answered : List Answer) × EstablishAnswers old.endpoint cookie queue word answered × CutTurn old (establish_by (flush_answered answered) old.endpoint cookie queue word events) es → CutIn (AssociationAt stream cookie queue events) old es)
@@ -90,7 +90,7 @@ pub association_unmade : {R : Type 0} (stream : R → Stream) (old : View R) (es
 association_unmade stream old es cookie queue events same =
     let tie : ℕ = long_word (stream old.generator) in
     let e : Endpoint = established_by old.endpoint cookie queue tie in
-    let some = any_answers first_ask (packets_allowed e.options.max_burst e.core) e (acknowledgement (held_by_cookie old.endpoint.options cookie) cookie) in
+    let some = any_answers first_ask (packets_allowed e.options.max_burst e.core) e (cookie_ack_emission (held_by_cookie old.endpoint.options cookie) cookie) in
     let o : Outcome = establish_by (flush_answered some.0) old.endpoint cookie queue tie events in
     record { outcome = o; turn = (some.0, some.1, refl); cut = cut_first old o es same }
 
@@ -112,7 +112,7 @@ made_events {R = R} stream old drawn added cookie tie mid d one made =
 
 pub establishes : {R : Type 0} (stream : R → Stream) (old drawn : Context R) (added : List SocketEvent) (cookie : Cookie) (tie : ℕ) (mid new : View R)
     → DrawsNext stream next_u64 U64 old tie drawn → added ≡ drawn.events ++ OnConnected ∷ [] → Made drawn added cookie tie mid
-    → TakesIn stream AcknowledgementAt mid new → TakesIn stream (EstablishAt stream cookie) (view_of old) new
+    → TakesPossibleTurn stream AcknowledgementAt mid new → TakesPossibleTurn stream (EstablishAt stream cookie) (view_of old) new
 establishes {R = R} stream old drawn added cookie tie mid new d one made t =
     let same : drawn.pairs ≡ old.pairs = d.pairs in
     let same_pairs : (view_of drawn).pairs ≡ (view_of old).pairs = cc in
@@ -141,12 +141,12 @@ establish_unmade stream old es cookie same =
 -- ---- in place of another
 
 abbrev queue_reset : {R : Type 0} → View R → View R
-queue_reset view = record view { endpoint = record view.endpoint { below = record view.endpoint.below { queue = restarted view.endpoint.below.queue } } }
+queue_reset view = record view { endpoint = record view.endpoint { queues = record view.endpoint.queues { queue = queue_restarted view.endpoint.queues.queue } } }
 
 pub replaces : {R : Type 0} (stream : R → Stream) (old mid new : View R) (cookie : Cookie) → mid ≡ queue_reset old
-    → TakesIn stream (EstablishAt stream cookie) mid new → TakesIn stream (ReplaceAt stream cookie) old new
+    → TakesPossibleTurn stream (EstablishAt stream cookie) mid new → TakesPossibleTurn stream (ReplaceAt stream cookie) old new
 replaces {R = R} stream old mid new cookie is t =
-    let here : TakesIn stream (EstablishAt stream cookie) (queue_reset old) new = subst (λ (v : View R). TakesIn stream (EstablishAt stream cookie) v new) is t in
+    let here : TakesPossibleTurn stream (EstablishAt stream cookie) (queue_reset old) new = subst (λ (v : View R). TakesPossibleTurn stream (EstablishAt stream cookie) v new) is t in
     let m = here.moves in
     record {
       outcome = here.outcome;
@@ -173,9 +173,9 @@ abbrev restarting : {R : Type 0} → View R → View R
 restarting view = record view { events = view.events ++ connection_restarted ∷ [] }
 
 pub restarts : {R : Type 0} (stream : R → Stream) (old mid new : View R) (cookie : Cookie) → mid ≡ restarting old
-    → TakesIn stream (ReplaceAt stream cookie) mid new → TakesIn stream (RestartAt stream cookie) old new
+    → TakesPossibleTurn stream (ReplaceAt stream cookie) mid new → TakesPossibleTurn stream (RestartAt stream cookie) old new
 restarts {R = R} stream old mid new cookie is t =
-    let here : TakesIn stream (ReplaceAt stream cookie) (restarting old) new = subst (λ (v : View R). TakesIn stream (ReplaceAt stream cookie) v new) is t in
+    let here : TakesPossibleTurn stream (ReplaceAt stream cookie) (restarting old) new = subst (λ (v : View R). TakesPossibleTurn stream (ReplaceAt stream cookie) v new) is t in
     record {
       outcome = behind_it here.outcome;
       turn = (here.turn.0, here.turn.1, ap behind_it here.turn.2);

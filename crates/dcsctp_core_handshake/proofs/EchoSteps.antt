@@ -12,7 +12,7 @@ use Rattle.dcsctp_core.specs.spec.Packet.{Emission, cookie_ack}
 use Rattle.dcsctp_core.specs.spec.endpoint.Endpoint.{Endpoint, Core, closed, cookie_wait, cookie_echoed, open_in}
 use Rattle.dcsctp_core.specs.spec.endpoint.Outcome.{Outcome, noting}
 use Rattle.dcsctp_core.specs.spec.endpoint.Following.{next_chunk}
-use Rattle.dcsctp_core.specs.spec.association.Effect.{connects, link_of}
+use Rattle.dcsctp_core.specs.spec.association.Effect.{connects, identity_of}
 use Rattle.dcsctp_core.specs.spec.association.CookieEchoChanges.{Resolution, establish_new, restart, simultaneous_init, discard, maintain_existing, invalid_tag, stale, case_by, case_with_peer, resolve}
 use Rattle.dcsctp_core.specs.spec.endpoint.FlushOutcomes.{Answer, FlushAnswers, flush_answered}
 use Rattle.dcsctp_core.specs.spec.endpoint.HandshakeOutcomes.{connected_after}
@@ -23,7 +23,7 @@ use Rattle.dcsctp_core.specs.declared.following.Following.{Following}
 use Rattle.dcsctp_core.specs.declared.following.Following.TheVariants.{NextChunk, DroppedRest}
 use Rattle.dcsctp_core.specs.View.{View, view_of, endpoint_of}
 use Rattle.dcsctp_core.specs.Drawing.{long_word}
-use Rattle.dcsctp_core.specs.Handling.{TakesIn, CutIn, HandlesIn, WorksOne}
+use Rattle.dcsctp_core.specs.Handling.{TakesPossibleTurn, CutIn, HandlesIn, HandlesPossibleTurn}
 use Rattle.dcsctp_core.proofs.Composing.{cut_first}
 use Rattle.dcsctp_core.proofs.Moving.{moves_still}
 use Rattle.dcsctp_core_handshake.specs.Handshake.{CookieEchoAt}
@@ -56,7 +56,7 @@ turn_of e header bytes cookie word resolution answers o c allowed is = subst (Co
 -- ---- an association is made
 
 pub works_new : {R : Type 0} (stream : R → Stream) (old new : View R) (header : ℕ) (bytes : List ℕ) (cookie : Cookie) → IsCase old.endpoint header bytes cookie establish_new
-    → TakesIn stream (EstablishNewAt stream cookie) old new → HandlesIn stream (CookieEchoAt header bytes) old NextChunk new
+    → TakesPossibleTurn stream (EstablishNewAt stream cookie) old new → HandlesIn stream (CookieEchoAt header bytes) old NextChunk new
 works_new stream old new header bytes cookie c t =
     record {
       outcome = t.outcome;
@@ -75,7 +75,7 @@ works_new_cut stream old es header bytes cookie c t =
     }
 
 pub works_replacing : {R : Type 0} (stream : R → Stream) (old new : View R) (header : ℕ) (bytes : List ℕ) (cookie : Cookie) → IsCase old.endpoint header bytes cookie simultaneous_init
-    → TakesIn stream (ReplaceAt stream cookie) old new → HandlesIn stream (CookieEchoAt header bytes) old NextChunk new
+    → TakesPossibleTurn stream (ReplaceAt stream cookie) old new → HandlesIn stream (CookieEchoAt header bytes) old NextChunk new
 works_replacing stream old new header bytes cookie c t =
     record {
       outcome = t.outcome;
@@ -96,7 +96,7 @@ works_replacing_cut stream old es header bytes cookie c t =
 -- ---- a restart, or its refusal
 
 pub works_restart : {R E : Type 0} (stream : R → Stream) (old : Context R) (result : Result Following E) (new : Context R) (header : ℕ) (bytes : List ℕ) (cookie : Cookie)
-    → IsCase (endpoint_of old) header bytes cookie restart → WorksOne stream (RestartWhereAt stream cookie) old result new → WorksOne stream (CookieEchoAt header bytes) old result new
+    → IsCase (endpoint_of old) header bytes cookie restart → HandlesPossibleTurn stream (RestartWhereAt stream cookie) old result new → HandlesPossibleTurn stream (CookieEchoAt header bytes) old result new
 works_restart stream old (Ok next) new header bytes cookie c t =
     record {
       outcome = t.outcome;
@@ -142,7 +142,7 @@ maintain_is e cookie (cookie_wait mine) tie header answers is h = (h, refl)
 maintain_is e cookie (cookie_echoed mine held echoed) tie header answers is h =
     let same : held.peer.tag ≡ cookie.addressee.tag = peer_of mine held tie header cookie is in (
       subst (λ (tag : ℕ). FlushAnswers (connected_after e mine held) (ack_under held tag) answers) same h,
-      ap (λ (tag : ℕ). noting (connects (link_of mine held) ∷ []) (acks_under answers (connected_after e mine held) (connected ∷ []) held tag)) same,
+      ap (λ (tag : ℕ). noting (connects (identity_of mine held) ∷ []) (acks_under answers (connected_after e mine held) (connected ∷ []) held tag)) same,
     )
 maintain_is e cookie (open_in phase mine held) tie header answers is h =
     let same : held.peer.tag ≡ cookie.addressee.tag = peer_of mine held tie header cookie is in (
@@ -165,7 +165,7 @@ maintain_turn old header bytes cookie o c turn =
     turn_of e header bytes cookie 0 maintain_existing turn.0 o c here.0 (turn.2 ∙ here.1)
 
 pub works_maintain : {R : Type 0} (stream : R → Stream) (old new : View R) (header : ℕ) (bytes : List ℕ) (cookie : Cookie) → IsCase old.endpoint header bytes cookie maintain_existing
-    → TakesIn stream MaintainAt old new → HandlesIn stream (CookieEchoAt header bytes) old NextChunk new
+    → TakesPossibleTurn stream MaintainAt old new → HandlesIn stream (CookieEchoAt header bytes) old NextChunk new
 works_maintain stream old new header bytes cookie c t =
     record {
       outcome = t.outcome;

@@ -15,7 +15,7 @@ use Rattle.dcsctp_core.specs.spec.Packet.{Introduction, cookie_echo}
 use Rattle.dcsctp_core.specs.spec.endpoint.Endpoint.{Endpoint, Core, closed, cookie_wait, cookie_echoed, open_in}
 use Rattle.dcsctp_core.specs.spec.endpoint.Outcome.{Outcome, quiet, contents_len, fits, still}
 use Rattle.dcsctp_core.specs.spec.endpoint.Following.{next_chunk}
-use Rattle.dcsctp_core.specs.spec.association.Effect.{holds, link_of}
+use Rattle.dcsctp_core.specs.spec.association.Effect.{holds, identity_of}
 use Rattle.dcsctp_core.specs.spec.association.HandshakeChanges.{held_by_init_ack}
 use Rattle.dcsctp_core.specs.spec.endpoint.FlushOutcomes.{Answer, first_ask, flush_of, flush_answered, packets_allowed}
 use Rattle.dcsctp_core.specs.spec.endpoint.HandshakeOutcomes.{awaits_cookie_ack, echo_emission, send_echo_by, accepted_init_ack_by, init_ack_by, EchoAnswers, InitAckAnswers}
@@ -29,7 +29,7 @@ use Rattle.dcsctp_core.specs.declared.state.State.{State}
 use Rattle.dcsctp_core.specs.declared.state.State.TheVariants.{Closed, CookieWait, CookieEchoed, Open}
 use Rattle.dcsctp_core.specs.View.{View, Moves, CutTurn, view_of, core_of}
 use Rattle.dcsctp_core.specs.Drawing.{long_word}
-use Rattle.dcsctp_core.specs.Handling.{TakesIn, CutIn, HandlesIn}
+use Rattle.dcsctp_core.specs.Handling.{TakesPossibleTurn, CutIn, HandlesIn}
 use Rattle.dcsctp_core.specs.Flushing.{FlushesFor, FlushCut}
 use Rattle.dcsctp_core.proofs.Composing.{behind, Draws, moves_behind, cut_behind, moves_noting, cut_noting, cut_first, cut_after}
 use Rattle.dcsctp_core.proofs.Moving.{moves_still}
@@ -60,7 +60,7 @@ unfit_is e tag cookie beyond =
 
 -- nothing is sent where nothing is echoed
 pub echoes_nothing : {R : Type 0} (stream : R → Stream) (view : View R) (core : Core) → view.endpoint.core ≡ core → AgainAnswers view.endpoint core []
-    → echo_by (flush_answered []) view.endpoint core ≡ still view.endpoint → TakesIn stream EchoAt view view
+    → echo_by (flush_answered []) view.endpoint core ≡ still view.endpoint → TakesPossibleTurn stream EchoAt view view
 echoes_nothing stream view core is allowed nothing =
     record {
       outcome = echo_by (flush_answered []) view.endpoint core;
@@ -69,13 +69,13 @@ echoes_nothing stream view core is allowed nothing =
     }
 
 echoes_at : {R : Type 0} (stream : R → Stream) (old : Context R) (state : State) → old.state ≡ state → ((echoed : CookieEchoState) → state ≡ CookieEchoed echoed → ⊥)
-    → TakesIn stream EchoAt (view_of old) (view_of old)
+    → TakesPossibleTurn stream EchoAt (view_of old) (view_of old)
 echoes_at stream old Closed is other = echoes_nothing stream (view_of old) closed (ap core_of is) refl refl
 echoes_at stream old (CookieWait wait) is other = echoes_nothing stream (view_of old) (cookie_wait wait.my) (ap core_of is) refl refl
 echoes_at stream old (CookieEchoed echoed) is other = absurd (other echoed refl)
 echoes_at stream old (Open opened) is other = echoes_nothing stream (view_of old) (core_of (Open opened)) (ap core_of is) refl refl
 
-pub echoes_elsewhere : {R : Type 0} (stream : R → Stream) (old : Context R) → ((echoed : CookieEchoState) → old.state ≡ CookieEchoed echoed → ⊥) → TakesIn stream EchoAt (view_of old) (view_of old)
+pub echoes_elsewhere : {R : Type 0} (stream : R → Stream) (old : Context R) → ((echoed : CookieEchoState) → old.state ≡ CookieEchoed echoed → ⊥) → TakesPossibleTurn stream EchoAt (view_of old) (view_of old)
 echoes_elsewhere stream old other = echoes_at stream old old.state refl other
 
 unfit_where : (b : Bool) (e : Endpoint) (tag : ℕ) (cookie : List ℕ) → b ≡ false
@@ -85,7 +85,7 @@ unfit_where false e tag cookie is = (refl, refl)
 
 -- nor where it doesn't fit
 pub echoes_unfit : {R : Type 0} (stream : R → Stream) (view : View R) (mine : Pair) (held : Held) (cookie : List ℕ) → view.endpoint.core ≡ cookie_echoed mine held cookie
-    → fits view.endpoint (echo_emission held.peer.tag cookie) ≡ false → TakesIn stream EchoAt view view
+    → fits view.endpoint (echo_emission held.peer.tag cookie) ≡ false → TakesPossibleTurn stream EchoAt view view
 echoes_unfit stream view mine held cookie is unfit =
     let none = unfit_where (fits view.endpoint (echo_emission held.peer.tag cookie)) view.endpoint held.peer.tag cookie unfit in
     echoes_nothing stream view (cookie_echoed mine held cookie) is none.0 none.1
@@ -99,7 +99,7 @@ fit_where false e tag cookie answers is allowed = absurd (cc)
 -- one that fits is in front of a flush
 pub echoes_flush : {R : Type 0} (stream : R → Stream) (old new : View R) (mine : Pair) (held : Held) (cookie : List ℕ) → old.endpoint.core ≡ cookie_echoed mine held cookie
     → fits old.endpoint (echo_emission held.peer.tag cookie) ≡ true
-    → FlushesFor stream first_ask (packets_allowed old.endpoint.options.max_burst old.endpoint.core) old (echo_emission held.peer.tag cookie) new → TakesIn stream EchoAt old new
+    → FlushesFor stream first_ask (packets_allowed old.endpoint.options.max_burst old.endpoint.core) old (echo_emission held.peer.tag cookie) new → TakesPossibleTurn stream EchoAt old new
 echoes_flush stream old new mine held cookie is fit f =
     let here = fit_where (fits old.endpoint (echo_emission held.peer.tag cookie)) old.endpoint held.peer.tag cookie f.answers fit f.allowed in
     record {
@@ -164,7 +164,7 @@ TieIs stream old tie = tie ≡ long_word (stream old.generator)
 
 pub accepts : {R : Type 0} (stream : R → Stream) (old mid new : View R) (mine : Pair) (theirs : Introduction) (cookie : List ℕ) (tie : ℕ) → TieIs stream old tie
     → mid.endpoint ≡ awaits_cookie_ack old.endpoint mine theirs cookie tie → mid.events ≡ old.events → Draws stream old (U64 tie ∷ []) mid
-    → TakesIn stream EchoAt mid new → TakesIn stream (AcceptanceAt stream mine theirs cookie) old new
+    → TakesPossibleTurn stream EchoAt mid new → TakesPossibleTurn stream (AcceptanceAt stream mine theirs cookie) old new
 accepts {R = R} stream old mid new mine theirs cookie tie drawn here same draws t =
     let e : Endpoint = awaits_cookie_ack old.endpoint mine theirs cookie tie in
     let answers : List Answer = t.turn.0 in
@@ -174,9 +174,9 @@ accepts {R = R} stream old mid new mine theirs cookie tie drawn here same draws 
     moves_behind stream old mid new (U64 tie ∷ []) [] (send_echo_by (flush_answered answers) e [] theirs.pair.tag cookie)
     (record { ports = ap (λ (x : Endpoint). ports_of x.options) here; events = same ∙ sym (append-nil old.events) }) draws m in
     let all : Moves stream old (accepted_init_ack_by (flush_answered answers) old.endpoint mine theirs (Some cookie) tie) new =
-    moves_noting stream old new (holds (link_of mine (held_by_init_ack old.endpoint.options mine theirs)) ∷ []) (send_echo_by (flush_answered answers) e (U64 tie ∷ []) theirs.pair.tag cookie) refl
+    moves_noting stream old new (holds (identity_of mine (held_by_init_ack old.endpoint.options mine theirs)) ∷ []) (send_echo_by (flush_answered answers) e (U64 tie ∷ []) theirs.pair.tag cookie) refl
     (subst (λ (o : Outcome). Moves stream old o new) (behind_where (fits e (echo_emission theirs.pair.tag cookie)) answers e (U64 tie) theirs.pair.tag cookie) b) in
-    subst (λ (word : ℕ). (answered : List Answer) × InitAckAnswers old.endpoint theirs (Some cookie) (cookie_wait mine) word answered × Moves stream old (accepted_init_ack_by (flush_answered answered) old.endpoint mine theirs (Some cookie) word) new → TakesIn stream (AcceptanceAt stream mine theirs cookie) old new)
+    subst (λ (word : ℕ). (answered : List Answer) × InitAckAnswers old.endpoint theirs (Some cookie) (cookie_wait mine) word answered × Moves stream old (accepted_init_ack_by (flush_answered answered) old.endpoint mine theirs (Some cookie) word) new → TakesPossibleTurn stream (AcceptanceAt stream mine theirs cookie) old new)
     (sym drawn) (λ h. record { outcome = accepted_init_ack_by (flush_answered h.0) old.endpoint mine theirs (Some cookie) (long_word (stream old.generator)); turn = (h.0, h.1, refl); moves = h.2 })
     (answers, a.allowed, all)
 
@@ -192,7 +192,7 @@ accepts_cut {R = R} stream old mid es mine theirs cookie tie drawn here same t =
     cut_behind old mid (U64 tie ∷ []) [] (send_echo_by (flush_answered answers) e [] theirs.pair.tag cookie) es
     (record { ports = ap (λ (x : Endpoint). ports_of x.options) here; events = same ∙ sym (append-nil old.events) }) m in
     let all : CutTurn old (accepted_init_ack_by (flush_answered answers) old.endpoint mine theirs (Some cookie) tie) es =
-    cut_noting old (holds (link_of mine (held_by_init_ack old.endpoint.options mine theirs)) ∷ []) (send_echo_by (flush_answered answers) e (U64 tie ∷ []) theirs.pair.tag cookie) es
+    cut_noting old (holds (identity_of mine (held_by_init_ack old.endpoint.options mine theirs)) ∷ []) (send_echo_by (flush_answered answers) e (U64 tie ∷ []) theirs.pair.tag cookie) es
     (subst (λ (o : Outcome). CutTurn old o es) (behind_where (fits e (echo_emission theirs.pair.tag cookie)) answers e (U64 tie) theirs.pair.tag cookie) b) in
     subst (λ (word : ℕ). (answered : List Answer) × InitAckAnswers old.endpoint theirs (Some cookie) (cookie_wait mine) word answered × CutTurn old (accepted_init_ack_by (flush_answered answered) old.endpoint mine theirs (Some cookie) word) es → CutIn (AcceptanceAt stream mine theirs cookie) old es)
     (sym drawn) (λ h. record { outcome = accepted_init_ack_by (flush_answered h.0) old.endpoint mine theirs (Some cookie) (long_word (stream old.generator)); turn = (h.0, h.1, refl); cut = h.2 })
@@ -266,7 +266,7 @@ echo_following false e words tag cookie answers = refl
 
 pub works_accepted : {R : Type 0} (stream : R → Stream) (old new : View R) (theirs : Introduction) (found : Option (List ℕ)) (cookie : List ℕ) (mine : Pair)
     → old.endpoint.core ≡ cookie_wait mine → found ≡ Some cookie
-    → TakesIn stream (AcceptanceAt stream mine theirs cookie) old new → HandlesIn stream (InitAckAt theirs found) old NextChunk new
+    → TakesPossibleTurn stream (AcceptanceAt stream mine theirs cookie) old new → HandlesIn stream (InitAckAt theirs found) old NextChunk new
 works_accepted stream old new theirs found cookie mine is has t =
     let tie : ℕ = long_word (stream old.generator) in
     let e : Endpoint = awaits_cookie_ack old.endpoint mine theirs cookie tie in

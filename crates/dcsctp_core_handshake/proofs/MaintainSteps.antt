@@ -8,7 +8,7 @@ use Rattle.dcsctp_core.specs.types.Settings.{ports_of}
 use Rattle.dcsctp_core.specs.spec.endpoint.Event.{Event, connected}
 use Rattle.dcsctp_core.specs.spec.endpoint.Endpoint.{Endpoint, Core, cookie_echoed, open_in, OpenPhase, held_in}
 use Rattle.dcsctp_core.specs.spec.endpoint.Outcome.{Outcome, noting, still}
-use Rattle.dcsctp_core.specs.spec.association.Effect.{connects, link_of}
+use Rattle.dcsctp_core.specs.spec.association.Effect.{connects, identity_of}
 use Rattle.dcsctp_core.specs.spec.endpoint.DataOutcomes.{flush_by, AnswersTo}
 use Rattle.dcsctp_core.specs.spec.endpoint.FlushOutcomes.{Answer, first_ask, draft_to, flush_of, flush_answered, packets_allowed}
 use Rattle.dcsctp_core.specs.spec.endpoint.HandshakeOutcomes.{connected_after, cookie_ack_by, CookieAckAnswers}
@@ -20,7 +20,7 @@ use Rattle.dcsctp_core.specs.declared.state.State.{State}
 use Rattle.dcsctp_core.specs.declared.state.CookieEchoState.{CookieEchoState}
 use Rattle.dcsctp_core.specs.declared.state.State.TheVariants.{CookieEchoed}
 use Rattle.dcsctp_core.specs.View.{View, Moves, CutTurn, held_of, view_of, endpoint_of, begun_heartbeats, established_from}
-use Rattle.dcsctp_core.specs.Handling.{TakesIn, CutIn, FlushAt}
+use Rattle.dcsctp_core.specs.Handling.{TakesPossibleTurn, CutIn, FlushAt}
 use Rattle.dcsctp_core.proofs.Composing.{behind, moves_behind, cut_behind, moves_noting, cut_noting, cut_first, added_one}
 use Rattle.dcsctp_core.proofs.Moving.{moves_still}
 use Rattle.dcsctp_core_handshake.specs.Handshake.{CookieAckAt}
@@ -56,16 +56,16 @@ connected_view {R = R} old events state echoed mid was added is made =
 
 -- a turn behind that
 connects_behind : {R : Type 0} (stream : R → Stream) (old mid new : View R) (mine : Pair) (held : Held) (o : Outcome) → IsConnected old mine held mid
-    → Moves stream mid o new → Moves stream old (noting (connects (link_of mine held) ∷ []) (behind [] (connected ∷ []) o)) new
+    → Moves stream mid o new → Moves stream old (noting (connects (identity_of mine held) ∷ []) (behind [] (connected ∷ []) o)) new
 connects_behind {R = R} stream old mid new mine held o c m =
-    moves_noting stream old new (connects (link_of mine held) ∷ []) (behind [] (connected ∷ []) o) refl
+    moves_noting stream old new (connects (identity_of mine held) ∷ []) (behind [] (connected ∷ []) o) refl
     (moves_behind stream old mid new [] (connected ∷ []) o (record { ports = ap (λ (e : Endpoint). ports_of e.options) c.endpoint; events = c.events })
     (record { words = c.words ∙ sym (append-nil old.words); pairs = c.pairs; drawn = ap stream c.generator }) m)
 
 connects_cut : {R : Type 0} (old mid : View R) (es : List (Event (List ℕ))) (mine : Pair) (held : Held) (o : Outcome) → IsConnected old mine held mid
-    → CutTurn mid o es → CutTurn old (noting (connects (link_of mine held) ∷ []) (behind [] (connected ∷ []) o)) es
+    → CutTurn mid o es → CutTurn old (noting (connects (identity_of mine held) ∷ []) (behind [] (connected ∷ []) o)) es
 connects_cut old mid es mine held o c cut =
-    cut_noting old (connects (link_of mine held) ∷ []) (behind [] (connected ∷ []) o) es
+    cut_noting old (connects (identity_of mine held) ∷ []) (behind [] (connected ∷ []) o) es
     (cut_behind old mid [] (connected ∷ []) o es (record { ports = ap (λ (e : Endpoint). ports_of e.options) c.endpoint; events = c.events }) cut)
 
 -- ---- COOKIE ACK came
@@ -93,7 +93,7 @@ ack_turn e mine held cookie answers is allowed = (
 )
 
 pub cookie_acked : {R : Type 0} (stream : R → Stream) (old mid new : View R) (mine : Pair) (held : Held) (cookie : List ℕ) → old.endpoint.core ≡ cookie_echoed mine held cookie
-    → IsConnected old mine held mid → TakesIn stream FlushAt mid new → TakesIn stream CookieAckAt old new
+    → IsConnected old mine held mid → TakesPossibleTurn stream FlushAt mid new → TakesPossibleTurn stream CookieAckAt old new
 cookie_acked {R = R} stream old mid new mine held cookie is c t =
     let answers : List Answer = t.turn.0 in
     let f : FlushedThere (connected_after old.endpoint mine held) answers held t.outcome = flushed_there mid (connected_after old.endpoint mine held) held t.outcome t.turn c.endpoint refl in
@@ -127,7 +127,7 @@ cookie_ack_unmade old es mine held cookie is same =
 
 -- in another state
 pub cookie_ack_none : {R : Type 0} (stream : R → Stream) (view : View R) (core : Core) → view.endpoint.core ≡ core → CookieAckAnswers view.endpoint core []
-    → cookie_ack_by (flush_answered []) view.endpoint core ≡ still view.endpoint → TakesIn stream CookieAckAt view view
+    → cookie_ack_by (flush_answered []) view.endpoint core ≡ still view.endpoint → TakesPossibleTurn stream CookieAckAt view view
 cookie_ack_none stream view core is allowed nothing =
     record {
       outcome = cookie_ack_by (flush_answered []) view.endpoint core;
@@ -145,7 +145,7 @@ maintain_turn e core answers is allowed = (
 )
 
 pub maintains : {R : Type 0} (stream : R → Stream) (old mid new : View R) (mine : Pair) (held : Held) (cookie : List ℕ) → old.endpoint.core ≡ cookie_echoed mine held cookie
-    → IsConnected old mine held mid → TakesIn stream AcknowledgementAt mid new → TakesIn stream MaintainAt old new
+    → IsConnected old mine held mid → TakesPossibleTurn stream AcknowledgementAt mid new → TakesPossibleTurn stream MaintainAt old new
 maintains {R = R} stream old mid new mine held cookie is c t =
     let e : Endpoint = connected_after old.endpoint mine held in
     let answers : List Answer = t.turn.0 in
@@ -181,7 +181,7 @@ maintain_unmade old es mine held cookie is same =
 
 -- where it is established
 pub maintains_open : {R : Type 0} (stream : R → Stream) (old new : View R) (phase : OpenPhase) (mine : Pair) (held : Held) → old.endpoint.core ≡ open_in phase mine held
-    → TakesIn stream AcknowledgementAt old new → TakesIn stream MaintainAt old new
+    → TakesPossibleTurn stream AcknowledgementAt old new → TakesPossibleTurn stream MaintainAt old new
 maintains_open {R = R} stream old new phase mine held is t =
     let answers : List Answer = t.turn.0 in
     let a : AcknowledgedThere old.endpoint answers held t.outcome = there old old.endpoint held t.outcome t.turn refl (ap held_in is) in
@@ -198,7 +198,7 @@ maintains_open_cut {R = R} old es phase mine held is t =
 
 -- where no peer is held
 pub maintains_none : {R : Type 0} (stream : R → Stream) (view : View R) (core : Core) → view.endpoint.core ≡ core → MaintainedAnswers view.endpoint core []
-    → maintained_by (flush_answered []) view.endpoint core ≡ still view.endpoint → TakesIn stream MaintainAt view view
+    → maintained_by (flush_answered []) view.endpoint core ≡ still view.endpoint → TakesPossibleTurn stream MaintainAt view view
 maintains_none stream view core is allowed nothing =
     let turn = maintain_turn view.endpoint core [] is allowed in
     record {

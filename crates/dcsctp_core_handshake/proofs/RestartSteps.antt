@@ -3,7 +3,7 @@ use Rattle.std.proofs.Common.{◌≡◌, ◌==◌, ◌≤◌, ℕ, Bool, true, f
 use Rattle.std.proofs.lemmas.List.{append-nil}
 use Rattle.rand_core.specs.Stream.{Stream}
 use Rattle.dcsctp_core.specs.wire.Content.{CauseContent, shutdown_ack_chunk, error_chunk, cookie_received_while_shutting_down}
-use Rattle.dcsctp_core.specs.wire.Spelling.{chunk_bytes, other_bytes, list_bytes, parameter_bytes, parameters_len}
+use Rattle.dcsctp_core.specs.wire.Spelling.{chunk_bytes, other_bytes, parameter_chunk_bytes, parameter_bytes, parameters_len}
 use Rattle.dcsctp_core.specs.wire_build.Building.{Building, bytes_remaining}
 use Rattle.dcsctp_core.specs.types.declared.association.Held.{Held}
 use Rattle.dcsctp_core.specs.types.declared.kinds.ErrorKind.TheVariants.{WrongSequence}
@@ -13,7 +13,7 @@ use Rattle.dcsctp_core.specs.spec.Cookie.{Cookie}
 use Rattle.dcsctp_core.specs.spec.endpoint.Event.{Event, sent, error}
 use Rattle.dcsctp_core.specs.spec.Packet.{emission_bytes}
 use Rattle.dcsctp_core.specs.spec.endpoint.Endpoint.{Endpoint, Core, closed, cookie_wait, cookie_echoed, open_in, established, shutdown_pending, shutdown_sent, shutdown_received, shutdown_ack_sent, held_in}
-use Rattle.dcsctp_core.specs.spec.endpoint.Outcome.{Outcome, counted, reports}
+use Rattle.dcsctp_core.specs.spec.endpoint.Outcome.{Outcome, packet_counted, reports}
 use Rattle.dcsctp_core.specs.spec.endpoint.FlushOutcomes.{Answer, FlushKind, flush_answered, is_none}
 use Rattle.dcsctp_core.specs.spec.endpoint.CookieEchoOutcomes.{shutting_down_text, shutting_down_emission, refused_restart_outcome, restart_by, restart_by_where, queue_begun, EstablishAnswers, RestartAnswers}
 use Rattle.dcsctp_core.specs.declared.context.Context.{Context}
@@ -21,7 +21,7 @@ use Rattle.dcsctp_core.specs.declared.following.Following.TheVariants.{NextChunk
 use Rattle.dcsctp_core.specs.declared.transmission_control_block.TransmissionControlBlock.{TransmissionControlBlock}
 use Rattle.dcsctp_core.specs.View.{View, Moves, CutTurn, tcb_of, held_of, view_of, endpoint_of}
 use Rattle.dcsctp_core.specs.Drawing.{long_word}
-use Rattle.dcsctp_core.specs.Handling.{TakesIn, Handles, HandlesIn, report_turn}
+use Rattle.dcsctp_core.specs.Handling.{TakesPossibleTurn, IsHandledTurn, HandlesIn, report_turn}
 use Rattle.dcsctp_core.specs.Flushing.{empty_packet, packet_for, sent_where}
 use Rattle.dcsctp_core.proofs.Composing.{cut_first, cut_after}
 use Rattle.dcsctp_core_handshake.specs.Echoes.{RestartAt, RestartWhereAt, awaits_complete, refused_restart_to, refused_restart_turn}
@@ -41,7 +41,7 @@ unfolding other_bytes
 ack_len = refl
 
 error_len : length error_bytes ≡ 8
-unfolding list_bytes parameter_bytes parameters_len
+unfolding parameter_chunk_bytes parameter_bytes parameters_len
 error_len = refl
 
 -- There is room for both in every packet.
@@ -79,7 +79,7 @@ refusal_packet options held causes empty first packet cause was one two =
 -- It goes out.
 refusal_sent : {R : Type 0} (old mid : View R) (held : Held) (packet : Building) (is_sent : Bool) → packet ≡ packet_for old.endpoint.options (shutting_down_emission held)
     → is_sent ≡ not (is_none packet.body) → mid ≡ sent_where is_sent packet old
-    → mid ≡ record old { endpoint = counted old.endpoint; events = old.events ++ sent (emission_bytes (ports_of old.endpoint.options) (shutting_down_emission held)) ∷ [] }
+    → mid ≡ record old { endpoint = packet_counted old.endpoint; events = old.events ++ sent (emission_bytes (ports_of old.endpoint.options) (shutting_down_emission held)) ∷ [] }
 unfolding other_bytes
 refusal_sent {R = R} old mid held packet is_sent packed goes is =
     let some : is_sent ≡ true = goes ∙ ap (λ (p : Building). not (is_none p.body)) packed in
@@ -88,7 +88,7 @@ refusal_sent {R = R} old mid held packet is_sent packed goes is =
 -- ---- a restart is refused
 
 refused_moves : {R : Type 0} (stream : R → Stream) (old mid new : View R) (held : Held)
-    → mid ≡ record old { endpoint = counted old.endpoint; events = old.events ++ sent (emission_bytes (ports_of old.endpoint.options) (shutting_down_emission held)) ∷ [] }
+    → mid ≡ record old { endpoint = packet_counted old.endpoint; events = old.events ++ sent (emission_bytes (ports_of old.endpoint.options) (shutting_down_emission held)) ∷ [] }
     → Moves stream mid (reports mid.endpoint WrongSequence shutting_down_text) new → Moves stream old (refused_restart_outcome old.endpoint held) new
 refused_moves {R = R} stream old mid new held is m =
     let bytes : List ℕ = emission_bytes (ports_of old.endpoint.options) (shutting_down_emission held) in
@@ -105,11 +105,11 @@ pub refuses : {R : Type 0} (stream : R → Stream) (old : Context R) (tcb : Tran
     → Some tcb ≡ tcb_of old.state → packet ≡ packet_for old.options (shutting_down_emission (held_of tcb))
     → is_sent ≡ not (is_none packet.body) → mid ≡ sent_where is_sent packet (view_of old)
     → Moves stream mid (report_turn WrongSequence shutting_down_text mid) new
-    → Handles stream (view_of old) (refused_restart_turn (view_of old)) DroppedRest new
+    → IsHandledTurn stream (view_of old) (refused_restart_turn (view_of old)) DroppedRest new
 refuses {R = R} stream old tcb mid new packet is_sent kept packed goes is m =
     let e : Endpoint = endpoint_of old in
     let held : Held = held_of tcb in
-    subst (λ (peer : Option Held). Handles stream (view_of old) (refused_restart_to e peer) DroppedRest new) (sym (held_by_tcb old.state tcb kept))
+    subst (λ (peer : Option Held). IsHandledTurn stream (view_of old) (refused_restart_to e peer) DroppedRest new) (sym (held_by_tcb old.state tcb kept))
     (record { moves = refused_moves stream (view_of old) mid new held (refusal_sent (view_of old) mid held packet is_sent packed goes is) m; following = refl })
 
 -- Its error wasn't reported.
@@ -158,7 +158,7 @@ anew_turn stream old cookie o waits turn =
     let here = anew_where (flush_answered turn.0) old.endpoint cookie (long_word (stream old.generator)) old.endpoint.core turn.0 waits turn.1 in (turn.0, here.0, turn.2 ∙ here.1)
 
 pub restarts_anew : {R : Type 0} (stream : R → Stream) (old new : View R) (cookie : Cookie) → awaits_complete old.endpoint.core ≡ false
-    → TakesIn stream (RestartAt stream cookie) old new → HandlesIn stream (RestartWhereAt stream cookie) old NextChunk new
+    → TakesPossibleTurn stream (RestartAt stream cookie) old new → HandlesIn stream (RestartWhereAt stream cookie) old NextChunk new
 restarts_anew stream old new cookie waits t =
     record {
       outcome = t.outcome;

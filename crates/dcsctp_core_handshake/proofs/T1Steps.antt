@@ -6,7 +6,7 @@ use Rattle.dcsctp_core.specs.types.declared.association.Pair.{Pair}
 use Rattle.dcsctp_core.specs.types.declared.association.Held.{Held}
 use Rattle.dcsctp_core.specs.spec.endpoint.Event.{Event}
 use Rattle.dcsctp_core.specs.spec.endpoint.Endpoint.{Endpoint, Core, cookie_wait, cookie_echoed}
-use Rattle.dcsctp_core.specs.spec.endpoint.Timers.{RunningTimer, is_due, is_restarted, going_on}
+use Rattle.dcsctp_core.specs.spec.endpoint.Timers.{RunningTimer, is_timer_expired, is_restarted, going_on}
 use Rattle.dcsctp_core.specs.spec.endpoint.Outcome.{Outcome, still, emits}
 use Rattle.dcsctp_core.specs.spec.endpoint.TimeTurns.{deadline_of, has_come, has_restart, t1_timer}
 use Rattle.dcsctp_core.specs.spec.endpoint.Turn.{ActTurn}
@@ -19,7 +19,7 @@ use Rattle.dcsctp_core.specs.declared.context.Context.{Context}
 use Rattle.dcsctp_core.specs.declared.expiry.Expiry.TheVariants.{Again, GaveUp}
 use Rattle.dcsctp_core.specs.declared.state.State.{State}
 use Rattle.dcsctp_core.specs.declared.state.State.TheVariants.{Closed, CookieWait, CookieEchoed, Open}
-use Rattle.dcsctp_core.specs.Handling.{TakesIn, CutIn}
+use Rattle.dcsctp_core.specs.Handling.{TakesPossibleTurn, CutIn}
 use Rattle.dcsctp_core.specs.Timing.{expiry_where, expiry_of, t1_told, ExpiryTurn, is_timer_due}
 use Rattle.dcsctp_core.specs.View.{View, Moves, view_of, endpoint_of, core_of, t1_of}
 use Rattle.dcsctp_core.proofs.Composing.{cut_first}
@@ -48,8 +48,8 @@ pub record IsAgain (moment : ℕ) (t1 : Option RunningTimer) : Type 0 where
 again_is : (moment : ℕ) (t1 : Option RunningTimer) → Again ≡ expiry_of moment t1 → IsAgain moment t1
 again_is moment None is = absurd (cc)
 again_is moment (Some timer) is =
-    let both : (is_due moment timer ≡ true) × (is_restarted timer ≡ true) = again_both (is_due moment timer) (is_restarted timer) is in
-    record { due = both.0; restarts = both.1; running = goes_on (is_due moment timer) (is_restarted timer) timer (going_on moment timer) both.0 both.1 }
+    let both : (is_timer_expired moment timer ≡ true) × (is_restarted timer ≡ true) = again_both (is_timer_expired moment timer) (is_restarted timer) is in
+    record { due = both.0; restarts = both.1; running = goes_on (is_timer_expired moment timer) (is_restarted timer) timer (going_on moment timer) both.0 both.1 }
 
 gave_up_both : (due restarts : Bool) → GaveUp ≡ expiry_where due restarts → (due ≡ true) × (restarts ≡ false)
 gave_up_both true true is = absurd (cc)
@@ -59,7 +59,7 @@ gave_up_both false restarts is = absurd (cc)
 -- It is due, and doesn't go on.
 gave_up_is : (moment : ℕ) (t1 : Option RunningTimer) → GaveUp ≡ expiry_of moment t1 → (has_come moment (deadline_of t1) ≡ true) × (has_restart t1 ≡ false)
 gave_up_is moment None is = absurd (cc)
-gave_up_is moment (Some timer) is = gave_up_both (is_due moment timer) (is_restarted timer) is
+gave_up_is moment (Some timer) is = gave_up_both (is_timer_expired moment timer) (is_restarted timer) is
 
 -- ---- the packet goes out again
 
@@ -74,7 +74,7 @@ again_turn view core answers is allowed = (
 
 -- where nothing is awaited
 pub again_nothing : {R : Type 0} (stream : R → Stream) (view : View R) (core : Core) → view.endpoint.core ≡ core → AgainAnswers view.endpoint core []
-    → again_by (flush_answered []) view.endpoint core ≡ still view.endpoint → TakesIn stream AgainAt view view
+    → again_by (flush_answered []) view.endpoint core ≡ still view.endpoint → TakesPossibleTurn stream AgainAt view view
 again_nothing stream view core is allowed nothing =
     record {
       outcome = again_by (flush_answered []) view.endpoint core;
@@ -84,7 +84,7 @@ again_nothing stream view core is allowed nothing =
 
 -- the INIT
 pub again_init : {R : Type 0} (stream : R → Stream) (old new : View R) (mine : Pair) → old.endpoint.core ≡ cookie_wait mine
-    → Moves stream old (emits old.endpoint [] (init_emission old.endpoint mine)) new → TakesIn stream AgainAt old new
+    → Moves stream old (emits old.endpoint [] (init_emission old.endpoint mine)) new → TakesPossibleTurn stream AgainAt old new
 again_init stream old new mine is m = record { outcome = emits old.endpoint [] (init_emission old.endpoint mine); turn = again_turn old (cookie_wait mine) [] is refl; moves = m }
 
 pub again_init_cut : {R : Type 0} (old new : View R) (mine : Pair) → old.endpoint.core ≡ cookie_wait mine → new ≡ old → CutIn AgainAt old new.events
@@ -101,7 +101,7 @@ echo_is old mine held cookie o is turn = (
 )
 
 pub again_echo : {R : Type 0} (stream : R → Stream) (old new : View R) (mine : Pair) (held : Held) (cookie : List ℕ) → old.endpoint.core ≡ cookie_echoed mine held cookie
-    → TakesIn stream EchoAt old new → TakesIn stream AgainAt old new
+    → TakesPossibleTurn stream EchoAt old new → TakesPossibleTurn stream AgainAt old new
 again_echo stream old new mine held cookie is t = record { outcome = t.outcome; turn = echo_is old mine held cookie t.outcome is t.turn; moves = t.moves }
 
 pub again_echo_cut : {R : Type 0} (old : View R) (es : List (Event (List ℕ))) (mine : Pair) (held : Held) (cookie : List ℕ) → old.endpoint.core ≡ cookie_echoed mine held cookie
@@ -140,7 +140,7 @@ again_expiry old o is turn =
     subst (λ (b : Bool). ActTurn e (t1_expires b) o) (sym (again_is old.moment (t1_of old.state) is).restarts) at_true
 
 pub t1_again : {R : Type 0} (stream : R → Stream) (old : Context R) (new : View R) → Again ≡ expiry_of old.moment (t1_of old.state)
-    → TakesIn stream AgainAt (view_of (told old)) new → (is_timer_due (endpoint_of old) t1_timer ≡ true) × TakesIn stream (ExpiryTurn t1_timer) (view_of old) new
+    → TakesPossibleTurn stream AgainAt (view_of (told old)) new → (is_timer_due (endpoint_of old) t1_timer ≡ true) × TakesPossibleTurn stream (ExpiryTurn t1_timer) (view_of old) new
 t1_again stream old new is t =
     let m = t.moves in (
       (again_is old.moment (t1_of old.state) is).due,
@@ -180,7 +180,7 @@ gives_up_turn old is =
 
 pub t1_gave_up : {R : Type 0} (stream : R → Stream) (old : Context R) (new : View R) → GaveUp ≡ expiry_of old.moment (t1_of old.state)
     → Moves stream (view_of (told old)) (t1_gives_up_outcome (endpoint_of (told old)) (core_of (told old).state)) new
-    → (is_timer_due (endpoint_of old) t1_timer ≡ true) × TakesIn stream (ExpiryTurn t1_timer) (view_of old) new
+    → (is_timer_due (endpoint_of old) t1_timer ≡ true) × TakesPossibleTurn stream (ExpiryTurn t1_timer) (view_of old) new
 t1_gave_up stream old new is m = (
   (gave_up_is old.moment (t1_of old.state) is).0,
   record {

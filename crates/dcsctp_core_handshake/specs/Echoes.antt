@@ -8,7 +8,7 @@ use Rattle.dcsctp_core.specs.spec.Packet.{Emission, cookie_ack}
 use Rattle.dcsctp_core.specs.spec.queues.SendQueue.{SendQueueState}
 use Rattle.dcsctp_core.specs.spec.endpoint.Endpoint.{Endpoint, Core, closed, cookie_wait, cookie_echoed, open_in, shutdown_ack_sent, held_in}
 use Rattle.dcsctp_core.specs.spec.endpoint.Outcome.{Outcome, still, noting}
-use Rattle.dcsctp_core.specs.spec.association.Effect.{connects, link_of}
+use Rattle.dcsctp_core.specs.spec.association.Effect.{connects, identity_of}
 use Rattle.dcsctp_core.specs.spec.endpoint.FlushOutcomes.{Answer, FlushAnswers, FlushKind, flush_answered}
 use Rattle.dcsctp_core.specs.spec.endpoint.HandshakeOutcomes.{connected_after}
 use Rattle.dcsctp_core.specs.spec.endpoint.CookieEchoOutcomes.{refused_echo_outcome, refused_restart_outcome, restart_by_where, RestartAnswers, established_by, queue_kept, queue_where, queue_begun, establish_by, EstablishAnswers}
@@ -27,9 +27,9 @@ abbrev pub acknowledges_by : FlushKind → Endpoint → Held → List (Event Emi
 acknowledges_by flush e held events = flush e [] events (held.capabilities.zero_checksum_method.0 == 0) held.peer.tag (cookie_ack ∷ [])
 
 -- to the peer, if it is known
-abbrev pub acknowledged_by : FlushKind → Endpoint → Option Held → Outcome
-acknowledged_by flush e None = still e
-acknowledged_by flush e (Some held) = acknowledges_by flush e held []
+abbrev pub peer_acknowledged : FlushKind → Endpoint → Option Held → Outcome
+peer_acknowledged flush e None = still e
+peer_acknowledged flush e (Some held) = acknowledges_by flush e held []
 
 abbrev pub AcknowledgedAnswers : Endpoint → Option Held → List Answer → Type 0
 AcknowledgedAnswers e None answers = answers ≡ []
@@ -38,7 +38,7 @@ AcknowledgedAnswers e (Some held) answers = FlushAnswers e (cookie_ack_to held) 
 abbrev pub AcknowledgementAt : {R : Type 0} → View R → Outcome → Type 0
 AcknowledgementAt view o =
     (answers : List Answer) × AcknowledgedAnswers view.endpoint (held_in view.endpoint.core) answers
-    × (o ≡ acknowledged_by (flush_answered answers) view.endpoint (held_in view.endpoint.core))
+    × (o ≡ peer_acknowledged (flush_answered answers) view.endpoint (held_in view.endpoint.core))
 
 -- ---- a cookie that makes an association
 
@@ -76,7 +76,7 @@ abbrev pub maintained_by : FlushKind → Endpoint → Core → Outcome
 maintained_by flush e closed = still e
 maintained_by flush e (cookie_wait mine) = still e
 maintained_by flush e (cookie_echoed mine held echoed) =
-    noting (connects (link_of mine held) ∷ []) (acknowledges_by flush (connected_after e mine held) held (connected ∷ []))
+    noting (connects (identity_of mine held) ∷ []) (acknowledges_by flush (connected_after e mine held) held (connected ∷ []))
 maintained_by flush e (open_in phase mine held) = acknowledges_by flush e held []
 
 abbrev pub MaintainedAnswers : Endpoint → Core → List Answer → Type 0

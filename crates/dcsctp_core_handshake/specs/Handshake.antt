@@ -9,7 +9,7 @@ use Rattle.dcsctp_core.specs.types.Offer.{offer_of, negotiated}
 use Rattle.dcsctp_core.specs.spec.Packet.{Introduction}
 use Rattle.dcsctp_core.specs.spec.endpoint.Endpoint.{Endpoint, Core, closed, cookie_wait, cookie_echoed, open_in, held_in}
 use Rattle.dcsctp_core.specs.spec.endpoint.Outcome.{Outcome, still, emits}
-use Rattle.dcsctp_core.specs.spec.endpoint.HandshakeOutcomes.{tag_from, pair_from, init_outcome, renewed_outcome, answer_outcome, awaits_init_ack, connect_outcome, init_emission, send_echo_by, accepted_init_ack_by, abort_emission, refused_init_ack_outcome, InitAckAnswers, InitAckTurn, CookieAckTurn}
+use Rattle.dcsctp_core.specs.spec.endpoint.HandshakeOutcomes.{tag_from, pair_from, init_outcome, renewed_pair_outcome, answer_outcome, awaits_init_ack, connect_outcome, init_emission, send_echo_by, accepted_init_ack_by, abort_emission, refused_init_ack_outcome, InitAckAnswers, InitAckTurn, CookieAckTurn}
 use Rattle.dcsctp_core.specs.spec.endpoint.CookieEchoOutcomes.{CookieEchoTurn}
 use Rattle.dcsctp_core.specs.spec.endpoint.FlushOutcomes.{Answer, FlushKind, flush_answered}
 use Rattle.dcsctp_core.specs.spec.endpoint.TimerOutcomes.{AgainAnswers}
@@ -45,12 +45,12 @@ DrawsPair stream old (Err error) new = OnlyDraws old new
 -- ---- INIT
 
 -- An INIT is answered with this pair and tie tag.
-abbrev pub answer_turn : {R : Type 0} → Introduction → Pair → ℕ → View R → Outcome
-answer_turn theirs mine tie view = answer_outcome view.endpoint theirs [] mine tie
+abbrev pub init_answer_turn : {R : Type 0} → Introduction → Pair → ℕ → View R → Outcome
+init_answer_turn theirs mine tie view = answer_outcome view.endpoint theirs [] mine tie
 
-abbrev pub renewed_where : Endpoint → Option Held → Introduction → ℕ → Outcome
-renewed_where e None theirs word = still e
-renewed_where e (Some held) theirs word = renewed_outcome e theirs word
+abbrev pub renewed_pair_where : Endpoint → Option Held → Introduction → ℕ → Outcome
+renewed_pair_where e None theirs word = still e
+renewed_pair_where e (Some held) theirs word = renewed_pair_outcome e theirs word
 
 -- with the words that the generator gives next
 abbrev pub init_turn : {R : Type 0} → (R → Stream) → Introduction → View R → Outcome
@@ -58,7 +58,7 @@ init_turn stream theirs view = init_outcome view.endpoint theirs view.endpoint.c
 
 -- while an association is open, with the word that the generator gives next
 abbrev pub renewed_turn : {R : Type 0} → (R → Stream) → Introduction → View R → Outcome
-renewed_turn stream theirs view = renewed_where view.endpoint (held_in view.endpoint.core) theirs (first_word (stream view.generator))
+renewed_turn stream theirs view = renewed_pair_where view.endpoint (held_in view.endpoint.core) theirs (first_word (stream view.generator))
 
 -- ---- connect
 
@@ -69,7 +69,7 @@ send_init_turn mine view = emits view.endpoint [] (init_emission view.endpoint m
 abbrev pub awaiting : Endpoint → Pair → Endpoint
 awaiting e mine =
     let after : Endpoint = awaits_init_ack e mine in
-    record after { tie = 0; outstanding = None; timers = record after.timers { t2 = None; reconfiguration = None }; below = record e.below { transfer = None } }
+    record after { tie = 0; outstanding = None; timers = record after.timers { t2 = None; reconfiguration = None }; queues = record e.queues { transfer = None } }
 
 abbrev pub connect_turn : {R : Type 0} → (R → Stream) → View R → Outcome
 connect_turn stream view = connect_outcome view.endpoint view.endpoint.core (first_word (stream view.generator)) (second_word (stream view.generator))
@@ -81,8 +81,8 @@ abbrev pub missing_cookie_turn : {R : Type 0} → ℕ → View R → Outcome
 missing_cookie_turn tag view = emits view.endpoint [] (abort_emission tag)
 
 -- An INIT ACK of this tag has no cookie.
-abbrev pub refusal_turn : {R : Type 0} → ℕ → View R → Outcome
-refusal_turn tag view = refused_init_ack_outcome view.endpoint tag
+abbrev pub init_ack_refusal_turn : {R : Type 0} → ℕ → View R → Outcome
+init_ack_refusal_turn tag view = refused_init_ack_outcome view.endpoint tag
 
 -- The cookie that is echoed, if one is, is sent in front of a flush.
 abbrev pub echo_by : FlushKind → Endpoint → Core → Outcome

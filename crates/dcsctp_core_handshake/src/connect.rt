@@ -9,8 +9,8 @@ ghost use Rattle.dcsctp_core.specs.spec.Packet.{introduction_in, cookie_in};
 ghost use Rattle.dcsctp_core.specs.spec.endpoint.HandshakeOutcomes.{implementation_of};
 ghost use Rattle.dcsctp_core.specs.api.Calls.{is_closed};
 ghost use Rattle.dcsctp_core.specs.View.{t2_of, core_of, view_of, endpoint_of};
-ghost use Rattle.dcsctp_core.specs.Handling.{Tries, TriesDrawing, Takes, TakesOne, WorksOne};
-ghost use Rattle.dcsctp_core_handshake.specs.Handshake.{send_init_turn, awaiting, connect_turn, missing_cookie_turn, refusal_turn, EchoAt, AcceptanceAt, InitAckAt, CookieAckAt, peer_by_init_ack};
+ghost use Rattle.dcsctp_core.specs.Handling.{Tries, TriesDrawing, TakesTurn, TakesOne, HandlesPossibleTurn};
+ghost use Rattle.dcsctp_core_handshake.specs.Handshake.{send_init_turn, awaiting, connect_turn, missing_cookie_turn, init_ack_refusal_turn, EchoAt, AcceptanceAt, InitAckAt, CookieAckAt, peer_by_init_ack};
 
 use crate::init::draw_pair;
 use crate::parameters::{introduction, state_cookie};
@@ -116,7 +116,7 @@ fn send_missing_cookie<R: Rng>(context: &mut Context<R>, tag: u32) -> Result<(),
 /// `Err`: an allocation failed; the first of its events may already have been added.
 fn refuse_init_ack<R: Rng>(context: &mut Context<R>, tag: u32) -> Result<(), AllocError>
     requires { is_closed (core_of context.old.state) ≡ false }
-    ensures { Takes R.stream (refusal_turn tag) context.old result context.new }
+    ensures { TakesTurn R.stream (init_ack_refusal_turn tag) context.old result context.new }
 {
     let message = String::from_str(context.alloc, NO_COOKIE)?;
     send_missing_cookie(context, tag)?;
@@ -223,7 +223,7 @@ pub fn handle_init_ack<R: Rng>(
     context: &mut Context<R>,
     init_ack: &InitChunk<'_>,
 ) -> Result<Following, AllocError>
-    ensures { WorksOne R.stream (InitAckAt (introduction_in (init_content init_ack.now))
+    ensures { HandlesPossibleTurn R.stream (InitAckAt (introduction_in (init_content init_ack.now))
         (cookie_in (init_content init_ack.now).parameters)) context.old result context.new }
 {
     let my = match &context.state {

@@ -4,7 +4,7 @@ ghost use Rattle.std.specs.Prelude.{◌≡◌, [], ◌∷◌, IfOk, map};
 ghost use Rattle.dcsctp_core.specs.wire.Content.{cause_content, cookie_received_while_shutting_down};
 ghost use Rattle.dcsctp_core.specs.api.Cookie.{cookie_of};
 ghost use Rattle.dcsctp_core.specs.View.{core_of, view_of, endpoint_of};
-ghost use Rattle.dcsctp_core.specs.Handling.{Tries, TakesOne, Works, WorksOne};
+ghost use Rattle.dcsctp_core.specs.Handling.{Tries, TakesOne, HandlesTurn, HandlesPossibleTurn};
 ghost use Rattle.dcsctp_core_handshake.specs.Handshake.{CookieEchoAt};
 ghost use Rattle.dcsctp_core_handshake.specs.Echoes.{awaits_complete, established_with, AcknowledgementAt, EstablishAt, EstablishNewAt, ReplaceAt, RestartAt, MaintainAt, RestartWhereAt, refuse_turn, refused_restart_turn};
 
@@ -126,7 +126,7 @@ fn shutting_down_error(alloc: Global) -> Result<ErrorChunk<'static>, AllocError>
 //
 // `Err`: an allocation failed; the first of its events may already have been added.
 fn refuse_restart<R: Rng>(context: &mut Context<R>) -> Result<Following, AllocError>
-    ensures { Works R.stream refused_restart_turn context.old result context.new }
+    ensures { HandlesTurn R.stream refused_restart_turn context.old result context.new }
 {
     let Some(tcb) = context.state.tcb() else {
         return Ok(Following::NextChunk);
@@ -162,7 +162,7 @@ fn restart_where_open<R: Rng>(
     context: &mut Context<R>,
     cookie: &StateCookie,
 ) -> Result<Following, AllocError>
-    ensures { WorksOne R.stream (RestartWhereAt R.stream (cookie_of cookie.now)) context.old result
+    ensures { HandlesPossibleTurn R.stream (RestartWhereAt R.stream (cookie_of cookie.now)) context.old result
         context.new }
 {
     if awaits_complete(&context.state) {
@@ -202,7 +202,7 @@ pub fn handle_cookie_echo<R: Rng>(
     header_tag: u32,
     chunk: &CookieEchoChunk<'_>,
 ) -> Result<Following, AllocError>
-    ensures { WorksOne R.stream (CookieEchoAt header_tag chunk.now.cookie.now) context.old result
+    ensures { HandlesPossibleTurn R.stream (CookieEchoAt header_tag chunk.now.cookie.now) context.old result
         context.new }
 {
     let cookie = match StateCookie::from_bytes(chunk.cookie) {

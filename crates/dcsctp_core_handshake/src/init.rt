@@ -3,7 +3,7 @@
 ghost use Rattle.dcsctp_core.specs.wire.Content.{init_content};
 ghost use Rattle.dcsctp_core.specs.spec.Packet.{introduction_in};
 ghost use Rattle.dcsctp_core.specs.Handling.{Tries, TriesDrawing};
-ghost use Rattle.dcsctp_core_handshake.specs.Handshake.{DrawsTag, DrawsPair, answer_turn, init_turn, renewed_turn};
+ghost use Rattle.dcsctp_core_handshake.specs.Handshake.{DrawsTag, DrawsPair, init_answer_turn, init_turn, renewed_turn};
 
 use crate::parameters::introduction;
 use dcsctp_core::api::{Capabilities, Pair, StateCookie};
@@ -45,7 +45,7 @@ fn send_init_ack<R: Rng>(
     pair: Pair,
     tie_tag: u64,
 ) -> Result<(), AllocError>
-    ensures { Tries R.stream (answer_turn (introduction_in (init_content init.now)) pair tie_tag)
+    ensures { Tries R.stream (init_answer_turn (introduction_in (init_content init.now)) pair tie_tag)
         context.old result context.new }
 {
     let peer_capabilities = Capabilities::from_parameters(

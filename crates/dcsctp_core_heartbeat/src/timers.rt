@@ -5,7 +5,7 @@ ghost use Rattle.std.specs.Int.{w32, to_be_bytes};
 ghost use Rattle.dcsctp_core.specs.wire.Content.{heartbeat_chunk, heartbeat_info};
 ghost use Rattle.dcsctp_core.specs.spec.endpoint.TimeTurns.{own_timer};
 ghost use Rattle.dcsctp_core.specs.spec.endpoint.OwnTimers.{heartbeat_interval, heartbeat_timeout};
-ghost use Rattle.dcsctp_core.specs.Handling.{Takes, Emits};
+ghost use Rattle.dcsctp_core.specs.Handling.{TakesTurn, Emits};
 ghost use Rattle.dcsctp_core.specs.Timing.{Expires, ExpiresAlways};
 ghost use Rattle.dcsctp_core_heartbeat.specs.Heartbeats.{beat_turn};
 
@@ -37,7 +37,7 @@ fn emit_heartbeat<R: Rng>(
 // Sends the next HEARTBEAT to the peer, if it is known. `Err`: an allocation failed; the first of its events
 // may already have been added.
 fn send_heartbeat<R: Rng>(context: &mut Context<R>) -> Result<(), AllocError>
-    ensures { Takes R.stream beat_turn context.old result context.new }
+    ensures { TakesTurn R.stream beat_turn context.old result context.new }
 {
     match context.state.tcb() {
         None => {}

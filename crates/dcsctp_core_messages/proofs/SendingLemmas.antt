@@ -13,7 +13,7 @@ use Rattle.dcsctp_core.specs.api.declared.errors.BatchSendError.{BatchSendError}
 use Rattle.dcsctp_core.specs.api.Messages.{refused_in, IsBatchAnswer}
 use Rattle.dcsctp_core.specs.declared.context.Context.{Context}
 use Rattle.dcsctp_core.specs.View.{View, view_of, Moves, CutTurn}
-use Rattle.dcsctp_core.specs.Handling.{TakesIn, CutIn, FlushAt}
+use Rattle.dcsctp_core.specs.Handling.{TakesPossibleTurn, CutIn, FlushAt}
 use Rattle.dcsctp_core.proofs.Composing.{cut_longer}
 use Rattle.dcsctp_core.proofs.FlushLemmas.{moves_next}
 use Rattle.dcsctp_core.proofs.Moving.{moves_still}
@@ -49,7 +49,7 @@ any_follows true e =
 -- ---- the turn
 
 pub sent_with_flush : {R : Type 0} (stream : R → Stream) (messages : List Sending) (a b c : View R) → takes_any a.endpoint messages ≡ true
-    → Moves stream a (queue_all a.endpoint messages) b → TakesIn stream FlushAt b c → TakesIn stream (SendAt messages) a c
+    → Moves stream a (queue_all a.endpoint messages) b → TakesPossibleTurn stream FlushAt b c → TakesPossibleTurn stream (SendAt messages) a c
 sent_with_flush stream messages a b c taken m flush =
     let queued : Outcome = queue_all a.endpoint messages in
     record {
@@ -60,7 +60,7 @@ sent_with_flush stream messages a b c taken m flush =
     }
 
 pub sent_without : {R : Type 0} (stream : R → Stream) (messages : List Sending) (a b : View R) → takes_any a.endpoint messages ≡ false
-    → Moves stream a (queue_all a.endpoint messages) b → TakesIn stream (SendAt messages) a b
+    → Moves stream a (queue_all a.endpoint messages) b → TakesPossibleTurn stream (SendAt messages) a b
 sent_without stream messages a b taken m =
     let queued : Outcome = queue_all a.endpoint messages in
     record {
@@ -103,13 +103,13 @@ one_cut message a events cut =
 -- ---- several
 
 sent_where : {R : Type 0} (E : Type 0) (stream : R → Stream) (messages : List Sending) (old : View R) (mid new : Context R) (taken : Bool) → takes_any old.endpoint messages ≡ taken
-    → Moves stream old (queue_all old.endpoint messages) (view_of mid) → FlushesWhere {E = E} stream taken mid (Ok tt) new → TakesIn stream (SendAt messages) old (view_of new)
+    → Moves stream old (queue_all old.endpoint messages) (view_of mid) → FlushesWhere {E = E} stream taken mid (Ok tt) new → TakesPossibleTurn stream (SendAt messages) old (view_of new)
 sent_where E stream messages old mid new true is m flushed = sent_with_flush stream messages old (view_of mid) (view_of new) is m flushed
 sent_where {R = R} E stream messages old mid new false is m flushed =
     sent_without stream messages old (view_of new) is (subst (λ (v : View R). Moves stream old (queue_all old.endpoint messages) v) (sym flushed) m)
 
 pub all_sent : {R : Type 0} (E : Type 0) (stream : R → Stream) (messages : List Sending) (old : View R) (queued : QueuedAll) (mid new : Context R) → AreQueued stream messages old queued (view_of mid)
-    → FlushesWhere {E = E} stream queued.has_taken mid (Ok tt) new → TakesIn stream (SendAt messages) old (view_of new)
+    → FlushesWhere {E = E} stream queued.has_taken mid (Ok tt) new → TakesPossibleTurn stream (SendAt messages) old (view_of new)
 all_sent E stream messages old queued mid new are flushed = sent_where E stream messages old mid new queued.has_taken (sym are.taken) are.moves flushed
 
 cut_where : {R E : Type 0} (stream : R → Stream) (messages : List Sending) (old : View R) (mid new : Context R) (error : E) (taken : Bool) → takes_any old.endpoint messages ≡ taken

@@ -7,7 +7,7 @@ use Rattle.dcsctp_core.specs.spec.queues.Transfer.{Transfer}
 use Rattle.dcsctp_core.specs.spec.endpoint.Endpoint.{Endpoint}
 use Rattle.dcsctp_core.specs.spec.endpoint.Outcome.{Outcome, still}
 use Rattle.dcsctp_core.specs.spec.endpoint.DataOutcomes.{with_transfer, TakeWhere, TakeLeft, TakeTurn, ready_where}
-use Rattle.dcsctp_core.specs.api.Messages.{IsFirst}
+use Rattle.dcsctp_core.specs.api.Messages.{IsFirstMessage}
 use Rattle.dcsctp_core.specs.declared.context.Context.{Context}
 use Rattle.dcsctp_core.specs.declared.state.State.{State}
 use Rattle.dcsctp_core.specs.View.{View, transfer_of, endpoint_of, view_of}
@@ -18,7 +18,7 @@ use Rattle.dcsctp_core_messages.specs.Taking.{TakesNextOf}
 
 -- what a message that is taken, or none, does to what lies below
 record Takes (e : Endpoint) (transfer after : Transfer) (result : Option Message) : Type 0 where
-  first : IsFirst transfer.reassembly.incoming.ready result
+  first : IsFirstMessage transfer.reassembly.incoming.ready result
   outcome : Outcome
   turn : TakeWhere e transfer transfer.reassembly.incoming.ready outcome
   after_is : outcome.after ≡ with_transfer e after
@@ -44,14 +44,14 @@ some_taken : {R : Type 0} (old : Context R) (state : State) (result : Option Mes
 some_taken {R = R} old state result transfer after holds same taken =
     let e : Endpoint = endpoint_of old in
     record {
-      first = subst (λ (t : Option Transfer). IsFirst (ready_where e.left t) result) (sym holds) taken.first;
+      first = subst (λ (t : Option Transfer). IsFirstMessage (ready_where e.left t) result) (sym holds) taken.first;
       outcome = taken.outcome;
       turn = subst (λ (t : Option Transfer). TakeTurn e t taken.outcome) (sym holds) taken.turn;
       is = below_view old state transfer after holds same ∙ ap (λ (x : Endpoint). let v : View R = record (view_of old) { endpoint = x } in v) (sym taken.after_is);
     }
 
-below_is : (e : Endpoint) (transfer : Transfer) → e.below.transfer ≡ Some transfer → e ≡ with_transfer e transfer
-below_is e transfer holds = ap (λ (t : Option Transfer). let x : Endpoint = record e { below = record e.below { transfer = t } } in x) holds
+below_is : (e : Endpoint) (transfer : Transfer) → e.queues.transfer ≡ Some transfer → e ≡ with_transfer e transfer
+below_is e transfer holds = ap (λ (t : Option Transfer). let x : Endpoint = record e { queues = record e.queues { transfer = t } } in x) holds
 
 pub taken_next : {R : Type 0} (old : Context R) (state : State) (result : Option Message) (transfer : Transfer) → transfer_of old.state ≡ Some transfer
     → TakesReady old.options old.moment transfer old.state result state → TakesNextOf (view_of old) result (view_of (record old { state = state }))
@@ -62,7 +62,7 @@ taken_next old state result transfer holds h =
 
 -- what a message that is taken, or none, does to those that the last one left
 record TakesOfLeft (e : Endpoint) (left : List MessageContent) (result : Option Message) : Type 0 where
-  first : IsFirst e.left result
+  first : IsFirstMessage e.left result
   outcome : Outcome
   turn : TakeLeft e e.left outcome
   after_is : outcome.after ≡ record e { left = left }
@@ -98,7 +98,7 @@ left_next {R = R} old result new holds items rest =
     let e : Endpoint = endpoint_of old in
     let taken : TakesOfLeft e (map message_content new) result = takes_left e result old.left.items new refl items rest in
     record {
-      first = subst (λ (t : Option Transfer). IsFirst (ready_where e.left t) result) (sym holds) taken.first;
+      first = subst (λ (t : Option Transfer). IsFirstMessage (ready_where e.left t) result) (sym holds) taken.first;
       outcome = taken.outcome;
       turn = subst (λ (t : Option Transfer). TakeTurn e t taken.outcome) (sym holds) taken.turn;
       is = ap (λ (x : Endpoint). let v : View R = record (view_of old) { endpoint = x } in v) (sym taken.after_is);

@@ -7,13 +7,13 @@ use Rattle.dcsctp_core.specs.types.Ids.{lifecycle_number}
 use Rattle.dcsctp_core.specs.spec.endpoint.Event.{Event, lifecycle_end}
 use Rattle.dcsctp_core.specs.spec.Packet.{Emission}
 use Rattle.dcsctp_core.specs.spec.endpoint.Outcome.{Outcome, still, quiet, reports}
-use Rattle.dcsctp_core.specs.spec.endpoint.MessageOutcomes.{MessageRefusal, sending_refusal, refusal_kind, refusal_text, refusal_events, Sending, message_queued, queue_one, queue_all, refused_from, takes_any, SendTurn}
+use Rattle.dcsctp_core.specs.spec.endpoint.MessageOutcomes.{MessageRefusal, sending_refusal, refusal_kind, message_refusal_text, refusal_events, Sending, message_queued, queue_one, queue_all, refused_from, takes_any, SendTurn}
 use Rattle.dcsctp_core.specs.api.declared.errors.BatchSendError.{BatchSendError}
 use Rattle.dcsctp_core.specs.api.declared.errors.SendError.{SendError}
 use Rattle.dcsctp_core.specs.api.Messages.{refusal_of, refusal_in, refused_in, IsBatchAnswer}
 use Rattle.dcsctp_core.specs.declared.context.Context.{Context}
 use Rattle.dcsctp_core.specs.View.{View, view_of, Moves, CutTurn}
-use Rattle.dcsctp_core.specs.Handling.{Tries, TakesIn, CutIn, TakesOne, FlushAt}
+use Rattle.dcsctp_core.specs.Handling.{Tries, TakesPossibleTurn, CutIn, TakesOne, FlushAt}
 use Rattle.dcsctp_core_messages.specs.declared.queueing.QueuedAll.{QueuedAll}
 
 -- ---- a message that is refused
@@ -27,16 +27,16 @@ abbrev pub end_turn : {R : Type 0} → Option LifecycleId → View R → Outcome
 end_turn id view = quiet view.endpoint [] (end_events id)
 
 -- The end of a message of this name is reported, if it has one; or an allocation failed, and nothing has changed.
-abbrev pub EndTold : {R E : Type 0} → (R → Stream) → Option LifecycleId → Context R → Result (Unit {0}) E → Context R → Type 0
-EndTold stream id old result new = Tries stream (end_turn id) old result new
+abbrev pub ReportsMessageEnd : {R E : Type 0} → (R → Stream) → Option LifecycleId → Context R → Result (Unit {0}) E → Context R → Type 0
+ReportsMessageEnd stream id old result new = Tries stream (end_turn id) old result new
 
 -- The reason why a message is refused is reported; or an allocation failed, and nothing has changed.
-abbrev pub ErrorTold : {R E : Type 0} → (R → Stream) → MessageRefusal → Context R → Result (Unit {0}) E → Context R → Type 0
-ErrorTold stream refusal old result new =
-    Tries stream (λ view. reports view.endpoint (refusal_kind refusal) (refusal_text refusal)) old result new
+abbrev pub ReportsRefusal : {R E : Type 0} → (R → Stream) → MessageRefusal → Context R → Result (Unit {0}) E → Context R → Type 0
+ReportsRefusal stream refusal old result new =
+    Tries stream (λ view. reports view.endpoint (refusal_kind refusal) (message_refusal_text refusal)) old result new
 
-abbrev pub refusal_turn : {R : Type 0} → MessageRefusal → Option LifecycleId → View R → Outcome
-refusal_turn refusal id view = quiet view.endpoint [] (refusal_events refusal (option_map lifecycle_number id))
+abbrev pub message_refusal_turn : {R : Type 0} → MessageRefusal → Option LifecycleId → View R → Outcome
+message_refusal_turn refusal id view = quiet view.endpoint [] (refusal_events refusal (option_map lifecycle_number id))
 
 -- ---- a message that is taken or refused
 
@@ -84,14 +84,14 @@ SendAt messages view o = SendTurn view.endpoint messages o
 abbrev pub SendsOne : {R E : Type 0} → (R → Stream) → Sending → Context R → Result (Result (Unit {0}) SendError) E → Context R → Type 0
 SendsOne stream message old (Ok answer) new =
     (refusal_in answer ≡ sending_refusal (view_of old).endpoint message)
-    × TakesIn stream (SendAt (message ∷ [])) (view_of old) (view_of new)
+    × TakesPossibleTurn stream (SendAt (message ∷ [])) (view_of old) (view_of new)
 SendsOne stream message old (Err error) new = CutIn (SendAt (message ∷ [])) (view_of old) (view_of new).events
 
 -- the same for several
 abbrev pub SendsAll : {R E : Type 0} → (R → Stream) → List Sending → Context R → Result (Result (Unit {0}) BatchSendError) E → Context R → Type 0
 SendsAll stream messages old (Ok answer) new =
     IsBatchAnswer (refused_from 0 (view_of old).endpoint messages) answer
-    × TakesIn stream (SendAt messages) (view_of old) (view_of new)
+    × TakesPossibleTurn stream (SendAt messages) (view_of old) (view_of new)
 SendsAll stream messages old (Err error) new = CutIn (SendAt messages) (view_of old) (view_of new).events
 
 -- What waits was sent, if it was to; else nothing has changed.

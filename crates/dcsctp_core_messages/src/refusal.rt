@@ -2,11 +2,11 @@
 
 ghost use Rattle.std.specs.Prelude.{◌≡◌};
 ghost use Rattle.std.specs.Option.{option_map};
-ghost use Rattle.dcsctp_core.specs.spec.endpoint.MessageOutcomes.{message_refusal, refusal_kind, refusal_text, is_full};
+ghost use Rattle.dcsctp_core.specs.spec.endpoint.MessageOutcomes.{message_refusal, refusal_kind, message_refusal_text, is_full};
 ghost use Rattle.dcsctp_core.specs.api.Messages.{refusal_of};
 ghost use Rattle.dcsctp_core.specs.View.{endpoint_of};
-ghost use Rattle.dcsctp_core.specs.Handling.{Takes};
-ghost use Rattle.dcsctp_core_messages.specs.Sending.{refusal_turn, EndTold, ErrorTold};
+ghost use Rattle.dcsctp_core.specs.Handling.{TakesTurn};
+ghost use Rattle.dcsctp_core_messages.specs.Sending.{message_refusal_turn, ReportsMessageEnd, ReportsRefusal};
 
 use dcsctp_core::Context;
 use dcsctp_core::api::{ErrorKind, LifecycleId, SendError, SocketEvent, StreamId};
@@ -40,7 +40,7 @@ pub(crate) fn refusal<R: Rng>(
 
 // Is the send buffer full, in all or for this stream?
 fn has_no_room<R: Rng>(context: &Context<R>, stream_id: StreamId) -> bool
-    ensures { result ≡ is_full (endpoint_of context.now).options (endpoint_of context.now).below.queue stream_id.0 }
+    ensures { result ≡ is_full (endpoint_of context.now).options (endpoint_of context.now).queues.queue stream_id.0 }
 {
     context.options.max_send_buffer_size <= context.send_queue.total_buffered_amount()
         || context.options.per_stream_send_queue_limit
@@ -53,7 +53,7 @@ fn tell_end<R: Rng>(
     context: &mut Context<R>,
     lifecycle_id: Option<LifecycleId>,
 ) -> Result<(), AllocError>
-    ensures { EndTold R.stream lifecycle_id context.old result context.new }
+    ensures { ReportsMessageEnd R.stream lifecycle_id context.old result context.new }
 {
     if let Some(id) = lifecycle_id {
         context.events.add(SocketEvent::OnLifecycleEnd(id))?;
@@ -75,7 +75,7 @@ fn kind_of(error: SendError) -> ErrorKind
 
 // Its text.
 fn text_of(error: SendError) -> &'static str
-    ensures { result.now ≡ refusal_text (refusal_of error) }
+    ensures { result.now ≡ message_refusal_text (refusal_of error) }
 {
     match error {
         SendError::EmptyPayload => "Unable to send empty message",
@@ -87,7 +87,7 @@ fn text_of(error: SendError) -> &'static str
 
 // Reports why a message is refused. `Err`: an allocation failed, and nothing has changed.
 fn report_refusal<R: Rng>(context: &mut Context<R>, error: SendError) -> Result<(), AllocError>
-    ensures { ErrorTold R.stream (refusal_of error) context.old result context.new }
+    ensures { ReportsRefusal R.stream (refusal_of error) context.old result context.new }
 {
     let text = String::from_str(context.alloc, text_of(error))?;
     context.report(kind_of(error), text)?;
@@ -102,7 +102,7 @@ pub(crate) fn tell_refusal<R: Rng>(
     error: SendError,
     lifecycle_id: Option<LifecycleId>,
 ) -> Result<(), AllocError>
-    ensures { Takes R.stream (refusal_turn (refusal_of error) lifecycle_id) context.old result context.new }
+    ensures { TakesTurn R.stream (message_refusal_turn (refusal_of error) lifecycle_id) context.old result context.new }
 {
     tell_end(context, lifecycle_id)?;
     report_refusal(context, error)?;

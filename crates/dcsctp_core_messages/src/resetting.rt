@@ -7,7 +7,7 @@ ghost use Rattle.dcsctp_core.specs.spec.endpoint.PreparedResets.{reset_refusal};
 ghost use Rattle.dcsctp_core.specs.api.Resets.{reset_refusal_of};
 ghost use Rattle.dcsctp_core.specs.View.{endpoint_of};
 ghost use Rattle.dcsctp_core.specs.Handling.{TakesOne};
-ghost use Rattle.dcsctp_core_messages.specs.Resetting.{OneAt, SomeAt, ResetsAll};
+ghost use Rattle.dcsctp_core_messages.specs.Resetting.{OneAt, SomeAt, ResetsOwnStreams};
 
 use dcsctp_core::Context;
 use dcsctp_core::api::{ResetStreamsError, StreamId};
@@ -22,7 +22,7 @@ pub fn do_reset_streams<R: Rng>(
     context: &mut Context<R>,
     stream_ids: &[StreamId],
 ) -> Result<Result<(), ResetStreamsError>, AllocError>
-    ensures turn { ResetsAll R.stream (stream_numbers stream_ids.now) context.old result context.new }
+    ensures turn { ResetsOwnStreams R.stream (stream_numbers stream_ids.now) context.old result context.new }
     ensures refused { reset_refusal (endpoint_of context.old) ≢ None → IsOk result }
 {
     match refusal(context) {

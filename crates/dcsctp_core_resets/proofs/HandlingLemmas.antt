@@ -20,12 +20,12 @@ use Rattle.dcsctp_core.specs.spec.Reconfiguration.{RequestedReset, ResetParamete
 use Rattle.dcsctp_core.specs.spec.queues.Transfer.{Transfer}
 use Rattle.dcsctp_core.specs.spec.endpoint.Endpoint.{Endpoint, Core, cookie_echoed, open_in, OpenPhase, held_in}
 use Rattle.std.specs.Prelude.{if◌then◌else◌}
-use Rattle.dcsctp_core.specs.spec.endpoint.Outcome.{Outcome, still, quiet, sends, emits, counted, fits, noting, to_peer}
+use Rattle.dcsctp_core.specs.spec.endpoint.Outcome.{Outcome, still, quiet, sends, emits, packet_counted, fits, noting, to_peer}
 use Rattle.dcsctp_core.specs.spec.association.Effect.{Effect, drawn_in}
-use Rattle.dcsctp_core.specs.spec.association.ResetChanges.{Place, again, next, astray, place_of, Answered, incoming_by, Informed, informed_by, is_outstanding, informed_where, WorkedParameters, work_parameters, work_chunk}
+use Rattle.dcsctp_core.specs.spec.association.ResetChanges.{RequestPlace, again, next, astray, request_place, RequestOutcome, incoming_by, Informed, informed_by, is_outstanding, informed_where, HandledParameters, work_parameters, work_chunk}
 use Rattle.dcsctp_core.specs.spec.endpoint.FlushOutcomes.{is_none, Answer, draft_to, flush_of, first_ask, packets_allowed}
 use Rattle.dcsctp_core.specs.spec.endpoint.DataOutcomes.{flush_by, AnswersTo, FlushTurn}
-use Rattle.dcsctp_core.specs.spec.endpoint.ResetOutcomes.{requested_in, is_reached, worked_in, OwnAnswer, unanswered, retried, was_performed, has_failed, own_moved, own_answer, in_progress_among, answered_in, worked_part, own_streams, has_reset, answers_in_progress, ResetsBelow, ResetsStreams, defers_reset, their_streams, told_of, core_with, resets_worked, reset_refusal_text, responses_outcome, responses_by, ResponseAnswers, resets_by, WorksResets, ResetTurn}
+use Rattle.dcsctp_core.specs.spec.endpoint.ResetOutcomes.{requested_in, is_request_reached, parameters_handled_in, OwnAnswer, unanswered, retried, was_performed, has_failed, own_moved, own_answer, in_progress_among, answered_in, handled_part, own_streams, has_reset, answers_in_progress, ResetsInQueues, ResetsTransferStreams, defers_reset, their_streams, reset_events_of, core_with, resets_handled, reset_refusal_text, responses_outcome, responses_by, ResponseAnswers, resets_by, WorksResets, ResetTurn}
 use Rattle.dcsctp_core.proofs.spec_lemmas.AnswerLemmas.{any_answers}
 use Rattle.dcsctp_core.proofs.spec_lemmas.ReassemblyLemmas.{any_left}
 use Rattle.dcsctp_core.proofs.spec_lemmas.TurnLists.{drawn_in-append}
@@ -35,9 +35,9 @@ use Rattle.dcsctp_core.specs.declared.state.State.{State}
 use Rattle.dcsctp_core.specs.declared.transmission_control_block.TransmissionControlBlock.{TransmissionControlBlock}
 use Rattle.dcsctp_core.specs.declared.state.State.TheVariants.{Closed, CookieWait, CookieEchoed, Open}
 use Rattle.dcsctp_core.specs.Reconfiguring.{request_in}
-use Rattle.dcsctp_core.specs.View.{View, Drawn, number_of, tcb_of, held_of, phase_in, core_of, outstanding_of, transfer_of, endpoint_of, view_of, Moves}
-use Rattle.dcsctp_core.specs.Handling.{Tries, Emits, emitted, report_turn, FlushAt, TakesIn, CutIn, TakesOne}
-use Rattle.dcsctp_core.specs.Below.{ChangesBelow}
+use Rattle.dcsctp_core.specs.View.{View, Drawn, request_number, tcb_of, held_of, phase_in, core_of, outstanding_of, transfer_of, endpoint_of, view_of, Moves}
+use Rattle.dcsctp_core.specs.Handling.{Tries, Emits, chunk_emitted, report_turn, FlushAt, TakesPossibleTurn, CutIn, TakesOne}
+use Rattle.dcsctp_core.specs.Below.{ChangesQueues}
 use Rattle.dcsctp_core.proofs.BelowLemmas.{below_view, same_view}
 use Rattle.dcsctp_core.proofs.Moving.{moves_still}
 use Rattle.dcsctp_core.proofs.Composing.{behind, Adds, Draws, moves_behind, moves_as, cut_behind, cut_first, cut_longer, moves_noting, cut_noting}
@@ -47,9 +47,9 @@ use Rattle.dcsctp_core_resets.specs.declared.requests.Treatment.TheVariants.{Not
 use Rattle.dcsctp_core_resets.specs.declared.requests.HandledRequests.{HandledRequests}
 use Rattle.dcsctp_core_resets.specs.declared.requests.OwnAnswer.TheVariants as own
 use Rattle.dcsctp_core_resets.specs.declared.requests.OwnAnswer as requests
-use Rattle.dcsctp_core_resets.specs.Requests.{is_completed, reset_parameters, held_with, held_out, held_now, is_performed, is_deferred, treated_events, left_out, own_kind, own_events, told_so}
+use Rattle.dcsctp_core_resets.specs.Requests.{is_completed, reset_parameters, held_with, held_out, held_now, is_performed, is_treatment_deferred, treated_events, left_out, own_kind, own_events, both_answer_events}
 use Rattle.dcsctp_core_resets.proofs.RequestLemmas.{completed_is, resets_of, has_both}
-use Rattle.dcsctp_core_resets.specs.Resets.{ReConfigAt, last_in, WorksFor, core_asked, asked_at, left_at, told_for, Defers, DefersTo, Treats, TreatsBelow, core_settled, settled_at, own_told, told_both, told_where, responses_to, responses_turn, FinishAt}
+use Rattle.dcsctp_core_resets.specs.Resets.{ReConfigAt, last_in, WorksFor, core_asked, asked_at, left_at, incoming_reset_events, DefersReset, DefersTo, TreatsReset, TreatsInQueues, core_settled, request_settled_at, own_reset_events, both_reset_events, handled_reset_events, responses_to, responses_turn, FinishAt}
 use Rattle.dcsctp_core_resets.proofs.SettlingLemmas.{none_numbered}
 
 -- ---- the answers, and what waits behind them
@@ -117,7 +117,7 @@ flush_here stream old mid held responses o holds moves turn =
     (subst (λ (e : Endpoint). FlushTurn e o) moves.endpoint turn)
 
 pub finished : {R : Type 0} (stream : R → Stream) (old : Context R) (mid new : View R) (held : Held) (b : Bool) (parameters responses : List ResetParameter) → b ≡ false → held_in (core_of old.state) ≡ Some held
-    → Moves stream (view_of old) (responses_turn responses (view_of old)) mid → TakesIn stream FlushAt mid new → TakesIn stream (FinishAt held b parameters responses) (view_of old) new
+    → Moves stream (view_of old) (responses_turn responses (view_of old)) mid → TakesPossibleTurn stream FlushAt mid new → TakesPossibleTurn stream (FinishAt held b parameters responses) (view_of old) new
 finished stream old mid new held true parameters responses is holds first second = absurd (cc)
 finished stream old mid new held false parameters responses is holds first second =
     let e : Endpoint = endpoint_of old in
@@ -164,18 +164,18 @@ finish_refused {R = R} old new held b parameters responses same =
 -- ---- the streams
 
 -- Without a request nothing below changes.
-none_below : (is_performed in_progress : Bool) (found : Option Transfer) → ResetsBelow is_performed in_progress None found found
+none_below : (is_performed in_progress : Bool) (found : Option Transfer) → ResetsInQueues is_performed in_progress None found found
 none_below true in_progress found = refl
 none_below false true found = refl
 none_below false false found = refl
 
 -- Nothing below has changed, and nothing is told.
-pub untreated : {R : Type 0} (view : View R) → view ≡ left_at view view.endpoint.below.transfer []
+pub untreated : {R : Type 0} (view : View R) → view ≡ left_at view view.endpoint.queues.transfer []
 untreated view = ap (λ (es : List (Event (List ℕ))). let v : View _ = record view { events = es } in v) (sym (append-nil view.events))
 
-pub nothing_treated : {R : Type 0} (treatment : Treatment) (reset : Option RequestedReset) (old : Context R) (new : View R) → TreatsBelow treatment reset (transfer_of old.state) (transfer_of old.state)
-    → told_for treatment reset ≡ [] → new ≡ view_of old
-    → (left : Option Transfer) × TreatsBelow treatment reset (transfer_of old.state) left × (new ≡ left_at (view_of old) left (told_for treatment reset))
+pub nothing_treated : {R : Type 0} (treatment : Treatment) (reset : Option RequestedReset) (old : Context R) (new : View R) → TreatsInQueues treatment reset (transfer_of old.state) (transfer_of old.state)
+    → incoming_reset_events treatment reset ≡ [] → new ≡ view_of old
+    → (left : Option Transfer) × TreatsInQueues treatment reset (transfer_of old.state) left × (new ≡ left_at (view_of old) left (incoming_reset_events treatment reset))
 nothing_treated treatment reset old new none told same = (
   transfer_of old.state,
   none,
@@ -184,41 +184,41 @@ nothing_treated treatment reset old new none told same = (
 
 -- the view with this below its association
 abbrev leaving : {R : Type 0} → Context R → Option Transfer → View R
-leaving old left = record (view_of old) { endpoint = record (endpoint_of old) { below = record (endpoint_of old).below { transfer = left } } }
+leaving old left = record (view_of old) { endpoint = record (endpoint_of old) { queues = record (endpoint_of old).queues { transfer = left } } }
 
 unheld_view : {R : Type 0} (old : Context R) (state : State) → transfer_of old.state ≡ None → state ≡ old.state → view_of (record old { state = state }) ≡ leaving old None
 unheld_view old state holds same = same_view old state same ∙ ap (leaving old) holds
 
 -- Streams were reset below an association.
-performed_by : {R : Type 0} (old : Context R) (state : State) (reset : RequestedReset) (found : Option Transfer) → transfer_of old.state ≡ found → ChangesBelow (ResetsStreams reset.streams) found old.state state
-    → (left : Option Transfer) × ResetsBelow true false (Some reset) found left × (view_of (record old { state = state }) ≡ leaving old left)
+performed_by : {R : Type 0} (old : Context R) (state : State) (reset : RequestedReset) (found : Option Transfer) → transfer_of old.state ≡ found → ChangesQueues (ResetsTransferStreams reset.streams) found old.state state
+    → (left : Option Transfer) × ResetsInQueues true false (Some reset) found left × (view_of (record old { state = state }) ≡ leaving old left)
 performed_by old state reset None holds changes = (None, refl, unheld_view old state holds changes)
 performed_by old state reset (Some transfer) holds changes = (Some changes.0, (changes.0, refl, changes.2), below_view old state transfer changes.0 holds changes.1)
 
 pub performed : {R : Type 0} (old : Context R) (state : State) (events : List (Event (List ℕ))) (streams : List ℕ) (reset : RequestedReset) → streams ≡ reset.streams
-    → ChangesBelow (ResetsStreams streams) (transfer_of old.state) old.state state → events ≡ (view_of old).events ++ incoming_stream_reset reset.streams ∷ []
-    → (left : Option Transfer) × ResetsBelow true false (Some reset) (transfer_of old.state) left
+    → ChangesQueues (ResetsTransferStreams streams) (transfer_of old.state) old.state state → events ≡ (view_of old).events ++ incoming_stream_reset reset.streams ∷ []
+    → (left : Option Transfer) × ResetsInQueues true false (Some reset) (transfer_of old.state) left
     × (record (view_of (record old { state = state })) { events = events } ≡ left_at (view_of old) left (incoming_stream_reset reset.streams ∷ []))
 performed {R = R} old state events streams reset names changes told =
-    let h = performed_by old state reset (transfer_of old.state) refl (subst (λ (xs : List ℕ). ChangesBelow (ResetsStreams xs) (transfer_of old.state) old.state state) names changes) in (
+    let h = performed_by old state reset (transfer_of old.state) refl (subst (λ (xs : List ℕ). ChangesQueues (ResetsTransferStreams xs) (transfer_of old.state) old.state state) names changes) in (
       h.0,
       h.1,
       ap (λ (v : View R). let w : View R = record v { events = events } in w) h.2
-          ∙ ap (λ (es : List (Event (List ℕ))). let w : View R = record (view_of old) { endpoint = record (endpoint_of old) { below = record (endpoint_of old).below { transfer = h.0 } }; events = es } in w) told,
+          ∙ ap (λ (es : List (Event (List ℕ))). let w : View R = record (view_of old) { endpoint = record (endpoint_of old) { queues = record (endpoint_of old).queues { transfer = h.0 } }; events = es } in w) told,
     )
 
 -- Their reset was deferred.
-deferred_below : {R : Type 0} (old : Context R) (state : State) (reset : RequestedReset) (found : Option Transfer) → transfer_of old.state ≡ found → ChangesBelow (DefersTo reset) found old.state state
-    → (left : Option Transfer) × ResetsBelow false true (Some reset) found left × (view_of (record old { state = state }) ≡ leaving old left)
+deferred_below : {R : Type 0} (old : Context R) (state : State) (reset : RequestedReset) (found : Option Transfer) → transfer_of old.state ≡ found → ChangesQueues (DefersTo reset) found old.state state
+    → (left : Option Transfer) × ResetsInQueues false true (Some reset) found left × (view_of (record old { state = state }) ≡ leaving old left)
 deferred_below old state reset None holds changes = (None, refl, unheld_view old state holds changes)
 deferred_below old state reset (Some transfer) holds changes = (Some changes.0, ap (λ (t : Transfer). Some t) changes.2, below_view old state transfer changes.0 holds changes.1)
 
 pub deferred : {R E : Type 0} (old : Context R) (state : State) (streams : List ℕ) (reset : RequestedReset) (result : Result (Unit {0}) E) (new : Context R) → view_of new ≡ view_of (record old { state = state })
-    → streams ≡ reset.streams → OnOk result (ChangesBelow (DefersTo (record reset { streams = streams })) (transfer_of old.state) old.state state) → OnErr result (state ≡ old.state)
-    → Defers reset old result new
+    → streams ≡ reset.streams → OnOk result (ChangesQueues (DefersTo (record reset { streams = streams })) (transfer_of old.state) old.state state) → OnErr result (state ≡ old.state)
+    → DefersReset reset old result new
 deferred {R = R} old state streams reset (Ok done) new here names changes same =
     let h = deferred_below old state reset (transfer_of old.state) refl
-    (subst (λ (xs : List ℕ). ChangesBelow (DefersTo (record reset { streams = xs })) (transfer_of old.state) old.state state) names changes) in (
+    (subst (λ (xs : List ℕ). ChangesQueues (DefersTo (record reset { streams = xs })) (transfer_of old.state) old.state state) names changes) in (
       h.0,
       h.1,
       here ∙ h.2 ∙ ap (λ (es : List (Event (List ℕ))). let v : View R = record (leaving old h.0) { events = es } in v) (sym (append-nil (view_of old).events)),
@@ -229,7 +229,7 @@ deferred old state streams reset (Err fault) new here names changes same = here 
 
 -- a packet of one chunk, by whether it fits
 pub emitted_where : {R : Type 0} (stream : R → Stream) (v : View R) (emission : Emission) (bytes : List ℕ) (b : Bool) → emission_bytes (ports_of v.endpoint.options) emission ≡ bytes
-    → Moves stream v (if b then sends v.endpoint [] [] emission else quiet v.endpoint [] []) (if b then record v { endpoint = counted v.endpoint; events = v.events ++ sent bytes ∷ [] } else v)
+    → Moves stream v (if b then sends v.endpoint [] [] emission else quiet v.endpoint [] []) (if b then record v { endpoint = packet_counted v.endpoint; events = v.events ++ sent bytes ∷ [] } else v)
 emitted_where stream v emission bytes true is =
     record {
       endpoint = refl;
@@ -242,14 +242,14 @@ emitted_where stream v emission bytes false is = record { endpoint = refl; event
 
 -- a packet of one chunk to the peer
 pub emits_moves : {R : Type 0} (stream : R → Stream) (v : View R) (held : Held) (content : Content)
-    → Moves stream v (emits v.endpoint [] (to_peer held content)) (emitted (held.capabilities.zero_checksum_method.0 == 0) held.peer.tag (chunk_out content) v)
+    → Moves stream v (emits v.endpoint [] (to_peer held content)) (chunk_emitted (held.capabilities.zero_checksum_method.0 == 0) held.peer.tag (chunk_out content) v)
 emits_moves {R = R} stream v held content =
     let options = v.endpoint.options in
     let emission : Emission = to_peer held content in
     let bytes : List ℕ = chunk_bytes (chunk_out content) in
     let spelled : List ℕ = packet_bytes_of emission.with_checksum (header_bytes options.local_port options.remote_port held.peer.tag) bytes in
     let alone : bytes ++ [] ≡ bytes = append-nil bytes in
-    subst (λ (b : Bool). Moves stream v (if fits v.endpoint emission then sends v.endpoint [] [] emission else quiet v.endpoint [] []) (if b then record v { endpoint = counted v.endpoint; events = v.events ++ sent spelled ∷ [] } else v))
+    subst (λ (b : Bool). Moves stream v (if fits v.endpoint emission then sends v.endpoint [] [] emission else quiet v.endpoint [] []) (if b then record v { endpoint = packet_counted v.endpoint; events = v.events ++ sent spelled ∷ [] } else v))
     (ap (λ (bs : List ℕ). nat_le (12 + length bs) (packet_size_limit options)) alone)
     (emitted_where stream v emission spelled (fits v.endpoint emission)
     (ap (λ (bs : List ℕ). packet_bytes_of emission.with_checksum (header_bytes options.local_port options.remote_port held.peer.tag) bs) alone))
@@ -267,7 +267,7 @@ some_sent : {R E : Type 0} (stream : R → Stream) (old : Context R) (result : R
 some_sent stream old (Ok done) new held response responses with_checksum holds checks h =
     let content : Content = re_config (response ∷ responses) in
     subst (λ (v : View _). Moves stream (view_of old) (responses_turn (response ∷ responses) (view_of old)) v)
-    (ap (λ (b : Bool). emitted b held.peer.tag (chunk_out content) (view_of old)) (sym checks) ∙ sym h)
+    (ap (λ (b : Bool). chunk_emitted b held.peer.tag (chunk_out content) (view_of old)) (sym checks) ∙ sym h)
     (moves_as stream (view_of old) _ _ _ (turn_is old held (response ∷ responses) holds) (emits_moves stream (view_of old) held content))
 some_sent stream old (Err fault) new held response responses with_checksum holds checks h = h
 
@@ -294,17 +294,17 @@ finish_by stream old mid (Err fault) new held b parameters responses is holds fi
 
 abbrev CarriedAs : {R : Type 0} → HandledRequests → Option RequestedReset → Context R → View R → Type 0
 CarriedAs w reset old new =
-    (left : Option Transfer) × TreatsBelow w.treatment reset (transfer_of old.state) left
-    × (new ≡ left_at (settled_at (own_kind w.own) (view_of old)) left (told_where w reset old))
+    (left : Option Transfer) × TreatsInQueues w.treatment reset (transfer_of old.state) left
+    × (new ≡ left_at (request_settled_at (own_kind w.own) (view_of old)) left (handled_reset_events w reset old))
 
 abbrev TreatsAs : {R : Type 0} → Treatment → Option RequestedReset → Context R → View R → Type 0
 TreatsAs treatment reset old new =
-    (left : Option Transfer) × TreatsBelow treatment reset (transfer_of old.state) left × (new ≡ left_at (view_of old) left (told_for treatment reset))
+    (left : Option Transfer) × TreatsInQueues treatment reset (transfer_of old.state) left × (new ≡ left_at (view_of old) left (incoming_reset_events treatment reset))
 
 pub treated_none : {R : Type 0} (treatment : Treatment) (old : Context R) → TreatsAs treatment None old (view_of old)
-treated_none treatment old = nothing_treated treatment None old (view_of old) (none_below (is_performed treatment) (is_deferred treatment) (transfer_of old.state)) (none_told treatment) refl
+treated_none treatment old = nothing_treated treatment None old (view_of old) (none_below (is_performed treatment) (is_treatment_deferred treatment) (transfer_of old.state)) (none_told treatment) refl
   where
-    none_told : (treatment : Treatment) → told_for treatment None ≡ []
+    none_told : (treatment : Treatment) → incoming_reset_events treatment None ≡ []
     none_told Nothing = refl
     none_told Deferred = refl
     none_told Performed = refl
@@ -312,7 +312,7 @@ treated_none treatment old = nothing_treated treatment None old (view_of old) (n
 pub untouched : {R : Type 0} (old : Context R) (reset : RequestedReset) → TreatsAs Nothing (Some reset) old (view_of old)
 untouched old reset = nothing_treated Nothing (Some reset) old (view_of old) refl refl refl
 
-pub deferred_by : {R E : Type 0} (old : Context R) (result : Result (Unit {0}) E) (new : Context R) (reset : RequestedReset) → Defers reset old result new → Treats Deferred (Some reset) old result new
+pub deferred_by : {R E : Type 0} (old : Context R) (result : Result (Unit {0}) E) (new : Context R) (reset : RequestedReset) → DefersReset reset old result new → TreatsReset Deferred (Some reset) old result new
 deferred_by old (Ok done) new reset h = h
 deferred_by {R = R} old (Err fault) new reset same = ap (λ (v : View R). v.events) same
 
@@ -323,8 +323,8 @@ pub record Peer (state : State) : Type 0 where
   pub my : Pair
   pub held : Held
   pub holds : held_in (core_of state) ≡ Some held
-  pub own : number_of (request_in state) ≡ held.own_outstanding
-  pub last : held_out (number_of (request_in state)) (held_with held (last_in state)) ≡ held
+  pub own : request_number (request_in state) ≡ held.own_outstanding
+  pub last : held_out (request_number (request_in state)) (held_with held (last_in state)) ≡ held
   pub settled : (answer : OwnAnswer) (last : LastRequest) → core_settled answer (core_asked last (core_of state)) ≡ core_with (core_of state) (held_out (left_out answer held.own_outstanding) (held_with held last))
   pub keeps : (held : Held) → held_in (core_with (core_of state) held) ≡ Some held
   pub turn : (e : Endpoint) (parameters : List ResetParameter) (o : Outcome) → WorksResets e my held parameters o → ResetTurn e (core_of state) parameters o
@@ -376,13 +376,13 @@ unheld e (CookieWait wait) parameters none = refl
 unheld e (CookieEchoed echoed) parameters none = absurd (cc)
 unheld e (Open opened) parameters none = absurd (cc)
 
-pub rests : {R : Type 0} (stream : R → Stream) (old : Context R) (parameters : List ResetParameter) → is_some (transfer_of old.state) ≡ false → TakesIn stream (ReConfigAt parameters) (view_of old) (view_of old)
+pub rests : {R : Type 0} (stream : R → Stream) (old : Context R) (parameters : List ResetParameter) → is_some (transfer_of old.state) ≡ false → TakesPossibleTurn stream (ReConfigAt parameters) (view_of old) (view_of old)
 rests stream old parameters none = record { outcome = still (endpoint_of old); turn = unheld (endpoint_of old) old.state parameters none; moves = moves_still stream (view_of old) }
 
 -- ---- where its turn was cut before its first event
 
 -- Whatever becomes of the streams, there is something that may lie below the association then.
-any_below : (is_performed in_progress : Bool) (reset : Option RequestedReset) (found : Option Transfer) → (left : Option Transfer) × ResetsBelow is_performed in_progress reset found left
+any_below : (is_performed in_progress : Bool) (reset : Option RequestedReset) (found : Option Transfer) → (left : Option Transfer) × ResetsInQueues is_performed in_progress reset found left
 any_below true in_progress None found = (found, refl)
 any_below true in_progress (Some reset) None = (None, refl)
 any_below true in_progress (Some reset) (Some transfer) =
@@ -395,9 +395,9 @@ any_below false false reset found = (found, refl)
 
 any_turn : (e : Endpoint) (my : Pair) (held : Held) (parameters : List ResetParameter) → (o : Outcome) × WorksResets e my held parameters o
 any_turn e my held parameters =
-    let w : WorkedParameters = worked_in e my held parameters in
-    let left = any_below (has_reset w.effects) (answers_in_progress w.answers) (requested_in parameters) e.below.transfer in
-    let some = some_answers w.is_refused (resets_worked e (answered_in held w parameters) w.held left.0) w.held w.answers in (
+    let w : HandledParameters = parameters_handled_in e my held parameters in
+    let left = any_below (has_reset w.effects) (answers_in_progress w.answers) (requested_in parameters) e.queues.transfer in
+    let some = some_answers w.is_refused (resets_handled e (answered_in held w parameters) w.held left.0) w.held w.answers in (
       resets_by e held w parameters left.0 some.0,
       record { left = left.0; below = left.1; answers = some.0; allowed = some.1; is = refl },
     )
@@ -410,7 +410,7 @@ reset_refused old p parameters events same =
 -- ---- what the machine makes of it
 
 -- Without an outgoing request no stream is reset.
-incoming_resets : (held : Held) (number : ℕ) (place : Place) → has_reset (incoming_by held number place).effects ≡ false
+incoming_resets : (held : Held) (number : ℕ) (place : RequestPlace) → has_reset (incoming_by held number place).effects ≡ false
 incoming_resets held number again = refl
 incoming_resets held number next = refl
 incoming_resets held number astray = refl
@@ -432,9 +432,9 @@ unrequested : (my : Pair) (reached has : Bool) (held : Held) (parameters : List 
 unrequested my reached has held [] none = refl
 unrequested my reached has held (outgoing_reset_request number answered reset ∷ parameters) none = absurd (cc)
 unrequested my reached has held (incoming_reset_request number streams ∷ parameters) none =
-    let first : Answered = incoming_by held number (place_of held.peer_last number) in
+    let first : RequestOutcome = incoming_by held number (request_place held.peer_last number) in
     has_both first.effects (work_parameters my reached has first.held parameters).effects
-    ∙ ap (λ (b : Bool). resets_of b (has_reset (work_parameters my reached has first.held parameters).effects)) (incoming_resets held number (place_of held.peer_last number))
+    ∙ ap (λ (b : Bool). resets_of b (has_reset (work_parameters my reached has first.held parameters).effects)) (incoming_resets held number (request_place held.peer_last number))
     ∙ unrequested my reached has first.held parameters none
 unrequested my reached has held (reconfiguration_response number result ∷ parameters) none =
     let first : Informed = informed_where my held number result (is_outstanding number held.own_outstanding) in
@@ -449,7 +449,7 @@ chunk_unrequested my reached held (parameter ∷ parameters) none = unrequested 
 
 -- What the machine tells of the treatment is what is told.
 abbrev Wanted : Treatment → Option RequestedReset → Type 0
-Wanted treatment reset = (ports : Ports) → map (user_event ports) (treated_events treatment (their_streams reset)) ≡ told_for treatment reset
+Wanted treatment reset = (ports : Ports) → map (user_event ports) (treated_events treatment (their_streams reset)) ≡ incoming_reset_events treatment reset
 
 wanted : (treatment : Treatment) (reset : Option RequestedReset) → (reset ≡ None → is_performed treatment ≡ false) → Wanted treatment reset
 wanted Performed None none = let never : true ≡ false = none refl in absurd (cc)
@@ -460,22 +460,22 @@ wanted Nothing None none = λ ports. refl
 wanted Nothing (Some reset) none = λ ports. refl
 
 -- what is told of the own request, and of both
-own_user : (ports : Ports) (answer : requests.OwnAnswer) (streams : List ℕ) → map (user_event ports) (own_events answer streams) ≡ own_told answer streams
+own_user : (ports : Ports) (answer : requests.OwnAnswer) (streams : List ℕ) → map (user_event ports) (own_events answer streams) ≡ own_reset_events answer streams
 own_user ports own.Unanswered streams = refl
 own_user ports own.InProgress streams = refl
 own_user ports own.Performed streams = refl
 own_user ports own.Failed streams = refl
 
 both_user : (ports : Ports) (first : Bool) (answer : requests.OwnAnswer) (treatment : Treatment) (reset : Option RequestedReset) (streams : List ℕ) → Wanted treatment reset
-    → map (user_event ports) (told_so first answer treatment (their_streams reset) streams) ≡ told_both first answer treatment reset streams
+    → map (user_event ports) (both_answer_events first answer treatment (their_streams reset) streams) ≡ both_reset_events first answer treatment reset streams
 both_user ports true answer treatment reset streams w =
     map-append (user_event ports) (own_events answer streams) (treated_events treatment (their_streams reset))
     ∙ ap (λ (es : List (Event (List ℕ))). es ++ map (user_event ports) (treated_events treatment (their_streams reset))) (own_user ports answer streams)
-    ∙ ap (λ (es : List (Event (List ℕ))). own_told answer streams ++ es) (w ports)
+    ∙ ap (λ (es : List (Event (List ℕ))). own_reset_events answer streams ++ es) (w ports)
 both_user ports false answer treatment reset streams w =
     map-append (user_event ports) (treated_events treatment (their_streams reset)) (own_events answer streams)
     ∙ ap (λ (es : List (Event (List ℕ))). es ++ map (user_event ports) (own_events answer streams)) (w ports)
-    ∙ ap (λ (es : List (Event (List ℕ))). told_for treatment reset ++ es) (own_user ports answer streams)
+    ∙ ap (λ (es : List (Event (List ℕ))). incoming_reset_events treatment reset ++ es) (own_user ports answer streams)
 
 -- behind what the user is told
 responses_behind : (refused : Bool) (e : Endpoint) (told : List (Event Emission)) (held : Held) (parameters responses : List ResetParameter) (answers : List Answer)
@@ -487,16 +487,16 @@ responses_behind false e told held parameters responses answers =
     ap (λ (events : List (Event Emission)). let o : Outcome = record flush { events = events } in o) (append_assoc told sent.events flush.events)
 
 -- what the parameters make of the numbers, as the code keeps it
-abbrev kept_by : Held → List Effect → HandledRequests → WorkedParameters
+abbrev kept_by : Held → List Effect → HandledRequests → HandledParameters
 kept_by held effects w = record { held = held_now held w; effects = effects; answers = reset_parameters w.responses.items; is_refused = w.is_refused }
 
-abbrev WorksBy : Endpoint → Held → List ResetParameter → Outcome → WorkedParameters → Type 0
+abbrev WorksBy : Endpoint → Held → List ResetParameter → Outcome → HandledParameters → Type 0
 WorksBy e held parameters o worked =
-    (left : Option Transfer) × ResetsBelow (has_reset worked.effects) (answers_in_progress worked.answers) (requested_in parameters) e.below.transfer left × (answers : List Answer)
-    × ResponseAnswers worked.is_refused (resets_worked e (answered_in held worked parameters) worked.held left) worked.held worked.answers answers
+    (left : Option Transfer) × ResetsInQueues (has_reset worked.effects) (answers_in_progress worked.answers) (requested_in parameters) e.queues.transfer left × (answers : List Answer)
+    × ResponseAnswers worked.is_refused (resets_handled e (answered_in held worked parameters) worked.held left) worked.held worked.answers answers
     × (o ≡ resets_by e held worked parameters left answers)
 
-works_resets : (e : Endpoint) (my : Pair) (held : Held) (parameters : List ResetParameter) (o : Outcome) → WorksBy e held parameters o (worked_in e my held parameters) → WorksResets e my held parameters o
+works_resets : (e : Endpoint) (my : Pair) (held : Held) (parameters : List ResetParameter) (o : Outcome) → WorksBy e held parameters o (parameters_handled_in e my held parameters) → WorksResets e my held parameters o
 works_resets e my held parameters o h = record { left = h.0; below = h.1; answers = h.2; allowed = h.3; is = h.4 }
 
 -- what was made of the parameters of a chunk that came in
@@ -505,18 +505,18 @@ WorkedAt old parameters w = WorksFor (tcb_of old.state) parameters w
 
 -- What the code keeps is what the machine makes of the parameters.
 kept_is : {R : Type 0} (old : Context R) (p : Peer old.state) (parameters : List ResetParameter) (w : HandledRequests) (h : WorkedAt old parameters w)
-    → worked_in (endpoint_of old) p.my p.held parameters ≡ kept_by p.held (h.effects p.my p.held) w
+    → parameters_handled_in (endpoint_of old) p.my p.held parameters ≡ kept_by p.held (h.effects p.my p.held) w
 kept_is old p parameters w h =
-    ap (work_all p.my (is_reached (transfer_of old.state) (requested_in parameters)) parameters) (sym p.last) ∙ h.whole p.my p.held
+    ap (work_all p.my (is_request_reached (transfer_of old.state) (requested_in parameters)) parameters) (sym p.last) ∙ h.whole p.my p.held
   where
-    work_all : Pair → Bool → List ResetParameter → Held → WorkedParameters
+    work_all : Pair → Bool → List ResetParameter → Held → HandledParameters
     work_all my reached ps held = work_chunk my reached held ps
 
 wanted_of : {R : Type 0} (old : Context R) (p : Peer old.state) (parameters : List ResetParameter) (w : HandledRequests) (h : WorkedAt old parameters w) → Wanted w.treatment (requested_in parameters)
 wanted_of old p parameters w h =
     wanted w.treatment (requested_in parameters)
-    (λ none. sym (h.treats p.my p.held).has ∙ ap (λ (x : WorkedParameters). has_reset x.effects) (sym (kept_is old p parameters w h))
-    ∙ chunk_unrequested p.my (is_reached (transfer_of old.state) (requested_in parameters)) p.held parameters none)
+    (λ none. sym (h.treats p.my p.held).has ∙ ap (λ (x : HandledParameters). has_reset x.effects) (sym (kept_is old p parameters w h))
+    ∙ chunk_unrequested p.my (is_request_reached (transfer_of old.state) (requested_in parameters)) p.held parameters none)
 
 -- Nothing becomes of an own request where there is none.
 kind_none : (answer : requests.OwnAnswer) → own_kind answer ≡ unanswered → answer ≡ own.Unanswered
@@ -529,16 +529,16 @@ pub nobody_asked : {R : Type 0} (old asked : Context R) (w : HandledRequests) (p
     → outstanding_of asked.state ≡ None → w.own ≡ own.Unanswered
 nobody_asked {R = R} old asked w parameters h here none =
     let before : outstanding_of old.state ≡ None = sym (ap (λ (v : View R). v.endpoint.outstanding) here) ∙ none in
-    kind_none w.own (h.own ∙ ap (λ (n : Option ℕ). own_answer n w.outstanding (in_progress_among n (worked_part false parameters)) (is_completed w.own)) (none_numbered old.state before))
+    kind_none w.own (h.own ∙ ap (λ (n : Option ℕ). own_answer n w.outstanding (in_progress_among n (handled_part false parameters)) (is_completed w.own)) (none_numbered old.state before))
 
 -- the view once both requests were treated
 abbrev pub carried_view : {R : Type 0} → Context R → HandledRequests → List ResetParameter → Option Transfer → View R
 carried_view old w parameters left =
-    left_at (settled_at (own_kind w.own) (asked_at w.last (view_of old))) left (told_both w.is_own_first w.own w.treatment (requested_in parameters) (own_streams (outstanding_of old.state)))
+    left_at (request_settled_at (own_kind w.own) (asked_at w.last (view_of old))) left (both_reset_events w.is_own_first w.own w.treatment (requested_in parameters) (own_streams (outstanding_of old.state)))
 
 -- the events that were added by then
 abbrev told_by : {R : Type 0} → Context R → HandledRequests → List ResetParameter → List (Event Emission)
-told_by old w parameters = told_so w.is_own_first w.own w.treatment (their_streams (requested_in parameters)) (own_streams (outstanding_of old.state))
+told_by old w parameters = both_answer_events w.is_own_first w.own w.treatment (their_streams (requested_in parameters)) (own_streams (outstanding_of old.state))
 
 -- its outcome, from that of what comes behind
 abbrev all_of : List Effect → List (Event Emission) → Outcome → Outcome
@@ -546,14 +546,14 @@ all_of effects told later = noting effects (behind [] told later)
 
 -- where what comes behind begins
 begins_there : (answer : OwnAnswer) (e : Endpoint) (asked core : Core) (left : Option Transfer) (held : Held) → core_settled answer asked ≡ core_with e.core held
-    → (let moved : Endpoint = own_moved answer (record e { core = asked }) in record moved { core = core_settled answer asked; below = record moved.below { transfer = left } }) ≡ resets_worked e answer held left
-begins_there unanswered e asked core left held is = ap (λ (c : Core). let x : Endpoint = record e { core = c; below = record e.below { transfer = left } } in x) is
+    → (let moved : Endpoint = own_moved answer (record e { core = asked }) in record moved { core = core_settled answer asked; queues = record moved.queues { transfer = left } }) ≡ resets_handled e answer held left
+begins_there unanswered e asked core left held is = ap (λ (c : Core). let x : Endpoint = record e { core = c; queues = record e.queues { transfer = left } } in x) is
 begins_there retried e asked core left held is =
-    let moved : Endpoint = own_moved retried e in ap (λ (c : Core). let x : Endpoint = record moved { core = c; below = record moved.below { transfer = left } } in x) is
+    let moved : Endpoint = own_moved retried e in ap (λ (c : Core). let x : Endpoint = record moved { core = c; queues = record moved.queues { transfer = left } } in x) is
 begins_there was_performed e asked core left held is =
-    let moved : Endpoint = own_moved was_performed e in ap (λ (c : Core). let x : Endpoint = record moved { core = c; below = record moved.below { transfer = left } } in x) is
+    let moved : Endpoint = own_moved was_performed e in ap (λ (c : Core). let x : Endpoint = record moved { core = c; queues = record moved.queues { transfer = left } } in x) is
 begins_there has_failed e asked core left held is =
-    let moved : Endpoint = own_moved has_failed e in ap (λ (c : Core). let x : Endpoint = record moved { core = c; below = record moved.below { transfer = left } } in x) is
+    let moved : Endpoint = own_moved has_failed e in ap (λ (c : Core). let x : Endpoint = record moved { core = c; queues = record moved.queues { transfer = left } } in x) is
 
 -- what is known of the association by then
 core_by : {R : Type 0} (old : Context R) (p : Peer old.state) (parameters : List ResetParameter) (w : HandledRequests) → WorkedAt old parameters w
@@ -568,18 +568,18 @@ kind_by : {R : Type 0} (old : Context R) (p : Peer old.state) (parameters : List
 kind_by old p parameters w h =
     let effects : List Effect = h.effects p.my p.held in
     h.own
-    ∙ (ap (λ (n : Option ℕ). own_answer n w.outstanding (in_progress_among n (worked_part false parameters)) (is_completed w.own)) p.own
-    ∙ ap (own_answer p.held.own_outstanding w.outstanding (in_progress_among p.held.own_outstanding (worked_part false parameters)))
+    ∙ (ap (λ (n : Option ℕ). own_answer n w.outstanding (in_progress_among n (handled_part false parameters)) (is_completed w.own)) p.own
+    ∙ ap (own_answer p.held.own_outstanding w.outstanding (in_progress_among p.held.own_outstanding (handled_part false parameters)))
     (sym (completed_is w effects (reset_parameters w.responses.items) (h.treats p.my p.held))))
 
 endpoint_by : {R : Type 0} (old : Context R) (p : Peer old.state) (parameters : List ResetParameter) (w : HandledRequests) (h : WorkedAt old parameters w) (left : Option Transfer)
-    → (carried_view old w parameters left).endpoint ≡ resets_worked (endpoint_of old) (answered_in p.held (kept_by p.held (h.effects p.my p.held) w) parameters) (held_now p.held w) left
+    → (carried_view old w parameters left).endpoint ≡ resets_handled (endpoint_of old) (answered_in p.held (kept_by p.held (h.effects p.my p.held) w) parameters) (held_now p.held w) left
 endpoint_by old p parameters w h left =
     begins_there (own_kind w.own) (endpoint_of old) (core_asked w.last (core_of old.state)) (core_of old.state) left (held_now p.held w) (core_by old p parameters w h)
-    ∙ ap (λ (a : OwnAnswer). resets_worked (endpoint_of old) a (held_now p.held w) left) (kind_by old p parameters w h)
+    ∙ ap (λ (a : OwnAnswer). resets_handled (endpoint_of old) a (held_now p.held w) left) (kind_by old p parameters w h)
 
 works_by : {R : Type 0} (old : Context R) (p : Peer old.state) (parameters : List ResetParameter) (w : HandledRequests) (h : WorkedAt old parameters w) (left : Option Transfer) (later : Outcome)
-    → TreatsBelow w.treatment (requested_in parameters) (transfer_of old.state) left
+    → TreatsInQueues w.treatment (requested_in parameters) (transfer_of old.state) left
     → FinishAt (held_now p.held w) w.is_refused parameters (reset_parameters w.responses.items) (carried_view old w parameters left) later
     → WorksBy (endpoint_of old) p.held parameters (all_of (h.effects p.my p.held) (told_by old w parameters) later) (kept_by p.held (h.effects p.my p.held) w)
 works_by old p parameters w h left later below turn =
@@ -587,23 +587,23 @@ works_by old p parameters w h left later below turn =
     let held : Held = held_now p.held w in
     let responses : List ResetParameter = reset_parameters w.responses.items in
     let effects : List Effect = h.effects p.my p.held in
-    let kept : WorkedParameters = kept_by p.held effects w in
+    let kept : HandledParameters = kept_by p.held effects w in
     let here : Endpoint = (carried_view old w parameters left).endpoint in
-    let there : here ≡ resets_worked e (answered_in p.held kept parameters) held left = endpoint_by old p parameters w h left in
-    let told : told_of e parameters kept.effects ≡ told_by old w parameters = (h.treats p.my p.held).told (their_streams (requested_in parameters)) (own_streams e.outstanding) in (
+    let there : here ≡ resets_handled e (answered_in p.held kept parameters) held left = endpoint_by old p parameters w h left in
+    let told : reset_events_of e parameters kept.effects ≡ told_by old w parameters = (h.treats p.my p.held).told (their_streams (requested_in parameters)) (own_streams e.outstanding) in (
       left,
-      subst (λ (b : Bool). ResetsBelow b (answers_in_progress responses) (requested_in parameters) e.below.transfer left) (sym (h.treats p.my p.held).has)
-          (subst (λ (b : Bool). ResetsBelow (is_performed w.treatment) b (requested_in parameters) e.below.transfer left) (sym (h.treats p.my p.held).waits) below),
+      subst (λ (b : Bool). ResetsInQueues b (answers_in_progress responses) (requested_in parameters) e.queues.transfer left) (sym (h.treats p.my p.held).has)
+          (subst (λ (b : Bool). ResetsInQueues (is_performed w.treatment) b (requested_in parameters) e.queues.transfer left) (sym (h.treats p.my p.held).waits) below),
       turn.0,
       subst (λ (x : Endpoint). ResponseAnswers w.is_refused x held responses turn.0) there turn.1,
       ap (all_of effects (told_by old w parameters)) turn.2
           ∙ ap (λ (o : Outcome). let x : Outcome = noting effects o in x) (sym (responses_behind w.is_refused here (told_by old w parameters) held parameters responses turn.0))
           ∙ ap (λ (x : Endpoint). let o : Outcome = noting effects (responses_by w.is_refused x (told_by old w parameters) held parameters responses turn.0) in o) there
-          ∙ ap (λ (events : List (Event Emission)). let o : Outcome = noting effects (responses_by w.is_refused (resets_worked e (answered_in p.held kept parameters) held left) events held parameters responses turn.0) in o) (sym told),
+          ∙ ap (λ (events : List (Event Emission)). let o : Outcome = noting effects (responses_by w.is_refused (resets_handled e (answered_in p.held kept parameters) held left) events held parameters responses turn.0) in o) (sym told),
     )
 
 turn_by : {R : Type 0} (old : Context R) (p : Peer old.state) (parameters : List ResetParameter) (w : HandledRequests) (h : WorkedAt old parameters w) (left : Option Transfer) (later : Outcome)
-    → TreatsBelow w.treatment (requested_in parameters) (transfer_of old.state) left
+    → TreatsInQueues w.treatment (requested_in parameters) (transfer_of old.state) left
     → FinishAt (held_now p.held w) w.is_refused parameters (reset_parameters w.responses.items) (carried_view old w parameters left) later
     → ReConfigAt parameters (view_of old) (all_of (h.effects p.my p.held) (told_by old w parameters) later)
 turn_by old p parameters w h left later below turn =
@@ -632,8 +632,8 @@ drawn_behind : (front rest : List Effect) → drawn_in front ≡ [] → drawn_in
 drawn_behind front rest none = ap (λ (ps : List Pair). ps ++ drawn_in rest) (sym none) ∙ sym (drawn_in-append front rest)
 
 pub reset_done : {R : Type 0} (stream : R → Stream) (old : Context R) (p : Peer old.state) (parameters : List ResetParameter) (w : HandledRequests) → WorkedAt old parameters w → (left : Option Transfer)
-    → TreatsBelow w.treatment (requested_in parameters) (transfer_of old.state) left
-    → (new : View R) → TakesIn stream (FinishAt (held_now p.held w) w.is_refused parameters (reset_parameters w.responses.items)) (carried_view old w parameters left) new → TakesIn stream (ReConfigAt parameters) (view_of old) new
+    → TreatsInQueues w.treatment (requested_in parameters) (transfer_of old.state) left
+    → (new : View R) → TakesPossibleTurn stream (FinishAt (held_now p.held w) w.is_refused parameters (reset_parameters w.responses.items)) (carried_view old w parameters left) new → TakesPossibleTurn stream (ReConfigAt parameters) (view_of old) new
 reset_done stream old p parameters w h left below new second =
     let told : List (Event Emission) = told_by old w parameters in
     record {
@@ -645,7 +645,7 @@ reset_done stream old p parameters w h left below new second =
     }
 
 pub reset_cut : {R : Type 0} (old : Context R) (p : Peer old.state) (parameters : List ResetParameter) (w : HandledRequests) → WorkedAt old parameters w → (left : Option Transfer)
-    → TreatsBelow w.treatment (requested_in parameters) (transfer_of old.state) left
+    → TreatsInQueues w.treatment (requested_in parameters) (transfer_of old.state) left
     → (events : List (Event (List ℕ))) → CutIn (FinishAt (held_now p.held w) w.is_refused parameters (reset_parameters w.responses.items)) (carried_view old w parameters left) events
     → CutIn (ReConfigAt parameters) (view_of old) events
 reset_cut old p parameters w h left below events second =
@@ -659,11 +659,11 @@ reset_cut old p parameters w h left below events second =
 
 -- by whether a growth was refused
 pub reset_by : {R E : Type 0} (stream : R → Stream) (old mid : Context R) (p : Peer old.state) (parameters : List ResetParameter) (w : HandledRequests) → WorkedAt old parameters w → (left : Option Transfer)
-    → TreatsBelow w.treatment (requested_in parameters) (transfer_of old.state) left → view_of mid ≡ carried_view old w parameters left → (result : Result (Unit {0}) E) (new : Context R)
+    → TreatsInQueues w.treatment (requested_in parameters) (transfer_of old.state) left → view_of mid ≡ carried_view old w parameters left → (result : Result (Unit {0}) E) (new : Context R)
     → TakesOne stream (FinishAt (held_now p.held w) w.is_refused parameters (reset_parameters w.responses.items)) mid result new → TakesOne stream (ReConfigAt parameters) old result new
 reset_by {R = R} stream old mid p parameters w h left below here (Ok done) new second =
     reset_done stream old p parameters w h left below (view_of new)
-    (subst (λ (v : View R). TakesIn stream (FinishAt (held_now p.held w) w.is_refused parameters (reset_parameters w.responses.items)) v (view_of new)) here second)
+    (subst (λ (v : View R). TakesPossibleTurn stream (FinishAt (held_now p.held w) w.is_refused parameters (reset_parameters w.responses.items)) v (view_of new)) here second)
 reset_by {R = R} stream old mid p parameters w h left below here (Err fault) new second =
     reset_cut old p parameters w h left below (view_of new).events
     (subst (λ (v : View R). CutIn (FinishAt (held_now p.held w) w.is_refused parameters (reset_parameters w.responses.items)) v (view_of new).events) here second)
@@ -682,51 +682,51 @@ some_said (response ∷ responses) some = refl
 -- both requests were treated, behind the numbers
 pub carried_so : {R : Type 0} (old asked mid : Context R) (w : HandledRequests) (reset : Option RequestedReset) (parameters : List ResetParameter) → view_of asked ≡ asked_at w.last (view_of old)
     → reset ≡ requested_in parameters → CarriedAs w reset asked (view_of mid)
-    → (left : Option Transfer) × TreatsBelow w.treatment (requested_in parameters) (transfer_of old.state) left × (view_of mid ≡ carried_view old w parameters left)
+    → (left : Option Transfer) × TreatsInQueues w.treatment (requested_in parameters) (transfer_of old.state) left × (view_of mid ≡ carried_view old w parameters left)
 carried_so {R = R} old asked mid w reset parameters here wanted h =
-    let below : transfer_of asked.state ≡ transfer_of old.state = ap (λ (v : View R). v.endpoint.below.transfer) here in
-    let told : Option RequestedReset → List (Event (List ℕ)) = λ r. told_both w.is_own_first w.own w.treatment r (own_streams (outstanding_of old.state)) in (
+    let below : transfer_of asked.state ≡ transfer_of old.state = ap (λ (v : View R). v.endpoint.queues.transfer) here in
+    let told : Option RequestedReset → List (Event (List ℕ)) = λ r. both_reset_events w.is_own_first w.own w.treatment r (own_streams (outstanding_of old.state)) in (
       h.0,
-      subst (λ (r : Option RequestedReset). TreatsBelow w.treatment r (transfer_of old.state) h.0) wanted
-          (subst (λ (f : Option Transfer). TreatsBelow w.treatment reset f h.0) below h.1),
+      subst (λ (r : Option RequestedReset). TreatsInQueues w.treatment r (transfer_of old.state) h.0) wanted
+          (subst (λ (f : Option Transfer). TreatsInQueues w.treatment reset f h.0) below h.1),
       h.2
-          ∙ ap (λ (v : View R). left_at (settled_at (own_kind w.own) v) h.0 (told_both w.is_own_first w.own w.treatment reset (own_streams v.endpoint.outstanding))) here
-          ∙ ap (λ (r : Option RequestedReset). left_at (settled_at (own_kind w.own) (asked_at w.last (view_of old))) h.0 (told r)) wanted,
+          ∙ ap (λ (v : View R). left_at (request_settled_at (own_kind w.own) v) h.0 (both_reset_events w.is_own_first w.own w.treatment reset (own_streams v.endpoint.outstanding))) here
+          ∙ ap (λ (r : Option RequestedReset). left_at (request_settled_at (own_kind w.own) (asked_at w.last (view_of old))) h.0 (told r)) wanted,
     )
 
 -- What the user is told of both comes first.
 told_first : (e : Endpoint) (my : Pair) (held : Held) (parameters : List ResetParameter) (o : Outcome) → WorksResets e my held parameters o
-    → (more : List (Event Emission)) × (o.events ≡ told_of e parameters (worked_in e my held parameters).effects ++ more)
+    → (more : List (Event Emission)) × (o.events ≡ reset_events_of e parameters (parameters_handled_in e my held parameters).effects ++ more)
 told_first e my held parameters o h =
-    let w : WorkedParameters = worked_in e my held parameters in
-    let there : Endpoint = resets_worked e (answered_in held w parameters) w.held h.left in (
+    let w : HandledParameters = parameters_handled_in e my held parameters in
+    let there : Endpoint = resets_handled e (answered_in held w parameters) w.held h.left in (
       (responses_by w.is_refused there [] w.held parameters w.answers h.answers).events,
-      ap (λ (x : Outcome). x.events) h.is ∙ ap (λ (x : Outcome). x.events) (responses_behind w.is_refused there (told_of e parameters w.effects) w.held parameters w.answers h.answers),
+      ap (λ (x : Outcome). x.events) h.is ∙ ap (λ (x : Outcome). x.events) (responses_behind w.is_refused there (reset_events_of e parameters w.effects) w.held parameters w.answers h.answers),
     )
 
 -- Where it was cut before both were told, a front part of what is told was added.
 pub carried_cut : {R : Type 0} (old asked mid : Context R) (p : Peer old.state) (w : HandledRequests) (reset : Option RequestedReset) (parameters : List ResetParameter) → WorkedAt old parameters w
-    → view_of asked ≡ asked_at w.last (view_of old) → reset ≡ requested_in parameters → (count : ℕ) × ((view_of mid).events ≡ (view_of asked).events ++ take count (told_where w reset asked))
+    → view_of asked ≡ asked_at w.last (view_of old) → reset ≡ requested_in parameters → (count : ℕ) × ((view_of mid).events ≡ (view_of asked).events ++ take count (handled_reset_events w reset asked))
     → CutIn (ReConfigAt parameters) (view_of old) (view_of mid).events
 carried_cut {R = R} old asked mid p w reset parameters h here wanted cut =
     let e : Endpoint = endpoint_of old in
-    let worked : WorkedParameters = worked_in e p.my p.held parameters in
+    let worked : HandledParameters = parameters_handled_in e p.my p.held parameters in
     let any = any_turn e p.my p.held parameters in
     let first = told_first e p.my p.held parameters any.0 any.1 in
-    let before : Outcome = record any.0 { events = told_of e parameters worked.effects } in
+    let before : Outcome = record any.0 { events = reset_events_of e parameters worked.effects } in
     let streams : List ℕ = own_streams (outstanding_of old.state) in
-    let told : told_where w reset asked ≡ map (user_event (ports_of old.options)) (told_of e parameters worked.effects) =
-    ap (λ (r : Option RequestedReset). told_both w.is_own_first w.own w.treatment r (own_streams (outstanding_of asked.state))) wanted
-    ∙ ap (λ (v : View R). told_both w.is_own_first w.own w.treatment (requested_in parameters) (own_streams v.endpoint.outstanding)) here
+    let told : handled_reset_events w reset asked ≡ map (user_event (ports_of old.options)) (reset_events_of e parameters worked.effects) =
+    ap (λ (r : Option RequestedReset). both_reset_events w.is_own_first w.own w.treatment r (own_streams (outstanding_of asked.state))) wanted
+    ∙ ap (λ (v : View R). both_reset_events w.is_own_first w.own w.treatment (requested_in parameters) (own_streams v.endpoint.outstanding)) here
     ∙ sym (both_user (ports_of old.options) w.is_own_first w.own w.treatment (requested_in parameters) streams (wanted_of old p parameters w h))
     ∙ ap (map (user_event (ports_of old.options)))
-    (sym ((h.treats p.my p.held).told (their_streams (requested_in parameters)) streams) ∙ ap (λ (x : WorkedParameters). told_of e parameters x.effects) (sym (kept_is old p parameters w h))) in
+    (sym ((h.treats p.my p.held).told (their_streams (requested_in parameters)) streams) ∙ ap (λ (x : HandledParameters). reset_events_of e parameters x.effects) (sym (kept_is old p parameters w h))) in
     record {
       outcome = any.0;
       turn = p.turn e parameters any.0 any.1;
       cut = cut_longer (view_of old) before any.0 first.0 (view_of mid).events first.1
           (record {
             count = cut.0;
-            added = cut.1 ∙ ap (λ (v : View R). v.events ++ take cut.0 (told_where w reset asked)) here ∙ ap (λ (es : List (Event (List ℕ))). (view_of old).events ++ take cut.0 es) told;
+            added = cut.1 ∙ ap (λ (v : View R). v.events ++ take cut.0 (handled_reset_events w reset asked)) here ∙ ap (λ (es : List (Event (List ℕ))). (view_of old).events ++ take cut.0 es) told;
           });
     }

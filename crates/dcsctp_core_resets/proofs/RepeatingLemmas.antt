@@ -12,14 +12,14 @@ use Rattle.dcsctp_core.specs.types.Settings.{ports_of, packet_size_limit}
 use Rattle.dcsctp_core.specs.wire.Spelling.{chunk_bytes, header_bytes, packet_bytes_of}
 use Rattle.dcsctp_core.specs.spec.Packet.{Content, chunk_out, emission_bytes}
 use Rattle.dcsctp_core.specs.spec.endpoint.Endpoint.{Endpoint, OutstandingRequest, held_in}
-use Rattle.dcsctp_core.specs.spec.endpoint.Outcome.{still, emits, fits, counted, to_peer}
+use Rattle.dcsctp_core.specs.spec.endpoint.Outcome.{still, emits, fits, packet_counted, to_peer}
 use Rattle.dcsctp_core.specs.spec.endpoint.BegunResets.{core_asking}
 use Rattle.dcsctp_core.specs.spec.endpoint.Event.{sent}
 use Rattle.dcsctp_core.specs.spec.endpoint.TimeTurns.{own_timer}
 use Rattle.dcsctp_core.specs.spec.association.FlushChanges.{reset_request}
 use Rattle.dcsctp_core.specs.spec.endpoint.HeartbeatOutcomes.{is_exhausted}
 use Rattle.dcsctp_core.specs.spec.endpoint.OwnTimers.{reconfiguration}
-use Rattle.dcsctp_core.specs.spec.endpoint.ReconfigurationOutcomes.{reset_again, request_emitted, renewed_where, request_renewed, is_renewed, request_unless, reconfiguration_expired, request_expired, reconfiguration_outcome}
+use Rattle.dcsctp_core.specs.spec.endpoint.ReconfigurationOutcomes.{reset_again, request_emitted, renewed_request_where, request_renewed, is_renewed, request_unless, reconfiguration_expired, request_expired, reconfiguration_outcome}
 use Rattle.dcsctp_core.specs.declared.context.Context.{Context}
 use Rattle.dcsctp_core.specs.declared.state.CookieEchoState.{CookieEchoState}
 use Rattle.dcsctp_core.specs.declared.state.OpenState.{OpenState}
@@ -27,15 +27,15 @@ use Rattle.dcsctp_core.specs.declared.state.State.{State}
 use Rattle.dcsctp_core.specs.declared.state.State.TheVariants.{Closed, CookieWait, CookieEchoed, Open}
 use Rattle.dcsctp_core.specs.declared.transmission_control_block.ResetRequest.{ResetRequest}
 use Rattle.dcsctp_core.specs.declared.transmission_control_block.TransmissionControlBlock.{TransmissionControlBlock}
-use Rattle.dcsctp_core.specs.View.{View, number_of, request_of, held_of, core_of, tcb_of, outstanding_of, endpoint_of, view_of, Moves}
-use Rattle.dcsctp_core.specs.Handling.{emitted, TakesIn, CutIn}
-use Rattle.dcsctp_core.specs.Reconfiguring.{renumbered_by, renumbered, tcb_changed, request_over}
+use Rattle.dcsctp_core.specs.View.{View, request_number, request_of, held_of, core_of, tcb_of, outstanding_of, endpoint_of, view_of, Moves}
+use Rattle.dcsctp_core.specs.Handling.{chunk_emitted, TakesPossibleTurn, CutIn}
+use Rattle.dcsctp_core.specs.Reconfiguring.{renumbered_by, request_renumbered, tcb_changed, request_over}
 use Rattle.dcsctp_core.specs.Resetting.{IsStream}
 use Rattle.dcsctp_core.specs.Timing.{where_expired, is_timer_due, ExpiryTurn}
 use Rattle.dcsctp_core.proofs.BelowLemmas.{moves_from}
 use Rattle.dcsctp_core.proofs.Composing.{moves_as, cut_first}
 use Rattle.dcsctp_core.proofs.ResetLemmas.{fields_same}
-use Rattle.dcsctp_core_resets.specs.Repeating.{number_by, renumbered_where, again_outcome, renewed_outcome, repeated_turn, unless_outcome, unless_turn}
+use Rattle.dcsctp_core_resets.specs.Repeating.{number_by, renumbered_where, request_again_outcome, renewed_request_outcome, repeated_turn, unless_outcome, unless_turn}
 use Rattle.dcsctp_core_resets.proofs.HandlingLemmas.{tcb_holds, emitted_where, emits_moves}
 
 -- ---- the packet
@@ -68,24 +68,24 @@ tcb_asks (CookieEchoed echoed) tcb is = let same : echoed.tcb ≡ tcb = cc in ap
 tcb_asks (Open opened) tcb is = let same : opened.tcb ≡ tcb = cc in ap (λ (t : TransmissionControlBlock). request_of t.reset_request) same
 
 again_is : (e : Endpoint) (peer : Option Held) (asked : Option OutstandingRequest) (held : Held) (request : OutstandingRequest) (number : ℕ) → peer ≡ Some held → asked ≡ Some request
-    → held.own_outstanding ≡ Some number → again_outcome e peer asked ≡ emits e [] (to_peer held (reset_request number (reset_again (Some request))))
+    → held.own_outstanding ≡ Some number → request_again_outcome e peer asked ≡ emits e [] (to_peer held (reset_request number (reset_again (Some request))))
 again_is e peer asked held request number holds asks numbered =
-    ap (λ (p : Option Held). again_outcome e p asked) holds
-    ∙ ap (λ (a : Option OutstandingRequest). again_outcome e (Some held) a) asks
+    ap (λ (p : Option Held). request_again_outcome e p asked) holds
+    ∙ ap (λ (a : Option OutstandingRequest). request_again_outcome e (Some held) a) asks
     ∙ ap (λ (n : Option ℕ). request_emitted e held n (reset_again (Some request))) numbered
 
 -- The packet went out, if it fits.
 again_sent : {R : Type 0} (stream : R → Stream) (old new : Context R) (tcb : TransmissionControlBlock) (request : ResetRequest) (with_checksum : Bool) (last_tsn : ℕ) (bytes : List ℕ)
     → tcb_of old.state ≡ Some tcb → tcb.reset_request ≡ Some request → with_checksum ≡ (tcb.capabilities.zero_checksum_method.0 == 0)
     → last_tsn ≡ request.last_tsn → last_tsn < 2 ^ 32 → AllByRecursion IsStream (stream_numbers request.streams.items) → bytes ≡ flat_map (to_be_bytes w16) (stream_numbers request.streams.items)
-    → view_of new ≡ emitted with_checksum tcb.peer.tag (asked_chunk request.number last_tsn bytes) (view_of old) → Moves stream (view_of old) (repeated_turn false (view_of old)) (view_of new)
+    → view_of new ≡ chunk_emitted with_checksum tcb.peer.tag (asked_chunk request.number last_tsn bytes) (view_of old) → Moves stream (view_of old) (repeated_turn false (view_of old)) (view_of new)
 again_sent stream old new tcb request with_checksum last_tsn bytes holds asks checks tsn small fit is h =
     let held : Held = held_of tcb in
     let turn = again_is (endpoint_of old) (held_in (core_of old.state)) (outstanding_of old.state) held (kept request) request.number (tcb_holds old.state tcb holds)
-    (tcb_asks old.state tcb holds ∙ ap request_of asks) (ap number_of asks) in
+    (tcb_asks old.state tcb holds ∙ ap request_of asks) (ap request_number asks) in
     subst (λ (v : View _). Moves stream (view_of old) (repeated_turn false (view_of old)) v)
-    (ap (λ (b : Bool). emitted b held.peer.tag (chunk_out (content_of request.number request)) (view_of old)) (sym checks)
-    ∙ ap (λ (chunk : ChunkContent). emitted with_checksum held.peer.tag chunk (view_of old)) (chunk_is request.number request last_tsn bytes tsn small fit is)
+    (ap (λ (b : Bool). chunk_emitted b held.peer.tag (chunk_out (content_of request.number request)) (view_of old)) (sym checks)
+    ∙ ap (λ (chunk : ChunkContent). chunk_emitted with_checksum held.peer.tag chunk (view_of old)) (chunk_is request.number request last_tsn bytes tsn small fit is)
     ∙ sym h)
     (moves_as stream (view_of old) _ _ _ turn (emits_moves stream (view_of old) held (content_of request.number request)))
 
@@ -109,7 +109,7 @@ open_renumbered {R = R} c opened (Some request) is some =
     let shown : Option ResetRequest → View R = λ r. renumbered_at (view_of (record c { state = Open (record opened { tcb = record opened.tcb { reset_request = r } }) })) in
     ap shown (sym is)
 
-view_renumbered : {R : Type 0} (c : Context R) (s : State) → (outstanding_of s ≡ None → ⊥) → view_of (record c { state = tcb_changed renumbered s }) ≡ renumbered_at (view_of (record c { state = s }))
+view_renumbered : {R : Type 0} (c : Context R) (s : State) → (outstanding_of s ≡ None → ⊥) → view_of (record c { state = tcb_changed request_renumbered s }) ≡ renumbered_at (view_of (record c { state = s }))
 view_renumbered c Closed some = absurd (some refl)
 view_renumbered c (CookieWait wait) some = absurd (some refl)
 view_renumbered c (CookieEchoed echoed) some = echoed_renumbered c echoed echoed.tcb.reset_request refl (λ none. some (ap request_of none))
@@ -117,20 +117,20 @@ view_renumbered c (Open opened) some = open_renumbered c opened opened.tcb.reset
 
 renewed_is : (e : Endpoint) (peer : Option Held) (asked : Option OutstandingRequest) (held : Held) (request : OutstandingRequest) (number : ℕ) (b : Bool) → peer ≡ Some held → asked ≡ Some request
     → held.own_outstanding ≡ Some number → b ≡ fits e (to_peer held (reset_request held.own_next (reset_again (Some request))))
-    → renewed_outcome e peer asked ≡ renewed_where b e held number (reset_request held.own_next (reset_again (Some request)))
+    → renewed_request_outcome e peer asked ≡ renewed_request_where b e held number (reset_request held.own_next (reset_again (Some request)))
 renewed_is e peer asked held request number b holds asks numbered is =
-    ap (λ (p : Option Held). renewed_outcome e p asked) holds
-    ∙ ap (λ (a : Option OutstandingRequest). renewed_outcome e (Some held) a) asks
+    ap (λ (p : Option Held). renewed_request_outcome e p asked) holds
+    ∙ ap (λ (a : Option OutstandingRequest). renewed_request_outcome e (Some held) a) asks
     ∙ ap (λ (n : Option ℕ). request_renewed e held n (reset_again (Some request))) numbered
-    ∙ ap (λ (x : Bool). renewed_where x e held number (reset_request held.own_next (reset_again (Some request)))) (sym is)
+    ∙ ap (λ (x : Bool). renewed_request_where x e held number (reset_request held.own_next (reset_again (Some request)))) (sym is)
 
 -- what is left of it, by whether it fits
 abbrev renewed_view : {R : Type 0} → Bool → List ℕ → View R → View R
-renewed_view true bytes v = renumbered_at (record v { endpoint = counted v.endpoint; events = v.events ++ sent bytes ∷ [] })
+renewed_view true bytes v = renumbered_at (record v { endpoint = packet_counted v.endpoint; events = v.events ++ sent bytes ∷ [] })
 renewed_view false bytes v = v
 
 renewed_moves : {R : Type 0} (stream : R → Stream) (v : View R) (held : Held) (number : ℕ) (content : Content) (bytes : List ℕ) (b : Bool) → emission_bytes (ports_of v.endpoint.options) (to_peer held content) ≡ bytes
-    → Moves stream v (renewed_where b v.endpoint held number content) (renewed_view b bytes v)
+    → Moves stream v (renewed_request_where b v.endpoint held number content) (renewed_view b bytes v)
 renewed_moves stream v held number content bytes true is =
     let m = emitted_where stream v (to_peer held content) bytes true is in record { endpoint = refl; events = m.events; words = m.words; pairs = m.pairs; drawn = m.drawn }
 renewed_moves stream v held number content bytes false is = let m = emitted_where stream v (to_peer held content) bytes false is in record { endpoint = refl; events = m.events; words = m.words; pairs = m.pairs; drawn = m.drawn }
@@ -140,7 +140,7 @@ abbrev left_behind : {R : Type 0} → Bool → Bool → Context R → Context R
 left_behind b is_new mid = record mid { state = renumbered_where b is_new mid.state }
 
 left_by : {R : Type 0} (b : Bool) (bytes : List ℕ) (old mid : Context R) → (outstanding_of old.state ≡ None → ⊥)
-    → view_of mid ≡ (if b then record (view_of old) { endpoint = counted (endpoint_of old); events = (view_of old).events ++ sent bytes ∷ [] } else view_of old)
+    → view_of mid ≡ (if b then record (view_of old) { endpoint = packet_counted (endpoint_of old); events = (view_of old).events ++ sent bytes ∷ [] } else view_of old)
     → renewed_view b bytes (view_of old) ≡ view_of (left_behind b true mid)
 left_by {R = R} true bytes old mid some emits =
     let there : outstanding_of mid.state ≡ outstanding_of old.state = ap (λ (v : View R). v.endpoint.outstanding) emits in
@@ -151,7 +151,7 @@ renewed_sent : {R : Type 0} (stream : R → Stream) (old mid : Context R) (tcb :
     → tcb_of old.state ≡ Some tcb → tcb.reset_request ≡ Some request → with_checksum ≡ (tcb.capabilities.zero_checksum_method.0 == 0)
     → last_tsn ≡ request.last_tsn → last_tsn < 2 ^ 32 → AllByRecursion IsStream (stream_numbers request.streams.items) → bytes ≡ flat_map (to_be_bytes w16) (stream_numbers request.streams.items)
     → (b ≡ nat_le (12 + length (chunk_bytes (asked_chunk tcb.next_outgoing_reset_req_seq_nbr last_tsn bytes))) (packet_size_limit old.options))
-    × (view_of mid ≡ emitted with_checksum tcb.peer.tag (asked_chunk tcb.next_outgoing_reset_req_seq_nbr last_tsn bytes) (view_of old))
+    × (view_of mid ≡ chunk_emitted with_checksum tcb.peer.tag (asked_chunk tcb.next_outgoing_reset_req_seq_nbr last_tsn bytes) (view_of old))
     → Moves stream (view_of old) (repeated_turn true (view_of old)) (view_of (left_behind b true mid))
 renewed_sent {R = R} stream old mid tcb request with_checksum last_tsn bytes b holds asks checks tsn small fit is h =
     let held : Held = held_of tcb in
@@ -165,10 +165,10 @@ renewed_sent {R = R} stream old mid tcb request with_checksum last_tsn bytes b h
     let fitting : b ≡ fits (endpoint_of old) (to_peer held content) =
     h.0 ∙ ap (λ (c : ChunkContent). nat_le (12 + length (chunk_bytes c)) (packet_size_limit options)) (sym same) ∙ ap (λ (bs : List ℕ). nat_le (12 + length bs) (packet_size_limit options)) (sym alone) in
     let asked : outstanding_of old.state ≡ Some (kept request) = tcb_asks old.state tcb holds ∙ ap request_of asks in
-    let turn = renewed_is (endpoint_of old) (held_in (core_of old.state)) (outstanding_of old.state) held (kept request) request.number b (tcb_holds old.state tcb holds) asked (ap number_of asks) fitting in
-    let emits : view_of mid ≡ (if b then record (view_of old) { endpoint = counted (endpoint_of old); events = (view_of old).events ++ sent spelled ∷ [] } else view_of old) =
-    h.1 ∙ ap (λ (c : ChunkContent). emitted with_checksum held.peer.tag c (view_of old)) (sym same) ∙ ap (λ (x : Bool). emitted x held.peer.tag chunk (view_of old)) checks
-    ∙ ap (λ (x : Bool). let v : View R = (if x then record (view_of old) { endpoint = counted (endpoint_of old); events = (view_of old).events ++ sent spelled ∷ [] } else view_of old) in v)
+    let turn = renewed_is (endpoint_of old) (held_in (core_of old.state)) (outstanding_of old.state) held (kept request) request.number b (tcb_holds old.state tcb holds) asked (ap request_number asks) fitting in
+    let emits : view_of mid ≡ (if b then record (view_of old) { endpoint = packet_counted (endpoint_of old); events = (view_of old).events ++ sent spelled ∷ [] } else view_of old) =
+    h.1 ∙ ap (λ (c : ChunkContent). chunk_emitted with_checksum held.peer.tag c (view_of old)) (sym same) ∙ ap (λ (x : Bool). chunk_emitted x held.peer.tag chunk (view_of old)) checks
+    ∙ ap (λ (x : Bool). let v : View R = (if x then record (view_of old) { endpoint = packet_counted (endpoint_of old); events = (view_of old).events ++ sent spelled ∷ [] } else view_of old) in v)
     (ap (λ (bs : List ℕ). nat_le (12 + length bs) (packet_size_limit options)) (sym alone) ∙ sym fitting) in
     subst (λ (v : View R). Moves stream (view_of old) (repeated_turn true (view_of old)) v) (left_by b spelled old mid (λ none. absurd (cc)) emits)
     (moves_as stream (view_of old) _ _ _ turn
@@ -180,19 +180,19 @@ pub request_sent : {R : Type 0} (stream : R → Stream) (old mid : Context R) (t
     → number ≡ number_by is_new request.number tcb.next_outgoing_reset_req_seq_nbr
     → tcb_of old.state ≡ Some tcb → tcb.reset_request ≡ Some request → with_checksum ≡ (tcb.capabilities.zero_checksum_method.0 == 0)
     → last_tsn ≡ request.last_tsn → last_tsn < 2 ^ 32 → AllByRecursion IsStream (stream_numbers request.streams.items) → bytes ≡ flat_map (to_be_bytes w16) (stream_numbers request.streams.items)
-    → (b ≡ nat_le (12 + length (chunk_bytes (asked_chunk number last_tsn bytes))) (packet_size_limit old.options)) × (view_of mid ≡ emitted with_checksum tcb.peer.tag (asked_chunk number last_tsn bytes) (view_of old))
+    → (b ≡ nat_le (12 + length (chunk_bytes (asked_chunk number last_tsn bytes))) (packet_size_limit old.options)) × (view_of mid ≡ chunk_emitted with_checksum tcb.peer.tag (asked_chunk number last_tsn bytes) (view_of old))
     → Moves stream (view_of old) (repeated_turn is_new (view_of old)) (view_of (left_behind b is_new mid))
 request_sent stream old mid tcb request with_checksum number last_tsn bytes b false numbered holds asks checks tsn small fit is h =
     subst (λ (s : State). Moves stream (view_of old) (repeated_turn false (view_of old)) (view_of (record mid { state = s }))) (same b)
     (again_sent stream old mid tcb request with_checksum last_tsn bytes holds asks checks tsn small fit is
-    (h.1 ∙ ap (λ (n : ℕ). emitted with_checksum tcb.peer.tag (asked_chunk n last_tsn bytes) (view_of old)) numbered))
+    (h.1 ∙ ap (λ (n : ℕ). chunk_emitted with_checksum tcb.peer.tag (asked_chunk n last_tsn bytes) (view_of old)) numbered))
   where
     same : (b : Bool) → mid.state ≡ renumbered_where b false mid.state
     same true = refl
     same false = refl
 request_sent stream old mid tcb request with_checksum number last_tsn bytes b true numbered holds asks checks tsn small fit is h =
     renewed_sent stream old mid tcb request with_checksum last_tsn bytes b holds asks checks tsn small fit is
-    (subst (λ (n : ℕ). (b ≡ nat_le (12 + length (chunk_bytes (asked_chunk n last_tsn bytes))) (packet_size_limit old.options)) × (view_of mid ≡ emitted with_checksum tcb.peer.tag (asked_chunk n last_tsn bytes) (view_of old)))
+    (subst (λ (n : ℕ). (b ≡ nat_le (12 + length (chunk_bytes (asked_chunk n last_tsn bytes))) (packet_size_limit old.options)) × (view_of mid ≡ chunk_emitted with_checksum tcb.peer.tag (asked_chunk n last_tsn bytes) (view_of old)))
     numbered h)
 
 -- ---- the turn of the timer
@@ -200,23 +200,23 @@ request_sent stream old mid tcb request with_checksum number last_tsn bytes b tr
 -- Without a peer, or without a request, nothing goes out.
 no_peer : (b is_new : Bool) (e : Endpoint) → held_in e.core ≡ None → still e ≡ unless_outcome b is_new e
 no_peer true is_new e none = refl
-no_peer false false e none = sym (ap (λ (p : Option Held). again_outcome e p e.outstanding) none)
-no_peer false true e none = sym (ap (λ (p : Option Held). renewed_outcome e p e.outstanding) none)
+no_peer false false e none = sym (ap (λ (p : Option Held). request_again_outcome e p e.outstanding) none)
+no_peer false true e none = sym (ap (λ (p : Option Held). renewed_request_outcome e p e.outstanding) none)
 
 nothing_asked : (b is_new : Bool) (e : Endpoint) (held : Held) → held_in e.core ≡ Some held → e.outstanding ≡ None → still e ≡ unless_outcome b is_new e
 nothing_asked true is_new e held holds none = refl
 nothing_asked false false e held holds none =
-    sym (ap (λ (p : Option Held). again_outcome e p e.outstanding) holds ∙ ap (λ (r : Option OutstandingRequest). again_outcome e (Some held) r) none)
+    sym (ap (λ (p : Option Held). request_again_outcome e p e.outstanding) holds ∙ ap (λ (r : Option OutstandingRequest). request_again_outcome e (Some held) r) none)
 nothing_asked false true e held holds none =
-    sym (ap (λ (p : Option Held). renewed_outcome e p e.outstanding) holds ∙ ap (λ (r : Option OutstandingRequest). renewed_outcome e (Some held) r) none)
+    sym (ap (λ (p : Option Held). renewed_request_outcome e p e.outstanding) holds ∙ ap (λ (r : Option OutstandingRequest). renewed_request_outcome e (Some held) r) none)
 
 asked_again : (b is_new : Bool) (e : Endpoint) (held : Held) (request : OutstandingRequest) → held_in e.core ≡ Some held
     → request_unless b is_new (request_expired e request) held (reset_again (Some request)) ≡ unless_outcome b is_new (request_expired e request)
 asked_again true is_new e held request holds = refl
 asked_again false false e held request holds =
-    sym (ap (λ (p : Option Held). again_outcome (request_expired e request) p (request_expired e request).outstanding) holds)
+    sym (ap (λ (p : Option Held). request_again_outcome (request_expired e request) p (request_expired e request).outstanding) holds)
 asked_again false true e held request holds =
-    sym (ap (λ (p : Option Held). renewed_outcome (request_expired e request) p (request_expired e request).outstanding) holds)
+    sym (ap (λ (p : Option Held). renewed_request_outcome (request_expired e request) p (request_expired e request).outstanding) holds)
 
 -- the count of errors is used up once the timer has expired
 abbrev exhausted_over : Endpoint → Option OutstandingRequest → Bool
@@ -239,7 +239,7 @@ peerless (Open opened) none = absurd (cc)
 pub expired_then : {R : Type 0} (stream : R → Stream) (old mid new : Context R) (b is_new : Bool) → is_new ≡ is_renewed (endpoint_of old) (outstanding_of old.state)
     → b ≡ is_timer_due (endpoint_of old) (own_timer reconfiguration) → b ≡ true
     → view_of mid ≡ where_expired b (request_over (endpoint_of old) (outstanding_of old.state)) (view_of old) → Moves stream (view_of mid) (unless_turn is_new (view_of mid)) (view_of new)
-    → (is_timer_due (endpoint_of old) (own_timer reconfiguration) ≡ true) × TakesIn stream (ExpiryTurn (own_timer reconfiguration)) (view_of old) (view_of new)
+    → (is_timer_due (endpoint_of old) (own_timer reconfiguration) ≡ true) × TakesPossibleTurn stream (ExpiryTurn (own_timer reconfiguration)) (view_of old) (view_of new)
 expired_then {R = R} stream old mid new b is_new renews answer comes left moves =
     let e : Endpoint = endpoint_of old in
     let over : Endpoint = request_over e (outstanding_of old.state) in

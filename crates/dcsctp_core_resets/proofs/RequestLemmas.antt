@@ -13,15 +13,15 @@ use Rattle.dcsctp_core.specs.spec.endpoint.Event.{Event, streams_reset_performed
 use Rattle.dcsctp_core.specs.spec.Packet.{Emission}
 use Rattle.dcsctp_core.specs.spec.Reconfiguration.{RequestedReset, ResetParameter, outgoing_reset_request, incoming_reset_request, reconfiguration_response, other_reset_parameter, reset_parameter_content, reset_parameter_in}
 use Rattle.dcsctp_core.specs.spec.association.Effect.{Effect, draws, sends, holds, connects, ends, begins, gives_up, completes, fails, accepts, performs, resumes, drawn_in}
-use Rattle.dcsctp_core.specs.spec.association.ResetChanges.{Place, again, next, astray, place_of, Answered, accepted, outgoing_by, incoming_by, Informed, is_outstanding, informed_where, WorkedParameters, after_request, after_answer, work_parameters, work_chunk, informed_by}
+use Rattle.dcsctp_core.specs.spec.association.ResetChanges.{RequestPlace, again, next, astray, request_place, RequestOutcome, accepted_request, outgoing_by, incoming_by, Informed, is_outstanding, informed_where, HandledParameters, after_request, after_answer, work_parameters, work_chunk, informed_by}
 use Rattle.dcsctp_core.specs.spec.endpoint.FlushOutcomes.{is_none}
-use Rattle.dcsctp_core.specs.spec.endpoint.ResetOutcomes.{has_reset, answers_in_progress, reset_events, worked_part, is_in_progress, own_answer, in_progress_among, has_completed}
+use Rattle.dcsctp_core.specs.spec.endpoint.ResetOutcomes.{has_reset, answers_in_progress, reset_events, handled_part, is_in_progress, own_answer, in_progress_among, has_completed}
 use Rattle.dcsctp_core_resets.specs.declared.requests.Treatment.{Treatment}
 use Rattle.dcsctp_core_resets.specs.declared.requests.Treatment.TheVariants.{Nothing, Deferred, Performed}
 use Rattle.dcsctp_core_resets.specs.declared.requests.LastRequest.{LastRequest}
 use Rattle.dcsctp_core_resets.specs.declared.requests.AnsweredRequest.{AnsweredRequest}
 use Rattle.dcsctp_core_resets.specs.declared.requests.HandledRequests.{HandledRequests}
-use Rattle.dcsctp_core_resets.specs.Requests.{said_by, reset_parameters, is_outgoing, held_with, is_performed, is_deferred, treated_events, Treats, AnswersAs, Responds, behind_these, AreResponses, WorksOne, WorksChunk, held_out, own_events, own_kind, is_completed, own_ended, with_result, with_response, left_out, SameOwn, held_now, told_so, TreatsBoth, Brings, brings_nothing, brings_request, brings_answer}
+use Rattle.dcsctp_core_resets.specs.Requests.{parameter_said, reset_parameters, is_outgoing, held_with, is_performed, is_treatment_deferred, treated_events, IsTreatment, AnswersAs, Responds, behind_these, AreResponses, HandlesParameter, HandlesParameters, held_out, own_events, own_kind, is_completed, own_answer_ended, with_result, with_response, left_out, SameOwn, held_now, both_answer_events, TreatsBoth, Brings, brings_nothing, brings_request, brings_answer}
 use Rattle.std.specs.List.{list_any}
 use Rattle.std.proofs.lemmas.List.Folds.{list_any-append}
 use Rattle.dcsctp_core.specs.wire.declared.reconfiguration.ReconfigurationResponseResult.TheVariants.{SuccessNothingToDo, SuccessPerformed, Denied, ErrorWrongSSN, ErrorRequestAlreadyInProgress, ErrorBadSequenceNumber, InProgress}
@@ -31,7 +31,7 @@ use Rattle.dcsctp_core.specs.spec.endpoint.ResetOutcomes as outcomes
 
 -- ---- effects
 
-pub nothing_treats : Treats Nothing [] []
+pub nothing_treats : IsTreatment Nothing [] []
 nothing_treats = record { has = refl; waits = refl; told = λ theirs own. refl; drawn = refl }
 
 -- what effects come to one behind another
@@ -106,11 +106,11 @@ resets_alone false = refl
 -- ---- one request
 
 -- that of the peer which is in progress
-pub again_as : (base : Held) (last : LastRequest) (a : AnsweredRequest) (b : Answered) → AnswersAs (held_with base last) a b → AnswersAs base a b
+pub again_as : (base : Held) (last : LastRequest) (a : AnsweredRequest) (b : RequestOutcome) → AnswersAs (held_with base last) a b → AnswersAs base a b
 again_as base last a b h = record { held = h.held; result = h.result; treats = h.treats }
 
 -- one that is accepted
-pub accepted_as : (base : Held) (last : LastRequest) (number : ℕ) (a : AnsweredRequest) (b : Answered) → AnswersAs (held_with base last) a b → AnswersAs base a (accepted number b)
+pub accepted_as : (base : Held) (last : LastRequest) (number : ℕ) (a : AnsweredRequest) (b : RequestOutcome) → AnswersAs (held_with base last) a b → AnswersAs base a (accepted_request number b)
 accepted_as base last number a b h =
     record { held = h.held; result = h.result; treats = λ n. let t = h.treats n in record { has = t.has; waits = t.waits; told = t.told; drawn = t.drawn } }
 
@@ -137,7 +137,7 @@ rests_one : (reached : Bool) (parameter : ResetParameter) (w : HandledRequests)
     → in_progress_among w.outstanding (parameter ∷ []) ≡ false → is_outgoing parameter ≡ false
     → ((my : Pair) (base : Held) (rest : List ResetParameter)
     → work_parameters my reached w.has_worked (held_now base w) (parameter ∷ rest) ≡ work_parameters my reached w.has_worked (held_now base w) rest)
-    → WorksOne reached parameter w w
+    → HandlesParameter reached parameter w w
 rests_one reached parameter w other requests whole =
     record {
       effects = λ my base. [];
@@ -162,7 +162,7 @@ incoming_answers : (outstanding : Option ℕ) (number : ℕ) (streams : List ℕ
 incoming_answers None number streams = refl
 incoming_answers (Some own) number streams = refl
 
-pub other_one : (reached : Bool) (parameter : ParameterContent) (w : HandledRequests) → WorksOne reached (other_reset_parameter parameter) w w
+pub other_one : (reached : Bool) (parameter : ParameterContent) (w : HandledRequests) → HandlesParameter reached (other_reset_parameter parameter) w w
 other_one reached parameter w = rests_one reached (other_reset_parameter parameter) w (other_answers w.outstanding parameter) refl (λ my base rest. refl)
 
 -- A response to another request says nothing.
@@ -219,7 +219,7 @@ result_has ErrorBadSequenceNumber w = refl
 result_has InProgress w = refl
 
 response_by : (b : Bool) (reached : Bool) (number : ℕ) (result : ReconfigurationResponseResult) (w : HandledRequests) → is_outstanding number w.outstanding ≡ b
-    → WorksOne reached (reconfiguration_response number result) w (with_response b result w)
+    → HandlesParameter reached (reconfiguration_response number result) w (with_response b result w)
 response_by false reached number result w is =
     rests_one reached (reconfiguration_response number result) w (another_answers w.outstanding number result is) refl
     (λ my base rest. ap (λ (b : Bool). let first : Informed = informed_where my (held_now base w) number result b in after_answer first (work_parameters my reached w.has_worked first.held rest)) is)
@@ -238,9 +238,9 @@ response_by true reached number result w is =
     }
 
 pub response_one : (reached : Bool) (number : ℕ) (result : ReconfigurationResponseResult) (w new : HandledRequests) → new ≡ with_response (is_outstanding number w.outstanding) result w
-    → WorksOne reached (reconfiguration_response number result) w new
+    → HandlesParameter reached (reconfiguration_response number result) w new
 response_one reached number result w new is =
-    subst (WorksOne reached (reconfiguration_response number result) w) (sym is) (response_by (is_outstanding number w.outstanding) reached number result w refl)
+    subst (HandlesParameter reached (reconfiguration_response number result) w) (sym is) (response_by (is_outstanding number w.outstanding) reached number result w refl)
 
 one_response : (number : ℕ) (answer : ReconfigurationResponseResult) (old new : HandledRequests) (h : Responds number answer old new) → AreResponses (h.response ∷ [])
 one_response number answer old new h =
@@ -252,7 +252,7 @@ response_says : (number : ℕ) (answer : ReconfigurationResponseResult) (old new
 response_says number answer old new h = ap (λ (c : ParameterContent). reset_parameter_in c ∷ []) h.says
 
 -- a request that was answered, and what stands behind it
-answered_then : (my : Pair) (reached has : Bool) (base : Held) (number : ℕ) (a : AnsweredRequest) (first : Answered) (responses : List ResetParameter) (rest : List ResetParameter)
+answered_then : (my : Pair) (reached has : Bool) (base : Held) (number : ℕ) (a : AnsweredRequest) (first : RequestOutcome) (responses : List ResetParameter) (rest : List ResetParameter)
     → AnswersAs base a first → responses ≡ reconfiguration_response number a.result ∷ []
     → after_request number first (work_parameters my reached has first.held rest) ≡ behind_these first.effects responses (work_parameters my reached has (held_with base a.last) rest)
 answered_then my reached has base number a first responses rest h says =
@@ -261,12 +261,12 @@ answered_then my reached has base number a first responses rest h says =
     ∙ ap (λ (rs : List ResetParameter). behind_these first.effects rs (work_parameters my reached has (held_with base a.last) rest)) (sym says)
 
 pub outgoing_one : (reached : Bool) (number answered : ℕ) (reset : RequestedReset) (old between new : HandledRequests) (a : AnsweredRequest) → old.has_worked ≡ false
-    → ((base : Held) → AnswersAs base a (outgoing_by (held_with base old.last) number reached (place_of old.last.number number)))
+    → ((base : Held) → AnswersAs base a (outgoing_by (held_with base old.last) number reached (request_place old.last.number number)))
     → Responds number a.result old between → new.responses ≡ between.responses → new.last ≡ a.last → new.treatment ≡ a.treatment → new.has_worked ≡ true → SameOwn between new → new.is_refused ≡ between.is_refused
-    → WorksOne reached (outgoing_reset_request number answered reset) old new
+    → HandlesParameter reached (outgoing_reset_request number answered reset) old new
 outgoing_one reached number answered reset old between new a fresh answers h responses last treatment has own refused =
     let after : Held → Held = held_out old.outstanding in
-    let first : Held → Answered = λ base. outgoing_by (held_with (after base) old.last) number reached (place_of old.last.number number) in
+    let first : Held → RequestOutcome = λ base. outgoing_by (held_with (after base) old.last) number reached (request_place old.last.number number) in
     let same : SameOwn old new = own_then old between new h.own own in
     record {
       effects = λ my base. (first base).effects;
@@ -276,8 +276,8 @@ outgoing_one reached number answered reset old between new a fresh answers h res
       refused = refused ∙ h.is_refused;
       has = has ∙ sym (or_one old.has_worked);
       brings = brings_request fresh has same
-          (λ my base. subst (λ (t : Treatment). Treats t (first base).effects (reset_parameters (h.response ∷ []))) (sym treatment)
-          (subst (Treats a.treatment (first base).effects) (sym (response_says number a.result old between h)) ((answers (after base)).treats number)))
+          (λ my base. subst (λ (t : Treatment). IsTreatment t (first base).effects (reset_parameters (h.response ∷ []))) (sym treatment)
+          (subst (IsTreatment a.treatment (first base).effects) (sym (response_says number a.result old between h)) ((answers (after base)).treats number)))
           (outgoing_answers old.outstanding number answered reset);
       whole = λ my base rest.
           ap (λ (b : Bool). work_parameters my reached b (held_with (after base) old.last) (outgoing_reset_request number answered reset ∷ rest)) fresh
@@ -288,19 +288,19 @@ outgoing_one reached number answered reset old between new a fresh answers h res
     }
 
 -- No stream is reset for an incoming request, and none is in progress.
-incoming_treats : (held : Held) (number : ℕ) (place : Place)
-    → Treats Nothing (incoming_by held number place).effects (reconfiguration_response number (incoming_by held number place).result ∷ [])
+incoming_treats : (held : Held) (number : ℕ) (place : RequestPlace)
+    → IsTreatment Nothing (incoming_by held number place).effects (reconfiguration_response number (incoming_by held number place).result ∷ [])
 incoming_treats held number again = record { has = refl; waits = refl; told = λ theirs own. refl; drawn = refl }
 incoming_treats held number next = record { has = refl; waits = refl; told = λ theirs own. refl; drawn = refl }
 incoming_treats held number astray = record { has = refl; waits = refl; told = λ theirs own. refl; drawn = refl }
 
 pub incoming_one : (reached : Bool) (number : ℕ) (streams : List ℕ) (old between new : HandledRequests) (a : AnsweredRequest)
-    → ((base : Held) → AnswersAs base a (incoming_by (held_with base old.last) number (place_of old.last.number number)))
+    → ((base : Held) → AnswersAs base a (incoming_by (held_with base old.last) number (request_place old.last.number number)))
     → Responds number a.result old between → new.responses ≡ between.responses → new.last ≡ a.last → new.treatment ≡ between.treatment → new.has_worked ≡ between.has_worked → SameOwn between new
-    → new.is_refused ≡ between.is_refused → WorksOne reached (incoming_reset_request number streams) old new
+    → new.is_refused ≡ between.is_refused → HandlesParameter reached (incoming_reset_request number streams) old new
 incoming_one reached number streams old between new a answers h responses last treatment has own refused =
     let after : Held → Held = held_out old.outstanding in
-    let first : Held → Answered = λ base. incoming_by (held_with (after base) old.last) number (place_of old.last.number number) in
+    let first : Held → RequestOutcome = λ base. incoming_by (held_with (after base) old.last) number (request_place old.last.number number) in
     let same : SameOwn old new = own_then old between new h.own own in
     record {
       effects = λ my base. (first base).effects;
@@ -310,9 +310,9 @@ incoming_one reached number streams old between new a answers h responses last t
       refused = refused ∙ h.is_refused;
       has = has ∙ h.has_worked ∙ or_not old.has_worked false refl;
       brings = brings_nothing (treatment ∙ h.treatment) (has ∙ h.has_worked) same
-          (λ my base. subst (Treats Nothing (first base).effects)
+          (λ my base. subst (IsTreatment Nothing (first base).effects)
           (ap (λ (result : ReconfigurationResponseResult). reconfiguration_response number result ∷ []) (answers (after base)).result ∙ sym (response_says number a.result old between h))
-          (incoming_treats (held_with (after base) old.last) number (place_of old.last.number number)))
+          (incoming_treats (held_with (after base) old.last) number (request_place old.last.number number)))
           (incoming_answers old.outstanding number streams);
       whole = λ my base rest.
           answered_then my reached old.has_worked (after base) number a (first base) (reset_parameters (h.response ∷ [])) rest (answers (after base)) (response_says number a.result old between h)
@@ -326,8 +326,8 @@ second_by : (has : Bool) (parameter : ResetParameter) → is_outgoing parameter 
 second_by true parameter outgoing first = absurd (cc)
 second_by false parameter outgoing first = refl
 
-pub not_second : (has : Bool) (parameter : Parameter) (request : OutgoingSsnResetRequestParameter) → parameter ≡ parameters.OutgoingSsnResetRequest request → (has && is_outgoing (said_by parameter)) ≡ false → has ≡ false
-not_second has parameter request is first = second_by has (said_by parameter) (ap (λ (p : Parameter). is_outgoing (said_by p)) is) first
+pub not_second : (has : Bool) (parameter : Parameter) (request : OutgoingSsnResetRequestParameter) → parameter ≡ parameters.OutgoingSsnResetRequest request → (has && is_outgoing (parameter_said parameter)) ≡ false → has ≡ false
+not_second has parameter request is first = second_by has (parameter_said parameter) (ap (λ (p : Parameter). is_outgoing (parameter_said p)) is) first
 
 -- ---- the parameters so far
 
@@ -351,7 +351,7 @@ pub record Progress (reached : Bool) (last : LastRequest) (start : Option ℕ) (
   pub treats : (my : Pair) (base : Held) → TreatsBoth w (effects my base) (reset_parameters w.responses.items)
   pub fresh : w.has_worked ≡ false → w.treatment ≡ Nothing
   pub own : OwnStands start front w
-  pub part : (rest : List ResetParameter) → worked_part false (front ++ rest) ≡ front ++ worked_part w.has_worked rest
+  pub part : (rest : List ResetParameter) → handled_part false (front ++ rest) ≡ front ++ handled_part w.has_worked rest
   pub whole : (my : Pair) (base : Held) (rest : List ResetParameter)
       → work_parameters my reached false (held_out start (held_with base last)) (front ++ rest)
       ≡ behind_these (effects my base) (reset_parameters w.responses.items) (work_parameters my reached w.has_worked (held_now base w) rest)
@@ -391,32 +391,32 @@ both_responses xs ys first second =
     ∙ sym (map-append parameter_content xs ys)
 
 -- what both bring
-behind_both : (es fs : List Effect) (xs ys : List ResetParameter) (rest : WorkedParameters) → behind_these es xs (behind_these fs ys rest) ≡ behind_these (es ++ fs) (xs ++ ys) rest
+behind_both : (es fs : List Effect) (xs ys : List ResetParameter) (rest : HandledParameters) → behind_these es xs (behind_these fs ys rest) ≡ behind_these (es ++ fs) (xs ++ ys) rest
 behind_both es fs xs ys rest =
     ap (λ (all : List Effect). record rest { effects = all; answers = xs ++ (ys ++ rest.answers) }) (sym (append_assoc es fs rest.effects))
     ∙ ap (λ (all : List ResetParameter). record rest { effects = (es ++ fs) ++ rest.effects; answers = all }) (sym (append_assoc xs ys rest.answers))
 
 -- what the user is told so far, and then nothing more
 told_same : (old new : HandledRequests) (theirs streams : List ℕ) → SameOwn old new → new.treatment ≡ old.treatment
-    → told_so new.is_own_first new.own new.treatment theirs streams ≡ told_so old.is_own_first old.own old.treatment theirs streams
+    → both_answer_events new.is_own_first new.own new.treatment theirs streams ≡ both_answer_events old.is_own_first old.own old.treatment theirs streams
 told_same old new theirs streams same is =
-    ap (λ (b : Bool). told_so b new.own new.treatment theirs streams) same.first
-    ∙ ap (λ (a : OwnAnswer). told_so old.is_own_first a new.treatment theirs streams) same.own
-    ∙ ap (λ (t : Treatment). told_so old.is_own_first old.own t theirs streams) is
+    ap (λ (b : Bool). both_answer_events b new.own new.treatment theirs streams) same.first
+    ∙ ap (λ (a : OwnAnswer). both_answer_events old.is_own_first a new.treatment theirs streams) same.own
+    ∙ ap (λ (t : Treatment). both_answer_events old.is_own_first old.own t theirs streams) is
 
-then_nothing : (old new : HandledRequests) (es fs : List Effect) (xs ys : List ResetParameter) → TreatsBoth old es xs → Treats Nothing fs ys → SameOwn old new → new.treatment ≡ old.treatment
+then_nothing : (old new : HandledRequests) (es fs : List Effect) (xs ys : List ResetParameter) → TreatsBoth old es xs → IsTreatment Nothing fs ys → SameOwn old new → new.treatment ≡ old.treatment
     → TreatsBoth new (es ++ fs) (xs ++ ys)
 then_nothing old new es fs xs ys first second same is =
     record {
       has = has_both es fs ∙ ap (λ (b : Bool). resets_of (has_reset es) b) second.has ∙ resets_alone (has_reset es) ∙ first.has ∙ sym (ap is_performed is);
-      waits = waits_both xs ys ∙ ap (λ (b : Bool). resets_of (answers_in_progress xs) b) second.waits ∙ resets_alone (answers_in_progress xs) ∙ first.waits ∙ sym (ap is_deferred is);
+      waits = waits_both xs ys ∙ ap (λ (b : Bool). resets_of (answers_in_progress xs) b) second.waits ∙ resets_alone (answers_in_progress xs) ∙ first.waits ∙ sym (ap is_treatment_deferred is);
       told = λ theirs streams. told_both theirs streams es fs ∙ ap (λ (xs : List (Event Emission)). reset_events theirs streams es ++ xs) (second.told theirs streams)
           ∙ append-nil (reset_events theirs streams es) ∙ first.told theirs streams ∙ sym (told_same old new theirs streams same is);
       drawn = drawn_both es fs first.drawn second.drawn;
     }
 
 -- .. then of the peer's request
-joins : (b : Bool) (a : OwnAnswer) (t : Treatment) (theirs streams : List ℕ) → (own_events a streams ≡ []) ⊎ (b ≡ true) → told_so b a Nothing theirs streams ++ treated_events t theirs ≡ told_so b a t theirs streams
+joins : (b : Bool) (a : OwnAnswer) (t : Treatment) (theirs streams : List ℕ) → (own_events a streams ≡ []) ⊎ (b ≡ true) → both_answer_events b a Nothing theirs streams ++ treated_events t theirs ≡ both_answer_events b a t theirs streams
 joins true own.Unanswered t theirs streams early = refl
 joins false own.Unanswered t theirs streams early = sym (append-nil (treated_events t theirs))
 joins true own.InProgress t theirs streams early = refl
@@ -435,28 +435,28 @@ early start front w streams (ended number is none kind (inl first)) fresh = inr 
 early start front w streams (ended number is none kind (inr worked)) fresh = absurd (cc)
 
 then_request : (old new : HandledRequests) (es fs : List Effect) (xs ys : List ResetParameter) → TreatsBoth old es xs → old.treatment ≡ Nothing
-    → ((streams : List ℕ) → (own_events old.own streams ≡ []) ⊎ (old.is_own_first ≡ true)) → Treats new.treatment fs ys → SameOwn old new → TreatsBoth new (es ++ fs) (xs ++ ys)
+    → ((streams : List ℕ) → (own_events old.own streams ≡ []) ⊎ (old.is_own_first ≡ true)) → IsTreatment new.treatment fs ys → SameOwn old new → TreatsBoth new (es ++ fs) (xs ++ ys)
 then_request old new es fs xs ys first nothing before second same =
     record {
       has = has_both es fs ∙ ap (λ (b : Bool). resets_of b (has_reset fs)) (first.has ∙ ap is_performed nothing) ∙ second.has;
-      waits = waits_both xs ys ∙ ap (λ (b : Bool). resets_of b (answers_in_progress ys)) (first.waits ∙ ap is_deferred nothing) ∙ second.waits;
+      waits = waits_both xs ys ∙ ap (λ (b : Bool). resets_of b (answers_in_progress ys)) (first.waits ∙ ap is_treatment_deferred nothing) ∙ second.waits;
       told = λ theirs streams.
           told_both theirs streams es fs
-          ∙ ap (λ (xs : List (Event Emission)). xs ++ reset_events theirs streams fs) (first.told theirs streams ∙ ap (λ (t : Treatment). told_so old.is_own_first old.own t theirs streams) nothing)
-          ∙ ap (λ (xs : List (Event Emission)). told_so old.is_own_first old.own Nothing theirs streams ++ xs) (second.told theirs streams)
+          ∙ ap (λ (xs : List (Event Emission)). xs ++ reset_events theirs streams fs) (first.told theirs streams ∙ ap (λ (t : Treatment). both_answer_events old.is_own_first old.own t theirs streams) nothing)
+          ∙ ap (λ (xs : List (Event Emission)). both_answer_events old.is_own_first old.own Nothing theirs streams ++ xs) (second.told theirs streams)
           ∙ joins old.is_own_first old.own new.treatment theirs streams (before streams)
-          ∙ ap (λ (b : Bool). told_so b old.own new.treatment theirs streams) (sym same.first)
-          ∙ ap (λ (a : OwnAnswer). told_so new.is_own_first a new.treatment theirs streams) (sym same.own);
+          ∙ ap (λ (b : Bool). both_answer_events b old.own new.treatment theirs streams) (sym same.first)
+          ∙ ap (λ (a : OwnAnswer). both_answer_events new.is_own_first a new.treatment theirs streams) (sym same.own);
       drawn = drawn_both es fs first.drawn second.drawn;
     }
 
 -- .. then of the own request
-quietly : (b : Bool) (a : OwnAnswer) (t : Treatment) (theirs streams : List ℕ) → own_events a streams ≡ [] → told_so b a t theirs streams ≡ treated_events t theirs
+quietly : (b : Bool) (a : OwnAnswer) (t : Treatment) (theirs streams : List ℕ) → own_events a streams ≡ [] → both_answer_events b a t theirs streams ≡ treated_events t theirs
 quietly true a t theirs streams silent = ap (λ (xs : List (Event Emission)). xs ++ treated_events t theirs) silent
 quietly false a t theirs streams silent = ap (λ (xs : List (Event Emission)). treated_events t theirs ++ xs) silent ∙ append-nil (treated_events t theirs)
 
 closes : (b worked : Bool) (a answer : OwnAnswer) (t : Treatment) (theirs streams : List ℕ) → own_events a streams ≡ [] → (worked ≡ false → t ≡ Nothing)
-    → told_so b a t theirs streams ++ own_events answer streams ≡ told_so (not worked) answer t theirs streams
+    → both_answer_events b a t theirs streams ++ own_events answer streams ≡ both_answer_events (not worked) answer t theirs streams
 closes b true a answer t theirs streams silent fresh = ap (λ (xs : List (Event Emission)). xs ++ own_events answer streams) (quietly b a t theirs streams silent)
 closes b false a answer t theirs streams silent fresh =
     ap (λ (xs : List (Event Emission)). xs ++ own_events answer streams) (quietly b a t theirs streams silent)
@@ -471,7 +471,7 @@ record Tells (answer : OwnAnswer) (effects : List Effect) : Type 0 where
   drawn : drawn_in effects ≡ []
 
 then_ended : (old : HandledRequests) (answer : OwnAnswer) (es fs : List Effect) (xs : List ResetParameter) → TreatsBoth old es xs → ((streams : List ℕ) → own_events old.own streams ≡ [])
-    → (old.has_worked ≡ false → old.treatment ≡ Nothing) → Tells answer fs → TreatsBoth (own_ended answer old) (es ++ fs) xs
+    → (old.has_worked ≡ false → old.treatment ≡ Nothing) → Tells answer fs → TreatsBoth (own_answer_ended answer old) (es ++ fs) xs
 then_ended old answer es fs xs first silent fresh tells =
     record {
       has = has_both es fs ∙ ap (λ (b : Bool). resets_of (has_reset es) b) tells.has ∙ resets_alone (has_reset es) ∙ first.has;
@@ -479,7 +479,7 @@ then_ended old answer es fs xs first silent fresh tells =
       told = λ theirs streams.
           told_both theirs streams es fs
           ∙ ap (λ (xs : List (Event Emission)). xs ++ reset_events theirs streams fs) (first.told theirs streams)
-          ∙ ap (λ (xs : List (Event Emission)). told_so old.is_own_first old.own old.treatment theirs streams ++ xs) (tells.told theirs streams)
+          ∙ ap (λ (xs : List (Event Emission)). both_answer_events old.is_own_first old.own old.treatment theirs streams ++ xs) (tells.told theirs streams)
           ∙ closes old.is_own_first old.has_worked old.own answer old.treatment theirs streams (silent streams) fresh;
       drawn = drawn_both es fs first.drawn tells.drawn;
     }
@@ -601,15 +601,15 @@ own_more start front parameter old new effects answers own (brings_answer number
 
 -- which parameters are worked
 part_one : (has : Bool) (parameter : ResetParameter) (after : Bool) (rest : List ResetParameter) → (has && is_outgoing parameter) ≡ false → after ≡ (has || is_outgoing parameter)
-    → worked_part has (parameter ∷ rest) ≡ parameter ∷ worked_part after rest
+    → handled_part has (parameter ∷ rest) ≡ parameter ∷ handled_part after rest
 part_one true (outgoing_reset_request number answered reset) after rest first is = absurd (cc)
-part_one false (outgoing_reset_request number answered reset) after rest first is = ap (λ (b : Bool). outgoing_reset_request number answered reset ∷ worked_part b rest) (sym is)
-part_one true (incoming_reset_request number streams) after rest first is = ap (λ (b : Bool). incoming_reset_request number streams ∷ worked_part b rest) (sym is)
-part_one false (incoming_reset_request number streams) after rest first is = ap (λ (b : Bool). incoming_reset_request number streams ∷ worked_part b rest) (sym is)
-part_one true (reconfiguration_response number result) after rest first is = ap (λ (b : Bool). reconfiguration_response number result ∷ worked_part b rest) (sym is)
-part_one false (reconfiguration_response number result) after rest first is = ap (λ (b : Bool). reconfiguration_response number result ∷ worked_part b rest) (sym is)
-part_one true (other_reset_parameter parameter) after rest first is = ap (λ (b : Bool). other_reset_parameter parameter ∷ worked_part b rest) (sym is)
-part_one false (other_reset_parameter parameter) after rest first is = ap (λ (b : Bool). other_reset_parameter parameter ∷ worked_part b rest) (sym is)
+part_one false (outgoing_reset_request number answered reset) after rest first is = ap (λ (b : Bool). outgoing_reset_request number answered reset ∷ handled_part b rest) (sym is)
+part_one true (incoming_reset_request number streams) after rest first is = ap (λ (b : Bool). incoming_reset_request number streams ∷ handled_part b rest) (sym is)
+part_one false (incoming_reset_request number streams) after rest first is = ap (λ (b : Bool). incoming_reset_request number streams ∷ handled_part b rest) (sym is)
+part_one true (reconfiguration_response number result) after rest first is = ap (λ (b : Bool). reconfiguration_response number result ∷ handled_part b rest) (sym is)
+part_one false (reconfiguration_response number result) after rest first is = ap (λ (b : Bool). reconfiguration_response number result ∷ handled_part b rest) (sym is)
+part_one true (other_reset_parameter parameter) after rest first is = ap (λ (b : Bool). other_reset_parameter parameter ∷ handled_part b rest) (sym is)
+part_one false (other_reset_parameter parameter) after rest first is = ap (λ (b : Bool). other_reset_parameter parameter ∷ handled_part b rest) (sym is)
 
 -- It isn't the second outgoing request.
 pub none_if : (has outgoing : Bool) → outgoing ≡ false → (has && outgoing) ≡ false
@@ -622,7 +622,7 @@ none_yet false outgoing is = refl
 
 -- One more was worked.
 pub one_more : (reached : Bool) (last : LastRequest) (start : Option ℕ) (front : List ResetParameter) (parameter : ResetParameter) (old new : HandledRequests)
-    → (old.has_worked && is_outgoing parameter) ≡ false → Progress reached last start front old → WorksOne reached parameter old new
+    → (old.has_worked && is_outgoing parameter) ≡ false → Progress reached last start front old → HandlesParameter reached parameter old new
     → Progress reached last start (front ++ parameter ∷ []) new
 one_more reached last start front parameter old new first done step =
     record {
@@ -635,13 +635,13 @@ one_more reached last start front parameter old new first done step =
       fresh = fresh_more parameter old new step.effects (reset_parameters step.responses) done.fresh step.brings;
       own = own_more start front parameter old new step.effects (reset_parameters step.responses) done.own step.brings;
       part = λ rest.
-          ap (worked_part false) (append_assoc front (parameter ∷ []) rest) ∙ done.part (parameter ∷ rest)
+          ap (handled_part false) (append_assoc front (parameter ∷ []) rest) ∙ done.part (parameter ∷ rest)
           ∙ ap (λ (ps : List ResetParameter). front ++ ps) (part_one old.has_worked parameter new.has_worked rest first step.has)
-          ∙ sym (append_assoc front (parameter ∷ []) (worked_part new.has_worked rest));
+          ∙ sym (append_assoc front (parameter ∷ []) (handled_part new.has_worked rest));
       whole = λ my base rest.
           ap (λ (ps : List ResetParameter). work_parameters my reached false (held_out start (held_with base last)) ps) (append_assoc front (parameter ∷ []) rest)
           ∙ done.whole my base (parameter ∷ rest)
-          ∙ ap (λ (w : WorkedParameters). behind_these (done.effects my base) (reset_parameters old.responses.items) w) (step.whole my base rest)
+          ∙ ap (λ (w : HandledParameters). behind_these (done.effects my base) (reset_parameters old.responses.items) w) (step.whole my base rest)
           ∙ behind_both (done.effects my base) (step.effects my base) (reset_parameters old.responses.items) (reset_parameters step.responses) (work_parameters my reached new.has_worked (held_now base new) rest)
           ∙ ap (λ (ps : List ResetParameter). behind_these (done.effects my base ++ step.effects my base) ps (work_parameters my reached new.has_worked (held_now base new) rest))
           (sym (said_append old.responses.items step.responses) ∙ ap (λ (ps : List Parameter). reset_parameters ps) (sym step.added));
@@ -708,7 +708,7 @@ bring_refused es rs held =
     ∙ ap (λ (all : List ResetParameter). record { held = held; effects = es; answers = all; is_refused = true }) (append-nil rs)
 
 pub all_worked : (reached : Bool) (last : LastRequest) (start : Option ℕ) (parameters : List ResetParameter) (w : HandledRequests) → Progress reached last start parameters w → is_none parameters ≡ false → w.is_refused ≡ false
-    → WorksChunk reached last start parameters w
+    → HandlesParameters reached last start parameters w
 all_worked reached last start parameters w done some taken =
     record {
       effects = done.effects;
@@ -724,9 +724,9 @@ all_worked reached last start parameters w done some taken =
           ∙ ap (λ (b : Bool). record { held = held_now base w; effects = done.effects my base; answers = reset_parameters w.responses.items; is_refused = b }) (sym taken);
     }
   where
-    whole_part : (has : Bool) (ps : List ResetParameter) → worked_part false (ps ++ []) ≡ ps ++ worked_part has [] → worked_part false ps ≡ ps
-    whole_part true ps is = ap (worked_part false) (sym (append-nil ps)) ∙ is ∙ append-nil ps
-    whole_part false ps is = ap (worked_part false) (sym (append-nil ps)) ∙ is ∙ append-nil ps
+    whole_part : (has : Bool) (ps : List ResetParameter) → handled_part false (ps ++ []) ≡ ps ++ handled_part has [] → handled_part false ps ≡ ps
+    whole_part true ps is = ap (handled_part false) (sym (append-nil ps)) ∙ is ∙ append-nil ps
+    whole_part false ps is = ap (handled_part false) (sym (append-nil ps)) ∙ is ∙ append-nil ps
 
 -- A second outgoing request is an error.
 second_outgoing : (my : Pair) (reached has : Bool) (held : Held) (parameter : ResetParameter) (rest : List ResetParameter) → has ≡ true → is_outgoing parameter ≡ true
@@ -741,7 +741,7 @@ not_none : (front rest : List ResetParameter) (parameter : ResetParameter) → i
 not_none [] rest parameter = refl
 not_none (first ∷ front) rest parameter = refl
 
-second_part : (has : Bool) (parameter : ResetParameter) (rest : List ResetParameter) → has ≡ true → is_outgoing parameter ≡ true → worked_part has (parameter ∷ rest) ≡ []
+second_part : (has : Bool) (parameter : ResetParameter) (rest : List ResetParameter) → has ≡ true → is_outgoing parameter ≡ true → handled_part has (parameter ∷ rest) ≡ []
 second_part true (outgoing_reset_request number answered reset) rest has is = refl
 second_part false (outgoing_reset_request number answered reset) rest has is = absurd (cc)
 second_part has (incoming_reset_request number streams) rest worked is = absurd (cc)
@@ -749,9 +749,9 @@ second_part has (reconfiguration_response number result) rest worked is = absurd
 second_part has (other_reset_parameter parameter) rest worked is = absurd (cc)
 
 pub second_worked : (reached : Bool) (last : LastRequest) (start : Option ℕ) (front rest : List ResetParameter) (parameter : ResetParameter) (w v : HandledRequests) → Progress reached last start front w → w.has_worked ≡ true
-    → is_outgoing parameter ≡ true → v ≡ record w { is_refused = true } → WorksChunk reached last start (front ++ parameter ∷ rest) v
+    → is_outgoing parameter ≡ true → v ≡ record w { is_refused = true } → HandlesParameters reached last start (front ++ parameter ∷ rest) v
 second_worked reached last start front rest parameter w v done has is here =
-    subst (WorksChunk reached last start (front ++ parameter ∷ rest)) (sym here)
+    subst (HandlesParameters reached last start (front ++ parameter ∷ rest)) (sym here)
     (record {
       effects = done.effects;
       are = done.are;
@@ -763,12 +763,12 @@ second_worked reached last start front rest parameter w v done has is here =
       whole = λ my base.
           chunk_of my reached (held_out start (held_with base last)) (front ++ parameter ∷ rest) (not_none front rest parameter)
           ∙ done.whole my base (parameter ∷ rest)
-          ∙ ap (λ (after : WorkedParameters). behind_these (done.effects my base) (reset_parameters w.responses.items) after) (second_outgoing my reached w.has_worked (held_now base w) parameter rest has is)
+          ∙ ap (λ (after : HandledParameters). behind_these (done.effects my base) (reset_parameters w.responses.items) after) (second_outgoing my reached w.has_worked (held_now base w) parameter rest has is)
           ∙ bring_refused (done.effects my base) (reset_parameters w.responses.items) (held_now base w);
     })
 
 -- A chunk without parameters is an error too.
-pub none_worked : (reached : Bool) (last : LastRequest) (start : Option ℕ) (w : HandledRequests) → Progress reached last start [] w → w.is_refused ≡ true → WorksChunk reached last start [] w
+pub none_worked : (reached : Bool) (last : LastRequest) (start : Option ℕ) (w : HandledRequests) → Progress reached last start [] w → w.is_refused ≡ true → HandlesParameters reached last start [] w
 none_worked reached last start w done refused =
     record {
       effects = done.effects;
@@ -777,7 +777,7 @@ none_worked reached last start w done refused =
       own = own_at_end start [] w done.own;
       left = left_at_end start [] w done.own;
       whole = λ my base.
-          ap (λ (after : WorkedParameters). record after { is_refused = true }) (done.whole my base [])
+          ap (λ (after : HandledParameters). record after { is_refused = true }) (done.whole my base [])
           ∙ bring_refused (done.effects my base) (reset_parameters w.responses.items) (held_now base w)
           ∙ ap (λ (b : Bool). record { held = held_now base w; effects = done.effects my base; answers = reset_parameters w.responses.items; is_refused = b }) (sym refused);
     }
@@ -816,7 +816,7 @@ none_performed Performed theirs = refl
 none_performed Deferred theirs = refl
 none_performed Nothing theirs = refl
 
-so_performed : (b : Bool) (answer : OwnAnswer) (t : Treatment) (theirs streams : List ℕ) → performed_among (told_so b answer t theirs streams) ≡ is_completed answer
+so_performed : (b : Bool) (answer : OwnAnswer) (t : Treatment) (theirs streams : List ℕ) → performed_among (both_answer_events b answer t theirs streams) ≡ is_completed answer
 so_performed true own.Unanswered t theirs streams = none_performed t theirs
 so_performed true own.InProgress t theirs streams = none_performed t theirs
 so_performed true own.Performed t theirs streams = refl
@@ -832,19 +832,19 @@ completed_is w effects answers treats =
 -- ---- the loop
 
 pub parameters_more : (parameters : List Parameter) (i : ℕ) (d : Parameter) → i < length parameters
-    → reset_parameters (take (i + 1) parameters) ≡ reset_parameters (take i parameters) ++ said_by (get_or parameters i d) ∷ []
+    → reset_parameters (take (i + 1) parameters) ≡ reset_parameters (take i parameters) ++ parameter_said (get_or parameters i d) ∷ []
 parameters_more parameters i d lt = ap (λ (ps : List Parameter). reset_parameters ps) (take_more parameters i d lt) ∙ said_append (take i parameters) (get_or parameters i d ∷ [])
 
 pub parameters_split : (parameters : List Parameter) (i : ℕ) (d : Parameter) → i < length parameters
-    → reset_parameters parameters ≡ reset_parameters (take i parameters) ++ said_by (get_or parameters i d) ∷ reset_parameters (drop (i + 1) parameters)
+    → reset_parameters parameters ≡ reset_parameters (take i parameters) ++ parameter_said (get_or parameters i d) ∷ reset_parameters (drop (i + 1) parameters)
 parameters_split parameters i d lt =
     let after : List ResetParameter = reset_parameters (drop (i + 1) parameters) in
     ap (λ (ps : List Parameter). reset_parameters ps) (sym (take-append-drop (i + 1) parameters))
     ∙ said_append (take (i + 1) parameters) (drop (i + 1) parameters)
     ∙ ap (λ (ps : List ResetParameter). ps ++ after) (parameters_more parameters i d lt)
-    ∙ append_assoc (reset_parameters (take i parameters)) (said_by (get_or parameters i d) ∷ []) after
+    ∙ append_assoc (reset_parameters (take i parameters)) (parameter_said (get_or parameters i d) ∷ []) after
 
 pub ends_worked : (reached : Bool) (last : LastRequest) (start : Option ℕ) (parameters : List Parameter) (w : HandledRequests) → Progress reached last start (reset_parameters parameters) w → w.is_refused ≡ nat_eq (length parameters) 0
-    → WorksChunk reached last start (reset_parameters parameters) w
+    → HandlesParameters reached last start (reset_parameters parameters) w
 ends_worked reached last start [] w done refused = none_worked reached last start w done refused
 ends_worked reached last start (parameter ∷ parameters) w done refused = all_worked reached last start (reset_parameters (parameter ∷ parameters)) w done refl (refused ∙ grind (arith, nat_tests))

@@ -17,7 +17,7 @@ use Rattle.dcsctp_core.specs.declared.state.State.{State}
 use Rattle.dcsctp_core.specs.declared.transmission_control_block.ResetRequest.{ResetRequest}
 use Rattle.dcsctp_core.specs.declared.transmission_control_block.TransmissionControlBlock.{TransmissionControlBlock}
 use Rattle.dcsctp_core.specs.declared.state.State.TheVariants.{Closed, CookieWait, CookieEchoed, Open}
-use Rattle.dcsctp_core.specs.View.{View, number_of, request_of, own_request, timer_of, held_of, phase_in, tcb_of, outstanding_of, transfer_of, view_of}
+use Rattle.dcsctp_core.specs.View.{View, request_number, request_of, own_request, timer_of, held_of, phase_in, tcb_of, outstanding_of, transfer_of, view_of}
 use Rattle.dcsctp_core.specs.spec.endpoint.Timers.{TimerModel}
 use Rattle.dcsctp_core.specs.Answering.{delayed, Retries}
 use Rattle.dcsctp_core.specs.Reconfiguring.{request_in, tcb_changed}
@@ -26,15 +26,15 @@ use Rattle.dcsctp_core_resets.specs.declared.requests.OwnAnswer.TheVariants as o
 use Rattle.dcsctp_core_resets.specs.declared.requests.LastRequest.{LastRequest}
 use Rattle.dcsctp_core_resets.specs.declared.requests.HandledRequests.{HandledRequests}
 use Rattle.dcsctp_core_resets.specs.Requests.{held_out, own_kind}
-use Rattle.dcsctp_core_resets.specs.Resets.{RetriesIn, asked_at, heeded_at, left_at, settled_at, own_told, event_told, Settles, Tells, told_for, Treats, TreatsBelow, told_both, told_where, Carried}
+use Rattle.dcsctp_core_resets.specs.Resets.{RetriesIn, asked_at, heeded_at, left_at, request_settled_at, own_reset_events, events_of_option, SettlesRequest, ReportsEvent, incoming_reset_events, TreatsReset, TreatsInQueues, both_reset_events, handled_reset_events, Carried}
 
 -- ---- the request that is outstanding
 
-number_none : (request : Option ResetRequest) → request_of request ≡ None → number_of request ≡ None
+number_none : (request : Option ResetRequest) → request_of request ≡ None → request_number request ≡ None
 number_none None none = refl
 number_none (Some request) none = absurd (cc)
 
-pub none_numbered : (s : State) → outstanding_of s ≡ None → number_of (request_in s) ≡ None
+pub none_numbered : (s : State) → outstanding_of s ≡ None → request_number (request_in s) ≡ None
 none_numbered s none = number_none (request_in s) none
 
 -- ---- an association that was lent
@@ -74,7 +74,7 @@ asked_nobody old last none = ap (λ (s : State). view_of (record old { state = s
 
 -- ---- it is in progress
 
-number_delayed : (timer : TimerModel) (request : Option ResetRequest) → number_of (option_map (delayed timer) request) ≡ number_of request
+number_delayed : (timer : TimerModel) (request : Option ResetRequest) → request_number (option_map (delayed timer) request) ≡ request_number request
 number_delayed timer None = refl
 number_delayed timer (Some request) = refl
 
@@ -94,7 +94,7 @@ asking view request timer =
 
 -- the view once it is in progress, but for the count of errors
 abbrev retried_at : {R : Type 0} → View R → View R
-retried_at view = asking view (option_map waiting view.endpoint.outstanding) (started view.endpoint.moment (reconfiguration_settings (rto_of view.endpoint.below.transfer)))
+retried_at view = asking view (option_map waiting view.endpoint.outstanding) (started view.endpoint.moment (reconfiguration_settings (rto_of view.endpoint.queues.transfer)))
 
 echoed_view : {R : Type 0} (old : Context R) (echoed : CookieEchoState) (tcb : TransmissionControlBlock) → Retries old.moment echoed.tcb tcb → (echoed.tcb.reset_request ≡ None → ⊥)
     → view_of (record old { state = CookieEchoed (record echoed { tcb = tcb }) }) ≡ retried_at (view_of (record old { state = CookieEchoed echoed }))
@@ -106,8 +106,8 @@ echoed_view {R = R} old echoed tcb h some =
     let later : Option ResetRequest = option_map (delayed h.timer) rr in
     ap (λ (t : TransmissionControlBlock). view_of (record old { state = CookieEchoed (record echoed { tcb = t }) })) h.is
     ∙ ap (λ (n : Option ℕ). numbered n (request_of later) (timer_of later)) (number_delayed h.timer rr)
-    ∙ ap (λ (r : Option OutstandingRequest). numbered (number_of rr) r (timer_of later)) (request_delayed h.timer rr)
-    ∙ ap (λ (t : Option RunningTimer). numbered (number_of rr) (option_map waiting (request_of rr)) t) (timer_delayed h.timer _ rr h.runs some)
+    ∙ ap (λ (r : Option OutstandingRequest). numbered (request_number rr) r (timer_of later)) (request_delayed h.timer rr)
+    ∙ ap (λ (t : Option RunningTimer). numbered (request_number rr) (option_map waiting (request_of rr)) t) (timer_delayed h.timer _ rr h.runs some)
 
 open_view : {R : Type 0} (old : Context R) (opened : OpenState) (tcb : TransmissionControlBlock) → Retries old.moment opened.tcb tcb → (opened.tcb.reset_request ≡ None → ⊥)
     → view_of (record old { state = Open (record opened { tcb = tcb }) }) ≡ retried_at (view_of (record old { state = Open opened }))
@@ -119,8 +119,8 @@ open_view {R = R} old opened tcb h some =
     let later : Option ResetRequest = option_map (delayed h.timer) rr in
     ap (λ (t : TransmissionControlBlock). view_of (record old { state = Open (record opened { tcb = t }) })) h.is
     ∙ ap (λ (n : Option ℕ). numbered n (request_of later) (timer_of later)) (number_delayed h.timer rr)
-    ∙ ap (λ (r : Option OutstandingRequest). numbered (number_of rr) r (timer_of later)) (request_delayed h.timer rr)
-    ∙ ap (λ (t : Option RunningTimer). numbered (number_of rr) (option_map waiting (request_of rr)) t) (timer_delayed h.timer _ rr h.runs some)
+    ∙ ap (λ (r : Option OutstandingRequest). numbered (request_number rr) r (timer_of later)) (request_delayed h.timer rr)
+    ∙ ap (λ (t : Option RunningTimer). numbered (request_number rr) (option_map waiting (request_of rr)) t) (timer_delayed h.timer _ rr h.runs some)
 
 -- an answer counts where a request is outstanding
 asked_some : (request : Option ResetRequest) → (request_of request ≡ None → own.InProgress ≡ own.Unanswered) → request ≡ None → ⊥
@@ -138,28 +138,28 @@ retried_view old (Open opened) new tcb holds after h is asked =
     ∙ open_view old opened after (subst (λ (t : TransmissionControlBlock). Retries old.moment t after) (cc) h) (asked_some opened.tcb.reset_request asked)
 
 retried_by : {R : Type 0} (old : Context R) (new : State) (mid : Context R) (found : Option TransmissionControlBlock) → found ≡ tcb_of old.state → RetriesIn old.moment found old.state new
-    → view_of mid ≡ heeded_at (view_of (record old { state = new })) → Settles own.InProgress old None mid
+    → view_of mid ≡ heeded_at (view_of (record old { state = new })) → SettlesRequest own.InProgress old None mid
 retried_by old new mid None holds h heeds = λ asked. let never = asked (ap (λ (t : Option TransmissionControlBlock). request_of (own_request t)) (sym holds)) in absurd (cc)
 retried_by {R = R} old new mid (Some tcb) holds h heeds = λ asked. (heeds ∙ ap (λ (v : View R). heeded_at v) (retried_view old old.state new tcb holds h.0 h.1 h.2 asked), refl)
 
 pub retried_settles : {R : Type 0} (old : Context R) (new : State) (mid : Context R) → RetriesIn old.moment (tcb_of old.state) old.state new
-    → view_of mid ≡ heeded_at (view_of (record old { state = new })) → Settles own.InProgress old None mid
+    → view_of mid ≡ heeded_at (view_of (record old { state = new })) → SettlesRequest own.InProgress old None mid
 retried_settles old new mid h heeds = retried_by old new mid (tcb_of old.state) refl h heeds
 
 -- ---- both requests
 
 -- What lies below is as it was.
-settled_transfer : {R : Type 0} (answer : OwnAnswer) (v : View R) → (settled_at answer v).endpoint.below.transfer ≡ v.endpoint.below.transfer
+settled_transfer : {R : Type 0} (answer : OwnAnswer) (v : View R) → (request_settled_at answer v).endpoint.queues.transfer ≡ v.endpoint.queues.transfer
 settled_transfer unanswered v = refl
 settled_transfer retried v = refl
 settled_transfer was_performed v = refl
 settled_transfer has_failed v = refl
 
 abbrev Settled : {R : Type 0} → HandledRequests → Context R → Option SocketEvent → Context R → Type 0
-Settled w old told mid = (view_of mid ≡ settled_at (own_kind w.own) (view_of old)) × (event_told told ≡ own_told w.own (own_streams (outstanding_of old.state)))
+Settled w old told mid = (view_of mid ≡ request_settled_at (own_kind w.own) (view_of old)) × (events_of_option told ≡ own_reset_events w.own (own_streams (outstanding_of old.state)))
 
 transfer_same : {R : Type 0} (w : HandledRequests) (old mid : Context R) (told : Option SocketEvent) → Settled w old told mid → transfer_of mid.state ≡ transfer_of old.state
-transfer_same {R = R} w old mid told h = ap (λ (v : View R). v.endpoint.below.transfer) h.0 ∙ settled_transfer (own_kind w.own) (view_of old)
+transfer_same {R = R} w old mid told h = ap (λ (v : View R). v.endpoint.queues.transfer) h.0 ∙ settled_transfer (own_kind w.own) (view_of old)
 
 events_same : {R : Type 0} (w : HandledRequests) (old mid : Context R) (told : Option SocketEvent) → Settled w old told mid → (view_of mid).events ≡ (view_of old).events
 events_same {R = R} w old mid told h = ap (λ (v : View R). v.events) h.0
@@ -170,7 +170,7 @@ front_of (first ∷ front) back = ap (λ (es : List (Event (List ℕ))). first �
 
 -- where a growth was refused before the first event
 pub none_told : {R : Type 0} (w : HandledRequests) (reset : Option RequestedReset) (old mid new : Context R) (told : Option SocketEvent) → Settled w old told mid → (view_of new).events ≡ (view_of mid).events
-    → (count : ℕ) × ((view_of new).events ≡ (view_of old).events ++ take count (told_where w reset old))
+    → (count : ℕ) × ((view_of new).events ≡ (view_of old).events ++ take count (handled_reset_events w reset old))
 none_told w reset old mid new told h same = (0, same ∙ events_same w old mid told h ∙ sym (append-nil (view_of old).events))
 
 -- .. before the second
@@ -179,48 +179,48 @@ one_told old new front back all is told =
     (length front, told ∙ ap (λ (es : List (Event (List ℕ))). old ++ es) (sym (front_of front back)) ∙ ap (λ (es : List (Event (List ℕ))). old ++ take (length front) es) (sym is))
 
 -- both were told
-both_told : {R : Type 0} (w : HandledRequests) (reset : Option RequestedReset) (old : Context R) (left : Option Transfer) (front back : List (Event (List ℕ))) → told_where w reset old ≡ front ++ back
-    → left_at (left_at (settled_at (own_kind w.own) (view_of old)) left front) left back ≡ left_at (settled_at (own_kind w.own) (view_of old)) left (told_where w reset old)
+both_told : {R : Type 0} (w : HandledRequests) (reset : Option RequestedReset) (old : Context R) (left : Option Transfer) (front back : List (Event (List ℕ))) → handled_reset_events w reset old ≡ front ++ back
+    → left_at (left_at (request_settled_at (own_kind w.own) (view_of old)) left front) left back ≡ left_at (request_settled_at (own_kind w.own) (view_of old)) left (handled_reset_events w reset old)
 both_told {R = R} w reset old left front back is =
-    let v : View R = settled_at (own_kind w.own) (view_of old) in
+    let v : View R = request_settled_at (own_kind w.own) (view_of old) in
     ap (λ (es : List (Event (List ℕ))). let n : View R = record (left_at v left []) { events = es } in n) (append_assoc v.events front back) ∙ ap (λ (es : List (Event (List ℕ))). left_at v left es) (sym is)
 
 -- The own request comes first.
 pub own_first : {R E : Type 0} (w : HandledRequests) (reset : Option RequestedReset) (old mid between : Context R) (told : Option SocketEvent) (result : Result (Unit {0}) E) (new : Context R) → w.is_own_first ≡ true
-    → Settled w old told mid → view_of between ≡ record (view_of mid) { events = (view_of mid).events ++ event_told told } → Treats w.treatment reset between result new → Carried w reset old result new
+    → Settled w old told mid → view_of between ≡ record (view_of mid) { events = (view_of mid).events ++ events_of_option told } → TreatsReset w.treatment reset between result new → Carried w reset old result new
 own_first {R = R} w reset old mid between told (Ok done) new first h tells treats =
     let streams : List ℕ = own_streams (outstanding_of old.state) in
-    let is : told_where w reset old ≡ own_told w.own streams ++ told_for w.treatment reset = ap (λ (b : Bool). told_both b w.own w.treatment reset streams) first in
-    let here : view_of between ≡ record (settled_at (own_kind w.own) (view_of old)) { events = (settled_at (own_kind w.own) (view_of old)).events ++ own_told w.own streams } =
-    tells ∙ ap (λ (v : View R). let n : View R = record v { events = v.events ++ event_told told } in n) h.0
-    ∙ ap (λ (es : List (Event (List ℕ))). let n : View R = record (settled_at (own_kind w.own) (view_of old)) { events = (settled_at (own_kind w.own) (view_of old)).events ++ es } in n) h.1 in
-    let below : transfer_of between.state ≡ transfer_of old.state = ap (λ (v : View R). v.endpoint.below.transfer) here ∙ settled_transfer (own_kind w.own) (view_of old) in (
+    let is : handled_reset_events w reset old ≡ own_reset_events w.own streams ++ incoming_reset_events w.treatment reset = ap (λ (b : Bool). both_reset_events b w.own w.treatment reset streams) first in
+    let here : view_of between ≡ record (request_settled_at (own_kind w.own) (view_of old)) { events = (request_settled_at (own_kind w.own) (view_of old)).events ++ own_reset_events w.own streams } =
+    tells ∙ ap (λ (v : View R). let n : View R = record v { events = v.events ++ events_of_option told } in n) h.0
+    ∙ ap (λ (es : List (Event (List ℕ))). let n : View R = record (request_settled_at (own_kind w.own) (view_of old)) { events = (request_settled_at (own_kind w.own) (view_of old)).events ++ es } in n) h.1 in
+    let below : transfer_of between.state ≡ transfer_of old.state = ap (λ (v : View R). v.endpoint.queues.transfer) here ∙ settled_transfer (own_kind w.own) (view_of old) in (
       treats.0,
-      subst (λ (f : Option Transfer). TreatsBelow w.treatment reset f treats.0) below treats.1,
-      treats.2 ∙ ap (λ (v : View R). left_at v treats.0 (told_for w.treatment reset)) here ∙ both_told w reset old treats.0 (own_told w.own streams) (told_for w.treatment reset) is,
+      subst (λ (f : Option Transfer). TreatsInQueues w.treatment reset f treats.0) below treats.1,
+      treats.2 ∙ ap (λ (v : View R). left_at v treats.0 (incoming_reset_events w.treatment reset)) here ∙ both_told w reset old treats.0 (own_reset_events w.own streams) (incoming_reset_events w.treatment reset) is,
     )
 own_first {R = R} w reset old mid between told (Err fault) new first h tells treats =
     let streams : List ℕ = own_streams (outstanding_of old.state) in
-    one_told (view_of old).events (view_of new).events (own_told w.own streams) (told_for w.treatment reset) (told_where w reset old)
-    (ap (λ (b : Bool). told_both b w.own w.treatment reset streams) first)
-    (treats ∙ ap (λ (v : View R). v.events) tells ∙ ap (λ (es : List (Event (List ℕ))). es ++ event_told told) (events_same w old mid told h) ∙ ap (λ (es : List (Event (List ℕ))). (view_of old).events ++ es) h.1)
+    one_told (view_of old).events (view_of new).events (own_reset_events w.own streams) (incoming_reset_events w.treatment reset) (handled_reset_events w reset old)
+    (ap (λ (b : Bool). both_reset_events b w.own w.treatment reset streams) first)
+    (treats ∙ ap (λ (v : View R). v.events) tells ∙ ap (λ (es : List (Event (List ℕ))). es ++ events_of_option told) (events_same w old mid told h) ∙ ap (λ (es : List (Event (List ℕ))). (view_of old).events ++ es) h.1)
 
 -- The peer's comes first.
 pub peer_first : {R E : Type 0} (w : HandledRequests) (reset : Option RequestedReset) (old mid between : Context R) (told : Option SocketEvent) (left : Option Transfer) (result : Result (Unit {0}) E) (new : Context R) → w.is_own_first ≡ false
-    → Settled w old told mid → TreatsBelow w.treatment reset (transfer_of mid.state) left → view_of between ≡ left_at (view_of mid) left (told_for w.treatment reset)
-    → Tells told between result new → Carried w reset old result new
+    → Settled w old told mid → TreatsInQueues w.treatment reset (transfer_of mid.state) left → view_of between ≡ left_at (view_of mid) left (incoming_reset_events w.treatment reset)
+    → ReportsEvent told between result new → Carried w reset old result new
 peer_first {R = R} w reset old mid between told left (Ok done) new first h below treated tells =
     let streams : List ℕ = own_streams (outstanding_of old.state) in
-    let v : View R = settled_at (own_kind w.own) (view_of old) in
-    let is : told_where w reset old ≡ told_for w.treatment reset ++ own_told w.own streams = ap (λ (b : Bool). told_both b w.own w.treatment reset streams) first in (
+    let v : View R = request_settled_at (own_kind w.own) (view_of old) in
+    let is : handled_reset_events w reset old ≡ incoming_reset_events w.treatment reset ++ own_reset_events w.own streams = ap (λ (b : Bool). both_reset_events b w.own w.treatment reset streams) first in (
       left,
-      subst (λ (f : Option Transfer). TreatsBelow w.treatment reset f left) (transfer_same w old mid told h) below,
-      tells ∙ ap (λ (n : View R). let m : View R = record n { events = n.events ++ event_told told } in m) (treated ∙ ap (λ (n : View R). left_at n left (told_for w.treatment reset)) h.0)
-          ∙ ap (λ (es : List (Event (List ℕ))). left_at (left_at v left (told_for w.treatment reset)) left es) h.1
-          ∙ both_told w reset old left (told_for w.treatment reset) (own_told w.own streams) is,
+      subst (λ (f : Option Transfer). TreatsInQueues w.treatment reset f left) (transfer_same w old mid told h) below,
+      tells ∙ ap (λ (n : View R). let m : View R = record n { events = n.events ++ events_of_option told } in m) (treated ∙ ap (λ (n : View R). left_at n left (incoming_reset_events w.treatment reset)) h.0)
+          ∙ ap (λ (es : List (Event (List ℕ))). left_at (left_at v left (incoming_reset_events w.treatment reset)) left es) h.1
+          ∙ both_told w reset old left (incoming_reset_events w.treatment reset) (own_reset_events w.own streams) is,
     )
 peer_first {R = R} w reset old mid between told left (Err fault) new first h below treated tells =
     let streams : List ℕ = own_streams (outstanding_of old.state) in
-    one_told (view_of old).events (view_of new).events (told_for w.treatment reset) (own_told w.own streams) (told_where w reset old)
-    (ap (λ (b : Bool). told_both b w.own w.treatment reset streams) first)
-    (tells ∙ ap (λ (v : View R). v.events) treated ∙ ap (λ (es : List (Event (List ℕ))). es ++ told_for w.treatment reset) (events_same w old mid told h))
+    one_told (view_of old).events (view_of new).events (incoming_reset_events w.treatment reset) (own_reset_events w.own streams) (handled_reset_events w reset old)
+    (ap (λ (b : Bool). both_reset_events b w.own w.treatment reset streams) first)
+    (tells ∙ ap (λ (v : View R). v.events) treated ∙ ap (λ (es : List (Event (List ℕ))). es ++ incoming_reset_events w.treatment reset) (events_same w old mid told h))

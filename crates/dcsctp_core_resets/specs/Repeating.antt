@@ -11,8 +11,8 @@ use Rattle.dcsctp_core.specs.wire.Spelling.{chunk_bytes}
 use Rattle.dcsctp_core.specs.types.Settings.{packet_size_limit}
 use Rattle.dcsctp_core.specs.declared.context.Context.{Context}
 use Rattle.dcsctp_core.specs.declared.state.State.{State}
-use Rattle.dcsctp_core.specs.Handling.{emitted}
-use Rattle.dcsctp_core.specs.Reconfiguring.{renumbered, tcb_changed}
+use Rattle.dcsctp_core.specs.Handling.{chunk_emitted}
+use Rattle.dcsctp_core.specs.Reconfiguring.{request_renumbered, tcb_changed}
 use Rattle.dcsctp_core.specs.View.{View, view_of}
 
 -- a RE-CONFIG of this request
@@ -27,30 +27,30 @@ number_by true number next = next
 
 -- It takes the next number if it was sent under that, and else keeps its own.
 abbrev pub renumbered_where : Bool → Bool → State → State
-renumbered_where true true state = tcb_changed renumbered state
+renumbered_where true true state = tcb_changed request_renumbered state
 renumbered_where true false state = state
 renumbered_where false is_new state = state
 
 -- The request was sent, if it fits `mtu`, which is answered; or an allocation failed, and nothing has changed.
 abbrev pub EmitsRequest : {R E : Type 0} → Bool → ℕ → ChunkContent → Context R → Result Bool E → Context R → Type 0
 EmitsRequest with_checksum tag chunk old (Ok sent) new =
-    (sent ≡ nat_le (12 + length (chunk_bytes chunk)) (packet_size_limit old.options)) × (view_of new ≡ emitted with_checksum tag chunk (view_of old))
+    (sent ≡ nat_le (12 + length (chunk_bytes chunk)) (packet_size_limit old.options)) × (view_of new ≡ chunk_emitted with_checksum tag chunk (view_of old))
 EmitsRequest with_checksum tag chunk old (Err error) new = view_of new ≡ view_of old
 
 -- The outstanding request is sent to the peer.
-abbrev pub again_outcome : Endpoint → Option Held → Option OutstandingRequest → Outcome
-again_outcome e (Some held) (Some request) = request_emitted e held held.own_outstanding (reset_again (Some request))
-again_outcome e held request = still e
+abbrev pub request_again_outcome : Endpoint → Option Held → Option OutstandingRequest → Outcome
+request_again_outcome e (Some held) (Some request) = request_emitted e held held.own_outstanding (reset_again (Some request))
+request_again_outcome e held request = still e
 
 -- It is sent under the next number.
-abbrev pub renewed_outcome : Endpoint → Option Held → Option OutstandingRequest → Outcome
-renewed_outcome e (Some held) (Some request) = request_renewed e held held.own_outstanding (reset_again (Some request))
-renewed_outcome e held request = still e
+abbrev pub renewed_request_outcome : Endpoint → Option Held → Option OutstandingRequest → Outcome
+renewed_request_outcome e (Some held) (Some request) = request_renewed e held held.own_outstanding (reset_again (Some request))
+renewed_request_outcome e held request = still e
 
 -- under its number, or under the next one
 abbrev pub repeated_outcome : Bool → Endpoint → Outcome
-repeated_outcome false e = again_outcome e (held_in e.core) e.outstanding
-repeated_outcome true e = renewed_outcome e (held_in e.core) e.outstanding
+repeated_outcome false e = request_again_outcome e (held_in e.core) e.outstanding
+repeated_outcome true e = renewed_request_outcome e (held_in e.core) e.outstanding
 
 abbrev pub repeated_turn : {R : Type 0} → Bool → View R → Outcome
 repeated_turn is_new view = repeated_outcome is_new view.endpoint

@@ -10,9 +10,9 @@ use Rattle.dcsctp_core.specs.spec.endpoint.Event.{Event, incoming_stream_reset, 
 use Rattle.dcsctp_core.specs.spec.Packet.{Emission}
 use Rattle.dcsctp_core.specs.spec.Reconfiguration.{ResetParameter, outgoing_reset_request, reconfiguration_response, reset_parameter_content, reset_parameter_in}
 use Rattle.dcsctp_core.specs.spec.association.Effect.{Effect, drawn_in}
-use Rattle.dcsctp_core.specs.spec.association.ResetChanges.{Answered, with_last, informed_by, WorkedParameters, work_parameters, work_chunk}
+use Rattle.dcsctp_core.specs.spec.association.ResetChanges.{RequestOutcome, with_last, informed_by, HandledParameters, work_parameters, work_chunk}
 use Rattle.dcsctp_core.specs.spec.association.ResetChanges as changes
-use Rattle.dcsctp_core.specs.spec.endpoint.ResetOutcomes.{has_reset, answers_in_progress, worked_part, own_answer, in_progress_among, reset_events}
+use Rattle.dcsctp_core.specs.spec.endpoint.ResetOutcomes.{has_reset, answers_in_progress, handled_part, own_answer, in_progress_among, reset_events}
 use Rattle.dcsctp_core.specs.spec.endpoint.ResetOutcomes as outcomes
 use Rattle.dcsctp_core_resets.specs.declared.requests.Place.{Place}
 use Rattle.dcsctp_core_resets.specs.declared.requests.Place.TheVariants.{Again, Next, Astray}
@@ -26,8 +26,8 @@ use Rattle.dcsctp_core_resets.specs.declared.requests.HandledRequests.{HandledRe
 
 -- ---- parameters
 
-abbrev pub said_by : Parameter → ResetParameter
-said_by parameter = reset_parameter_in (parameter_content parameter)
+abbrev pub parameter_said : Parameter → ResetParameter
+parameter_said parameter = reset_parameter_in (parameter_content parameter)
 
 abbrev pub reset_parameters : List Parameter → List ResetParameter
 reset_parameters parameters = map reset_parameter_in (map parameter_content parameters)
@@ -38,7 +38,7 @@ is_outgoing parameter = false
 
 -- ---- one request
 
-abbrev pub in_place : Place → changes.Place
+abbrev pub in_place : Place → changes.RequestPlace
 in_place Again = changes.again
 in_place Next = changes.next
 in_place Astray = changes.astray
@@ -56,10 +56,10 @@ is_performed Performed = true
 is_performed Deferred = false
 is_performed Nothing = false
 
-abbrev pub is_deferred : Treatment → Bool
-is_deferred Performed = false
-is_deferred Deferred = true
-is_deferred Nothing = false
+abbrev pub is_treatment_deferred : Treatment → Bool
+is_treatment_deferred Performed = false
+is_treatment_deferred Deferred = true
+is_treatment_deferred Nothing = false
 
 -- the events for the user, if the peer wants these streams reset
 abbrev pub treated_events : Treatment → List ℕ → List (Event Emission)
@@ -68,17 +68,17 @@ treated_events Deferred theirs = []
 treated_events Nothing theirs = []
 
 -- That is what these effects and answers come to.
-pub record Treats (treatment : Treatment) (effects : List Effect) (answers : List ResetParameter) : Type 0 where
+pub record IsTreatment (treatment : Treatment) (effects : List Effect) (answers : List ResetParameter) : Type 0 where
   pub has : has_reset effects ≡ is_performed treatment
-  pub waits : answers_in_progress answers ≡ is_deferred treatment
+  pub waits : answers_in_progress answers ≡ is_treatment_deferred treatment
   pub told : (theirs own : List ℕ) → reset_events theirs own effects ≡ treated_events treatment theirs
   pub drawn : drawn_in effects ≡ []
 
 -- An answer of the code is that of the machine, whatever the request's number.
-pub record AnswersAs (base : Held) (a : AnsweredRequest) (b : Answered) : Type 0 where
+pub record AnswersAs (base : Held) (a : AnsweredRequest) (b : RequestOutcome) : Type 0 where
   pub held : b.held ≡ held_with base a.last
   pub result : b.result ≡ a.result
-  pub treats : (number : ℕ) → Treats a.treatment b.effects (reconfiguration_response number a.result ∷ [])
+  pub treats : (number : ℕ) → IsTreatment a.treatment b.effects (reconfiguration_response number a.result ∷ [])
 
 -- ---- our own request
 
@@ -111,16 +111,16 @@ is_completed own.Performed = true
 is_completed own.Failed = false
 
 -- What was made of parameters, once it has ended so. What it tells comes first if no outgoing request was handled so far.
-abbrev pub own_ended : OwnAnswer → HandledRequests → HandledRequests
-own_ended answer worked = record worked { outstanding = None; own = answer; is_own_first = not worked.has_worked }
+abbrev pub own_answer_ended : OwnAnswer → HandledRequests → HandledRequests
+own_answer_ended answer worked = record worked { outstanding = None; own = answer; is_own_first = not worked.has_worked }
 
 abbrev pub with_result : ReconfigurationResponseResult → HandledRequests → HandledRequests
-with_result SuccessNothingToDo worked = own_ended own.Performed worked
-with_result SuccessPerformed worked = own_ended own.Performed worked
-with_result Denied worked = own_ended own.Failed worked
-with_result ErrorWrongSSN worked = own_ended own.Failed worked
-with_result ErrorRequestAlreadyInProgress worked = own_ended own.Failed worked
-with_result ErrorBadSequenceNumber worked = own_ended own.Failed worked
+with_result SuccessNothingToDo worked = own_answer_ended own.Performed worked
+with_result SuccessPerformed worked = own_answer_ended own.Performed worked
+with_result Denied worked = own_answer_ended own.Failed worked
+with_result ErrorWrongSSN worked = own_answer_ended own.Failed worked
+with_result ErrorRequestAlreadyInProgress worked = own_answer_ended own.Failed worked
+with_result ErrorBadSequenceNumber worked = own_answer_ended own.Failed worked
 with_result InProgress worked = record worked { own = own.InProgress }
 
 -- An answer to another request changes nothing.
@@ -148,7 +148,7 @@ pub record Responds (number : ℕ) (answer : ReconfigurationResponseResult) (old
   pub is_refused : new.is_refused ≡ old.is_refused
 
 -- these effects and answers, and then what the rest brings
-abbrev pub behind_these : List Effect → List ResetParameter → WorkedParameters → WorkedParameters
+abbrev pub behind_these : List Effect → List ResetParameter → HandledParameters → HandledParameters
 behind_these effects answers rest = record rest { effects = effects ++ rest.effects; answers = answers ++ rest.answers }
 
 -- each is written as it is read
@@ -160,28 +160,28 @@ abbrev pub held_now : Held → HandledRequests → Held
 held_now base worked = held_out worked.outstanding (held_with base worked.last)
 
 -- the events about both, in their order
-abbrev pub told_so : Bool → OwnAnswer → Treatment → List ℕ → List ℕ → List (Event Emission)
-told_so true answer treatment theirs streams = own_events answer streams ++ treated_events treatment theirs
-told_so false answer treatment theirs streams = treated_events treatment theirs ++ own_events answer streams
+abbrev pub both_answer_events : Bool → OwnAnswer → Treatment → List ℕ → List ℕ → List (Event Emission)
+both_answer_events true answer treatment theirs streams = own_events answer streams ++ treated_events treatment theirs
+both_answer_events false answer treatment theirs streams = treated_events treatment theirs ++ own_events answer streams
 
 -- That is what the effects and answers of a chunk come to.
 pub record TreatsBoth (worked : HandledRequests) (effects : List Effect) (answers : List ResetParameter) : Type 0 where
   pub has : has_reset effects ≡ is_performed worked.treatment
-  pub waits : answers_in_progress answers ≡ is_deferred worked.treatment
-  pub told : (theirs streams : List ℕ) → reset_events theirs streams effects ≡ told_so worked.is_own_first worked.own worked.treatment theirs streams
+  pub waits : answers_in_progress answers ≡ is_treatment_deferred worked.treatment
+  pub told : (theirs streams : List ℕ) → reset_events theirs streams effects ≡ both_answer_events worked.is_own_first worked.own worked.treatment theirs streams
   pub drawn : drawn_in effects ≡ []
 
 -- What a parameter brings: nothing, what becomes of a request of the peer, or what becomes of our own.
 pub data Brings (parameter : ResetParameter) (old new : HandledRequests) (effects : Pair → Held → List Effect) (answers : List ResetParameter) : Type 0 where
-  brings_nothing : new.treatment ≡ old.treatment → new.has_worked ≡ old.has_worked → SameOwn old new → ((my : Pair) (base : Held) → Treats Nothing (effects my base) answers)
+  brings_nothing : new.treatment ≡ old.treatment → new.has_worked ≡ old.has_worked → SameOwn old new → ((my : Pair) (base : Held) → IsTreatment Nothing (effects my base) answers)
       → in_progress_among old.outstanding (parameter ∷ []) ≡ false → Brings parameter old new effects answers
-  brings_request : old.has_worked ≡ false → new.has_worked ≡ true → SameOwn old new → ((my : Pair) (base : Held) → Treats new.treatment (effects my base) answers)
+  brings_request : old.has_worked ≡ false → new.has_worked ≡ true → SameOwn old new → ((my : Pair) (base : Held) → IsTreatment new.treatment (effects my base) answers)
       → in_progress_among old.outstanding (parameter ∷ []) ≡ false → Brings parameter old new effects answers
   brings_answer : (number : ℕ) (result : ReconfigurationResponseResult) → parameter ≡ reconfiguration_response number result → old.outstanding ≡ Some number → new ≡ with_result result old
       → ((my : Pair) (base : Held) → effects my base ≡ (informed_by my (held_now base old) number result).effects) → answers ≡ [] → Brings parameter old new effects answers
 
 -- A parameter was handled: whatever comes after it, the machine goes on from what the code keeps.
-pub record WorksOne (reached : Bool) (parameter : ResetParameter) (old new : HandledRequests) : Type 0 where
+pub record HandlesParameter (reached : Bool) (parameter : ResetParameter) (old new : HandledRequests) : Type 0 where
   pub effects : Pair → Held → List Effect
   pub responses : List Parameter
   pub are : AreResponses responses
@@ -194,11 +194,11 @@ pub record WorksOne (reached : Bool) (parameter : ResetParameter) (old new : Han
       ≡ behind_these (effects my base) (reset_parameters responses) (work_parameters my reached new.has_worked (held_now base new) rest)
 
 -- All were handled.
-pub record WorksChunk (reached : Bool) (last : LastRequest) (outstanding : Option ℕ) (parameters : List ResetParameter) (worked : HandledRequests) : Type 0 where
+pub record HandlesParameters (reached : Bool) (last : LastRequest) (outstanding : Option ℕ) (parameters : List ResetParameter) (worked : HandledRequests) : Type 0 where
   pub effects : Pair → Held → List Effect
   pub are : AreResponses worked.responses.items
   pub treats : (my : Pair) (base : Held) → TreatsBoth worked (effects my base) (reset_parameters worked.responses.items)
-  pub own : own_kind worked.own ≡ own_answer outstanding worked.outstanding (in_progress_among outstanding (worked_part false parameters)) (is_completed worked.own)
+  pub own : own_kind worked.own ≡ own_answer outstanding worked.outstanding (in_progress_among outstanding (handled_part false parameters)) (is_completed worked.own)
   pub left : worked.outstanding ≡ left_out (own_kind worked.own) outstanding
   pub whole : (my : Pair) (base : Held)
       → work_chunk my reached (held_out outstanding (held_with base last)) parameters

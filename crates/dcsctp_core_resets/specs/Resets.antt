@@ -7,16 +7,16 @@ use Rattle.dcsctp_core.specs.types.declared.association.Held.{Held}
 use Rattle.dcsctp_core.specs.spec.endpoint.Event.{Event, incoming_stream_reset, streams_reset_failed, streams_reset_performed}
 use Rattle.dcsctp_core.specs.api.declared.events.SocketEvent.{SocketEvent}
 use Rattle.dcsctp_core.specs.api.Events.{event_content}
-use Rattle.dcsctp_core.specs.spec.Reconfiguration.{RequestedReset, ResetParameter, streams_in}
+use Rattle.dcsctp_core.specs.spec.Reconfiguration.{RequestedReset, ResetParameter, reset_streams_in}
 use Rattle.dcsctp_core.specs.spec.queues.Transfer.{Transfer}
 use Rattle.dcsctp_core.specs.spec.endpoint.Endpoint.{Endpoint, Core, cookie_echoed, open_in, held_in}
 use Rattle.dcsctp_core.specs.spec.endpoint.Outcome.{Outcome, still}
 use Rattle.dcsctp_core.specs.spec.endpoint.FlushOutcomes.{Answer}
-use Rattle.dcsctp_core.specs.spec.endpoint.ResetOutcomes.{requested_in, is_reached, OwnAnswer, unanswered, retried, was_performed, has_failed, own_moved, own_streams, ResetsBelow, defers_reset, responses_outcome, responses_by, ResponseAnswers, ResetTurn}
+use Rattle.dcsctp_core.specs.spec.endpoint.ResetOutcomes.{requested_in, is_request_reached, OwnAnswer, unanswered, retried, was_performed, has_failed, own_moved, own_streams, ResetsInQueues, defers_reset, responses_outcome, responses_by, ResponseAnswers, ResetTurn}
 use Rattle.dcsctp_core.specs.declared.state.State.{State}
 use Rattle.dcsctp_core.specs.declared.transmission_control_block.TransmissionControlBlock.{TransmissionControlBlock}
 use Rattle.dcsctp_core.specs.declared.context.Context.{Context}
-use Rattle.dcsctp_core.specs.View.{View, core_of, number_of, own_request, outstanding_of, tcb_of, transfer_in, transfer_of, view_of}
+use Rattle.dcsctp_core.specs.View.{View, core_of, request_number, own_request, outstanding_of, tcb_of, transfer_in, transfer_of, view_of}
 use Rattle.dcsctp_core.specs.Answering.{Retries}
 use Rattle.dcsctp_core.specs.Reconfiguring.{tcb_changed}
 use Rattle.dcsctp_core.specs.Handling.{TakesOne}
@@ -26,7 +26,7 @@ use Rattle.dcsctp_core_resets.specs.declared.requests.Treatment.TheVariants.{Per
 use Rattle.dcsctp_core_resets.specs.declared.requests.HandledRequests.{HandledRequests}
 use Rattle.dcsctp_core_resets.specs.declared.requests.OwnAnswer.TheVariants as own
 use Rattle.dcsctp_core_resets.specs.declared.requests.OwnAnswer as requests
-use Rattle.dcsctp_core_resets.specs.Requests.{held_with, held_out, is_performed, is_deferred, own_kind, reset_parameters, AreResponses, WorksChunk}
+use Rattle.dcsctp_core_resets.specs.Requests.{held_with, held_out, is_performed, is_treatment_deferred, own_kind, reset_parameters, AreResponses, HandlesParameters}
 
 -- A RE-CONFIG with these parameters was received.
 abbrev pub ReConfigAt : {R : Type 0} → List ResetParameter → View R → Outcome → Type 0
@@ -34,7 +34,7 @@ ReConfigAt parameters view o = ResetTurn view.endpoint view.endpoint.core parame
 
 -- what an Outgoing SSN Reset Request wants
 abbrev pub wanted_by : OutgoingSsnResetRequestParameter → RequestedReset
-wanted_by request = record { last_tsn = request.sender_last_assigned_tsn; streams = streams_in request.streams.now }
+wanted_by request = record { last_tsn = request.sender_last_assigned_tsn; streams = reset_streams_in request.streams.now }
 
 -- ---- the last request
 
@@ -48,7 +48,7 @@ last_in state = last_of (tcb_of state)
 
 -- What is made of the parameters of a RE-CONFIG, by the association.
 abbrev pub WorksFor : Option TransmissionControlBlock → List ResetParameter → HandledRequests → Type 0
-WorksFor held parameters worked = WorksChunk (is_reached (transfer_in held) (requested_in parameters)) (last_of held) (number_of (own_request held)) parameters worked
+WorksFor held parameters worked = HandlesParameters (is_request_reached (transfer_in held) (requested_in parameters)) (last_of held) (request_number (own_request held)) parameters worked
 
 abbrev pub core_asked : LastRequest → Core → Core
 core_asked last (cookie_echoed my held cookie) = cookie_echoed my (held_with held last) cookie
@@ -63,7 +63,7 @@ asked_at last view = record view { endpoint = record view.endpoint { core = core
 
 -- the view with this below its association, and these events after the others
 abbrev pub left_at : {R : Type 0} → View R → Option Transfer → List (Event (List ℕ)) → View R
-left_at view left events = record view { endpoint = record view.endpoint { below = record view.endpoint.below { transfer = left } }; events = view.events ++ events }
+left_at view left events = record view { endpoint = record view.endpoint { queues = record view.endpoint.queues { transfer = left } }; events = view.events ++ events }
 
 -- What comes on the streams beyond the last TSN waits from now on.
 abbrev pub DefersTo : RequestedReset → Transfer → Transfer → Type 0
@@ -72,26 +72,26 @@ DefersTo reset old new = new ≡ defers_reset reset old
 -- The streams were reset, and the user is told; or an allocation failed, and no event was added.
 abbrev pub Performs : {R E : Type 0} → RequestedReset → Context R → Result (Unit {0}) E → Context R → Type 0
 Performs reset old (Ok done) new =
-    (left : Option Transfer) × ResetsBelow true false (Some reset) (transfer_of old.state) left × (view_of new ≡ left_at (view_of old) left (incoming_stream_reset reset.streams ∷ []))
+    (left : Option Transfer) × ResetsInQueues true false (Some reset) (transfer_of old.state) left × (view_of new ≡ left_at (view_of old) left (incoming_stream_reset reset.streams ∷ []))
 Performs reset old (Err error) new = (view_of new).events ≡ (view_of old).events
 
 -- They are to be reset later; or an allocation failed, and nothing has changed.
-abbrev pub Defers : {R E : Type 0} → RequestedReset → Context R → Result (Unit {0}) E → Context R → Type 0
-Defers reset old (Ok done) new = (left : Option Transfer) × ResetsBelow false true (Some reset) (transfer_of old.state) left × (view_of new ≡ left_at (view_of old) left [])
-Defers reset old (Err error) new = view_of new ≡ view_of old
+abbrev pub DefersReset : {R E : Type 0} → RequestedReset → Context R → Result (Unit {0}) E → Context R → Type 0
+DefersReset reset old (Ok done) new = (left : Option Transfer) × ResetsInQueues false true (Some reset) (transfer_of old.state) left × (view_of new ≡ left_at (view_of old) left [])
+DefersReset reset old (Err error) new = view_of new ≡ view_of old
 
 -- what becomes of them below the association
-abbrev pub TreatsBelow : Treatment → Option RequestedReset → Option Transfer → Option Transfer → Type 0
-TreatsBelow treatment reset old new = ResetsBelow (is_performed treatment) (is_deferred treatment) reset old new
+abbrev pub TreatsInQueues : Treatment → Option RequestedReset → Option Transfer → Option Transfer → Type 0
+TreatsInQueues treatment reset old new = ResetsInQueues (is_performed treatment) (is_treatment_deferred treatment) reset old new
 
-abbrev pub told_for : Treatment → Option RequestedReset → List (Event (List ℕ))
-told_for Performed (Some reset) = incoming_stream_reset reset.streams ∷ []
-told_for treatment reset = []
+abbrev pub incoming_reset_events : Treatment → Option RequestedReset → List (Event (List ℕ))
+incoming_reset_events Performed (Some reset) = incoming_stream_reset reset.streams ∷ []
+incoming_reset_events treatment reset = []
 
-abbrev pub Treats : {R E : Type 0} → Treatment → Option RequestedReset → Context R → Result (Unit {0}) E → Context R → Type 0
-Treats treatment reset old (Ok done) new =
-    (left : Option Transfer) × TreatsBelow treatment reset (transfer_of old.state) left × (view_of new ≡ left_at (view_of old) left (told_for treatment reset))
-Treats treatment reset old (Err error) new = (view_of new).events ≡ (view_of old).events
+abbrev pub TreatsReset : {R E : Type 0} → Treatment → Option RequestedReset → Context R → Result (Unit {0}) E → Context R → Type 0
+TreatsReset treatment reset old (Ok done) new =
+    (left : Option Transfer) × TreatsInQueues treatment reset (transfer_of old.state) left × (view_of new ≡ left_at (view_of old) left (incoming_reset_events treatment reset))
+TreatsReset treatment reset old (Err error) new = (view_of new).events ≡ (view_of old).events
 
 -- ---- our own request
 
@@ -108,8 +108,8 @@ core_settled was_performed core = core_ended core
 core_settled has_failed core = core_ended core
 
 -- the view once it was answered so
-abbrev pub settled_at : {R : Type 0} → OwnAnswer → View R → View R
-settled_at answer view =
+abbrev pub request_settled_at : {R : Type 0} → OwnAnswer → View R → View R
+request_settled_at answer view =
     let moved : Endpoint = own_moved answer view.endpoint in
     record view { endpoint = record moved { core = core_settled answer view.endpoint.core } }
 
@@ -118,15 +118,15 @@ abbrev pub heeded_at : {R : Type 0} → View R → View R
 heeded_at view = record view { endpoint = record view.endpoint { error_count = if view.endpoint.options.follow_rfc then 0 else view.endpoint.error_count } }
 
 -- the events about it, if it resets these streams
-abbrev pub own_told : requests.OwnAnswer → List ℕ → List (Event (List ℕ))
-own_told own.Unanswered streams = []
-own_told own.InProgress streams = []
-own_told own.Performed streams = streams_reset_performed streams ∷ []
-own_told own.Failed streams = streams_reset_failed streams ∷ []
+abbrev pub own_reset_events : requests.OwnAnswer → List ℕ → List (Event (List ℕ))
+own_reset_events own.Unanswered streams = []
+own_reset_events own.InProgress streams = []
+own_reset_events own.Performed streams = streams_reset_performed streams ∷ []
+own_reset_events own.Failed streams = streams_reset_failed streams ∷ []
 
-abbrev pub event_told : Option SocketEvent → List (Event (List ℕ))
-event_told None = []
-event_told (Some event) = event_content event ∷ []
+abbrev pub events_of_option : Option SocketEvent → List (Event (List ℕ))
+events_of_option None = []
+events_of_option (Some event) = event_content event ∷ []
 
 -- The own request is in progress, if the peer is known: it waits, and its timer starts anew.
 abbrev pub RetriesIn : ℕ → Option TransmissionControlBlock → State → State → Type 0
@@ -134,30 +134,30 @@ RetriesIn now None old new = new ≡ old
 RetriesIn now (Some tcb) old new = (after : TransmissionControlBlock) × Retries now tcb after × (new ≡ tcb_changed (λ _. after) old)
 
 -- It was answered so, if one is outstanding, and this is to be told.
-abbrev pub Settles : {R : Type 0} → requests.OwnAnswer → Context R → Option SocketEvent → Context R → Type 0
-Settles answer old told new =
+abbrev pub SettlesRequest : {R : Type 0} → requests.OwnAnswer → Context R → Option SocketEvent → Context R → Type 0
+SettlesRequest answer old told new =
     (outstanding_of old.state ≡ None → answer ≡ own.Unanswered)
-    → (view_of new ≡ settled_at (own_kind answer) (view_of old)) × (event_told told ≡ own_told answer (own_streams (outstanding_of old.state)))
+    → (view_of new ≡ request_settled_at (own_kind answer) (view_of old)) × (events_of_option told ≡ own_reset_events answer (own_streams (outstanding_of old.state)))
 
 -- The user is told.
-abbrev pub Tells : {R E : Type 0} → Option SocketEvent → Context R → Result (Unit {0}) E → Context R → Type 0
-Tells event old (Ok done) new = view_of new ≡ record (view_of old) { events = (view_of old).events ++ event_told event }
-Tells event old (Err error) new = (view_of new).events ≡ (view_of old).events
+abbrev pub ReportsEvent : {R E : Type 0} → Option SocketEvent → Context R → Result (Unit {0}) E → Context R → Type 0
+ReportsEvent event old (Ok done) new = view_of new ≡ record (view_of old) { events = (view_of old).events ++ events_of_option event }
+ReportsEvent event old (Err error) new = (view_of new).events ≡ (view_of old).events
 
 -- the events about both, in their order
-abbrev pub told_both : Bool → requests.OwnAnswer → Treatment → Option RequestedReset → List ℕ → List (Event (List ℕ))
-told_both true answer treatment reset streams = own_told answer streams ++ told_for treatment reset
-told_both false answer treatment reset streams = told_for treatment reset ++ own_told answer streams
+abbrev pub both_reset_events : Bool → requests.OwnAnswer → Treatment → Option RequestedReset → List ℕ → List (Event (List ℕ))
+both_reset_events true answer treatment reset streams = own_reset_events answer streams ++ incoming_reset_events treatment reset
+both_reset_events false answer treatment reset streams = incoming_reset_events treatment reset ++ own_reset_events answer streams
 
-abbrev pub told_where : {R : Type 0} → HandledRequests → Option RequestedReset → Context R → List (Event (List ℕ))
-told_where worked reset old = told_both worked.is_own_first worked.own worked.treatment reset (own_streams (outstanding_of old.state))
+abbrev pub handled_reset_events : {R : Type 0} → HandledRequests → Option RequestedReset → Context R → List (Event (List ℕ))
+handled_reset_events worked reset old = both_reset_events worked.is_own_first worked.own worked.treatment reset (own_streams (outstanding_of old.state))
 
 -- What was decided of both was done; or an allocation failed, and the first of the events were added.
 abbrev pub Carried : {R E : Type 0} → HandledRequests → Option RequestedReset → Context R → Result (Unit {0}) E → Context R → Type 0
 Carried worked reset old (Ok done) new =
-    (left : Option Transfer) × TreatsBelow worked.treatment reset (transfer_of old.state) left
-    × (view_of new ≡ left_at (settled_at (own_kind worked.own) (view_of old)) left (told_where worked reset old))
-Carried worked reset old (Err error) new = (count : ℕ) × ((view_of new).events ≡ (view_of old).events ++ take count (told_where worked reset old))
+    (left : Option Transfer) × TreatsInQueues worked.treatment reset (transfer_of old.state) left
+    × (view_of new ≡ left_at (request_settled_at (own_kind worked.own) (view_of old)) left (handled_reset_events worked reset old))
+Carried worked reset old (Err error) new = (count : ℕ) × ((view_of new).events ≡ (view_of old).events ++ take count (handled_reset_events worked reset old))
 
 abbrev pub CarriesOut : {R E : Type 0} → HandledRequests → Option RequestedReset → Context R → Result (Unit {0}) E → Context R → Type 0
 CarriesOut worked reset old result new = (outstanding_of old.state ≡ None → worked.own ≡ own.Unanswered) → Carried worked reset old result new

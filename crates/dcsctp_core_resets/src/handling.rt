@@ -6,14 +6,14 @@ ghost use Rattle.dcsctp_core.specs.wire.Content.{re_config_chunk};
 ghost use Rattle.std.specs.Prelude.{map};
 ghost use Rattle.dcsctp_core.specs.types.Ids.{stream_numbers};
 ghost use Rattle.dcsctp_core.specs.spec.Reconfiguration.{reset_parameter_content};
-ghost use Rattle.dcsctp_core.specs.spec.endpoint.ResetOutcomes.{is_reached, reset_refusal_text, ResetsStreams};
+ghost use Rattle.dcsctp_core.specs.spec.endpoint.ResetOutcomes.{is_request_reached, reset_refusal_text, ResetsTransferStreams};
 ghost use Rattle.dcsctp_core.specs.Reconfiguring.{request_in, tcb_changed};
 ghost use Rattle.dcsctp_core.specs.Answering.{request_ended};
 ghost use Rattle.dcsctp_core.specs.View.{tcb_of, transfer_of, view_of};
-ghost use Rattle.dcsctp_core.specs.Below.{ChangesBelow};
+ghost use Rattle.dcsctp_core.specs.Below.{ChangesQueues};
 ghost use Rattle.dcsctp_core.specs.Handling.{Emits, TakesOne, Tries, report_turn};
 ghost use Rattle.dcsctp_core_resets.specs.Requests.{AreResponses, reset_parameters};
-ghost use Rattle.dcsctp_core_resets.specs.Resets.{CarriesOut, Defers, DefersTo, Finishes, Performs, ReConfigAt, RetriesIn, Settles, Tells, Treats, WorksFor, asked_at, heeded_at, responses_turn, wanted_by};
+ghost use Rattle.dcsctp_core_resets.specs.Resets.{CarriesOut, DefersReset, DefersTo, Finishes, Performs, ReConfigAt, RetriesIn, SettlesRequest, ReportsEvent, TreatsReset, WorksFor, asked_at, heeded_at, responses_turn, wanted_by};
 
 use crate::reading::{requested, streams_of};
 use crate::requests::{HandledRequests, LastRequest, OwnAnswer, Treatment, handle_requests};
@@ -35,7 +35,7 @@ fn is_reached(
     tcb: &TransmissionControlBlock,
     request: Option<OutgoingSsnResetRequestParameter<'_>>,
 ) -> bool
-    ensures { result ≡ is_reached (Some tcb.now.transfer) (option_map wanted_by request.entry) }
+    ensures { result ≡ is_request_reached (Some tcb.now.transfer) (option_map wanted_by request.entry) }
 {
     match request {
         None => true,
@@ -85,7 +85,7 @@ fn keep_last<R: Rng>(context: &mut Context<R>, last: LastRequest)
 // Resets streams of the peer. `Err`: an allocation failed for something that waited for that.
 fn reset_streams(state: &mut State, streams: &[StreamId]) -> Result<(), AllocError>
     ensures { OnOk result
-        (ChangesBelow (ResetsStreams (stream_numbers streams.now)) (transfer_of state.old) state.old state.new) }
+        (ChangesQueues (ResetsTransferStreams (stream_numbers streams.now)) (transfer_of state.old) state.old state.new) }
 {
     match state.tcb_mut() {
         None => Ok(()),
@@ -96,7 +96,7 @@ fn reset_streams(state: &mut State, streams: &[StreamId]) -> Result<(), AllocErr
 // Lets what comes beyond this TSN on these streams wait until they are reset. `Err`: an allocation failed, and
 // nothing has changed.
 fn defer_reset(state: &mut State, last_tsn: u32, streams: &[StreamId]) -> Result<(), AllocError>
-    ensures ok { OnOk result (ChangesBelow
+    ensures ok { OnOk result (ChangesQueues
         (DefersTo (record { last_tsn = last_tsn; streams = stream_numbers streams.now })) (transfer_of state.old)
         state.old state.new) }
     ensures err { OnErr result (state.new ≡ state.old) }
@@ -128,7 +128,7 @@ fn defer<R: Rng>(
     context: &mut Context<R>,
     request: &OutgoingSsnResetRequestParameter<'_>,
 ) -> Result<(), AllocError>
-    ensures { Defers (wanted_by request.now) context.old result context.new }
+    ensures { DefersReset (wanted_by request.now) context.old result context.new }
 {
     let streams = streams_of(context.alloc, request)?;
     defer_reset(
@@ -145,7 +145,7 @@ fn carry_out_reset<R: Rng>(
     request: Option<OutgoingSsnResetRequestParameter<'_>>,
     treatment: Treatment,
 ) -> Result<(), AllocError>
-    ensures { Treats treatment (option_map wanted_by request.entry) context.old result context.new }
+    ensures { TreatsReset treatment (option_map wanted_by request.entry) context.old result context.new }
 {
     match request {
         None => Ok(()),
@@ -194,7 +194,7 @@ fn heed_answer<R: Rng>(context: &mut Context<R>)
 // is sent again later. One that has ended gives its streams back to the send queue; returns the event for it.
 // Allocates nothing.
 fn settle<R: Rng>(context: &mut Context<R>, own: OwnAnswer) -> Option<SocketEvent>
-    ensures { Settles own context.old result context.new }
+    ensures { SettlesRequest own context.old result context.new }
 {
     match own {
         OwnAnswer::Unanswered => None,
@@ -224,7 +224,7 @@ fn settle<R: Rng>(context: &mut Context<R>, own: OwnAnswer) -> Option<SocketEven
 
 // Tells the user of it, if there is something to tell. `Err`: an allocation failed, and nothing has changed.
 fn tell<R: Rng>(context: &mut Context<R>, event: Option<SocketEvent>) -> Result<(), AllocError>
-    ensures { Tells event context.old result context.new }
+    ensures { ReportsEvent event context.old result context.new }
 {
     match event {
         None => Ok(()),

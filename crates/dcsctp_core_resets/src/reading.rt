@@ -3,7 +3,7 @@
 ghost use Rattle.std.specs.Prelude.{◌≡◌, IfOk};
 ghost use Rattle.std.specs.Option.{option_map};
 ghost use Rattle.dcsctp_core.specs.types.Ids.{stream_numbers};
-ghost use Rattle.dcsctp_core.specs.spec.Reconfiguration.{streams_in};
+ghost use Rattle.dcsctp_core.specs.spec.Reconfiguration.{reset_streams_in};
 ghost use Rattle.dcsctp_core.specs.spec.endpoint.ResetOutcomes.{requested_in};
 ghost use Rattle.dcsctp_core_resets.specs.Requests.{reset_parameters};
 ghost use Rattle.dcsctp_core_resets.specs.Resets.{wanted_by};
@@ -31,7 +31,7 @@ pub(crate) fn streams_of(
     alloc: Global,
     request: &OutgoingSsnResetRequestParameter<'_>,
 ) -> Result<Vec<StreamId>, AllocError>
-    ensures { IfOk result (λ streams. stream_numbers streams.items ≡ streams_in request.now.streams.now) }
+    ensures { IfOk result (λ streams. stream_numbers streams.items ≡ reset_streams_in request.now.streams.now) }
 {
     let mut streams = Vec::new(alloc);
     for index in 0..request.stream_count() {

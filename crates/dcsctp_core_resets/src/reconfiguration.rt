@@ -6,7 +6,7 @@ ghost use Rattle.dcsctp_core.specs.spec.endpoint.OwnTimers.{reconfiguration};
 ghost use Rattle.dcsctp_core.specs.spec.endpoint.ReconfigurationOutcomes.{is_renewed};
 ghost use Rattle.dcsctp_core.specs.Handling.{Tries};
 ghost use Rattle.dcsctp_core.specs.Timing.{Expires};
-ghost use Rattle.dcsctp_core.specs.Reconfiguring.{renumbered, tcb_changed};
+ghost use Rattle.dcsctp_core.specs.Reconfiguring.{request_renumbered, tcb_changed};
 ghost use Rattle.dcsctp_core.specs.View.{endpoint_of, outstanding_of};
 ghost use Rattle.dcsctp_core_resets.specs.Repeating.{request_chunk, EmitsRequest, number_by, renumbered_where, repeated_turn, unless_turn};
 
@@ -53,7 +53,7 @@ fn emit_request<R: Rng>(
 
 // Our outstanding request, if there is one, takes the next number.
 fn renumber(state: &mut State)
-    ensures { state.new ≡ tcb_changed renumbered state.old }
+    ensures { state.new ≡ tcb_changed request_renumbered state.old }
 {
     match state.tcb_mut() {
         None => {}

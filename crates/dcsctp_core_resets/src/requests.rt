@@ -5,7 +5,7 @@ ghost use Rattle.std.specs.Prelude.{◌≡◌, ◌&&◌, false, OnOk, IfOk};
 ghost use Rattle.dcsctp_core.specs.types.declared.association.Held.{Held};
 ghost use Rattle.dcsctp_core.specs.spec.association.ResetChanges.{outgoing_by, incoming_by, is_outstanding};
 ghost use Rattle.dcsctp_core.specs.spec.association.ResetChanges as changes;
-ghost use Rattle.dcsctp_core_resets.specs.Requests.{AnswersAs, Responds, WorksOne, WorksChunk, held_with, in_place, is_outgoing, own_ended, reset_parameters, said_by, with_response};
+ghost use Rattle.dcsctp_core_resets.specs.Requests.{AnswersAs, Responds, HandlesParameter, HandlesParameters, held_with, in_place, is_outgoing, own_answer_ended, reset_parameters, parameter_said, with_response};
 
 use dcsctp_core::wire::{
     Parameter, ReconfigurationResponseParameter, ReconfigurationResponseResult,
@@ -107,7 +107,7 @@ pub struct HandledRequests {
 
 // Where the number of a request stands (RFC 6525, section 5.2.1).
 fn place_of(last: u32, number: u32) -> Place
-    ensures { in_place result ≡ changes.place_of last number }
+    ensures { in_place result ≡ changes.request_place last number }
 {
     if number == last {
         Place::Again
@@ -121,7 +121,7 @@ fn place_of(last: u32, number: u32) -> Place
 // A request of this number is handled: performed if everything was received that was sent before it, else in
 // progress (RFC 6525, section 5.2.2).
 fn perform_or_defer(number: u32, is_reached: bool) -> AnsweredRequest
-    ensures { (base : Held) → AnswersAs base result (changes.worked base number is_reached) }
+    ensures { (base : Held) → AnswersAs base result (changes.performed_request base number is_reached) }
 {
     if is_reached {
         let result = ReconfigurationResponseResult::SuccessPerformed;
@@ -173,7 +173,7 @@ fn refused(last: LastRequest) -> AnsweredRequest
 // How an Outgoing SSN Reset Request of this number is answered.
 fn answer_outgoing(last: LastRequest, number: u32, is_reached: bool) -> AnsweredRequest
     ensures { (base : Held) → AnswersAs base result (outgoing_by (held_with base last) number is_reached
-        (changes.place_of last.number number)) }
+        (changes.request_place last.number number)) }
 {
     match place_of(last.number, number) {
         Place::Again => repeated(last, is_reached),
@@ -185,7 +185,7 @@ fn answer_outgoing(last: LastRequest, number: u32, is_reached: bool) -> Answered
 // How an Incoming SSN Reset Request of this number is answered: no stream is reset for it.
 fn answer_incoming(last: LastRequest, number: u32) -> AnsweredRequest
     ensures { (base : Held) → AnswersAs base result (incoming_by (held_with base last) number
-        (changes.place_of last.number number)) }
+        (changes.request_place last.number number)) }
 {
     match place_of(last.number, number) {
         Place::Again | Place::Next => {
@@ -202,7 +202,7 @@ fn answer_incoming(last: LastRequest, number: u32) -> AnsweredRequest
 
 // Is it an Outgoing SSN Reset Request?
 fn is_outgoing(parameter: &Parameter<'_>) -> bool
-    ensures { result ≡ is_outgoing (said_by parameter.now) }
+    ensures { result ≡ is_outgoing (parameter_said parameter.now) }
 {
     match parameter {
         Parameter::OutgoingSsnResetRequest(_) => true,
@@ -238,7 +238,7 @@ impl HandledRequests {
 
     // Our own request has ended so. The events about it come first if no request of the peer was handled.
     fn end_own(&mut self, answer: OwnAnswer)
-        ensures { self.new ≡ own_ended answer self.old }
+        ensures { self.new ≡ own_answer_ended answer self.old }
     {
         self.outstanding = None;
         self.own = answer;
@@ -274,8 +274,8 @@ impl HandledRequests {
         is_reached: bool,
         parameter: &Parameter<'_>,
     ) -> Result<(), AllocError>
-        requires { (self.old.has_worked && is_outgoing (said_by parameter.now)) ≡ false }
-        ensures { OnOk result (WorksOne is_reached (said_by parameter.now) self.old self.new) }
+        requires { (self.old.has_worked && is_outgoing (parameter_said parameter.now)) ≡ false }
+        ensures { OnOk result (HandlesParameter is_reached (parameter_said parameter.now) self.old self.new) }
     {
         match parameter {
             Parameter::OutgoingSsnResetRequest(request) => {
@@ -318,7 +318,7 @@ pub(crate) fn handle_requests(
     is_reached: bool,
     parameters: &[Parameter<'_>],
 ) -> Result<HandledRequests, AllocError>
-    ensures { IfOk result (λ worked. WorksChunk is_reached last outstanding (reset_parameters parameters.now) worked) }
+    ensures { IfOk result (λ worked. HandlesParameters is_reached last outstanding (reset_parameters parameters.now) worked) }
 {
     let mut worked = HandledRequests {
         last,

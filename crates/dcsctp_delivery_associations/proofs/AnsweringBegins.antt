@@ -2,43 +2,43 @@
 use Rattle.std.proofs.Common.{◌≡◌, ◌≢◌, ℕ, Bool, true, false, Option, None, Some, List, [], ◌∷◌, length, refl, sym, ◌∙◌, ap, subst, arith, inl, inr}
 use Rattle.std.specs.Prelude.{◌⊎◌}
 use Rattle.dcsctp_spec_lemmas.specs.types.declared.association.Pair.{Pair}
-use Rattle.dcsctp_spec_runs.specs.Past.{Has, number_to_accept, number_to_perform}
+use Rattle.dcsctp_spec_runs.specs.Past.{HasEffect, number_to_accept, number_to_perform}
 use Rattle.dcsctp_spec_runs.specs.World.{after_effects}
-use Rattle.dcsctp_spec_lemmas.specs.spec.association.Effect.{Link, Effect, holds, performs}
+use Rattle.dcsctp_spec_lemmas.specs.spec.association.Effect.{AssociationIdentity, Effect, holds, performs}
 use Rattle.dcsctp_spec_lemmas.specs.spec.queues.Reassembly.{DeferralModel}
 use Rattle.dcsctp_spec_lemmas.specs.spec.endpoint.BegunResets.{BegunReset}
 use Rattle.dcsctp_delivery_directions.specs.Directions.{nothing_asked, Asking}
 use Rattle.dcsctp_delivery_associations.specs.Answered as answered
-use Rattle.dcsctp_delivery_associations.specs.Answered.{Requests, number_at, WantFrom, WasHeld, WasJoined, AreAsked, IsPlaced, WerePerformed, IsInStep, StandsSo, Answers}
+use Rattle.dcsctp_delivery_associations.specs.Answered.{Requests, request_number_at, WantFrom, SenderHadPeer, WasJoined, AreAsked, IsRequestNumber, WerePerformed, IsInStep, StandsSo, AnswersRequests}
 use Rattle.dcsctp_delivery_associations.proofs.AnsweringRests.{after_new, after_split, joined_later, asked_later}
 
 -- ---- it begins where it is expected
 
 -- The receiver had no association with this tag, and none with this tag of the peer.
-abbrev pub IsNewTag : List Effect → Link → Type 0
-IsNewTag their_past new = (old : Link) → Has (holds old) their_past → (old.my.tag ≢ new.my.tag) × (old.peer.tag ≢ new.peer.tag)
+abbrev pub IsNewTag : List Effect → AssociationIdentity → Type 0
+IsNewTag their_past new = (old : AssociationIdentity) → HasEffect (holds old) their_past → (old.my.tag ≢ new.my.tag) × (old.peer.tag ≢ new.peer.tag)
 
 -- Where the sender had this pair, it had it with this tag.
-abbrev pub IsMatched : List Effect → Link → Type 0
-IsMatched past new = (link : Link) → Has (holds link) past → link.my.tag ≡ new.peer.tag → link.peer.tag ≡ new.my.tag
+abbrev pub IsMatched : List Effect → AssociationIdentity → Type 0
+IsMatched past new = (link : AssociationIdentity) → HasEffect (holds link) past → link.my.tag ≡ new.peer.tag → link.peer.tag ≡ new.my.tag
 
-module _ (requests : ℕ → Requests) (mine : Option Link) (past : List Effect) (theirs : Option Link) (happened their_past : List Effect) (waits waits' : Option DeferralModel) (new : Link)
-    (a : Answers requests mine past theirs their_past waits) (some : new.my.tag ≢ 0) (noted : Has (holds new) happened) (only : (link : Link) → Has (holds link) happened → link ≡ new)
-    (no_performs : (my : Pair) (number : ℕ) → Has (performs my number) happened → ⊥) (is_new : IsNewTag their_past new) where
+module _ (requests : ℕ → Requests) (mine : Option AssociationIdentity) (past : List Effect) (theirs : Option AssociationIdentity) (happened their_past : List Effect) (waits waits' : Option DeferralModel) (new : AssociationIdentity)
+    (a : AnswersRequests requests mine past theirs their_past waits) (some : new.my.tag ≢ 0) (noted : HasEffect (holds new) happened) (only : (link : AssociationIdentity) → HasEffect (holds link) happened → link ≡ new)
+    (no_performs : (my : Pair) (number : ℕ) → HasEffect (performs my number) happened → ⊥) (is_new : IsNewTag their_past new) where
   abbrev t : ℕ
   t = new.my.tag
 
   abbrev later : List Effect
   later = after_effects happened their_past
 
-  before : (my : Pair) (number : ℕ) → Has (performs my number) later → Has (performs my number) their_past
+  before : (my : Pair) (number : ℕ) → HasEffect (performs my number) later → HasEffect (performs my number) their_past
   before my number has = elim (after_split (performs my number) happened their_past has) [ inl there ↦ absurd (no_performs my number there) | inr old ↦ old ]
 
   -- An association was joined before, or it is the new one.
   joined_when : (tag : ℕ) (my : Pair) → WasJoined later tag my → WasJoined their_past tag my ⊎ ((tag ≡ t) × (my ≡ new.peer))
   joined_when tag my was =
       elim (after_split (holds was.link) happened their_past was.held) [
-        | inl there ↦ inr (sym was.tag_is ∙ ap (λ (l : Link). l.my.tag) (only was.link there), sym was.my_is ∙ ap (λ (l : Link). l.peer) (only was.link there))
+        | inl there ↦ inr (sym was.tag_is ∙ ap (λ (l : AssociationIdentity). l.my.tag) (only was.link there), sym was.my_is ∙ ap (λ (l : AssociationIdentity). l.peer) (only was.link there))
         | inr old ↦ inl (record { link = was.link; held = old; tag_is = was.tag_is; my_is = was.my_is; some = was.some })
       ]
 
@@ -46,14 +46,14 @@ module _ (requests : ℕ → Requests) (mine : Option Link) (past : List Effect)
   other_pair : (tag : ℕ) (my : Pair) → WasJoined their_past tag my → my ≡ new.peer → ⊥
   other_pair tag my was same = (is_new was.link was.held).1 (ap (λ (p : Pair). p.tag) (was.my_is ∙ same))
 
-  none_performed_yet : (my : Pair) (number : ℕ) → my ≡ new.peer → Has (performs my number) their_past → ⊥
+  none_performed_yet : (my : Pair) (number : ℕ) → my ≡ new.peer → HasEffect (performs my number) their_past → ⊥
   none_performed_yet my number same has = let j = a.joined my number has in other_pair j.0 (requests j.0).my j.1 (j.2 ∙ same)
 
   new_joined : WasJoined later t new.peer
   new_joined = record { link = new; held = after_new (holds new) happened their_past noted; tag_is = refl; my_is = refl; some = some }
 
   module _ (is_matched : IsMatched past new) (first_is : (requests t).first ≡ new.peer.first_tsn) (my_is : (requests t).my ≡ new.peer)
-      (accept : number_to_accept later ≡ Some (number_at new.peer.first_tsn 0)) (perform : number_to_perform later ≡ None) (empty : waits' ≡ None) where
+      (accept : number_to_accept later ≡ Some (request_number_at new.peer.first_tsn 0)) (perform : number_to_perform later ≡ None) (empty : waits' ≡ None) where
     performed_still : (tag : ℕ) → WasJoined later tag (requests tag).my → WerePerformed (requests tag) later
     performed_still tag was number has =
         elim (joined_when tag (requests tag).my was) [
@@ -70,7 +70,7 @@ module _ (requests : ℕ → Requests) (mine : Option Link) (past : List Effect)
         go (inr here) (inl other) = other_pair two (requests two).my other (sym same ∙ here.1)
         go (inr here) (inr there) = ne (here.0 ∙ sym there.0)
 
-    mine_still : (link : Link) → mine ≡ Some link → (tag : ℕ) → link.peer.tag ≢ tag → WasJoined later tag (requests tag).my → link.my ≢ (requests tag).my
+    mine_still : (link : AssociationIdentity) → mine ≡ Some link → (tag : ℕ) → link.peer.tag ≢ tag → WasJoined later tag (requests tag).my → link.my ≢ (requests tag).my
     mine_still link is tag ne was same =
         elim (joined_when tag (requests tag).my was) [
           | inl old ↦ a.mine_apart link is tag ne old same
@@ -79,8 +79,8 @@ module _ (requests : ℕ → Requests) (mine : Option Link) (past : List Effect)
               )
         ]
 
-    accept_first : (l : List BegunReset) → l ≡ [] → number_to_accept later ≡ Some (number_at (requests t).first (length l))
-    accept_first l none = accept ∙ ap (λ (n : ℕ). Some (number_at n 0)) (sym first_is) ∙ ap (λ (l : List BegunReset). Some (number_at (requests t).first (length l))) (sym none)
+    accept_first : (l : List BegunReset) → l ≡ [] → number_to_accept later ≡ Some (request_number_at (requests t).first (length l))
+    accept_first l none = accept ∙ ap (λ (n : ℕ). Some (request_number_at n 0)) (sym first_is) ∙ ap (λ (l : List BegunReset). Some (request_number_at (requests t).first (length l))) (sym none)
 
     stands_none : (requests t).asking.requests ≡ [] → StandsSo (requests t) later waits'
     stands_none none = answered.in_step (answered.all_performed (accept_first (requests t).asking.requests none) perform empty (inl none))
@@ -103,7 +103,7 @@ module _ (requests : ℕ → Requests) (mine : Option Link) (past : List Effect)
     stands_new (inl none) = stands_none (ap (λ (s : Asking). s.requests) none)
     stands_new (inr asked) = stands_behind asked (requests t).asking.requests refl (requests t).is_interleaved refl
 
-    pub begins_expected : Answers requests mine past (Some new) later waits'
+    pub begins_expected : AnswersRequests requests mine past (Some new) later waits'
     begins_expected =
         record {
           asked = λ tag some. asked_later (requests tag) happened their_past (a.asked tag some);
@@ -115,7 +115,7 @@ module _ (requests : ℕ → Requests) (mine : Option Link) (past : List Effect)
           mine_held = a.mine_held;
           mine_first = a.mine_first;
           theirs_held = λ there is. (
-              let same : new ≡ there = cc in subst (λ (l : Link). WasJoined later l.my.tag l.peer × ((requests l.my.tag).my ≡ l.peer)) same (new_joined, my_is)
+              let same : new ≡ there = cc in subst (λ (l : AssociationIdentity). WasJoined later l.my.tag l.peer × ((requests l.my.tag).my ≡ l.peer)) same (new_joined, my_is)
               );
-          stands = λ there is. (let same : new ≡ there = cc in subst (λ (l : Link). StandsSo (requests l.my.tag) later waits') same (stands_new (a.asked t some)));
+          stands = λ there is. (let same : new ≡ there = cc in subst (λ (l : AssociationIdentity). StandsSo (requests l.my.tag) later waits') same (stands_new (a.asked t some)));
         }

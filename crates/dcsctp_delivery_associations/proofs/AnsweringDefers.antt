@@ -2,10 +2,10 @@
 use Rattle.std.proofs.Common.{◌≡◌, ℕ, ◌<◌, ◌-◌, ◌^◌, suc, false, Option, Some, List, length, sym, ◌∙◌, ap, subst, inl, inr}
 use Rattle.std.specs.Prelude.{◌⊎◌}
 use Rattle.dcsctp_spec_lemmas.specs.types.declared.association.Pair.{Pair}
-use Rattle.dcsctp_spec_runs.specs.Past.{Has, number_to_accept, number_to_perform}
+use Rattle.dcsctp_spec_runs.specs.Past.{HasEffect, number_to_accept, number_to_perform}
 use Rattle.dcsctp_spec_runs.specs.World.{after_effects}
 use Rattle.dcsctp_spec_lemmas.specs.spec.Reconfiguration.{RequestedReset}
-use Rattle.dcsctp_spec_lemmas.specs.spec.association.Effect.{Link, Effect, holds, performs}
+use Rattle.dcsctp_spec_lemmas.specs.spec.association.Effect.{AssociationIdentity, Effect, holds, performs}
 use Rattle.dcsctp_spec_lemmas.specs.spec.association.FlushChanges.{next_number}
 use Rattle.dcsctp_spec_lemmas.specs.spec.queues.Reassembly.{DeferralModel}
 use Rattle.dcsctp_spec_lemmas.specs.spec.endpoint.BegunResets.{BegunReset}
@@ -13,7 +13,7 @@ use Rattle.dcsctp_delivery_receiving.specs.Clear.{IsOwn}
 use Rattle.dcsctp_delivery_sending.specs.Places as places
 use Rattle.dcsctp_delivery_turns.specs.PeerRequests.{WaitsFor}
 use Rattle.dcsctp_delivery_associations.specs.Answered as answered
-use Rattle.dcsctp_delivery_associations.specs.Answered.{Requests, number_at, IsInStep, StandsSo, Answers}
+use Rattle.dcsctp_delivery_associations.specs.Answered.{Requests, request_number_at, IsInStep, StandsSo, AnswersRequests}
 use Rattle.dcsctp_delivery_associations.proofs.RequestNumbers.{next_place}
 use Rattle.dcsctp_delivery_associations.proofs.AnsweringNewest.{due_there}
 use Rattle.dcsctp_delivery_associations.proofs.AnsweringRests.{stays_standing}
@@ -22,28 +22,28 @@ own_left : (reset : RequestedReset) (waits : Option DeferralModel) (left : Defer
 own_left reset waits left own (inl same) = same
 own_left reset waits left own (inr was) = was.2 ∙ subst (IsOwn reset) was.1 own
 
-module _ (requests : ℕ → Requests) (mine : Option Link) (past : List Effect) (link : Link) (happened their_past : List Effect) (waits waits' : Option DeferralModel)
-    (a : Answers requests mine past (Some link) their_past waits) (no_holds : (new : Link) → Has (holds new) happened → ⊥) (no_performs : (my : Pair) (number : ℕ) → Has (performs my number) happened → ⊥) where
-  stands_at_link : StandsSo (requests link.my.tag) (after_effects happened their_past) waits' → Answers requests mine past (Some link) (after_effects happened their_past) waits'
+module _ (requests : ℕ → Requests) (mine : Option AssociationIdentity) (past : List Effect) (link : AssociationIdentity) (happened their_past : List Effect) (waits waits' : Option DeferralModel)
+    (a : AnswersRequests requests mine past (Some link) their_past waits) (no_holds : (new : AssociationIdentity) → HasEffect (holds new) happened → ⊥) (no_performs : (my : Pair) (number : ℕ) → HasEffect (performs my number) happened → ⊥) where
+  stands_at_link : StandsSo (requests link.my.tag) (after_effects happened their_past) waits' → AnswersRequests requests mine past (Some link) (after_effects happened their_past) waits'
   stands_at_link stands =
       stays_standing requests mine past (Some link) happened their_past waits waits' a no_holds no_performs
-      (λ there is. let same : link ≡ there = cc in subst (λ (l : Link). StandsSo (requests l.my.tag) (after_effects happened their_past) waits') same stands)
+      (λ there is. let same : link ≡ there = cc in subst (λ (l : AssociationIdentity). StandsSo (requests l.my.tag) (after_effects happened their_past) waits') same stands)
 
   -- It is in progress then.
-  pub defers_it : (begun : BegunReset) (left : DeferralModel) → IsInStep (requests link.my.tag) their_past waits → places.Has begun (requests link.my.tag).asking.requests
+  pub defers_it : (begun : BegunReset) (left : DeferralModel) → IsInStep (requests link.my.tag) their_past waits → places.HasEntry begun (requests link.my.tag).asking.requests
       → length (requests link.my.tag).asking.requests < 2 ^ 32 - 1 → (number_to_accept their_past ≡ Some begun.number) ⊎ (number_to_perform their_past ≡ Some begun.number)
       → number_to_accept (after_effects happened their_past) ≡ Some (next_number begun.number) → number_to_perform (after_effects happened their_past) ≡ Some begun.number → waits' ≡ Some left
       → WaitsFor begun.reset waits left
-      → Answers requests mine past (Some link) (after_effects happened their_past) waits'
+      → AnswersRequests requests mine past (Some link) (after_effects happened their_past) waits'
   defers_it begun left step has few expected accept perform is last =
       let due = due_there requests mine past link their_past waits begun a step has few expected in
-      let next : next_number begun.number ≡ number_at (requests link.my.tag).first (suc due.place) = ap next_number due.at ∙ next_place (requests link.my.tag).first due.place in
+      let next : next_number begun.number ≡ request_number_at (requests link.my.tag).first (suc due.place) = ap next_number due.at ∙ next_place (requests link.my.tag).first due.place in
       stands_at_link
       (answered.in_step
       (answered.in_progress due.newest due.earlier due.place due.is due.below due.want (accept ∙ ap Some next) (perform ∙ ap Some due.at)
       (subst (IsOwn due.newest.reset) (sym is) (own_left due.newest.reset waits left due.own (subst (λ (r : RequestedReset). WaitsFor r waits left) due.wants last))) due.unknown))
 
   -- Messages don't interleave.
-  pub defers_plain : (begun : BegunReset) → (requests link.my.tag).is_interleaved ≡ false → places.Has begun (requests link.my.tag).asking.requests
-      → Answers requests mine past (Some link) (after_effects happened their_past) waits'
-  defers_plain begun kind has = stands_at_link (answered.plain kind (λ none. subst (places.Has begun) none has))
+  pub defers_plain : (begun : BegunReset) → (requests link.my.tag).is_interleaved ≡ false → places.HasEntry begun (requests link.my.tag).asking.requests
+      → AnswersRequests requests mine past (Some link) (after_effects happened their_past) waits'
+  defers_plain begun kind has = stands_at_link (answered.plain kind (λ none. subst (places.HasEntry begun) none has))

@@ -2,23 +2,23 @@
 use Rattle.std.proofs.Common.{◌≡◌, ◌≢◌, ℕ, Option, None, Some, List, refl, sym, ◌∙◌, ap, subst, inl, inr}
 use Rattle.std.specs.Prelude.{◌⊎◌}
 use Rattle.dcsctp_spec_lemmas.specs.types.declared.association.Pair.{Pair}
-use Rattle.dcsctp_spec_runs.specs.Past.{Has, number_to_accept, number_to_perform}
+use Rattle.dcsctp_spec_runs.specs.Past.{HasEffect, number_to_accept, number_to_perform}
 use Rattle.dcsctp_spec_runs.specs.World.{after_effects}
-use Rattle.dcsctp_spec_lemmas.specs.spec.association.Effect.{Link, Effect, holds, performs}
+use Rattle.dcsctp_spec_lemmas.specs.spec.association.Effect.{AssociationIdentity, Effect, holds, performs}
 use Rattle.dcsctp_spec_lemmas.specs.spec.queues.Reassembly.{DeferralModel}
 use Rattle.dcsctp_delivery_sending.specs.Places.{set_at}
 use Rattle.dcsctp_delivery_sending.proofs.Places.{set_same, set_other}
 use Rattle.dcsctp_delivery_directions.specs.Directions.{nothing_asked}
-use Rattle.dcsctp_delivery_associations.specs.Answered.{Requests, number_at, WasHeld, WasJoined, AreAsked, WerePerformed, StandsSo, Answers}
+use Rattle.dcsctp_delivery_associations.specs.Answered.{Requests, request_number_at, SenderHadPeer, WasJoined, AreAsked, WerePerformed, StandsSo, AnswersRequests}
 use Rattle.dcsctp_delivery_associations.proofs.Growing.{set_all}
 use Rattle.dcsctp_delivery_associations.proofs.AnsweringRests.{same_requests}
 use Rattle.dcsctp_delivery_associations.proofs.AnsweringBegins.{IsNewTag, IsMatched, begins_expected}
 
 -- ---- a tag that none had
 
-module _ (requests : ℕ → Requests) (mine : Option Link) (past : List Effect) (theirs : Option Link) (their_past : List Effect) (waits : Option DeferralModel) (t : ℕ) (fresh : Requests)
-    (a : Answers requests mine past theirs their_past waits) (none : fresh.asking ≡ nothing_asked) (not_mine : (link : Link) → mine ≡ Some link → link.peer.tag ≢ t)
-    (not_joined : (link : Link) → Has (holds link) their_past → link.my.tag ≢ t) where
+module _ (requests : ℕ → Requests) (mine : Option AssociationIdentity) (past : List Effect) (theirs : Option AssociationIdentity) (their_past : List Effect) (waits : Option DeferralModel) (t : ℕ) (fresh : Requests)
+    (a : AnswersRequests requests mine past theirs their_past waits) (none : fresh.asking ≡ nothing_asked) (not_mine : (link : AssociationIdentity) → mine ≡ Some link → link.peer.tag ≢ t)
+    (not_joined : (link : AssociationIdentity) → HasEffect (holds link) their_past → link.my.tag ≢ t) where
   abbrev all : ℕ → Requests
   all = set_at t fresh requests
 
@@ -35,17 +35,17 @@ module _ (requests : ℕ → Requests) (mine : Option Link) (past : List Effect)
       a.apart one two ne (subst (λ (r : Requests). WasJoined their_past one r.my) first joined) (subst (λ (r : Requests). WasJoined their_past two r.my) second was)
       (ap (λ (r : Requests). r.my) (sym first) ∙ same ∙ ap (λ (r : Requests). r.my) second)
 
-  mine_there : (link : Link) → mine ≡ Some link → (tag : ℕ) → link.peer.tag ≢ tag → WasJoined their_past tag (all tag).my → link.my ≢ (all tag).my
+  mine_there : (link : AssociationIdentity) → mine ≡ Some link → (tag : ℕ) → link.peer.tag ≢ tag → WasJoined their_past tag (all tag).my → link.my ≢ (all tag).my
   mine_there link is tag ne was same =
       let there : all tag ≡ requests tag = other tag (of_joined tag (all tag).my was) in
       a.mine_apart link is tag ne (subst (λ (r : Requests). WasJoined their_past tag r.my) there was) (same ∙ ap (λ (r : Requests). r.my) there)
 
   -- Its requests may be of any pair.
-  pub with_fresh : Answers (set_at t fresh requests) mine past theirs their_past waits
+  pub with_fresh : AnswersRequests (set_at t fresh requests) mine past theirs their_past waits
   with_fresh =
       record {
         asked = set_all (λ n r. n ≢ 0 → (r.asking ≡ nothing_asked) ⊎ AreAsked r their_past) t fresh requests (λ some. inl none) (λ n ne. a.asked n);
-        asked_held = set_all (λ n r. n ≢ 0 → (r.asking ≡ nothing_asked) ⊎ WasHeld past n r.my) t fresh requests (λ some. inl none) (λ n ne. a.asked_held n);
+        asked_held = set_all (λ n r. n ≢ 0 → (r.asking ≡ nothing_asked) ⊎ SenderHadPeer past n r.my) t fresh requests (λ some. inl none) (λ n ne. a.asked_held n);
         performed = set_all (λ n r. WasJoined their_past n r.my → WerePerformed r their_past) t fresh requests (λ was. absurd (of_joined t fresh.my was refl)) (λ n ne. a.performed n);
         apart = apart_there;
         mine_apart = mine_there;
@@ -67,15 +67,15 @@ module _ (requests : ℕ → Requests) (mine : Option Link) (past : List Effect)
 -- ---- an association begins
 
 -- The sender has the matching association, or it has begun nothing under this tag, and has no association there.
-abbrev pub IsCrossedOrAwaited : Requests → Option Link → Link → Type 0
+abbrev pub IsCrossedOrAwaited : Requests → Option AssociationIdentity → AssociationIdentity → Type 0
 IsCrossedOrAwaited requests mine new =
-    ((requests.first ≡ new.peer.first_tsn) × (requests.my ≡ new.peer)) ⊎ ((requests.asking ≡ nothing_asked) × ((link : Link) → mine ≡ Some link → link.peer.tag ≢ new.my.tag))
+    ((requests.first ≡ new.peer.first_tsn) × (requests.my ≡ new.peer)) ⊎ ((requests.asking ≡ nothing_asked) × ((link : AssociationIdentity) → mine ≡ Some link → link.peer.tag ≢ new.my.tag))
 
-pub opens_anew : (requests : ℕ → Requests) (mine : Option Link) (past : List Effect) (theirs : Option Link) (happened their_past : List Effect) (waits waits' : Option DeferralModel) (new : Link)
-    → Answers requests mine past theirs their_past waits → new.my.tag ≢ 0 → Has (holds new) happened → ((link : Link) → Has (holds link) happened → link ≡ new)
-    → ((my : Pair) (number : ℕ) → Has (performs my number) happened → ⊥) → IsNewTag their_past new → IsMatched past new → IsCrossedOrAwaited (requests new.my.tag) mine new
-    → number_to_accept (after_effects happened their_past) ≡ Some (number_at new.peer.first_tsn 0) → number_to_perform (after_effects happened their_past) ≡ None → waits' ≡ None
-    → Answers (set_at new.my.tag (record { my = new.peer; first = new.peer.first_tsn; asking = (requests new.my.tag).asking; is_interleaved = (requests new.my.tag).is_interleaved }) requests)
+pub opens_anew : (requests : ℕ → Requests) (mine : Option AssociationIdentity) (past : List Effect) (theirs : Option AssociationIdentity) (happened their_past : List Effect) (waits waits' : Option DeferralModel) (new : AssociationIdentity)
+    → AnswersRequests requests mine past theirs their_past waits → new.my.tag ≢ 0 → HasEffect (holds new) happened → ((link : AssociationIdentity) → HasEffect (holds link) happened → link ≡ new)
+    → ((my : Pair) (number : ℕ) → HasEffect (performs my number) happened → ⊥) → IsNewTag their_past new → IsMatched past new → IsCrossedOrAwaited (requests new.my.tag) mine new
+    → number_to_accept (after_effects happened their_past) ≡ Some (request_number_at new.peer.first_tsn 0) → number_to_perform (after_effects happened their_past) ≡ None → waits' ≡ None
+    → AnswersRequests (set_at new.my.tag (record { my = new.peer; first = new.peer.first_tsn; asking = (requests new.my.tag).asking; is_interleaved = (requests new.my.tag).is_interleaved }) requests)
     mine past (Some new) (after_effects happened their_past) waits'
 opens_anew requests mine past theirs happened their_past waits waits' new a some noted only no_performs is_new is_matched (inl crossed) accept perform empty =
     same_requests (set_at new.my.tag fresh requests) requests mine past (Some new) (after_effects happened their_past) waits' (set_all (λ n r. r ≡ requests n) new.my.tag fresh requests fresh_is (λ n ne. refl))

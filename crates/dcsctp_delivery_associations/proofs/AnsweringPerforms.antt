@@ -2,9 +2,9 @@
 use Rattle.std.proofs.Common.{◌≡◌, ◌≢◌, ℕ, ◌<◌, suc, true, false, Option, None, Some, List, ◌∷◌, length, refl, sym, ◌∙◌, ap, subst, arith, inl, inr}
 use Rattle.std.specs.Prelude.{◌⊎◌}
 use Rattle.dcsctp_spec_lemmas.specs.types.declared.association.Pair.{Pair}
-use Rattle.dcsctp_spec_runs.specs.Past.{Has, number_to_accept, number_to_perform}
+use Rattle.dcsctp_spec_runs.specs.Past.{HasEffect, number_to_accept, number_to_perform}
 use Rattle.dcsctp_spec_runs.specs.World.{after_effects}
-use Rattle.dcsctp_spec_lemmas.specs.spec.association.Effect.{Link, Effect, holds, performs}
+use Rattle.dcsctp_spec_lemmas.specs.spec.association.Effect.{AssociationIdentity, Effect, holds, performs}
 use Rattle.dcsctp_spec_lemmas.specs.spec.association.FlushChanges.{next_number}
 use Rattle.dcsctp_spec_lemmas.specs.spec.queues.Reassembly.{DeferralModel}
 use Rattle.dcsctp_spec_lemmas.specs.spec.endpoint.BegunResets.{BegunReset}
@@ -15,15 +15,15 @@ use Rattle.dcsctp_delivery_sending.proofs.Places.{decide, set_same}
 use Rattle.dcsctp_delivery_directions.specs.Directions.{nothing_asked, Asking}
 use Rattle.dcsctp_delivery_turns.specs.Asking.{AreNumbered}
 use Rattle.dcsctp_delivery_associations.specs.Answered as answered
-use Rattle.dcsctp_delivery_associations.specs.Answered.{Requests, number_at, WasHeld, WasJoined, AreAsked, IsPlaced, WerePerformed, StandsSo, Answers}
+use Rattle.dcsctp_delivery_associations.specs.Answered.{Requests, request_number_at, SenderHadPeer, WasJoined, AreAsked, IsRequestNumber, WerePerformed, StandsSo, AnswersRequests}
 use Rattle.dcsctp_delivery_associations.proofs.Growing.{set_all}
 use Rattle.dcsctp_delivery_associations.proofs.RequestNumbers.{next_place, newest_number, number_among, number_behind, want_later}
 use Rattle.dcsctp_delivery_associations.proofs.AnsweringNewest.{IsDueAt, numbers_of}
 use Rattle.dcsctp_delivery_associations.proofs.AnsweringRests.{after_new, after_split, joined_later, joined_before, asked_later}
 
-module _ (requests : ℕ → Requests) (mine : Option Link) (past : List Effect) (link : Link) (happened their_past : List Effect) (waits waits' : Option DeferralModel) (begun : BegunReset)
-    (a : Answers requests mine past (Some link) their_past waits) (no_holds : (new : Link) → Has (holds new) happened → ⊥)
-    (only : (peer : Pair) (other : ℕ) → Has (performs peer other) happened → (peer ≡ link.peer) × (other ≡ begun.number)) (has : places.Has begun (requests link.my.tag).asking.requests) where
+module _ (requests : ℕ → Requests) (mine : Option AssociationIdentity) (past : List Effect) (link : AssociationIdentity) (happened their_past : List Effect) (waits waits' : Option DeferralModel) (begun : BegunReset)
+    (a : AnswersRequests requests mine past (Some link) their_past waits) (no_holds : (new : AssociationIdentity) → HasEffect (holds new) happened → ⊥)
+    (only : (peer : Pair) (other : ℕ) → HasEffect (performs peer other) happened → (peer ≡ link.peer) × (other ≡ begun.number)) (has : places.HasEntry begun (requests link.my.tag).asking.requests) where
   abbrev t : ℕ
   t = link.my.tag
 
@@ -46,7 +46,7 @@ module _ (requests : ℕ → Requests) (mine : Option Link) (past : List Effect)
   numbers : AreNumbered (requests t).first (requests t).asking.requests
   numbers = numbers_of (requests t) their_past (a.asked t here_joined.some)
 
-  joined_still : (my : Pair) (number : ℕ) → Has (performs my number) later → (tag : ℕ) × WasJoined later tag (requests tag).my × ((requests tag).my ≡ my)
+  joined_still : (my : Pair) (number : ℕ) → HasEffect (performs my number) later → (tag : ℕ) × WasJoined later tag (requests tag).my × ((requests tag).my ≡ my)
   joined_still my number there =
       elim (after_split (performs my number) happened their_past there) [
         | inl new ↦ (t, joined_later happened their_past t (requests t).my here_joined, (a.theirs_held link refl).1 ∙ sym (only my number new).0)
@@ -64,14 +64,14 @@ module _ (requests : ℕ → Requests) (mine : Option Link) (past : List Effect)
   apart_still : (one two : ℕ) → one ≢ two → WasJoined later one (requests one).my → WasJoined later two (requests two).my → (requests one).my ≢ (requests two).my
   apart_still one two ne first second = a.apart one two ne (before one (requests one).my first) (before two (requests two).my second)
 
-  mine_still : (there : Link) → mine ≡ Some there → (tag : ℕ) → there.peer.tag ≢ tag → WasJoined later tag (requests tag).my → there.my ≢ (requests tag).my
+  mine_still : (there : AssociationIdentity) → mine ≡ Some there → (tag : ℕ) → there.peer.tag ≢ tag → WasJoined later tag (requests tag).my → there.my ≢ (requests tag).my
   mine_still there is tag ne was = a.mine_apart there is tag ne (before tag (requests tag).my was)
 
-  held_still : (there : Link) → Some link ≡ Some there → WasJoined later there.my.tag there.peer × ((requests there.my.tag).my ≡ there.peer)
+  held_still : (there : AssociationIdentity) → Some link ≡ Some there → WasJoined later there.my.tag there.peer × ((requests there.my.tag).my ≡ there.peer)
   held_still there is = let held = a.theirs_held there is in (joined_later happened their_past there.my.tag there.peer held.0, held.1)
 
   -- The requests stay as they are.
-  performs_same : (WasJoined later t (requests t).my → WerePerformed (requests t) later) → StandsSo (requests t) later waits' → Answers requests mine past (Some link) later waits'
+  performs_same : (WasJoined later t (requests t).my → WerePerformed (requests t) later) → StandsSo (requests t) later waits' → AnswersRequests requests mine past (Some link) later waits'
   performs_same here stands =
       record {
         asked = λ tag some. asked_later (requests tag) happened their_past (a.asked tag some);
@@ -86,12 +86,12 @@ module _ (requests : ℕ → Requests) (mine : Option Link) (past : List Effect)
         mine_held = a.mine_held;
         mine_first = a.mine_first;
         theirs_held = held_still;
-        stands = λ there is. (let same : link ≡ there = cc in subst (λ (l : Link). StandsSo (requests l.my.tag) later waits') same stands);
+        stands = λ there is. (let same : link ≡ there = cc in subst (λ (l : AssociationIdentity). StandsSo (requests l.my.tag) later waits') same stands);
       }
 
   -- Messages don't interleave.
-  pub performs_plain : (requests t).is_interleaved ≡ false → Answers requests mine past (Some link) later waits'
-  performs_plain kind = performs_same here (answered.plain kind (λ none. subst (places.Has begun) none has))
+  pub performs_plain : (requests t).is_interleaved ≡ false → AnswersRequests requests mine past (Some link) later waits'
+  performs_plain kind = performs_same here (answered.plain kind (λ none. subst (places.HasEntry begun) none has))
     where
       here : WasJoined later t (requests t).my → WerePerformed (requests t) later
       here was number there =
@@ -105,14 +105,14 @@ module _ (requests : ℕ → Requests) (mine : Option Link) (past : List Effect)
 
   -- It isn't the newest, and nothing more is known.
   pub performs_behind : (due : IsDueAt (requests t) waits begun) → due.place < length due.earlier → number_to_accept later ≡ Some (next_number begun.number) → number_to_perform later ≡ None
-      → waits' ≡ None → Answers requests mine past (Some link) later waits'
+      → waits' ≡ None → AnswersRequests requests mine past (Some link) later waits'
   performs_behind due behind accept perform empty =
       performs_same here
       (answered.in_step
       (answered.unaccepted due.newest due.earlier (suc due.place) due.is (omega (arith, behind)) (want_later due.place (suc due.place) due.newest.reset (requests t).asking.requests (omega arith) due.want) (accept ∙ ap Some next) perform empty
       due.unknown))
     where
-      next : next_number begun.number ≡ number_at (requests t).first (suc due.place)
+      next : next_number begun.number ≡ request_number_at (requests t).first (suc due.place)
       next = ap next_number due.at ∙ next_place (requests t).first due.place
 
       count : length (requests t).asking.requests ≡ suc (length due.earlier)
@@ -126,13 +126,13 @@ module _ (requests : ℕ → Requests) (mine : Option Link) (past : List Effect)
           ]
 
   -- It is known then that the newest was performed.
-  pub performs_it : (earlier : List BegunReset) → (requests t).asking.requests ≡ begun ∷ earlier → Has (performs link.peer begun.number) happened → number_to_accept later ≡ Some (next_number begun.number) → number_to_perform later ≡ None → waits' ≡ None
-      → Answers (set_at t (record (requests t) { asking = record (requests t).asking { is_performed = true } }) requests) mine past (Some link) later waits'
+  pub performs_it : (earlier : List BegunReset) → (requests t).asking.requests ≡ begun ∷ earlier → HasEffect (performs link.peer begun.number) happened → number_to_accept later ≡ Some (next_number begun.number) → number_to_perform later ≡ None → waits' ≡ None
+      → AnswersRequests (set_at t (record (requests t) { asking = record (requests t).asking { is_performed = true } }) requests) mine past (Some link) later waits'
   performs_it earlier top does accept perform empty =
       record {
         asked = set_all (λ n r. n ≢ 0 → (r.asking ≡ nothing_asked) ⊎ AreAsked r later) t changed requests (λ some. inr (here_asked (a.asked t some)))
             (λ n ne some. asked_later (requests n) happened their_past (a.asked n some));
-        asked_held = set_all (λ n r. n ≢ 0 → (r.asking ≡ nothing_asked) ⊎ WasHeld past n r.my) t changed requests (λ some. inr (here_held (a.asked_held t some))) (λ n ne. a.asked_held n);
+        asked_held = set_all (λ n r. n ≢ 0 → (r.asking ≡ nothing_asked) ⊎ SenderHadPeer past n r.my) t changed requests (λ some. inr (here_held (a.asked_held t some))) (λ n ne. a.asked_held n);
         performed = set_all (λ n r. WasJoined later n r.my → WerePerformed r later) t changed requests here performed_other;
         apart = λ one two ne.
             subst (λ (m : Pair). WasJoined later one m → WasJoined later two (all two).my → m ≢ (all two).my) (sym (my_same one))
@@ -146,14 +146,14 @@ module _ (requests : ℕ → Requests) (mine : Option Link) (past : List Effect)
         theirs_held = λ there is. (let held = held_still there is in (held.0, my_same there.my.tag ∙ held.1));
         stands = λ there is. (
             let same : link ≡ there = cc in
-            subst (λ (l : Link). StandsSo (all l.my.tag) later waits') same
+            subst (λ (l : AssociationIdentity). StandsSo (all l.my.tag) later waits') same
             (subst (λ (r : Requests). StandsSo r later waits') (sym (set_same t changed requests))
             (answered.in_step
             (answered.all_performed (accept ∙ ap Some (number_behind (requests t).first begun earlier (requests t).asking.requests top numbers)) perform empty (inr refl))))
             );
       }
     where
-      number_is : begun.number ≡ number_at (requests t).first (length earlier)
+      number_is : begun.number ≡ request_number_at (requests t).first (length earlier)
       number_is = newest_number (requests t).first begun earlier (requests t).asking.requests top numbers
 
       count : length (requests t).asking.requests ≡ suc (length earlier)
@@ -165,24 +165,24 @@ module _ (requests : ℕ → Requests) (mine : Option Link) (past : List Effect)
       first_same : (tag : ℕ) → (all tag).first ≡ (requests tag).first
       first_same tag = set_all (λ n r. r.first ≡ (requests n).first) t changed requests refl (λ n ne. refl) tag
 
-      at_newest : (place : ℕ) → suc place ≡ length (requests t).asking.requests → begun.number ≡ number_at (requests t).first place
-      at_newest place last = let same : length earlier ≡ place = omega (arith, last, count) in number_is ∙ ap (number_at (requests t).first) same
+      at_newest : (place : ℕ) → suc place ≡ length (requests t).asking.requests → begun.number ≡ request_number_at (requests t).first place
+      at_newest place last = let same : length earlier ≡ place = omega (arith, last, count) in number_is ∙ ap (request_number_at (requests t).first) same
 
-      here_held : ((requests t).asking ≡ nothing_asked) ⊎ WasHeld past t (requests t).my → WasHeld past t (requests t).my
-      here_held (inl none) = absurd (subst (λ (s : Asking). places.Has begun s.requests) none has)
+      here_held : ((requests t).asking ≡ nothing_asked) ⊎ SenderHadPeer past t (requests t).my → SenderHadPeer past t (requests t).my
+      here_held (inl none) = absurd (subst (λ (s : Asking). places.HasEntry begun s.requests) none has)
       here_held (inr held) = held
 
       here_asked : ((requests t).asking ≡ nothing_asked) ⊎ AreAsked (requests t) their_past → AreAsked changed later
-      here_asked (inl none) = absurd (subst (λ (s : Asking). places.Has begun s.requests) none has)
+      here_asked (inl none) = absurd (subst (λ (s : Asking). places.HasEntry begun s.requests) none has)
       here_asked (inr asked) =
           record {
             numbers = asked.numbers;
             out = asked.out;
             ended = λ kind none place last. after_within happened their_past _ (asked.ended kind none place last);
             performed_is = λ kind is place last.
-                subst (λ (n : ℕ). Has (performs (requests t).my n) later) (at_newest place last)
-                (subst (λ (m : Pair). Has (performs m begun.number) later) (sym (a.theirs_held link refl).1) (after_new (performs link.peer begun.number) happened their_past does));
-            some_performed = λ kind newest rest same. inl (begun.number, subst (λ (m : Pair). Has (performs m begun.number) later) (sym (a.theirs_held link refl).1) (after_new (performs link.peer begun.number) happened their_past does));
+                subst (λ (n : ℕ). HasEffect (performs (requests t).my n) later) (at_newest place last)
+                (subst (λ (m : Pair). HasEffect (performs m begun.number) later) (sym (a.theirs_held link refl).1) (after_new (performs link.peer begun.number) happened their_past does));
+            some_performed = λ kind newest rest same. inl (begun.number, subst (λ (m : Pair). HasEffect (performs m begun.number) later) (sym (a.theirs_held link refl).1) (after_new (performs link.peer begun.number) happened their_past does));
           }
 
       here : WasJoined later t (requests t).my → WerePerformed changed later

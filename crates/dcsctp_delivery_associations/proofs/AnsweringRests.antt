@@ -2,21 +2,21 @@
 use Rattle.std.proofs.Common.{◌≡◌, ◌≢◌, ℕ, Option, None, Some, List, [], ◌∷◌, sym, ◌∙◌, subst, inl, inr}
 use Rattle.std.specs.Prelude.{◌⊎◌}
 use Rattle.dcsctp_spec_lemmas.specs.types.declared.association.Pair.{Pair}
-use Rattle.dcsctp_spec_runs.specs.Past.{Has, number_to_accept, number_to_perform}
+use Rattle.dcsctp_spec_runs.specs.Past.{HasEffect, number_to_accept, number_to_perform}
 use Rattle.dcsctp_spec_runs.specs.World.{after_effects}
-use Rattle.dcsctp_spec_lemmas.specs.spec.association.Effect.{Link, Effect, draws, sends, holds, connects, ends, begins, gives_up, completes, fails, accepts, performs, resumes}
+use Rattle.dcsctp_spec_lemmas.specs.spec.association.Effect.{AssociationIdentity, Effect, draws, sends, holds, connects, ends, begins, gives_up, completes, fails, accepts, performs, resumes}
 use Rattle.dcsctp_spec_lemmas.specs.spec.queues.Reassembly.{DeferralModel}
 use Rattle.dcsctp_spec_lemmas.specs.spec.Reconfiguration.{RequestedReset}
 use Rattle.dcsctp_theorem_association.proofs.Growth.{after_within}
 use Rattle.dcsctp_delivery_receiving.specs.Clear.{IsOwn}
 use Rattle.dcsctp_delivery_directions.specs.Directions.{nothing_asked}
 use Rattle.dcsctp_delivery_associations.specs.Answered as answered
-use Rattle.dcsctp_delivery_associations.specs.Answered.{Requests, WasHeld, WasJoined, AreAsked, WerePerformed, IsInStep, StandsSo, Answers}
+use Rattle.dcsctp_delivery_associations.specs.Answered.{Requests, SenderHadPeer, WasJoined, AreAsked, WerePerformed, IsInStep, StandsSo, AnswersRequests}
 use Rattle.dcsctp_delivery_turns.specs.PeerRequests.{NoneAsked, SameWaits}
 
 -- ---- effects
 
-pub after_split : (effect : Effect) (happened past : List Effect) → Has effect (after_effects happened past) → Has effect happened ⊎ Has effect past
+pub after_split : (effect : Effect) (happened past : List Effect) → HasEffect effect (after_effects happened past) → HasEffect effect happened ⊎ HasEffect effect past
 after_split effect [] past has = inr has
 after_split effect (newest ∷ happened) past has =
     elim (after_split effect happened (newest ∷ past) has) [
@@ -24,16 +24,16 @@ after_split effect (newest ∷ happened) past has =
       | inr older ↦ front older
     ]
   where
-    front : Has effect (newest ∷ past) → Has effect (newest ∷ happened) ⊎ Has effect past
+    front : HasEffect effect (newest ∷ past) → HasEffect effect (newest ∷ happened) ⊎ HasEffect effect past
     front (inl e) = inl (inl e)
     front (inr old) = inr old
 
-pub after_new : (effect : Effect) (happened past : List Effect) → Has effect happened → Has effect (after_effects happened past)
+pub after_new : (effect : Effect) (happened past : List Effect) → HasEffect effect happened → HasEffect effect (after_effects happened past)
 after_new effect (newest ∷ happened) past (inl e) = after_within happened (newest ∷ past) effect (inl e)
 after_new effect (newest ∷ happened) past (inr has) = after_new effect happened (newest ∷ past) has
 after_new effect [] past has = absurd has
 
-pub none_performed : (happened : List Effect) → NoneAsked happened → (my : Pair) (number : ℕ) → Has (performs my number) happened → ⊥
+pub none_performed : (happened : List Effect) → NoneAsked happened → (my : Pair) (number : ℕ) → HasEffect (performs my number) happened → ⊥
 none_performed [] none my number has = has
 none_performed (accepts n ∷ effects) none my number has = none
 none_performed (performs peer n ∷ effects) none my number has = none
@@ -75,7 +75,7 @@ asked_later requests happened past (inr asked) =
     })
 
 -- Without `holds` no association was joined.
-pub joined_before : (happened past : List Effect) → ((link : Link) → Has (holds link) happened → ⊥) → (tag : ℕ) (my : Pair) → WasJoined (after_effects happened past) tag my → WasJoined past tag my
+pub joined_before : (happened past : List Effect) → ((link : AssociationIdentity) → HasEffect (holds link) happened → ⊥) → (tag : ℕ) (my : Pair) → WasJoined (after_effects happened past) tag my → WasJoined past tag my
 joined_before happened past none tag my was =
     elim (after_split (holds was.link) happened past was.held) [
       | inl new ↦ absurd (none was.link new)
@@ -84,12 +84,12 @@ joined_before happened past none tag my was =
 
 -- ---- the same requests
 
-pub same_requests : (new old : ℕ → Requests) (mine : Option Link) (past : List Effect) (theirs : Option Link) (their_past : List Effect) (waits : Option DeferralModel) → ((tag : ℕ) → new tag ≡ old tag)
-    → Answers old mine past theirs their_past waits → Answers new mine past theirs their_past waits
+pub same_requests : (new old : ℕ → Requests) (mine : Option AssociationIdentity) (past : List Effect) (theirs : Option AssociationIdentity) (their_past : List Effect) (waits : Option DeferralModel) → ((tag : ℕ) → new tag ≡ old tag)
+    → AnswersRequests old mine past theirs their_past waits → AnswersRequests new mine past theirs their_past waits
 same_requests new old mine past theirs their_past waits same a =
     record {
       asked = λ tag some. subst (λ (r : Requests). (r.asking ≡ nothing_asked) ⊎ AreAsked r their_past) (sym (same tag)) (a.asked tag some);
-      asked_held = λ tag some. subst (λ (r : Requests). (r.asking ≡ nothing_asked) ⊎ WasHeld past tag r.my) (sym (same tag)) (a.asked_held tag some);
+      asked_held = λ tag some. subst (λ (r : Requests). (r.asking ≡ nothing_asked) ⊎ SenderHadPeer past tag r.my) (sym (same tag)) (a.asked_held tag some);
       performed = λ tag. subst (λ (r : Requests). WasJoined their_past tag r.my → WerePerformed r their_past) (sym (same tag)) (a.performed tag);
       apart = λ one two ne.
           subst (λ (r : Requests). WasJoined their_past one r.my → WasJoined their_past two (new two).my → r.my ≢ (new two).my) (sym (same one))
@@ -100,7 +100,7 @@ same_requests new old mine past theirs their_past waits same a =
           let k : WasJoined their_past j.0 (new j.0).my × ((new j.0).my ≡ my) = subst (λ (r : Requests). WasJoined their_past j.0 r.my × (r.my ≡ my)) (sym (same j.0)) (j.1, j.2) in
           (j.0, k.0, k.1)
           );
-      mine_held = λ link is. subst (λ (r : Requests). WasHeld past link.peer.tag link.my × (r.my ≡ link.my)) (sym (same link.peer.tag)) (a.mine_held link is);
+      mine_held = λ link is. subst (λ (r : Requests). SenderHadPeer past link.peer.tag link.my × (r.my ≡ link.my)) (sym (same link.peer.tag)) (a.mine_held link is);
       mine_first = λ link is. subst (λ (r : Requests). r.first ≡ link.my.first_tsn) (sym (same link.peer.tag)) (a.mine_first link is);
       theirs_held = λ link is. subst (λ (r : Requests). WasJoined their_past link.my.tag link.peer × (r.my ≡ link.peer)) (sym (same link.my.tag)) (a.theirs_held link is);
       stands = λ link is. subst (λ (r : Requests). StandsSo r their_past waits) (sym (same link.my.tag)) (a.stands link is);
@@ -108,13 +108,13 @@ same_requests new old mine past theirs their_past waits same a =
 
 -- ---- nothing is performed
 
-module _ (requests : ℕ → Requests) (mine : Option Link) (past : List Effect) (theirs : Option Link) (happened their_past : List Effect) (waits waits' : Option DeferralModel)
-    (a : Answers requests mine past theirs their_past waits) (no_holds : (link : Link) → Has (holds link) happened → ⊥) (no_performs : (my : Pair) (number : ℕ) → Has (performs my number) happened → ⊥) where
-  before : (my : Pair) (number : ℕ) → Has (performs my number) (after_effects happened their_past) → Has (performs my number) their_past
+module _ (requests : ℕ → Requests) (mine : Option AssociationIdentity) (past : List Effect) (theirs : Option AssociationIdentity) (happened their_past : List Effect) (waits waits' : Option DeferralModel)
+    (a : AnswersRequests requests mine past theirs their_past waits) (no_holds : (link : AssociationIdentity) → HasEffect (holds link) happened → ⊥) (no_performs : (my : Pair) (number : ℕ) → HasEffect (performs my number) happened → ⊥) where
+  before : (my : Pair) (number : ℕ) → HasEffect (performs my number) (after_effects happened their_past) → HasEffect (performs my number) their_past
   before my number has = elim (after_split (performs my number) happened their_past has) [ inl new ↦ absurd (no_performs my number new) | inr old ↦ old ]
 
   -- The receiver has no association then.
-  pub rests : Answers requests mine past None (after_effects happened their_past) waits'
+  pub rests : AnswersRequests requests mine past None (after_effects happened their_past) waits'
   rests =
       record {
         asked = λ tag some. asked_later (requests tag) happened their_past (a.asked tag some);
@@ -130,7 +130,7 @@ module _ (requests : ℕ → Requests) (mine : Option Link) (past : List Effect)
       }
 
   -- It has the same one, which stands anew.
-  pub stays_standing : ((link : Link) → theirs ≡ Some link → StandsSo (requests link.my.tag) (after_effects happened their_past) waits') → Answers requests mine past theirs (after_effects happened their_past) waits'
+  pub stays_standing : ((link : AssociationIdentity) → theirs ≡ Some link → StandsSo (requests link.my.tag) (after_effects happened their_past) waits') → AnswersRequests requests mine past theirs (after_effects happened their_past) waits'
   stays_standing stands =
       record {
         asked = rests.asked;
@@ -164,10 +164,10 @@ stands_same requests their_past their_later waits waits' accept perform same (an
     go (answered.unaccepted newest earlier place is below want number none empty un) = answered.unaccepted newest earlier place is below want (accept ∙ number) (perform ∙ none) (none_same waits waits' same empty) un
     go (answered.in_progress newest earlier place is below want number out own un) = answered.in_progress newest earlier place is below want (accept ∙ number) (perform ∙ out) (own_same newest.reset waits waits' same own) un
 
-pub asks_nothing : (requests : ℕ → Requests) (mine : Option Link) (past : List Effect) (link : Link) (happened their_past : List Effect) (waits waits' : Option DeferralModel)
-    → Answers requests mine past (Some link) their_past waits → ((new : Link) → Has (holds new) happened → ⊥) → ((my : Pair) (number : ℕ) → Has (performs my number) happened → ⊥)
+pub asks_nothing : (requests : ℕ → Requests) (mine : Option AssociationIdentity) (past : List Effect) (link : AssociationIdentity) (happened their_past : List Effect) (waits waits' : Option DeferralModel)
+    → AnswersRequests requests mine past (Some link) their_past waits → ((new : AssociationIdentity) → HasEffect (holds new) happened → ⊥) → ((my : Pair) (number : ℕ) → HasEffect (performs my number) happened → ⊥)
     → number_to_accept (after_effects happened their_past) ≡ number_to_accept their_past → number_to_perform (after_effects happened their_past) ≡ number_to_perform their_past → SameWaits waits waits'
-    → Answers requests mine past (Some link) (after_effects happened their_past) waits'
+    → AnswersRequests requests mine past (Some link) (after_effects happened their_past) waits'
 asks_nothing requests mine past link happened their_past waits waits' a no_holds no_performs accept perform same =
     stays_standing requests mine past (Some link) happened their_past waits waits' a no_holds no_performs
     (λ there is. stands_same (requests there.my.tag) their_past (after_effects happened their_past) waits waits' accept perform same (a.stands there is))

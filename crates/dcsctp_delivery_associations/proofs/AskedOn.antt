@@ -2,7 +2,7 @@
 use Rattle.std.proofs.Common.{◌≡◌, ℕ, suc, Bool, true, false, ◌<◌, ◌≤◌, ◌+◌, ◌-◌, ◌^◌, Option, Some, List, [], ◌∷◌, ◌++◌, length, length-append, refl, sym, ◌∙◌, ap, subst, inl, inr, arith}
 use Rattle.std.specs.Prelude.{◌⊎◌}
 use Rattle.dcsctp_spec_lemmas.specs.types.declared.association.Pair.{Pair}
-use Rattle.dcsctp_spec_runs.specs.Past.{Has}
+use Rattle.dcsctp_spec_runs.specs.Past.{HasEffect}
 use Rattle.dcsctp_spec_runs.specs.World.{after_effects}
 use Rattle.dcsctp_spec_lemmas.specs.spec.association.Effect.{Effect, holds, performs}
 use Rattle.dcsctp_spec_lemmas.specs.spec.queues.Reassembly.{DeferralModel}
@@ -10,16 +10,16 @@ use Rattle.dcsctp_spec_lemmas.specs.spec.endpoint.BegunResets.{BegunReset}
 use Rattle.dcsctp_theorem_association.proofs.Growth.{after_within}
 use Rattle.dcsctp_delivery_directions.specs.Directions.{Asking, nothing_asked, all_ended}
 use Rattle.dcsctp_delivery_turns.specs.Asking.{AreNumbered}
-use Rattle.dcsctp_delivery_associations.specs.Answered.{Requests, number_at, WantFrom, WasHeld, AreAsked, IsPlaced, IsInStep, all_performed, unaccepted, in_progress, StandsSo, in_step, plain}
+use Rattle.dcsctp_delivery_associations.specs.Answered.{Requests, request_number_at, WantFrom, SenderHadPeer, AreAsked, IsRequestNumber, IsInStep, all_performed, unaccepted, in_progress, StandsSo, in_step, plain}
 use Rattle.dcsctp_delivery_associations.proofs.RequestNumbers.{newest_number, want_beyond}
 
-pub held_later : (effects past : List Effect) (tag : ℕ) (my : Pair) → WasHeld past tag my → WasHeld (after_effects effects past) tag my
+pub held_later : (effects past : List Effect) (tag : ℕ) (my : Pair) → SenderHadPeer past tag my → SenderHadPeer (after_effects effects past) tag my
 held_later effects past tag my h = record { link = h.link; held = after_within effects past (holds h.link) h.held; tag_is = h.tag_is; my_is = h.my_is; some = h.some }
 
 -- What becomes of a request in the turn: nothing, or it ends. With interleaving it was performed then.
 pub data MayEnd (requests : Requests) (their_past : List Effect) : Asking → Type 0 where
   as_it_was : MayEnd requests their_past requests.asking
-  has_ended : (requests.is_interleaved ≡ true → (newest : BegunReset) (earlier : List BegunReset) → requests.asking.requests ≡ newest ∷ earlier → Has (performs requests.my newest.number) their_past)
+  has_ended : (requests.is_interleaved ≡ true → (newest : BegunReset) (earlier : List BegunReset) → requests.asking.requests ≡ newest ∷ earlier → HasEffect (performs requests.my newest.number) their_past)
       → MayEnd requests their_past (all_ended requests.asking)
 
 first_of : {one two : BegunReset} {rest others : List BegunReset} → one ∷ rest ≡ two ∷ others → one ≡ two
@@ -46,18 +46,18 @@ module _ (r : Requests) (their_past : List Effect) (a : (r.asking ≡ nothing_as
   no_place place is below = (let none : length r.asking.requests ≡ 0 = ap (λ (l : List BegunReset). length l) (none_of is) in omega (arith, below, none))
 
   -- Where no request is without an end, the newest was performed.
-  newest_was : (between : Asking) → MayEnd r their_past between → between.out ≡ 0 → r.is_interleaved ≡ true → (place : ℕ) → suc place ≡ length r.asking.requests → Has (performs r.my (number_at r.first place)) their_past
+  newest_was : (between : Asking) → MayEnd r their_past between → between.out ≡ 0 → r.is_interleaved ≡ true → (place : ℕ) → suc place ≡ length r.asking.requests → HasEffect (performs r.my (request_number_at r.first place)) their_past
   newest_was between ends none interleaved place last = elim a [ inl is ↦ absurd (no_place place is (omega (arith, last))) | inr asked ↦ go asked between ends none ]
     where
       performed_last : (requests : List BegunReset) → r.asking.requests ≡ requests → AreAsked r their_past
-          → ((newest : BegunReset) (earlier : List BegunReset) → r.asking.requests ≡ newest ∷ earlier → Has (performs r.my newest.number) their_past) → Has (performs r.my (number_at r.first place)) their_past
+          → ((newest : BegunReset) (earlier : List BegunReset) → r.asking.requests ≡ newest ∷ earlier → HasEffect (performs r.my newest.number) their_past) → HasEffect (performs r.my (request_number_at r.first place)) their_past
       performed_last [] is asked performed = (let none' : length r.asking.requests ≡ 0 = ap (λ (l : List BegunReset). length l) is in absurd (omega (arith, last, none')))
       performed_last (begun ∷ earlier) is asked performed =
           let long : length r.asking.requests ≡ suc (length earlier) = ap (λ (l : List BegunReset). length l) is in
           let at : length earlier ≡ place = omega (arith, long, last) in
-          subst (λ (n : ℕ). Has (performs r.my n) their_past) (newest_number r.first begun earlier r.asking.requests is asked.numbers ∙ ap (number_at r.first) at) (performed begun earlier is)
+          subst (λ (n : ℕ). HasEffect (performs r.my n) their_past) (newest_number r.first begun earlier r.asking.requests is asked.numbers ∙ ap (request_number_at r.first) at) (performed begun earlier is)
 
-      go : AreAsked r their_past → (between : Asking) → MayEnd r their_past between → between.out ≡ 0 → Has (performs r.my (number_at r.first place)) their_past
+      go : AreAsked r their_past → (between : Asking) → MayEnd r their_past between → between.out ≡ 0 → HasEffect (performs r.my (request_number_at r.first place)) their_past
       go asked _ as_it_was none' = asked.ended interleaved none' place last
       go asked _ (has_ended performed) none' = performed_last r.asking.requests refl asked (performed interleaved)
 
@@ -87,12 +87,12 @@ module _ (r : Requests) (their_past : List Effect) (a : (r.asking ≡ nothing_as
       same = requests_same between ends
 
       ended : r.is_interleaved ≡ true → (more : List BegunReset) → asking.requests ≡ more ++ between.requests → asking.out ≡ length more + between.out → asking.out ≡ 0 → (place : ℕ) → suc place ≡ length asking.requests
-          → Has (performs r.my (number_at r.first place)) their_past
+          → HasEffect (performs r.my (request_number_at r.first place)) their_past
       ended interleaved [] is count none place newest = newest_was between ends (omega (arith, count, none)) interleaved place (newest ∙ ap (λ (l : List BegunReset). length l) (is ∙ same))
       ended interleaved (begun ∷ more) is count none place newest = absurd (omega (arith, count, none))
 
       one_was : r.is_interleaved ≡ true → (more : List BegunReset) → asking.requests ≡ more ++ between.requests → asking.out ≡ length more + between.out → (newest : BegunReset) (earlier : List BegunReset) → asking.requests ≡ newest ∷ earlier
-          → ((number : ℕ) × Has (performs r.my number) their_past) ⊎ WantFrom 0 newest.reset asking.requests
+          → ((number : ℕ) × HasEffect (performs r.my number) their_past) ⊎ WantFrom 0 newest.reset asking.requests
       one_was interleaved [] is count newest earlier top =
           elim a [
             | inl none ↦ (let empty : r.asking.requests ≡ [] = none_of none in let some : r.asking.requests ≡ newest ∷ earlier = sym (is ∙ same) ∙ top in absurd (cc))
@@ -103,16 +103,16 @@ module _ (r : Requests) (their_past : List Effect) (a : (r.asking ≡ nothing_as
           ]
       one_was interleaved (begun ∷ []) is count newest earlier top = by_before r.asking.requests refl
         where
-          by_before : (before : List BegunReset) → r.asking.requests ≡ before → ((number : ℕ) × Has (performs r.my number) their_past) ⊎ WantFrom 0 newest.reset asking.requests
+          by_before : (before : List BegunReset) → r.asking.requests ≡ before → ((number : ℕ) × HasEffect (performs r.my number) their_past) ⊎ WantFrom 0 newest.reset asking.requests
           by_before [] none =
               let all : asking.requests ≡ begun ∷ [] = is ∙ ap (λ (l : List BegunReset). begun ∷ l) (same ∙ none) in
               let one : begun ≡ newest = first_of (sym all ∙ top) in inr (subst (WantFrom 0 newest.reset) (sym all) (λ at. ap (λ (b : BegunReset). b.reset) one, tt))
           by_before (last ∷ rest) some =
-              let out = begins.out in inl (number_at r.first (length rest), newest_was between ends (omega (arith, count, out)) interleaved (length rest) (sym (ap (λ (l : List BegunReset). length l) some)))
+              let out = begins.out in inl (request_number_at r.first (length rest), newest_was between ends (omega (arith, count, out)) interleaved (length rest) (sym (ap (λ (l : List BegunReset). length l) some)))
       one_was interleaved (begun ∷ other ∷ more) is count newest earlier top = (let out = begins.out in absurd (omega (arith, count, out)))
 
       performed : r.is_interleaved ≡ true → asking.is_performed ≡ true → (more : List BegunReset) → asking.requests ≡ more ++ between.requests → (more ≡ [] → asking.is_performed ≡ between.is_performed)
-          → ((newest : BegunReset) (rest : List BegunReset) → more ≡ newest ∷ rest → asking.is_performed ≡ false) → (place : ℕ) → suc place ≡ length asking.requests → Has (performs r.my (number_at r.first place)) their_past
+          → ((newest : BegunReset) (rest : List BegunReset) → more ≡ newest ∷ rest → asking.is_performed ≡ false) → (place : ℕ) → suc place ≡ length asking.requests → HasEffect (performs r.my (request_number_at r.first place)) their_past
       performed interleaved known [] is same' anew place newest =
           let long : length asking.requests ≡ length r.asking.requests = ap (λ (l : List BegunReset). length l) (is ∙ same) in
           elim a [
@@ -121,7 +121,7 @@ module _ (r : Requests) (their_past : List Effect) (a : (r.asking ≡ nothing_as
           ]
       performed interleaved known (begun ∷ more) is same' anew place newest = (let none : asking.is_performed ≡ false = anew begun more refl in absurd (cc))
 
-  pub placed_on : (between asking : Asking) → MayEnd r their_past between → MayBegin r.first between asking → (number : ℕ) → IsPlaced r number → IsPlaced (after asking) number
+  pub placed_on : (between asking : Asking) → MayEnd r their_past between → MayBegin r.first between asking → (number : ℕ) → IsRequestNumber r number → IsRequestNumber (after asking) number
   placed_on between asking ends begins number at =
       record { place = at.place; below = below begins.more begins.is; is = at.is; newest = λ interleaved last. newest interleaved begins.more begins.is begins.same last }
     where
@@ -148,7 +148,7 @@ module _ (r : Requests) (their_past : List Effect) (a : (r.asking ≡ nothing_as
 
   -- The receiver stands so still. That each request was performed is known by its past.
   pub stands_on : (waits : Option DeferralModel) (between asking : Asking) → MayEnd r their_past between → MayBegin r.first between asking
-      → (r.is_interleaved ≡ true → (newest : BegunReset) (earlier : List BegunReset) → r.asking.requests ≡ newest ∷ earlier → Has (performs r.my (number_at r.first (length earlier))) their_past → r.asking.is_performed ≡ true)
+      → (r.is_interleaved ≡ true → (newest : BegunReset) (earlier : List BegunReset) → r.asking.requests ≡ newest ∷ earlier → HasEffect (performs r.my (request_number_at r.first (length earlier))) their_past → r.asking.is_performed ≡ true)
       → StandsSo r their_past waits → StandsSo (after asking) their_past waits
   stands_on waits between asking ends begins known stands = by_more begins.more begins.is begins.same begins.anew begins.count stands
     where
@@ -157,7 +157,7 @@ module _ (r : Requests) (their_past : List Effect) (a : (r.asking ≡ nothing_as
 
       kept : asking.requests ≡ r.asking.requests → asking.is_performed ≡ r.asking.is_performed → IsInStep r their_past waits → IsInStep (after asking) their_past waits
       kept is performed (all_performed accept perform none which) =
-          all_performed (accept ∙ ap (λ (l : List BegunReset). Some (number_at r.first (length l))) (sym is)) perform none
+          all_performed (accept ∙ ap (λ (l : List BegunReset). Some (request_number_at r.first (length l))) (sym is)) perform none
           (elim which [ inl x ↦ inl (is ∙ x) | inr x ↦ inr (performed ∙ x) ])
       kept is performed (unaccepted newest earlier place requests below want accept perform none un) =
           unaccepted newest earlier place (is ∙ requests) below (subst (WantFrom place newest.reset) (sym is) want) accept perform none (performed ∙ un)
@@ -176,7 +176,7 @@ module _ (r : Requests) (their_past : List Effect) (a : (r.asking ≡ nothing_as
       anew : (begun : BegunReset) → asking.requests ≡ begun ∷ between.requests → asking.is_performed ≡ false → between.out ≡ 0 → r.is_interleaved ≡ true → IsInStep r their_past waits → IsInStep (after asking) their_past waits
       anew begun is un none interleaved (all_performed accept perform waits_none which) =
           unaccepted begun between.requests (length between.requests) is (omega arith) (subst (WantFrom (length between.requests) begun.reset) (sym is) (λ at. refl, want_beyond (length between.requests) begun.reset between.requests (omega arith)))
-          (accept ∙ ap (λ (l : List BegunReset). Some (number_at r.first (length l))) (sym same)) perform waits_none un
+          (accept ∙ ap (λ (l : List BegunReset). Some (request_number_at r.first (length l))) (sym same)) perform waits_none un
       anew begun is un none interleaved (unaccepted newest earlier place requests below want accept perform waits_none un') = was_performed none interleaved newest earlier requests un'
       anew begun is un none interleaved (in_progress newest earlier place requests below want accept perform own un') = was_performed none interleaved newest earlier requests un'
 

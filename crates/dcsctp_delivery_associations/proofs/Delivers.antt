@@ -8,18 +8,18 @@ use Rattle.dcsctp_spec_lemmas.specs.spec.Packet.{Emission}
 use Rattle.dcsctp_spec_lemmas.specs.spec.association.Effect.{Effect}
 use Rattle.dcsctp_spec_lemmas.specs.types.queues.Messages.{MessageContent}
 use Rattle.dcsctp_spec_lemmas.specs.spec.queues.SendQueue.{empty_queue}
-use Rattle.dcsctp_delivery_sending.specs.Places.{Has, set_at}
+use Rattle.dcsctp_delivery_sending.specs.Places.{HasEntry, set_at}
 use Rattle.dcsctp_delivery_sending.specs.Log.{Message}
 use Rattle.dcsctp_delivery_sending.specs.ChunkCounts.{chunks_to}
 use Rattle.dcsctp_delivery_sending.specs.Marking.{IsMarked}
 use Rattle.dcsctp_delivery_sending.proofs.Places.{decide, set_same, at_below}
 use Rattle.dcsctp_delivery_receiving.specs.Ready.{AreDistinct, WasQueued, WereQueued}
 use Rattle.dcsctp_delivery_directions.specs.Directions.{nothing_asked, Delivered}
-use Rattle.dcsctp_delivery_directions.specs.Marking.{IsFresh, DeliveredForGood}
+use Rattle.dcsctp_delivery_directions.specs.Marking.{IsUnspent, DeliveredForGood}
 use Rattle.dcsctp_delivery_directions.proofs.ChunkCounts.{few_for_chunks}
 use Rattle.dcsctp_delivery_directions.proofs.Marking.{directions_deliver_for_good}
 use Rattle.dcsctp_delivery_turns.proofs.Runs.{senders_begin}
-use Rattle.dcsctp_delivery_associations.specs.Ends.{SendingEnd, joined, new_end, Ends, Leaves, Between}
+use Rattle.dcsctp_delivery_associations.specs.Ends.{SendingEnd, joined, new_end, Ends, MarksLeft, Between}
 use Rattle.dcsctp_delivery_associations.specs.Laws.{AreEnds}
 use Rattle.dcsctp_delivery_associations.specs.Reads.{Read, with_tag, messages_of}
 use Rattle.dcsctp_delivery_associations.proofs.Growing.{AllFound, set_all}
@@ -30,7 +30,7 @@ record Together (queued : List Message) (lists : ℕ → List ℕ) (reads : List
   places : List ℕ
   were : WereQueued queued places (messages_of reads)
   once : AreDistinct places
-  from : (place : ℕ) → Has place places → (tag : ℕ) × Has place (lists tag)
+  from : (place : ℕ) → HasEntry place places → (tag : ℕ) × HasEntry place (lists tag)
 
 -- those of the first message, and the others
 record Taken (queued : List Message) (list : List ℕ) (message : MessageContent) (messages : List MessageContent) : Type 0 where
@@ -52,25 +52,25 @@ tag_rest tag r reads ne =
     elim (eqb_tells r.tag tag) [ inl t ↦ absurd (ne (sym t.1)) | inr t ↦ ap (λ (b : Bool). if b then r.message ∷ with_tag tag reads else with_tag tag reads) t.0 ]
 
 together : (queued : List Message) (reads : List Read) (lists : ℕ → List ℕ) → ((tag : ℕ) → WereQueued queued (lists tag) (with_tag tag reads)) → ((tag : ℕ) → AreDistinct (lists tag))
-    → ((one other place : ℕ) → one ≢ other → Has place (lists one) → Has place (lists other) → ⊥) → Together queued lists reads
+    → ((one other place : ℕ) → one ≢ other → HasEntry place (lists one) → HasEntry place (lists other) → ⊥) → Together queued lists reads
 together queued [] lists were distinct apart = record { places = []; were = tt; once = tt; from = λ place has. absurd has }
 together queued (r ∷ reads) lists were distinct apart =
     let first : Taken queued (lists r.tag) r.message (with_tag r.tag reads) =
     taken queued (lists r.tag) r.message (with_tag r.tag reads) (subst (WereQueued queued (lists r.tag)) (tag_first r reads) (were r.tag)) in
     let rest : ℕ → List ℕ = set_at r.tag first.others lists in
     let own : AreDistinct (first.place ∷ first.others) = subst AreDistinct first.is (distinct r.tag) in
-    let back : (tag place : ℕ) → Has place (rest tag) → Has place (lists tag) =
-    set_all (λ tag l. (place : ℕ) → Has place l → Has place (lists tag)) r.tag first.others lists (λ place has. subst (λ (l : List ℕ). Has place l) (sym first.is) (inr has)) (λ tag ne place has. has) in
+    let back : (tag place : ℕ) → HasEntry place (rest tag) → HasEntry place (lists tag) =
+    set_all (λ tag l. (place : ℕ) → HasEntry place l → HasEntry place (lists tag)) r.tag first.others lists (λ place has. subst (λ (l : List ℕ). HasEntry place l) (sym first.is) (inr has)) (λ tag ne place has. has) in
     let others : Together queued rest reads =
     together queued reads rest
     (set_all (λ tag l. WereQueued queued l (with_tag tag reads)) r.tag first.others lists first.were (λ tag ne. subst (WereQueued queued (lists tag)) (tag_rest tag r reads ne) (were tag)))
     (set_all (λ tag l. AreDistinct l) r.tag first.others lists own.1 (λ tag ne. distinct tag))
     (λ one other place ne has has'. apart one other place ne (back one place has) (back other place has')) in
-    let none : Has first.place others.places → ⊥ = λ has. (
+    let none : HasEntry first.place others.places → ⊥ = λ has. (
     let found = others.from first.place has in
     elim (decide found.0 r.tag) [
-      | inl e ↦ own.0 (subst (λ (l : List ℕ). Has first.place l) (set_same r.tag first.others lists) (subst (λ (t : ℕ). Has first.place (rest t)) e found.1))
-      | inr ne ↦ apart found.0 r.tag first.place ne (back found.0 first.place found.1) (subst (λ (l : List ℕ). Has first.place l) (sym first.is) (inl refl))
+      | inl e ↦ own.0 (subst (λ (l : List ℕ). HasEntry first.place l) (set_same r.tag first.others lists) (subst (λ (t : ℕ). HasEntry first.place (rest t)) e found.1))
+      | inr ne ↦ apart found.0 r.tag first.place ne (back found.0 first.place found.1) (subst (λ (l : List ℕ). HasEntry first.place l) (sym first.is) (inl refl))
     ]
     ) in
     record {
@@ -78,7 +78,7 @@ together queued (r ∷ reads) lists were distinct apart =
       were = (first.was, others.were);
       once = (none, others.once);
       from = λ place has. elim has [
-        | inl e ↦ (r.tag, subst (λ (l : List ℕ). Has place l) (sym first.is) (inl e))
+        | inl e ↦ (r.tag, subst (λ (l : List ℕ). HasEntry place l) (sym first.is) (inl e))
         | inr t ↦ (let found = others.from place t in (found.0, back found.0 place found.1))
       ];
     }
@@ -113,17 +113,17 @@ module _ (options : Options) (ends : Ends) (e : Endpoint) (queued : List Message
   lists tag = (delivered tag).delivered.places
 
   -- A message that no longer waits is fresh in no later association.
-  clash : (one two place : ℕ) → Leaves (ends.sends one) (ends.sends two).queued → Has place (lists one) → Has place (lists two) → ⊥
+  clash : (one two place : ℕ) → MarksLeft (ends.sends one) (ends.sends two).queued → HasEntry place (lists one) → HasEntry place (lists two) → ⊥
   unfolding lists
   clash one two place leaves has has' =
-      let fresh : IsFresh (ends.sends one).queued place = (delivered one).fresh place has in
-      let later : IsFresh (ends.sends two).queued place = (delivered two).fresh place has' in
+      let fresh : IsUnspent (ends.sends one).queued place = (delivered one).fresh place has in
+      let later : IsUnspent (ends.sends two).queued place = (delivered two).fresh place has' in
       let marked : IsMarked place (ends.sends two).queued = leaves place (at_below place fresh.message (ends.sends one).queued fresh.at) ((delivered one).waits_no_longer place has) in
       let spent : later.message.is_spent ≡ true = marked later.message later.at in
       let same : true ≡ false = sym spent ∙ later.fresh in
       absurd (cc)
 
-  apart : (one two place : ℕ) → one ≢ two → Has place (lists one) → Has place (lists two) → ⊥
+  apart : (one two place : ℕ) → one ≢ two → HasEntry place (lists one) → HasEntry place (lists two) → ⊥
   apart one two place ne has has' = elim (h.sender.pairs one two ne) [ inl l ↦ clash one two place l has has' | inr l ↦ clash two one place l has' has ]
 
   pub ends_deliver : Delivered queued (messages_of reads)
@@ -147,7 +147,7 @@ ends_begin mine options =
         runs = λ tag. senders_begin mine options 0 options.max_receiver_window_buffer_size;
         small = λ tag. omega arith;
         sender = record {
-          below_is = refl;
+          queues_are = refl;
           long = refl;
           marks = λ tag place mark at. absurd (cc);
           short = λ tag. omega arith;
@@ -181,4 +181,4 @@ ends_begin mine options =
     }
   where
     nothing : SendingEnd
-    nothing = record { queued = []; below = record { queue = empty_queue mine; transfer = None }; acknowledged = 0; sent = []; asking = nothing_asked }
+    nothing = record { queued = []; queues = record { queue = empty_queue mine; transfer = None }; acknowledged = 0; sent = []; asking = nothing_asked }

@@ -6,12 +6,12 @@ use Rattle.dcsctp_spec_lemmas.specs.types.declared.options.Options.{Options}
 use Rattle.dcsctp_spec_lemmas.specs.spec.endpoint.Endpoint.{Endpoint}
 use Rattle.dcsctp_spec_lemmas.specs.spec.endpoint.Outcome.{Outcome}
 use Rattle.dcsctp_spec_lemmas.specs.spec.Packet.{Content, re_config}
-use Rattle.dcsctp_spec_runs.specs.Past.{Has, number_to_accept, number_to_perform}
+use Rattle.dcsctp_spec_runs.specs.Past.{HasEffect, number_to_accept, number_to_perform}
 use Rattle.dcsctp_spec_lemmas.specs.spec.Reconfiguration.{RequestedReset, ResetParameter, outgoing_reset_request}
 use Rattle.dcsctp_spec_lemmas.specs.spec.endpoint.Turn.{Input, Turn}
 use Rattle.dcsctp_spec_runs.specs.World.{after_effects}
 use Rattle.dcsctp_spec_lemmas.specs.spec.association.Effect as effects
-use Rattle.dcsctp_spec_lemmas.specs.spec.association.Effect.{Link, Effect, holds, link_of, link_in}
+use Rattle.dcsctp_spec_lemmas.specs.spec.association.Effect.{AssociationIdentity, Effect, holds, identity_of, identity_in}
 use Rattle.dcsctp_spec_lemmas.specs.spec.association.FlushChanges.{next_number, reset_request}
 use Rattle.dcsctp_spec_lemmas.specs.spec.queues.Reassembly.{DeferralModel}
 use Rattle.dcsctp_spec_lemmas.specs.spec.queues.Transfer.{Transfer}
@@ -21,7 +21,7 @@ use Rattle.dcsctp_delivery_receiving.specs.Clear.{IsOwn}
 use Rattle.dcsctp_delivery_sending.specs.Places as places
 use Rattle.dcsctp_delivery_sending.specs.Places.{set_at}
 use Rattle.dcsctp_delivery_sending.proofs.Places.{decide, set_same, set_other}
-use Rattle.dcsctp_delivery_directions.specs.Directions.{Asking, nothing_asked, Direction, Run}
+use Rattle.dcsctp_delivery_directions.specs.Directions.{Asking, nothing_asked, Direction, DirectionRun}
 use Rattle.dcsctp_delivery_directions.specs.Requests.{IsOfBegun}
 use Rattle.dcsctp_delivery_directions.proofs.Requests.{requests_were_begun}
 use Rattle.dcsctp_delivery_turns.specs.Actions.{IsOpening, came_by, Begun, IsCall, IsCalm}
@@ -32,7 +32,7 @@ use Rattle.dcsctp_delivery_turns.specs.Sides.{WasSent}
 use Rattle.dcsctp_delivery_turns.proofs.Holding.{holds_mean, ends_mean}
 use Rattle.dcsctp_delivery_turns.proofs.PeersTurns.{peers_turn}
 use Rattle.dcsctp_delivery_associations.specs.Ends.{ReceivingEnd, Ends}
-use Rattle.dcsctp_delivery_associations.specs.Answered.{Requests, WasJoined, IsInStep, Answers, requests_of, waits_in, AreAnswered}
+use Rattle.dcsctp_delivery_associations.specs.Answered.{Requests, WasJoined, IsInStep, AnswersRequests, requests_of, waiting_deferral, AreAnswered}
 use Rattle.dcsctp_delivery_associations.proofs.UnaskedPasts.{same_numbers, reset_none, some_reset, performs_reset}
 use Rattle.dcsctp_delivery_associations.proofs.AnsweringRests as answering
 use Rattle.dcsctp_delivery_associations.proofs.AnsweringRests.{none_performed, same_requests}
@@ -43,7 +43,7 @@ use Rattle.dcsctp_delivery_associations.proofs.AnsweringPerforms as performs
 -- ---- what is handled
 
 -- A RE-CONFIG that the sender sent has no request, or one that was begun.
-pub plainly_sent : (options : Options) (first size : ℕ) (direction : Direction) → Run options first size direction → (came : Option Content) → WasSent direction.sent came → IsPlainRequest came
+pub plainly_sent : (options : Options) (first size : ℕ) (direction : Direction) → DirectionRun options first size direction → (came : Option Content) → WasSent direction.sent came → IsPlainRequest came
 plainly_sent options first size direction run (Some (re_config parameters)) (inl none) = inl none
 plainly_sent options first size direction run (Some (re_config parameters)) (inr was) = by_begun (requests_were_begun options first size direction run was.emission parameters was.was was.holds)
   where
@@ -56,13 +56,13 @@ plainly_sent options first size direction run (Some (re_config parameters)) (inr
 plainly_sent options first size direction run came was = tt
 
 -- The request that is handled is one that was begun.
-pub begun_of : (options : Options) (first size : ℕ) (direction : Direction) → Run options first size direction → (number : ℕ) (reset : RequestedReset) → WasSent direction.sent (Some (reset_request number reset))
-    → (begun : BegunReset) × places.Has begun direction.asking.requests × (begun.number ≡ number) × (begun.reset ≡ reset)
+pub begun_of : (options : Options) (first size : ℕ) (direction : Direction) → DirectionRun options first size direction → (number : ℕ) (reset : RequestedReset) → WasSent direction.sent (Some (reset_request number reset))
+    → (begun : BegunReset) × places.HasEntry begun direction.asking.requests × (begun.number ≡ number) × (begun.reset ≡ reset)
 begun_of options first size direction run number reset (inl none) = absurd none
 begun_of options first size direction run number reset (inr was) =
     by_begun (requests_were_begun options first size direction run was.emission (outgoing_reset_request number number reset ∷ []) was.was was.holds)
   where
-    by_begun : IsOfBegun direction.asking.requests (reset_request number reset) → (begun : BegunReset) × places.Has begun direction.asking.requests × (begun.number ≡ number) × (begun.reset ≡ reset)
+    by_begun : IsOfBegun direction.asking.requests (reset_request number reset) → (begun : BegunReset) × places.HasEntry begun direction.asking.requests × (begun.number ≡ number) × (begun.reset ≡ reset)
     by_begun (inl none) = absurd none
     by_begun (inr begun) = (begun.0, begun.1, number_of begun.2, reset_of begun.2)
       where
@@ -109,41 +109,41 @@ module _ (ends : Ends) (pairs : ℕ → Pair) (tag : ℕ) (got : ReceivingEnd) w
 -- ---- an association goes on
 
 module _ (ends : Ends) (e : Endpoint) (past : List Effect) (d : Endpoint) (their_past : List Effect) (w : AreAnswered ends e past d their_past) (input : Input) (o : Outcome) (may : IsCall input) (turn : Turn d input o)
-    (new_tags : (link old : Link) → Has (holds link) o.effects → Has (holds old) their_past → old.my.tag ≢ link.my.tag) where
-  no_holds : link_in o.after.core ≡ link_in d.core → (link : Link) → Has (holds link) o.effects → ⊥
+    (new_tags : (link old : AssociationIdentity) → HasEffect (holds link) o.effects → HasEffect (holds old) their_past → old.my.tag ≢ link.my.tag) where
+  no_holds : identity_in o.after.core ≡ identity_in d.core → (link : AssociationIdentity) → HasEffect (holds link) o.effects → ⊥
   no_holds same link has =
       let there : WasJoined their_past link.my.tag link.peer = (w.answers.theirs_held link (sym same ∙ holds_mean d input o link may turn has)).0 in
       new_tags link there.link has there.held there.tag_is
 
-  no_holds_none : link_in o.after.core ≡ None → (link : Link) → Has (holds link) o.effects → ⊥
-  no_holds_none none link has = (let clash : ◌≡◌ {A = Option Link} None (Some link) = sym none ∙ holds_mean d input o link may turn has in absurd (cc))
+  no_holds_none : identity_in o.after.core ≡ None → (link : AssociationIdentity) → HasEffect (holds link) o.effects → ⊥
+  no_holds_none none link has = (let clash : ◌≡◌ {A = Option AssociationIdentity} None (Some link) = sym none ∙ holds_mean d input o link may turn has in absurd (cc))
 
-  no_ends : (link : Link) → link_in o.after.core ≡ Some link → Has effects.ends o.effects → ⊥
-  no_ends link linked has = (let clash : ◌≡◌ {A = Option Link} None (Some link) = ap link_in (sym (ends_mean d input o may turn has)) ∙ linked in absurd (cc))
+  no_ends : (link : AssociationIdentity) → identity_in o.after.core ≡ Some link → HasEffect effects.ends o.effects → ⊥
+  no_ends link linked has = (let clash : ◌≡◌ {A = Option AssociationIdentity} None (Some link) = ap identity_in (sym (ends_mean d input o may turn has)) ∙ linked in absurd (cc))
 
-  module _ (link : Link) (linked : link_in d.core ≡ Some link) (transfer left : Transfer) (there : d.below.transfer ≡ Some transfer) (is_left : o.after.below.transfer ≡ Some left) where
+  module _ (link : AssociationIdentity) (linked : identity_in d.core ≡ Some link) (transfer left : Transfer) (there : d.queues.transfer ≡ Some transfer) (is_left : o.after.queues.transfer ≡ Some left) where
     abbrev there_waits : Option DeferralModel
     there_waits = transfer.reassembly.deferral
 
     abbrev tag : ℕ
     tag = link.my.tag
 
-    answers_here : Answers (requests_of ends w.pairs) (link_in e.core) past (Some link) their_past transfer.reassembly.deferral
+    answers_here : AnswersRequests (requests_of ends w.pairs) (identity_in e.core) past (Some link) their_past transfer.reassembly.deferral
     answers_here =
-        subst (λ (t : Option Transfer). Answers (requests_of ends w.pairs) (link_in e.core) past (Some link) their_past (waits_in t)) there
-        (subst (λ (l : Option Link). Answers (requests_of ends w.pairs) (link_in e.core) past l their_past (waits_in d.below.transfer)) linked w.answers)
+        subst (λ (t : Option Transfer). AnswersRequests (requests_of ends w.pairs) (identity_in e.core) past (Some link) their_past (waiting_deferral t)) there
+        (subst (λ (l : Option AssociationIdentity). AnswersRequests (requests_of ends w.pairs) (identity_in e.core) past l their_past (waiting_deferral d.queues.transfer)) linked w.answers)
 
-    module _ (size : ℕ) (options : Options) (direction : Direction) (first : ℕ) (run : Run options first size direction) (asked_is : direction.asking ≡ (ends.sends link.my.tag).asking) (sent : WasSent direction.sent (came_by input))
+    module _ (size : ℕ) (options : Options) (direction : Direction) (first : ℕ) (run : DirectionRun options first size direction) (asked_is : direction.asking ≡ (ends.sends link.my.tag).asking) (sent : WasSent direction.sent (came_by input))
         (few : length (ends.sends link.my.tag).asking.requests < 2 ^ 32 - 1) (knows : KnowsPeerIn their_past d.core) where
       peers : PeerTurns link their_past d input o transfer.reassembly.deferral left.reassembly.deferral
       peers = peers_turn d input o their_past link transfer left knows (plainly_sent options first size direction run (came_by input) sent) may turn linked there is_left
 
       -- the request that is handled
       handled : (number : ℕ) (reset : RequestedReset) → came_by input ≡ Some (reset_request number reset)
-          → (begun : BegunReset) × places.Has begun (ends.sends link.my.tag).asking.requests × (begun.number ≡ number) × (begun.reset ≡ reset)
+          → (begun : BegunReset) × places.HasEntry begun (ends.sends link.my.tag).asking.requests × (begun.number ≡ number) × (begun.reset ≡ reset)
       handled number reset came =
           let found = begun_of options first size direction run number reset (subst (λ (c : Option Content). WasSent direction.sent c) came sent) in
-          (found.0, subst (λ (a : Asking). places.Has found.0 a.requests) asked_is found.1, found.2, found.3)
+          (found.0, subst (λ (a : Asking). places.HasEntry found.0 a.requests) asked_is found.1, found.2, found.3)
 
       requested_is : (parameters : List ResetParameter) (number : ℕ) (reset other : RequestedReset) → came_by input ≡ Some (reset_request number reset) → came_by input ≡ Some (re_config parameters) → requested_in parameters ≡ Some other → reset ≡ other
       requested_is parameters number reset other came came' asked =
@@ -159,7 +159,7 @@ module _ (ends : Ends) (e : Endpoint) (past : List Effect) (d : Endpoint) (their
           → IsDueAt (requests_of ends w.pairs link.my.tag) transfer.reassembly.deferral (handled number reset came).0
       due_so step number reset came due =
           let found = handled number reset came in
-          due_there (requests_of ends w.pairs) (link_in e.core) past link their_past transfer.reassembly.deferral found.0 answers_here step found.1 few (subst (IsDue their_past) (sym found.2) due)
+          due_there (requests_of ends w.pairs) (identity_in e.core) past link their_past transfer.reassembly.deferral found.0 answers_here step found.1 few (subst (IsDue their_past) (sym found.2) due)
 
       -- So does what is performed.
       pub performs_newest : IsInStep (requests_of ends w.pairs link.my.tag) their_past transfer.reassembly.deferral → PerformsNewest direction transfer (came_by input) o.effects
@@ -189,23 +189,23 @@ module _ (ends : Ends) (e : Endpoint) (past : List Effect) (d : Endpoint) (their
           by_peers (asks_nothing unasked same) = (let clash : true ≡ false = sym done ∙ reset_none o.effects unasked in absurd (cc))
           by_peers (defers_it number other came due unreset accept perform kept is waits) = (let found = some_reset o.effects done in unreset found.0 found.1 found.2)
           by_peers (begins_anew begun opening linked' unasked empty) = (let clash : true ≡ false = sym done ∙ reset_none o.effects unasked in absurd (cc))
-          by_peers (performs_it number other came due only has accept perform empty) = (let found = handled number other came in subst (λ (a : Asking). places.Has found.0 a.requests) none found.1)
+          by_peers (performs_it number other came due only has accept perform empty) = (let found = handled number other came in subst (λ (a : Asking). places.HasEntry found.0 a.requests) none found.1)
 
       -- the number of a request that is performed, beside that of the newest
       abbrev Compares : (ℕ → ℕ → Type 0) → Type 0
       Compares Are =
-          (number : ℕ) → Has (effects.performs link.peer number) o.effects → (newest : BegunReset) (earlier : List BegunReset) → (ends.sends link.my.tag).asking.requests ≡ newest ∷ earlier → Are number newest.number
+          (number : ℕ) → HasEffect (effects.performs link.peer number) o.effects → (newest : BegunReset) (earlier : List BegunReset) → (ends.sends link.my.tag).asking.requests ≡ newest ∷ earlier → Are number newest.number
 
       -- where the receiver stands: what it performs is the newest; or it isn't, or messages don't interleave
       abbrev pub Standing : Bool → Type 0
       Standing true = IsInStep (requests_of ends w.pairs link.my.tag) their_past transfer.reassembly.deferral × Compares (λ number newest. number ≡ newest)
       Standing false =
-          ((ends.sends link.my.tag).below.queue.is_interleaved ≡ false) ⊎ (IsInStep (requests_of ends w.pairs link.my.tag) their_past transfer.reassembly.deferral × Compares (λ number newest. number ≢ newest))
+          ((ends.sends link.my.tag).queues.queue.is_interleaved ≡ false) ⊎ (IsInStep (requests_of ends w.pairs link.my.tag) their_past transfer.reassembly.deferral × Compares (λ number newest. number ≢ newest))
 
       pub newest_or_not : IsInStep (requests_of ends w.pairs link.my.tag) their_past transfer.reassembly.deferral → Standing true ⊎ Standing false
       newest_or_not step = by_peers peers
         where
-          by_requests : (number : ℕ) → ((peer : Pair) (other : ℕ) → Has (effects.performs peer other) o.effects → (peer ≡ link.peer) × (other ≡ number)) → (requests : List BegunReset) → (ends.sends link.my.tag).asking.requests ≡ requests
+          by_requests : (number : ℕ) → ((peer : Pair) (other : ℕ) → HasEffect (effects.performs peer other) o.effects → (peer ≡ link.peer) × (other ≡ number)) → (requests : List BegunReset) → (ends.sends link.my.tag).asking.requests ≡ requests
               → Standing true ⊎ Standing false
           by_requests number only [] none = inl (step, λ other has newest earlier is. absurd (cc))
           by_requests number only (last ∷ before) some =
@@ -228,20 +228,20 @@ module _ (ends : Ends) (e : Endpoint) (past : List Effect) (d : Endpoint) (their
       abbrev Later : List Effect
       Later = after_effects o.effects their_past
 
-      module _ (new_same : (begun : Begun d o) → IsOpening (came_by input) → link_in o.after.core ≡ Some (link_of begun.my begun.held) → link_of begun.my begun.held ≡ link → ⊥) (same : link_in o.after.core ≡ link_in d.core)
+      module _ (new_same : (begun : Begun d o) → IsOpening (came_by input) → identity_in o.after.core ≡ Some (identity_of begun.my begun.held) → identity_of begun.my begun.held ≡ link → ⊥) (same : identity_in o.after.core ≡ identity_in d.core)
           (is_known : Bool) (stands : Standing is_known) (asking : Asking) (by : PerformedBy is_known input o direction asking) (got : ReceivingEnd) where
         abbrev After : Type 0
         After = AreAnswered (asked_ends ends link.my.tag asking got) e past o.after (after_effects o.effects their_past)
 
-        linked_after : link_in o.after.core ≡ Some link
+        linked_after : identity_in o.after.core ≡ Some link
         linked_after = same ∙ linked
 
-        answered_by : Answers (requests_of (asked_ends ends link.my.tag asking got) w.pairs) (link_in e.core) past (Some link) (after_effects o.effects their_past) left.reassembly.deferral → After
+        answered_by : AnswersRequests (requests_of (asked_ends ends link.my.tag asking got) w.pairs) (identity_in e.core) past (Some link) (after_effects o.effects their_past) left.reassembly.deferral → After
         answered_by answers =
             record {
               pairs = w.pairs;
-              answers = subst (λ (t : Option Transfer). Answers (requests_of (asked_ends ends link.my.tag asking got) w.pairs) (link_in e.core) past (link_in o.after.core) (after_effects o.effects their_past) (waits_in t)) (sym is_left)
-                  (subst (λ (l : Option Link). Answers (requests_of (asked_ends ends link.my.tag asking got) w.pairs) (link_in e.core) past l (after_effects o.effects their_past) left.reassembly.deferral) (sym linked_after) answers);
+              answers = subst (λ (t : Option Transfer). AnswersRequests (requests_of (asked_ends ends link.my.tag asking got) w.pairs) (identity_in e.core) past (identity_in o.after.core) (after_effects o.effects their_past) (waiting_deferral t)) (sym is_left)
+                  (subst (λ (l : Option AssociationIdentity). AnswersRequests (requests_of (asked_ends ends link.my.tag asking got) w.pairs) (identity_in e.core) past l (after_effects o.effects their_past) left.reassembly.deferral) (sym linked_after) answers);
               unlinked = λ none. (let clash : ◌≡◌ {A = Option Transfer} None (Some left) = sym none ∙ is_left in absurd (cc));
             }
 
@@ -257,13 +257,13 @@ module _ (ends : Ends) (e : Endpoint) (past : List Effect) (d : Endpoint) (their
                 by_known false = refl
             go true says = (let clash : true ≡ false = sym (says refl) ∙ none in absurd (cc))
 
-        unchanged : asking ≡ (ends.sends link.my.tag).asking → Answers (requests_of ends w.pairs) (link_in e.core) past (Some link) (after_effects o.effects their_past) left.reassembly.deferral → After
+        unchanged : asking ≡ (ends.sends link.my.tag).asking → AnswersRequests (requests_of ends w.pairs) (identity_in e.core) past (Some link) (after_effects o.effects their_past) left.reassembly.deferral → After
         unchanged is answers =
             answered_by
-            (same_requests (requests_of (asked_ends ends link.my.tag asking got) w.pairs) (requests_of ends w.pairs) (link_in e.core) past (Some link) (after_effects o.effects their_past) left.reassembly.deferral
+            (same_requests (requests_of (asked_ends ends link.my.tag asking got) w.pairs) (requests_of ends w.pairs) (identity_in e.core) past (Some link) (after_effects o.effects their_past) left.reassembly.deferral
             (same_asked ends w.pairs link.my.tag got asking is) answers)
 
-        none_reset : ((peer : Pair) (other : ℕ) → Has (effects.performs peer other) o.effects → ⊥) → has_reset o.effects ≡ false
+        none_reset : ((peer : Pair) (other : ℕ) → HasEffect (effects.performs peer other) o.effects → ⊥) → has_reset o.effects ≡ false
         none_reset none = go (has_reset o.effects) refl
           where
             go : (b : Bool) → has_reset o.effects ≡ b → has_reset o.effects ≡ false
@@ -271,7 +271,7 @@ module _ (ends : Ends) (e : Endpoint) (past : List Effect) (d : Endpoint) (their
             go true is = (let found = some_reset o.effects is in absurd (none found.0 found.1 found.2))
 
         -- A request was performed, and it is known to be the newest, or messages don't interleave.
-        performed_so : (number : ℕ) (reset : RequestedReset) → came_by input ≡ Some (reset_request number reset) → Has (effects.performs link.peer number) o.effects
+        performed_so : (number : ℕ) (reset : RequestedReset) → came_by input ≡ Some (reset_request number reset) → HasEffect (effects.performs link.peer number) o.effects
             → asking ≡ performed_where is_known true (ends.sends link.my.tag).asking
         performed_so number reset came has = by.3 ∙ go by.0 by.1 ∙ ap (performed_where is_known true) asked_is
           where
@@ -283,7 +283,7 @@ module _ (ends : Ends) (e : Endpoint) (past : List Effect) (d : Endpoint) (their
             ]
 
         by_performing : (b : Bool) → is_known ≡ b → Standing b → (number : ℕ) (reset : RequestedReset) → came_by input ≡ Some (reset_request number reset) → IsDue their_past number
-            → ((peer : Pair) (other : ℕ) → Has (effects.performs peer other) o.effects → (peer ≡ link.peer) × (other ≡ number)) → Has (effects.performs link.peer number) o.effects
+            → ((peer : Pair) (other : ℕ) → HasEffect (effects.performs peer other) o.effects → (peer ≡ link.peer) × (other ≡ number)) → HasEffect (effects.performs link.peer number) o.effects
             → number_to_accept (after_effects o.effects their_past) ≡ Some (next_number number) → number_to_perform (after_effects o.effects their_past) ≡ None → left.reassembly.deferral ≡ None → After
         by_performing true known (step, newest) number reset came due only has accept perform empty =
             let found = handled number reset came in
@@ -294,45 +294,45 @@ module _ (ends : Ends) (e : Endpoint) (past : List Effect) (d : Endpoint) (their
             answered_by
             (same_requests (requests_of (asked_ends ends link.my.tag asking got) w.pairs)
             (set_at link.my.tag (record (requests_of ends w.pairs link.my.tag) { asking = record (ends.sends link.my.tag).asking { is_performed = true } }) (requests_of ends w.pairs))
-            (link_in e.core) past (Some link) (after_effects o.effects their_past) left.reassembly.deferral
+            (identity_in e.core) past (Some link) (after_effects o.effects their_past) left.reassembly.deferral
             (λ t. new_asked ends w.pairs link.my.tag got asking t ∙ ap (λ (a : Asking). set_at link.my.tag (record (requests_of ends w.pairs link.my.tag) { asking = a }) (requests_of ends w.pairs) t) is)
-            (performs.performs_it (requests_of ends w.pairs) (link_in e.core) past link o.effects their_past transfer.reassembly.deferral left.reassembly.deferral found.0 answers_here (no_holds same)
+            (performs.performs_it (requests_of ends w.pairs) (identity_in e.core) past link o.effects their_past transfer.reassembly.deferral left.reassembly.deferral found.0 answers_here (no_holds same)
             (λ peer other h. (let one' = only peer other h in (one'.0, one'.1 ∙ sym found.2))) found.1 one.earlier (one.is ∙ ap (λ (b : BegunReset). b ∷ one.earlier) (sym top))
-            (subst (λ (n : ℕ). Has (effects.performs link.peer n) o.effects) (sym found.2) has) (accept ∙ ap (λ (n : ℕ). Some (next_number n)) (sym found.2)) perform empty))
+            (subst (λ (n : ℕ). HasEffect (effects.performs link.peer n) o.effects) (sym found.2) has) (accept ∙ ap (λ (n : ℕ). Some (next_number n)) (sym found.2)) perform empty))
         by_performing false known (inl kind) number reset came due only has accept perform empty =
             let found = handled number reset came in
             unchanged (performed_so number reset came has ∙ ap (λ (b : Bool). performed_where b true (ends.sends link.my.tag).asking) known)
-            (performs.performs_plain (requests_of ends w.pairs) (link_in e.core) past link o.effects their_past transfer.reassembly.deferral left.reassembly.deferral found.0 answers_here (no_holds same)
+            (performs.performs_plain (requests_of ends w.pairs) (identity_in e.core) past link o.effects their_past transfer.reassembly.deferral left.reassembly.deferral found.0 answers_here (no_holds same)
             (λ peer other h. (let one = only peer other h in (one.0, one.1 ∙ sym found.2))) found.1 kind)
         by_performing false known (inr (step, other)) number reset came due only has accept perform empty =
             let found = handled number reset came in
             let one = due_so step number reset came due in
             let behind = behind_where (requests_of ends w.pairs link.my.tag) their_past transfer.reassembly.deferral found.0 numbers_here found.1 few one (λ is. other number has one.newest one.earlier one.is (sym found.2 ∙ is)) in
             unchanged (performed_so number reset came has ∙ ap (λ (b : Bool). performed_where b true (ends.sends link.my.tag).asking) known)
-            (performs.performs_behind (requests_of ends w.pairs) (link_in e.core) past link o.effects their_past transfer.reassembly.deferral left.reassembly.deferral found.0 answers_here (no_holds same)
+            (performs.performs_behind (requests_of ends w.pairs) (identity_in e.core) past link o.effects their_past transfer.reassembly.deferral left.reassembly.deferral found.0 answers_here (no_holds same)
             (λ peer other' h. (let one' = only peer other' h in (one'.0, one'.1 ∙ sym found.2))) found.1 one behind (accept ∙ ap (λ (n : ℕ). Some (next_number n)) (sym found.2)) perform empty)
 
         -- Where it stands in step what is deferred is in progress.
         by_deferring : (b : Bool) → Standing b → (number : ℕ) (reset : RequestedReset) → came_by input ≡ Some (reset_request number reset) → IsDue their_past number
-            → ((peer : Pair) (other : ℕ) → Has (effects.performs peer other) o.effects → ⊥)
+            → ((peer : Pair) (other : ℕ) → HasEffect (effects.performs peer other) o.effects → ⊥)
             → number_to_accept (after_effects o.effects their_past) ≡ Some (next_number number) → number_to_perform (after_effects o.effects their_past) ≡ Some number
             → (kept : DeferralModel) → left.reassembly.deferral ≡ Some kept → WaitsFor reset transfer.reassembly.deferral kept → After
         by_deferring b stands number reset came due none accept perform kept is waits = unchanged (asking_same (none_reset none)) (go b stands)
           where
-            found : (begun : BegunReset) × places.Has begun (ends.sends link.my.tag).asking.requests × (begun.number ≡ number) × (begun.reset ≡ reset)
+            found : (begun : BegunReset) × places.HasEntry begun (ends.sends link.my.tag).asking.requests × (begun.number ≡ number) × (begun.reset ≡ reset)
             found = handled number reset came
 
-            deferred : IsInStep (requests_of ends w.pairs link.my.tag) their_past transfer.reassembly.deferral → Answers (requests_of ends w.pairs) (link_in e.core) past (Some link) (after_effects o.effects their_past) left.reassembly.deferral
+            deferred : IsInStep (requests_of ends w.pairs link.my.tag) their_past transfer.reassembly.deferral → AnswersRequests (requests_of ends w.pairs) (identity_in e.core) past (Some link) (after_effects o.effects their_past) left.reassembly.deferral
             deferred step =
-                defers.defers_it (requests_of ends w.pairs) (link_in e.core) past link o.effects their_past transfer.reassembly.deferral left.reassembly.deferral answers_here (no_holds same) none found.0 kept step found.1 few
+                defers.defers_it (requests_of ends w.pairs) (identity_in e.core) past link o.effects their_past transfer.reassembly.deferral left.reassembly.deferral answers_here (no_holds same) none found.0 kept step found.1 few
                 (subst (IsDue their_past) (sym found.2) due) (accept ∙ ap (λ (n : ℕ). Some (next_number n)) (sym found.2)) (perform ∙ ap Some (sym found.2)) is
                 (subst (λ (r : RequestedReset). WaitsFor r transfer.reassembly.deferral kept) (sym found.3) waits)
 
-            go : (b : Bool) → Standing b → Answers (requests_of ends w.pairs) (link_in e.core) past (Some link) (after_effects o.effects their_past) left.reassembly.deferral
+            go : (b : Bool) → Standing b → AnswersRequests (requests_of ends w.pairs) (identity_in e.core) past (Some link) (after_effects o.effects their_past) left.reassembly.deferral
             go true (step, newest) = deferred step
             go false (inr (step, other)) = deferred step
             go false (inl kind) =
-                defers.defers_plain (requests_of ends w.pairs) (link_in e.core) past link o.effects their_past transfer.reassembly.deferral left.reassembly.deferral answers_here (no_holds same) none found.0 kind found.1
+                defers.defers_plain (requests_of ends w.pairs) (identity_in e.core) past link o.effects their_past transfer.reassembly.deferral left.reassembly.deferral answers_here (no_holds same) none found.0 kind found.1
 
         pub goes_answered : After
         goes_answered = by_peers peers
@@ -341,11 +341,11 @@ module _ (ends : Ends) (e : Endpoint) (past : List Effect) (d : Endpoint) (their
             by_peers (asks_nothing none waits) =
                 let numbers = same_numbers o.effects their_past none (no_holds same) (no_ends link linked_after) in
                 unchanged (asking_same (reset_none o.effects none))
-                (answering.asks_nothing (requests_of ends w.pairs) (link_in e.core) past link o.effects their_past transfer.reassembly.deferral left.reassembly.deferral answers_here (no_holds same) (none_performed o.effects none)
+                (answering.asks_nothing (requests_of ends w.pairs) (identity_in e.core) past link o.effects their_past transfer.reassembly.deferral left.reassembly.deferral answers_here (no_holds same) (none_performed o.effects none)
                 numbers.0 numbers.1 waits)
             by_peers (performs_it number reset came due only has accept perform empty) = by_performing is_known refl stands number reset came due only has accept perform empty
             by_peers (defers_it number reset came due none accept perform kept is waits) = by_deferring is_known stands number reset came due none accept perform kept is waits
             by_peers (begins_anew begun opening there' none empty) = absurd (new_same begun opening there' (one_link there' linked_after))
               where
-                one_link : {found : Option Link} {one two : Link} → found ≡ Some one → found ≡ Some two → one ≡ two
+                one_link : {found : Option AssociationIdentity} {one two : AssociationIdentity} → found ≡ Some one → found ≡ Some two → one ≡ two
                 one_link first second = cc

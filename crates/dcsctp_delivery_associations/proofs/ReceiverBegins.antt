@@ -7,23 +7,23 @@ use Rattle.dcsctp_spec_lemmas.specs.types.Settings.{SameOptions}
 use Rattle.dcsctp_spec_lemmas.specs.spec.endpoint.Endpoint.{Endpoint}
 use Rattle.dcsctp_spec_lemmas.specs.spec.endpoint.Outcome.{Outcome}
 use Rattle.dcsctp_spec_lemmas.specs.spec.Packet.{Emission}
-use Rattle.dcsctp_spec_runs.specs.Past.{Has}
+use Rattle.dcsctp_spec_runs.specs.Past.{HasEffect}
 use Rattle.dcsctp_spec_lemmas.specs.spec.endpoint.Turn.{Input, Turn}
 use Rattle.dcsctp_spec_runs.specs.World.{after_effects}
-use Rattle.dcsctp_spec_lemmas.specs.spec.association.Effect.{Link, Effect, holds, link_of}
+use Rattle.dcsctp_spec_lemmas.specs.spec.association.Effect.{AssociationIdentity, Effect, holds, identity_of}
 use Rattle.dcsctp_spec_lemmas.specs.spec.queues.Reassembly.{new_reassembly}
 use Rattle.dcsctp_spec_lemmas.specs.spec.queues.Tracker.{new_tracker}
-use Rattle.dcsctp_spec_lemmas.specs.spec.queues.Transfer.{Transfer, Below}
+use Rattle.dcsctp_spec_lemmas.specs.spec.queues.Transfer.{Transfer, EndpointQueues}
 use Rattle.dcsctp_theorem_association.proofs.Growth.{after_within}
 use Rattle.dcsctp_delivery_sending.specs.Places.{set_at}
 use Rattle.dcsctp_delivery_sending.specs.Log.{Message}
 use Rattle.dcsctp_delivery_sending.proofs.Places.{decide, set_same, set_other}
 use Rattle.dcsctp_delivery_directions.specs.Directions as steps
-use Rattle.dcsctp_delivery_directions.specs.Directions.{Run}
+use Rattle.dcsctp_delivery_directions.specs.Directions.{DirectionRun}
 use Rattle.dcsctp_delivery_directions.proofs.Directions.{direction_queues}
 use Rattle.dcsctp_delivery_turns.specs.Actions.{peer_tag, IsCall}
 use Rattle.dcsctp_delivery_turns.specs.Asking.{own_of, AsksFit}
-use Rattle.dcsctp_delivery_turns.specs.Runs.{Opens}
+use Rattle.dcsctp_delivery_turns.specs.Runs.{OpensAssociation}
 use Rattle.dcsctp_delivery_associations.specs.Ends.{ReceivingEnd, joined, new_end, Ends, HadPeer, Awaits, Sender, NewTag, HadTag, Receiver, Between}
 use Rattle.dcsctp_delivery_associations.specs.Reads.{Read, with_tag, messages_of}
 use Rattle.dcsctp_delivery_associations.proofs.Growing.{set_all}
@@ -41,11 +41,11 @@ begun_end options other first same =
     ap (λ (o : Options). record { tracker = new_tracker o first; reassembly = new_reassembly o.max_receiver_window_buffer_size; read = [] }) same
 
 -- At the sender there is the matching association, or none yet.
-data Known (ends : Ends) (key : ℕ) (new : Link) : Type 0 where
+data Known (ends : Ends) (key : ℕ) (new : AssociationIdentity) : Type 0 where
   is_crossed : ends.firsts new.my.tag ≡ new.peer.first_tsn → Known ends key new
   is_awaited : Awaits (ends.sends new.my.tag) → new.my.tag ≢ key → Known ends key new
 
-known : (ends : Ends) (key : ℕ) (below : Below) (queued : List Message) (past their_past : List Effect) (packets : List Emission) (new : Link) → Sender ends key below queued past packets → NewTag their_past past new → Known ends key new
+known : (ends : Ends) (key : ℕ) (below : EndpointQueues) (queued : List Message) (past their_past : List Effect) (packets : List Emission) (new : AssociationIdentity) → Sender ends key below queued past packets → NewTag their_past past new → Known ends key new
 known ends key below queued past their_past packets new s is =
     elim (decide new.my.tag key) [
       | inl e ↦ is_crossed (of_had (subst (λ (t : ℕ). HadPeer past t (ends.firsts t)) (sym e) (s.current (λ zero. is.some (e ∙ zero)))))
@@ -60,7 +60,7 @@ known ends key below queued past their_past packets new s is =
 
 module _ (options : Options) (ends : Ends) (e : Endpoint) (queued : List Message) (past : List Effect) (packets : List Emission) (d : Endpoint) (their_past : List Effect) (reads : List Read)
     (h : Between options ends e queued past packets d their_past reads) (few : length queued < 2 ^ 64) (same : SameOptions options d.options) (input : Input) (o : Outcome) (w : AreAnswered ends e past d their_past) (may : IsCall input) (turn : Turn d input o) where
-  module _ (opens : Opens d input o) (is : NewTag their_past past (link_of opens.begun.my opens.begun.held)) where
+  module _ (opens : OpensAssociation d input o) (is : NewTag their_past past (identity_of opens.begun.my opens.begun.held)) where
     abbrev tag : ℕ
     tag = opens.begun.my.tag
 
@@ -73,19 +73,19 @@ module _ (options : Options) (ends : Ends) (e : Endpoint) (queued : List Message
     had_new : HadTag (after_effects o.effects their_past) tag first
     had_new =
         record {
-          link = link_of opens.begun.my opens.begun.held;
-          held = subst (λ (l : List Effect). Has (holds (link_of opens.begun.my opens.begun.held)) (after_effects l their_past)) (sym opens.begun.noted)
-              (after_within opens.begun.later (holds (link_of opens.begun.my opens.begun.held) ∷ their_past) (holds (link_of opens.begun.my opens.begun.held)) (inl refl));
+          link = identity_of opens.begun.my opens.begun.held;
+          held = subst (λ (l : List Effect). HasEffect (holds (identity_of opens.begun.my opens.begun.held)) (after_effects l their_past)) (sym opens.begun.noted)
+              (after_within opens.begun.later (holds (identity_of opens.begun.my opens.begun.held) ∷ their_past) (holds (identity_of opens.begun.my opens.begun.held)) (inl refl));
           tag_is = refl;
           first_is = refl;
           some = is.some;
         }
 
     -- The run goes on to the end of the turn.
-    opened : Run options first options.max_receiver_window_buffer_size (joined (ends.sends tag) (new_end options first)) → Run options first options.max_receiver_window_buffer_size (joined (ends.sends tag) got)
+    opened : DirectionRun options first options.max_receiver_window_buffer_size (joined (ends.sends tag) (new_end options first)) → DirectionRun options first options.max_receiver_window_buffer_size (joined (ends.sends tag) got)
     opened run =
         opens.runs options first options.max_receiver_window_buffer_size (joined (ends.sends tag) (new_end options first))
-        (subst (λ (g : ReceivingEnd). Run options first options.max_receiver_window_buffer_size (joined (ends.sends tag) g)) (sym (begun_end options d.options first same)) run)
+        (subst (λ (g : ReceivingEnd). DirectionRun options first options.max_receiver_window_buffer_size (joined (ends.sends tag) g)) (sym (begun_end options d.options first same)) run)
 
     later_receiver : (firsts : ℕ → ℕ) → firsts tag ≡ first → ((t : ℕ) → t ≢ tag → firsts t ≡ ends.firsts t) → ends.gets tag ≡ new_end options (ends.firsts tag)
         → Receiver options (record { sends = ends.sends; gets = set_at tag got ends.gets; firsts = firsts }) o.after (after_effects o.effects their_past) reads
@@ -93,9 +93,9 @@ module _ (options : Options) (ends : Ends) (e : Endpoint) (queued : List Message
         record {
           fits = opens.fits;
           current = λ transfer there. (
-              let one : opens.left ≡ transfer = same_transfer o.after.below.transfer opens.left transfer opens.is there in
+              let one : opens.left ≡ transfer = same_transfer o.after.queues.transfer opens.left transfer opens.is there in
               record {
-                link = link_of opens.begun.my opens.begun.held;
+                link = identity_of opens.begun.my opens.begun.held;
                 linked = opens.linked;
                 had = subst (λ (n : ℕ). HadTag (after_effects o.effects their_past) tag n) (sym here) had_new;
                 tracker = ap (λ (g : ReceivingEnd). g.tracker) (set_same tag got ends.gets) ∙ ap (λ (t : Transfer). t.tracker) one;
@@ -121,18 +121,18 @@ module _ (options : Options) (ends : Ends) (e : Endpoint) (queued : List Message
     crossed_opens : ends.firsts tag ≡ first → ends.gets tag ≡ new_end options (ends.firsts tag) → AreEnds options e queued past packets o.after (after_effects o.effects their_past) (messages_of reads)
     crossed_opens here fresh =
         let end : ends.gets tag ≡ new_end options first = fresh ∙ ap (new_end options) here in
-        let start : Run options first options.max_receiver_window_buffer_size (joined (ends.sends tag) (new_end options first)) =
-        subst (λ (n : ℕ). Run options n options.max_receiver_window_buffer_size (joined (ends.sends tag) (new_end options first))) here
-        (subst (λ (g : ReceivingEnd). Run options (ends.firsts tag) options.max_receiver_window_buffer_size (joined (ends.sends tag) g)) end (h.runs tag)) in
+        let start : DirectionRun options first options.max_receiver_window_buffer_size (joined (ends.sends tag) (new_end options first)) =
+        subst (λ (n : ℕ). DirectionRun options n options.max_receiver_window_buffer_size (joined (ends.sends tag) (new_end options first))) here
+        (subst (λ (g : ReceivingEnd). DirectionRun options (ends.firsts tag) options.max_receiver_window_buffer_size (joined (ends.sends tag) g)) end (h.runs tag)) in
         record {
           ends = record { sends = ends.sends; gets = set_at tag got ends.gets; firsts = ends.firsts };
           tagged = reads;
           are_all = refl;
           between = record {
-            runs = set_all (λ t g. Run options (ends.firsts t) options.max_receiver_window_buffer_size (joined (ends.sends t) g)) tag got ends.gets
-                (subst (λ (n : ℕ). Run options n options.max_receiver_window_buffer_size (joined (ends.sends tag) got)) (sym here) (opened start)) (λ t ne. h.runs t);
+            runs = set_all (λ t g. DirectionRun options (ends.firsts t) options.max_receiver_window_buffer_size (joined (ends.sends t) g)) tag got ends.gets
+                (subst (λ (n : ℕ). DirectionRun options n options.max_receiver_window_buffer_size (joined (ends.sends tag) got)) (sym here) (opened start)) (λ t ne. h.runs t);
             small = h.small;
-            sender = sender_same ends (set_at tag got ends.gets) (peer_tag e.core) e.below queued past packets h.sender;
+            sender = sender_same ends (set_at tag got ends.gets) (peer_tag e.core) e.queues queued past packets h.sender;
             asks = h.asks;
             receiver = later_receiver ends.firsts here (λ t ne. refl) fresh;
           };
@@ -143,12 +143,12 @@ module _ (options : Options) (ends : Ends) (e : Endpoint) (queued : List Message
     awaited_opens waits apart fresh =
         let queues = direction_queues options (ends.firsts tag) options.max_receiver_window_buffer_size (joined (ends.sends tag) (ends.gets tag)) (h.runs tag) (h.small tag)
         (let short = h.sender.short tag in omega (arith, few, short)) in
-        let start : Run options first options.max_receiver_window_buffer_size (joined (ends.sends tag) (new_end options first)) =
+        let start : DirectionRun options first options.max_receiver_window_buffer_size (joined (ends.sends tag) (new_end options first)) =
         steps.begins (joined (ends.sends tag) (new_end options first))
         (record {
           fit = queues.1;
           queues = queues.0;
-          flight = subst (steps.NoneInFlight first (ends.sends tag).below.queue.is_interleaved) (sym waits.transfer) tt;
+          flight = subst (steps.NoneInFlight first (ends.sends tag).queues.queue.is_interleaved) (sym waits.transfer) tt;
           acknowledged = waits.acknowledged;
           sent = waits.sent;
           tracker = refl;
@@ -161,9 +161,9 @@ module _ (options : Options) (ends : Ends) (e : Endpoint) (queued : List Message
           tagged = reads;
           are_all = refl;
           between = record {
-            runs = set_three (λ t f s g. Run options f options.max_receiver_window_buffer_size (joined (ends.sends t) g)) tag first (ends.sends tag) got ends.firsts ends.sends ends.gets (opened start) (λ t ne. h.runs t);
+            runs = set_three (λ t f s g. DirectionRun options f options.max_receiver_window_buffer_size (joined (ends.sends t) g)) tag first (ends.sends tag) got ends.firsts ends.sends ends.gets (opened start) (λ t ne. h.runs t);
             small = set_all (λ t f. f < 2 ^ 32) tag first ends.firsts is.small (λ t ne. h.small t);
-            sender = sender_first ends (set_at tag got ends.gets) tag first (peer_tag e.core) e.below queued past packets h.sender apart waits;
+            sender = sender_first ends (set_at tag got ends.gets) tag first (peer_tag e.core) e.queues queued past packets h.sender apart waits;
             asks = subst (λ (n : ℕ). AsksFit n (own_of e) (ends.sends (peer_tag e.core)).asking) (sym (set_other tag (peer_tag e.core) first ends.firsts (λ is'. apart (sym is')))) h.asks;
             receiver = later_receiver (set_at tag first ends.firsts) (set_same tag first ends.firsts) (λ t ne. set_other tag t first ends.firsts ne) fresh;
           };
@@ -174,10 +174,10 @@ module _ (options : Options) (ends : Ends) (e : Endpoint) (queued : List Message
     pub opens_goes : AreEnds options e queued past packets o.after (after_effects o.effects their_past) (messages_of reads)
     opens_goes =
         elim (h.receiver.begun tag) [
-          | inl fresh ↦ go fresh (known ends (peer_tag e.core) e.below queued past their_past packets (link_of opens.begun.my opens.begun.held) h.sender is)
+          | inl fresh ↦ go fresh (known ends (peer_tag e.core) e.queues queued past their_past packets (identity_of opens.begun.my opens.begun.held) h.sender is)
           | inr had ↦ absurd ((is.other had.link had.held).0 had.tag_is)
         ]
       where
-        go : ends.gets tag ≡ new_end options (ends.firsts tag) → Known ends (peer_tag e.core) (link_of opens.begun.my opens.begun.held) → AreEnds options e queued past packets o.after (after_effects o.effects their_past) (messages_of reads)
+        go : ends.gets tag ≡ new_end options (ends.firsts tag) → Known ends (peer_tag e.core) (identity_of opens.begun.my opens.begun.held) → AreEnds options e queued past packets o.after (after_effects o.effects their_past) (messages_of reads)
         go fresh (is_crossed here) = crossed_opens here fresh
         go fresh (is_awaited waits apart) = awaited_opens waits apart fresh

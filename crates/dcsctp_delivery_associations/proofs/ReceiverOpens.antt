@@ -6,21 +6,21 @@ use Rattle.dcsctp_spec_lemmas.specs.types.declared.association.Pair.{Pair}
 use Rattle.dcsctp_spec_lemmas.specs.spec.endpoint.Endpoint.{Endpoint}
 use Rattle.dcsctp_spec_lemmas.specs.spec.endpoint.Outcome.{Outcome}
 use Rattle.dcsctp_spec_lemmas.specs.spec.Packet.{Content, init, init_ack, cookie_echo, cookie_ack, re_config, abort, shutdown, shutdown_ack, shutdown_complete, plain}
-use Rattle.dcsctp_spec_runs.specs.Past.{Has, number_to_accept, number_to_perform}
+use Rattle.dcsctp_spec_runs.specs.Past.{HasEffect, number_to_accept, number_to_perform}
 use Rattle.dcsctp_spec_lemmas.specs.spec.endpoint.Turn.{Input, Turn}
 use Rattle.dcsctp_spec_runs.specs.World.{after_effects}
-use Rattle.dcsctp_spec_lemmas.specs.spec.association.Effect.{Link, Effect, holds, link_of, link_in}
+use Rattle.dcsctp_spec_lemmas.specs.spec.association.Effect.{AssociationIdentity, Effect, holds, identity_of, identity_in}
 use Rattle.dcsctp_spec_lemmas.specs.spec.queues.Transfer.{Transfer}
 use Rattle.dcsctp_delivery_sending.specs.Places.{set_at}
 use Rattle.dcsctp_delivery_sending.proofs.Places.{decide, set_same, set_other}
 use Rattle.dcsctp_delivery_directions.specs.Directions.{nothing_asked}
 use Rattle.dcsctp_delivery_turns.specs.Actions.{IsOpening, came_by, peer_tag, IsCall, IsCalm}
 use Rattle.dcsctp_delivery_turns.specs.PeerRequests.{NoneAsked}
-use Rattle.dcsctp_delivery_turns.specs.Runs.{Opens}
+use Rattle.dcsctp_delivery_turns.specs.Runs.{OpensAssociation}
 use Rattle.dcsctp_delivery_turns.proofs.Holding.{holds_mean, ends_mean}
 use Rattle.dcsctp_delivery_turns.proofs.PeersTurns.{calm_asks_nothing}
 use Rattle.dcsctp_delivery_associations.specs.Ends.{ReceivingEnd, Ends, NewTag}
-use Rattle.dcsctp_delivery_associations.specs.Answered.{Requests, number_at, WasHeld, Answers, requests_of, waits_in, AreAnswered}
+use Rattle.dcsctp_delivery_associations.specs.Answered.{Requests, request_number_at, SenderHadPeer, AnswersRequests, requests_of, waiting_deferral, AreAnswered}
 use Rattle.dcsctp_delivery_associations.proofs.UnaskedPasts.{first_numbers}
 use Rattle.dcsctp_delivery_associations.proofs.AnsweringRests as answering
 use Rattle.dcsctp_delivery_associations.proofs.AnsweringRests.{none_performed, same_requests}
@@ -47,38 +47,38 @@ module _ (ends : Ends) (e : Endpoint) (past : List Effect) (d : Endpoint) (their
 
   -- ---- none is left
 
-  pub rests_answered : link_in o.after.core ≡ None → ((my : Pair) (number : ℕ) → Has (effects.performs my number) o.effects → ⊥) → AreAnswered ends e past o.after (after_effects o.effects their_past)
+  pub rests_answered : identity_in o.after.core ≡ None → ((my : Pair) (number : ℕ) → HasEffect (effects.performs my number) o.effects → ⊥) → AreAnswered ends e past o.after (after_effects o.effects their_past)
   rests_answered none no_performs =
       record {
         pairs = w.pairs;
-        answers = subst (λ (l : Option Link). Answers (requests_of ends w.pairs) (link_in e.core) past l (after_effects o.effects their_past) (waits_in o.after.below.transfer)) (sym none)
-            (answering.rests (requests_of ends w.pairs) (link_in e.core) past (link_in d.core) o.effects their_past (waits_in d.below.transfer) (waits_in o.after.below.transfer) w.answers
-            (λ link has. (let clash : ◌≡◌ {A = Option Link} None (Some link) = sym none ∙ holds_mean d input o link may turn has in absurd (cc))) no_performs);
+        answers = subst (λ (l : Option AssociationIdentity). AnswersRequests (requests_of ends w.pairs) (identity_in e.core) past l (after_effects o.effects their_past) (waiting_deferral o.after.queues.transfer)) (sym none)
+            (answering.rests (requests_of ends w.pairs) (identity_in e.core) past (identity_in d.core) o.effects their_past (waiting_deferral d.queues.transfer) (waiting_deferral o.after.queues.transfer) w.answers
+            (λ link has. (let clash : ◌≡◌ {A = Option AssociationIdentity} None (Some link) = sym none ∙ holds_mean d input o link may turn has in absurd (cc))) no_performs);
         unlinked = λ gone. none;
       }
 
   -- ---- one begins
 
-  module _ (opens : Opens d input o) (is : NewTag their_past past (link_of opens.begun.my opens.begun.held)) (gets : ℕ → ReceivingEnd) (firsts : ℕ → ℕ)
+  module _ (opens : OpensAssociation d input o) (is : NewTag their_past past (identity_of opens.begun.my opens.begun.held)) (gets : ℕ → ReceivingEnd) (firsts : ℕ → ℕ)
       (first_is : firsts opens.begun.my.tag ≡ opens.begun.held.peer.first_tsn) (others : (tag : ℕ) → tag ≢ opens.begun.my.tag → firsts tag ≡ ends.firsts tag)
       (which : (ends.firsts opens.begun.my.tag ≡ opens.begun.held.peer.first_tsn) ⊎ (((ends.sends opens.begun.my.tag).asking ≡ nothing_asked) × (opens.begun.my.tag ≢ peer_tag e.core))) where
-    abbrev new : Link
-    new = link_of opens.begun.my opens.begun.held
+    abbrev new : AssociationIdentity
+    new = identity_of opens.begun.my opens.begun.held
 
     abbrev t : ℕ
     t = opens.begun.my.tag
 
-    noted : Has (holds new) o.effects
-    noted = subst (Has (holds new)) (sym opens.begun.noted) (inl refl)
+    noted : HasEffect (holds new) o.effects
+    noted = subst (HasEffect (holds new)) (sym opens.begun.noted) (inl refl)
 
-    only : (link : Link) → Has (holds link) o.effects → link ≡ new
+    only : (link : AssociationIdentity) → HasEffect (holds link) o.effects → link ≡ new
     only link has = one_link (holds_mean d input o link may turn has) opens.linked
       where
-        one_link : {found : Option Link} {one two : Link} → found ≡ Some one → found ≡ Some two → one ≡ two
+        one_link : {found : Option AssociationIdentity} {one two : AssociationIdentity} → found ≡ Some one → found ≡ Some two → one ≡ two
         one_link first second = cc
 
-    none_ends : Has effects.ends o.effects → ⊥
-    none_ends has = (let clash : ◌≡◌ {A = Option Link} None (Some new) = ap link_in (sym (ends_mean d input o may turn has)) ∙ opens.linked in absurd (cc))
+    none_ends : HasEffect effects.ends o.effects → ⊥
+    none_ends has = (let clash : ◌≡◌ {A = Option AssociationIdentity} None (Some new) = ap identity_in (sym (ends_mean d input o may turn has)) ∙ opens.linked in absurd (cc))
 
     none_asked : NoneAsked o.effects
     none_asked = calm_asks_nothing d input o (opening_calm (came_by input) opens.opening) may turn
@@ -88,44 +88,44 @@ module _ (ends : Ends) (e : Endpoint) (past : List Effect) (d : Endpoint) (their
     numbers =
         subst (λ (l : List Effect). (number_to_accept (after_effects l their_past) ≡ Some (new.peer.first_tsn % 2 ^ 32)) × (number_to_perform (after_effects l their_past) ≡ None)) (sym opens.begun.noted)
         (first_numbers new opens.begun.later (holds new ∷ their_past) (subst NoneAsked opens.begun.noted none_asked)
-        (λ link has. only link (subst (Has (holds link)) (sym opens.begun.noted) (inr has))) (λ has. none_ends (subst (Has effects.ends) (sym opens.begun.noted) (inr has))) refl refl)
+        (λ link has. only link (subst (HasEffect (holds link)) (sym opens.begun.noted) (inr has))) (λ has. none_ends (subst (HasEffect effects.ends) (sym opens.begun.noted) (inr has))) refl refl)
 
-    accept : number_to_accept (after_effects o.effects their_past) ≡ Some (number_at new.peer.first_tsn 0)
+    accept : number_to_accept (after_effects o.effects their_past) ≡ Some (request_number_at new.peer.first_tsn 0)
     accept = numbers.0 ∙ ap (λ (n : ℕ). Some (n % 2 ^ 32)) (omega arith)
 
     -- The sender has the matching association, or has asked nothing there.
-    not_there : (found : Option Link) → link_in e.core ≡ found → (ends.firsts t ≡ new.peer.first_tsn) → IsCrossedOrAwaited (requests_of ends w.pairs t) (link_in e.core) new
+    not_there : (found : Option AssociationIdentity) → identity_in e.core ≡ found → (ends.firsts t ≡ new.peer.first_tsn) → IsCrossedOrAwaited (requests_of ends w.pairs t) (identity_in e.core) new
     not_there found there first = by_mine found there
       where
-        of_held : WasHeld past t (w.pairs t) → w.pairs t ≡ new.peer
+        of_held : SenderHadPeer past t (w.pairs t) → w.pairs t ≡ new.peer
         of_held held = sym held.my_is ∙ (is.match held.link held.held (inl held.tag_is)).0
 
-        by_asked : ((link : Link) → link_in e.core ≡ Some link → link.peer.tag ≢ t) → ((ends.sends t).asking ≡ nothing_asked) ⊎ WasHeld past t (w.pairs t) → IsCrossedOrAwaited (requests_of ends w.pairs t) (link_in e.core) new
+        by_asked : ((link : AssociationIdentity) → identity_in e.core ≡ Some link → link.peer.tag ≢ t) → ((ends.sends t).asking ≡ nothing_asked) ⊎ SenderHadPeer past t (w.pairs t) → IsCrossedOrAwaited (requests_of ends w.pairs t) (identity_in e.core) new
         by_asked apart (inl none) = inr (none, apart)
         by_asked apart (inr held) = inl (first, of_held held)
 
-        by_mine : (found : Option Link) → link_in e.core ≡ found → IsCrossedOrAwaited (requests_of ends w.pairs t) (link_in e.core) new
-        by_mine None none = by_asked (λ link linked. (let clash : ◌≡◌ {A = Option Link} None (Some link) = sym none ∙ linked in absurd (cc))) (w.answers.asked_held t is.some)
+        by_mine : (found : Option AssociationIdentity) → identity_in e.core ≡ found → IsCrossedOrAwaited (requests_of ends w.pairs t) (identity_in e.core) new
+        by_mine None none = by_asked (λ link linked. (let clash : ◌≡◌ {A = Option AssociationIdentity} None (Some link) = sym none ∙ linked in absurd (cc))) (w.answers.asked_held t is.some)
         by_mine (Some mine) linked =
             elim (decide mine.peer.tag t) [
               | inl at ↦ (
                   (let held = w.answers.mine_held mine linked in
                   inl (first, subst (λ (n : ℕ). w.pairs n ≡ new.peer) at (held.1 ∙ sym held.0.my_is ∙ (is.match held.0.link held.0.held (inl (held.0.tag_is ∙ at))).0)))
                   )
-              | inr ne ↦ by_asked (λ link linked'. (let one : mine ≡ link = one_link linked linked' in λ same. ne (ap (λ (l : Link). l.peer.tag) one ∙ same))) (w.answers.asked_held t is.some)
+              | inr ne ↦ by_asked (λ link linked'. (let one : mine ≡ link = one_link linked linked' in λ same. ne (ap (λ (l : AssociationIdentity). l.peer.tag) one ∙ same))) (w.answers.asked_held t is.some)
             ]
           where
-            one_link : {found : Option Link} {one two : Link} → found ≡ Some one → found ≡ Some two → one ≡ two
+            one_link : {found : Option AssociationIdentity} {one two : AssociationIdentity} → found ≡ Some one → found ≡ Some two → one ≡ two
             one_link first second = cc
 
-    crossed : IsCrossedOrAwaited (requests_of ends w.pairs t) (link_in e.core) new
+    crossed : IsCrossedOrAwaited (requests_of ends w.pairs t) (identity_in e.core) new
     crossed = elim which [
-      | inl first ↦ not_there (link_in e.core) refl first
+      | inl first ↦ not_there (identity_in e.core) refl first
       | inr awaited ↦ inr (awaited.0, λ link linked same. awaited.1 (sym same ∙ sym (link_tag e.core link linked)))
     ]
 
     abbrev fresh : Requests
-    fresh = record { my = new.peer; first = new.peer.first_tsn; asking = (ends.sends t).asking; is_interleaved = (ends.sends t).below.queue.is_interleaved }
+    fresh = record { my = new.peer; first = new.peer.first_tsn; asking = (ends.sends t).asking; is_interleaved = (ends.sends t).queues.queue.is_interleaved }
 
     abbrev pub opened : Ends
     opened = record { sends = ends.sends; gets = gets; firsts = firsts }
@@ -135,12 +135,12 @@ module _ (ends : Ends) (e : Endpoint) (past : List Effect) (d : Endpoint) (their
         elim (decide tag t) [
           | inl at ↦
               ap (requests_of opened (set_at t new.peer w.pairs)) at
-              ∙ ap (λ (p : Pair). record { my = p; first = firsts t; asking = (ends.sends t).asking; is_interleaved = (ends.sends t).below.queue.is_interleaved }) (set_same t new.peer w.pairs)
-              ∙ ap (λ (n : ℕ). record { my = new.peer; first = n; asking = (ends.sends t).asking; is_interleaved = (ends.sends t).below.queue.is_interleaved }) first_is
+              ∙ ap (λ (p : Pair). record { my = p; first = firsts t; asking = (ends.sends t).asking; is_interleaved = (ends.sends t).queues.queue.is_interleaved }) (set_same t new.peer w.pairs)
+              ∙ ap (λ (n : ℕ). record { my = new.peer; first = n; asking = (ends.sends t).asking; is_interleaved = (ends.sends t).queues.queue.is_interleaved }) first_is
               ∙ sym (set_same t fresh (requests_of ends w.pairs)) ∙ ap (set_at t fresh (requests_of ends w.pairs)) (sym at)
           | inr ne ↦
-              ap (λ (p : Pair). record { my = p; first = firsts tag; asking = (ends.sends tag).asking; is_interleaved = (ends.sends tag).below.queue.is_interleaved }) (set_other t tag new.peer w.pairs ne)
-              ∙ ap (λ (n : ℕ). record { my = w.pairs tag; first = n; asking = (ends.sends tag).asking; is_interleaved = (ends.sends tag).below.queue.is_interleaved }) (others tag ne)
+              ap (λ (p : Pair). record { my = p; first = firsts tag; asking = (ends.sends tag).asking; is_interleaved = (ends.sends tag).queues.queue.is_interleaved }) (set_other t tag new.peer w.pairs ne)
+              ∙ ap (λ (n : ℕ). record { my = w.pairs tag; first = n; asking = (ends.sends tag).asking; is_interleaved = (ends.sends tag).queues.queue.is_interleaved }) (others tag ne)
               ∙ sym (set_other t tag fresh (requests_of ends w.pairs) ne)
         ]
 
@@ -148,10 +148,10 @@ module _ (ends : Ends) (e : Endpoint) (past : List Effect) (d : Endpoint) (their
     opens_answered =
         record {
           pairs = set_at t new.peer w.pairs;
-          answers = subst (λ (x : Option Transfer). Answers (requests_of opened (set_at t new.peer w.pairs)) (link_in e.core) past (link_in o.after.core) (after_effects o.effects their_past) (waits_in x)) (sym opens.is)
-              (subst (λ (l : Option Link). Answers (requests_of opened (set_at t new.peer w.pairs)) (link_in e.core) past l (after_effects o.effects their_past) opens.left.reassembly.deferral) (sym opens.linked)
-              (same_requests (requests_of opened (set_at t new.peer w.pairs)) (set_at t fresh (requests_of ends w.pairs)) (link_in e.core) past (Some new) (after_effects o.effects their_past) opens.left.reassembly.deferral same_opened
-              (opens_anew (requests_of ends w.pairs) (link_in e.core) past (link_in d.core) o.effects their_past (waits_in d.below.transfer) opens.left.reassembly.deferral new w.answers is.some noted only (none_performed o.effects none_asked)
+          answers = subst (λ (x : Option Transfer). AnswersRequests (requests_of opened (set_at t new.peer w.pairs)) (identity_in e.core) past (identity_in o.after.core) (after_effects o.effects their_past) (waiting_deferral x)) (sym opens.is)
+              (subst (λ (l : Option AssociationIdentity). AnswersRequests (requests_of opened (set_at t new.peer w.pairs)) (identity_in e.core) past l (after_effects o.effects their_past) opens.left.reassembly.deferral) (sym opens.linked)
+              (same_requests (requests_of opened (set_at t new.peer w.pairs)) (set_at t fresh (requests_of ends w.pairs)) (identity_in e.core) past (Some new) (after_effects o.effects their_past) opens.left.reassembly.deferral same_opened
+              (opens_anew (requests_of ends w.pairs) (identity_in e.core) past (identity_in d.core) o.effects their_past (waiting_deferral d.queues.transfer) opens.left.reassembly.deferral new w.answers is.some noted only (none_performed o.effects none_asked)
               is.other (λ link has same. (is.match link has (inr same)).1) crossed accept numbers.1 opens.empty)));
           unlinked = λ gone. (let clash : ◌≡◌ {A = Option Transfer} None (Some opens.left) = sym gone ∙ opens.is in absurd (cc));
         }

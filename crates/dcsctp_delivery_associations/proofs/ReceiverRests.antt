@@ -8,21 +8,21 @@ use Rattle.dcsctp_spec_lemmas.specs.spec.endpoint.Outcome.{Outcome}
 use Rattle.dcsctp_spec_lemmas.specs.spec.Packet.{Emission}
 use Rattle.dcsctp_spec_lemmas.specs.spec.endpoint.Turn.{Input, user_takes, Turn}
 use Rattle.dcsctp_spec_runs.specs.World.{after_effects}
-use Rattle.dcsctp_spec_lemmas.specs.spec.association.Effect.{Effect, link_in}
+use Rattle.dcsctp_spec_lemmas.specs.spec.association.Effect.{Effect, identity_in}
 use Rattle.dcsctp_spec_lemmas.specs.types.queues.Messages.{MessageContent}
 use Rattle.dcsctp_spec_lemmas.specs.spec.queues.Reassembly.{with_ready}
 use Rattle.dcsctp_spec_lemmas.specs.spec.queues.Transfer.{Transfer}
 use Rattle.dcsctp_delivery_sending.specs.Places.{set_at}
 use Rattle.dcsctp_delivery_sending.specs.Log.{Message}
 use Rattle.dcsctp_delivery_sending.proofs.Places.{decide, set_same, set_other}
-use Rattle.dcsctp_spec_laws.specs.LeftLaws.{without_first, left_once}
+use Rattle.dcsctp_spec_laws.specs.LeftLaws.{without_first_message, left_once}
 use Rattle.dcsctp_delivery_directions.specs.Directions as directions
-use Rattle.dcsctp_delivery_directions.specs.Directions.{Run}
-use Rattle.dcsctp_delivery_associations.specs.Answered.{requests_of, waits_in, AreAnswered}
+use Rattle.dcsctp_delivery_directions.specs.Directions.{DirectionRun}
+use Rattle.dcsctp_delivery_associations.specs.Answered.{requests_of, waiting_deferral, AreAnswered}
 use Rattle.dcsctp_delivery_associations.proofs.AnsweringRests.{same_requests}
 use Rattle.dcsctp_delivery_associations.proofs.ReceiverOpens.{rests_answered}
 use Rattle.dcsctp_spec_lemmas.specs.types.declared.association.Pair.{Pair}
-use Rattle.dcsctp_spec_runs.specs.Past.{Has}
+use Rattle.dcsctp_spec_runs.specs.Past.{HasEffect}
 use Rattle.dcsctp_spec_lemmas.specs.spec.association.Effect.{performs}
 use Rattle.dcsctp_delivery_turns.specs.Actions.{peer_tag, with_first, IsCall}
 use Rattle.dcsctp_delivery_turns.specs.Asking.{own_of, SomeFit}
@@ -44,7 +44,7 @@ module _ (options : Options) (ends : Ends) (e : Endpoint) (queued : List Message
   unread_goes unread goes = subst (λ (l : List MessageContent). AreEnds options e queued past packets o.after (after_effects o.effects their_past) l) (sym unread) goes
 
   -- there is none after the turn
-  pub rests : o.after.below.transfer ≡ None → SomeFit (own_of o.after) → link_in o.after.core ≡ None → ((my : Pair) (number : ℕ) → Has (performs my number) o.effects → ⊥) → LeavesReady ends.gets o.after.left o.after.below.transfer
+  pub rests : o.after.queues.transfer ≡ None → SomeFit (own_of o.after) → identity_in o.after.core ≡ None → ((my : Pair) (number : ℕ) → HasEffect (performs my number) o.effects → ⊥) → LeavesReady ends.gets o.after.left o.after.queues.transfer
       → AreEnds options e queued past packets o.after (after_effects o.effects their_past) (messages_of reads)
   rests none fits unlinked no_performs left =
       record {
@@ -73,11 +73,11 @@ module _ (options : Options) (ends : Ends) (e : Endpoint) (queued : List Message
   abbrev IsLeft : List MessageContent → Type 0
   IsLeft left = (left ≡ []) ⊎ ((tag : ℕ) × ((ends.gets tag).reassembly.incoming.ready ≡ left))
 
-  module _ (nowhere : d.below.transfer ≡ None) (gone : o.after.below.transfer ≡ None) (fits : SomeFit (own_of o.after)) (unlinked : link_in o.after.core ≡ None)
-      (no_performs : (my : Pair) (number : ℕ) → Has (performs my number) o.effects → ⊥) where
+  module _ (nowhere : d.queues.transfer ≡ None) (gone : o.after.queues.transfer ≡ None) (fits : SomeFit (own_of o.after)) (unlinked : identity_in o.after.core ≡ None)
+      (no_performs : (my : Pair) (number : ℕ) → HasEffect (performs my number) o.effects → ⊥) where
     -- Nothing is read.
     unread_rests : reads_after d input (messages_of reads) ≡ messages_of reads → IsLeft o.after.left → Turned
-    unread_rests unread left = unread_goes unread (rests gone fits unlinked no_performs (left_idle ends.gets o.after.left o.after.below.transfer gone left))
+    unread_rests unread left = unread_goes unread (rests gone fits unlinked no_performs (left_idle ends.gets o.after.left o.after.queues.transfer gone left))
 
     -- The first of what an association left is read.
     left_read : (tag : ℕ) (message : MessageContent) (messages : List MessageContent) → (ends.gets tag).reassembly.incoming.ready ≡ message ∷ messages → o.after.left ≡ messages
@@ -90,15 +90,15 @@ module _ (options : Options) (ends : Ends) (e : Endpoint) (queued : List Message
           tagged = and_first tag (message ∷ messages) reads;
           are_all = first_messages tag (message ∷ messages) reads;
           between = record {
-            runs = set_all (λ t g. Run options (ends.firsts t) options.max_receiver_window_buffer_size (joined (ends.sends t) g)) tag got ends.gets
+            runs = set_all (λ t g. DirectionRun options (ends.firsts t) options.max_receiver_window_buffer_size (joined (ends.sends t) g)) tag got ends.gets
                 (directions.goes_on (joined (ends.sends tag) (ends.gets tag)) (joined (ends.sends tag) got) (h.runs tag) (directions.takes message messages ready)) (λ t ne. h.runs t);
             small = h.small;
-            sender = sender_same ends (set_at tag got ends.gets) (peer_tag e.core) e.below queued past packets h.sender;
+            sender = sender_same ends (set_at tag got ends.gets) (peer_tag e.core) e.queues queued past packets h.sender;
             asks = h.asks;
             receiver = record {
               fits = fits;
               current = λ transfer there. (let clash : ◌≡◌ {A = Option Transfer} None (Some transfer) = sym gone ∙ there in absurd (cc));
-              left = left_idle (set_at tag got ends.gets) o.after.left o.after.below.transfer gone (inr (tag, ap (λ (g : ReceivingEnd). g.reassembly.incoming.ready) (set_same tag got ends.gets) ∙ sym left));
+              left = left_idle (set_at tag got ends.gets) o.after.left o.after.queues.transfer gone (inr (tag, ap (λ (g : ReceivingEnd). g.reassembly.incoming.ready) (set_same tag got ends.gets) ∙ sym left));
               were_read = set_all (λ t g. with_tag t (and_first tag (message ∷ messages) reads) ≡ g.read) tag got ends.gets
                   (first_own tag (message ∷ messages) reads ∙ ap (λ (l : List MessageContent). l ++ message ∷ []) (h.receiver.were_read tag)) (λ t ne. first_other t tag (message ∷ messages) reads ne ∙ h.receiver.were_read t);
               begun = λ t. elim (decide t tag) [
@@ -109,7 +109,7 @@ module _ (options : Options) (ends : Ends) (e : Endpoint) (queued : List Message
           };
           answered = record {
             pairs = rest.pairs;
-            answers = same_requests (requests_of (record ends { gets = set_at tag got ends.gets }) rest.pairs) (requests_of ends rest.pairs) (link_in e.core) past (link_in o.after.core) (after_effects o.effects their_past) (waits_in o.after.below.transfer) (λ t. refl) rest.answers;
+            answers = same_requests (requests_of (record ends { gets = set_at tag got ends.gets }) rest.pairs) (requests_of ends rest.pairs) (identity_in e.core) past (identity_in o.after.core) (after_effects o.effects their_past) (waiting_deferral o.after.queues.transfer) (λ t. refl) rest.answers;
             unlinked = rest.unlinked;
           };
         }
@@ -119,7 +119,7 @@ module _ (options : Options) (ends : Ends) (e : Endpoint) (queued : List Message
         had (inl new') = (let none : ◌≡◌ {A = List MessageContent} (message ∷ messages) [] = sym ready ∙ ap (λ (g : ReceivingEnd). g.reassembly.incoming.ready) new' in absurd (cc))
         had (inr had') = tag_later o.effects their_past tag (ends.firsts tag) had'
 
-    takes_goes : (left : List MessageContent) → IsLeft left → o.after.left ≡ without_first left → with_first left (messages_of reads) ≡ reads_after d input (messages_of reads) → Turned
+    takes_goes : (left : List MessageContent) → IsLeft left → o.after.left ≡ without_first_message left → with_first left (messages_of reads) ≡ reads_after d input (messages_of reads) → Turned
     takes_goes [] is stays same' = unread_rests (sym same') (inl stays)
     takes_goes (message ∷ messages) (inl none) stays same' = absurd (cc)
     takes_goes (message ∷ messages) (inr (tag, ready)) stays same' =

@@ -5,7 +5,7 @@ use Rattle.dcsctp_spec_lemmas.specs.types.declared.options.Options.{Options}
 use Rattle.dcsctp_spec_lemmas.specs.spec.Packet.{Emission}
 use Rattle.dcsctp_spec_runs.specs.World.{after_effects}
 use Rattle.dcsctp_spec_lemmas.specs.spec.association.Effect.{Effect, holds}
-use Rattle.dcsctp_spec_lemmas.specs.spec.queues.Transfer.{Below}
+use Rattle.dcsctp_spec_lemmas.specs.spec.queues.Transfer.{EndpointQueues}
 use Rattle.dcsctp_theorem_association.proofs.Growth.{after_within}
 use Rattle.dcsctp_delivery_sending.specs.Places.{set_at}
 use Rattle.dcsctp_delivery_sending.specs.Log.{Message}
@@ -26,11 +26,11 @@ begun_later options ends effects past tag (inl new) = inl new
 begun_later options ends effects past tag (inr had) = inr (tag_later effects past tag (ends.firsts tag) had)
 
 -- The sender's ends are the same.
-pub sender_same : (ends : Ends) (gets : ℕ → ReceivingEnd) (key : ℕ) (below : Below) (queued : List Message) (past : List Effect) (packets : List Emission) → Sender ends key below queued past packets
+pub sender_same : (ends : Ends) (gets : ℕ → ReceivingEnd) (key : ℕ) (below : EndpointQueues) (queued : List Message) (past : List Effect) (packets : List Emission) → Sender ends key below queued past packets
     → Sender (record ends { gets = gets }) key below queued past packets
 sender_same ends gets key below queued past packets s =
     record {
-      below_is = s.below_is;
+      queues_are = s.queues_are;
       long = s.long;
       marks = s.marks;
       short = s.short;
@@ -44,11 +44,11 @@ sender_same ends gets key below queued past packets s =
     }
 
 -- More is known of its requests under one tag.
-pub sender_asked : (ends : Ends) (tag : ℕ) (asking : Asking) (got : ReceivingEnd) (key : ℕ) (below : Below) (queued : List Message) (past : List Effect) (packets : List Emission) → Sender ends key below queued past packets
+pub sender_asked : (ends : Ends) (tag : ℕ) (asking : Asking) (got : ReceivingEnd) (key : ℕ) (below : EndpointQueues) (queued : List Message) (past : List Effect) (packets : List Emission) → Sender ends key below queued past packets
     → ((ends.sends tag).asking ≡ nothing_asked → asking ≡ nothing_asked) → Sender (asked_ends ends tag asking got) key below queued past packets
 sender_asked ends tag asking got key below queued past packets s still =
     record {
-      below_is = s.below_is;
+      queues_are = s.queues_are;
       long = s.long;
       marks = s.marks;
       short = s.short;
@@ -72,11 +72,11 @@ sender_asked ends tag asking got key below queued past packets s still =
         ]
 
 -- The sender has begun no association under this tag.
-pub sender_first : (ends : Ends) (gets : ℕ → ReceivingEnd) (tag first key : ℕ) (below : Below) (queued : List Message) (past : List Effect) (packets : List Emission) → Sender ends key below queued past packets
+pub sender_first : (ends : Ends) (gets : ℕ → ReceivingEnd) (tag first key : ℕ) (below : EndpointQueues) (queued : List Message) (past : List Effect) (packets : List Emission) → Sender ends key below queued past packets
     → tag ≢ key → Awaits (ends.sends tag) → Sender (record ends { gets = gets; firsts = set_at tag first ends.firsts }) key below queued past packets
 sender_first ends gets tag first key below queued past packets s ne waits =
     record {
-      below_is = s.below_is;
+      queues_are = s.queues_are;
       long = s.long;
       marks = s.marks;
       short = s.short;

@@ -8,7 +8,7 @@ use Rattle.dcsctp_spec_lemmas.specs.spec.endpoint.Outcome.{Outcome}
 use Rattle.dcsctp_spec_lemmas.specs.spec.Packet.{Emission}
 use Rattle.dcsctp_spec_lemmas.specs.spec.endpoint.Turn.{Input, Turn}
 use Rattle.dcsctp_spec_runs.specs.World.{after_effects}
-use Rattle.dcsctp_spec_lemmas.specs.spec.association.Effect.{Link, Effect, link_of, link_in}
+use Rattle.dcsctp_spec_lemmas.specs.spec.association.Effect.{AssociationIdentity, Effect, identity_of, identity_in}
 use Rattle.dcsctp_spec_lemmas.specs.types.queues.Messages.{MessageContent}
 use Rattle.dcsctp_spec_lemmas.specs.spec.queues.Reassembly.{ReassemblyState}
 use Rattle.dcsctp_spec_lemmas.specs.spec.queues.Tracker.{TrackerState}
@@ -16,19 +16,19 @@ use Rattle.dcsctp_spec_lemmas.specs.spec.queues.Transfer.{Transfer}
 use Rattle.dcsctp_delivery_sending.specs.Places.{set_at}
 use Rattle.dcsctp_delivery_sending.specs.Log.{Message}
 use Rattle.dcsctp_delivery_sending.proofs.Places.{decide, set_same, set_other}
-use Rattle.dcsctp_delivery_directions.specs.Directions.{Asking, nothing_asked, Direction, Run}
+use Rattle.dcsctp_delivery_directions.specs.Directions.{Asking, nothing_asked, Direction, DirectionRun}
 use Rattle.dcsctp_delivery_directions.proofs.RequestCounts.{requests_are_sent}
 use Rattle.dcsctp_delivery_turns.specs.Asking.{Own, AsksFit, OutIs}
 use Rattle.dcsctp_delivery_turns.specs.PeerRequests.{KnowsPeerIn}
 use Rattle.dcsctp_delivery_turns.specs.Runs.{IsNewest, PerformsNewest, performed_where, PerformedBy}
 use Rattle.dcsctp_delivery_turns.proofs.PeersTurns.{ends_ask_nothing, unlinked_asks_nothing}
-use Rattle.dcsctp_delivery_associations.specs.Answered.{IsInStep, StandsSo, in_step, plain, requests_of, waits_in, AreAnswered}
+use Rattle.dcsctp_delivery_associations.specs.Answered.{IsInStep, StandsSo, in_step, plain, requests_of, waiting_deferral, AreAnswered}
 use Rattle.dcsctp_delivery_associations.specs.Laws.{AsksLittle}
 use Rattle.dcsctp_delivery_associations.proofs.UnaskedPasts.{reset_none}
 use Rattle.dcsctp_delivery_associations.proofs.AnsweringRests.{none_performed}
 use Rattle.dcsctp_delivery_associations.proofs.ReceiverAnswers.{asked_ends, Standing, performs_newest, newest_or_not, nothing_performed, goes_answered}
 use Rattle.dcsctp_spec_lemmas.specs.spec.Packet.{re_config}
-use Rattle.dcsctp_spec_runs.specs.Past.{Has}
+use Rattle.dcsctp_spec_runs.specs.Past.{HasEffect}
 use Rattle.dcsctp_spec_lemmas.specs.spec.Reconfiguration.{RequestedReset, ResetParameter}
 use Rattle.dcsctp_spec_lemmas.specs.spec.association.Effect.{holds}
 use Rattle.dcsctp_spec_lemmas.specs.spec.endpoint.ResetOutcomes.{has_reset, requested_in}
@@ -37,7 +37,7 @@ use Rattle.dcsctp_delivery_turns.specs.Asking.{own_of, SomeFit}
 use Rattle.dcsctp_delivery_turns.specs.Sides.{WasSent, receiving}
 use Rattle.dcsctp_delivery_turns.specs.Runs.{ReceiverTurns, receiver_goes_on, receiver_ends, receiver_begins, IdleTurns, idle_stays, idle_begins}
 use Rattle.dcsctp_delivery_turns.proofs.Runs.{receivers_go_on, receivers_begin}
-use Rattle.dcsctp_delivery_associations.specs.Ends.{ReceivingEnd, joined, new_end, Ends, NewTag, HadTag, IsCurrent, Between}
+use Rattle.dcsctp_delivery_associations.specs.Ends.{ReceivingEnd, joined, new_end, Ends, NewTag, HadTag, IsCurrentEnd, Between}
 use Rattle.dcsctp_delivery_associations.specs.Reads.{Read, reads_after, tagged_after, with_tag, messages_of}
 use Rattle.dcsctp_delivery_associations.proofs.WhatIsLeft.{goes_left, ends_left}
 use Rattle.dcsctp_delivery_associations.proofs.WhatIsRead.{reads_still, opening_still, tagged_messages, own_read, other_read}
@@ -50,8 +50,8 @@ use Rattle.dcsctp_delivery_associations.proofs.ReceiverRests.{rests, idle_rests}
 
 module _ (options : Options) (ends : Ends) (e : Endpoint) (queued : List Message) (past : List Effect) (packets : List Emission) (d : Endpoint) (their_past : List Effect) (reads : List Read)
     (h : Between options ends e queued past packets d their_past reads) (few : length queued < 2 ^ 64) (same : SameOptions options d.options) (input : Input) (o : Outcome)
-    (new : (begun : Begun d o) → IsOpening (came_by input) → link_in o.after.core ≡ Some (link_of begun.my begun.held) → NewTag their_past past (link_of begun.my begun.held)) (w : AreAnswered ends e past d their_past)
-    (little : AsksLittle packets) (new_tags : (link old : Link) → Has (holds link) o.effects → Has (holds old) their_past → old.my.tag ≢ link.my.tag) (may : IsCall input) (turn : Turn d input o) where
+    (new : (begun : Begun d o) → IsOpening (came_by input) → identity_in o.after.core ≡ Some (identity_of begun.my begun.held) → NewTag their_past past (identity_of begun.my begun.held)) (w : AreAnswered ends e past d their_past)
+    (little : AsksLittle packets) (new_tags : (link old : AssociationIdentity) → HasEffect (holds link) o.effects → HasEffect (holds old) their_past → old.my.tag ≢ link.my.tag) (may : IsCall input) (turn : Turn d input o) where
   -- what is to be shown of the turn
   abbrev pub Turned : Type 0
   Turned = AreEnds options e queued past packets o.after (after_effects o.effects their_past) (reads_after d input (messages_of reads))
@@ -61,11 +61,11 @@ module _ (options : Options) (ends : Ends) (e : Endpoint) (queued : List Message
 
   -- ---- an association goes on
 
-  module _ (transfer : Transfer) (there : d.below.transfer ≡ Some transfer) (c : IsCurrent ends d their_past transfer) where
-    receives : link_in o.after.core ≡ link_in d.core → (left : Transfer) → o.after.below.transfer ≡ Some left → SomeFit (own_of o.after) → (asking : Asking)
+  module _ (transfer : Transfer) (there : d.queues.transfer ≡ Some transfer) (c : IsCurrentEnd ends d their_past transfer) where
+    receives : identity_in o.after.core ≡ identity_in d.core → (left : Transfer) → o.after.queues.transfer ≡ Some left → SomeFit (own_of o.after) → (asking : Asking)
         → ((ends.sends c.link.my.tag).asking ≡ nothing_asked → asking ≡ nothing_asked) → ((first : ℕ) (own : Option Own) → AsksFit first own (ends.sends c.link.my.tag).asking → AsksFit first own asking)
         → AreAnswered (asked_ends ends c.link.my.tag asking (record { tracker = left.tracker; reassembly = left.reassembly; read = read_after d input (ends.gets c.link.my.tag).read })) e past o.after (after_effects o.effects their_past)
-        → Run options (ends.firsts c.link.my.tag) options.max_receiver_window_buffer_size
+        → DirectionRun options (ends.firsts c.link.my.tag) options.max_receiver_window_buffer_size
         (record (receiving (joined (ends.sends c.link.my.tag) (ends.gets c.link.my.tag)) left (read_after d input (ends.gets c.link.my.tag).read)) { asking = asking })
         → Turned
     receives linked left is fits asking still fit answered run =
@@ -78,15 +78,15 @@ module _ (options : Options) (ends : Ends) (e : Endpoint) (queued : List Message
           between = record {
             runs = λ t. elim (decide t tag) [
               | inl e' ↦
-                  subst (λ (n : ℕ). Run options (ends.firsts n) options.max_receiver_window_buffer_size (joined ((asked_ends ends tag asking got).sends n) ((asked_ends ends tag asking got).gets n))) (sym e')
-                  (subst (λ (x : Asking). Run options (ends.firsts tag) options.max_receiver_window_buffer_size (joined (record (ends.sends tag) { asking = x }) (set_at tag got ends.gets tag))) (sym (set_same tag asking (λ n. (ends.sends n).asking)))
-                  (subst (λ (g : ReceivingEnd). Run options (ends.firsts tag) options.max_receiver_window_buffer_size (joined (record (ends.sends tag) { asking = asking }) g)) (sym (set_same tag got ends.gets)) run))
+                  subst (λ (n : ℕ). DirectionRun options (ends.firsts n) options.max_receiver_window_buffer_size (joined ((asked_ends ends tag asking got).sends n) ((asked_ends ends tag asking got).gets n))) (sym e')
+                  (subst (λ (x : Asking). DirectionRun options (ends.firsts tag) options.max_receiver_window_buffer_size (joined (record (ends.sends tag) { asking = x }) (set_at tag got ends.gets tag))) (sym (set_same tag asking (λ n. (ends.sends n).asking)))
+                  (subst (λ (g : ReceivingEnd). DirectionRun options (ends.firsts tag) options.max_receiver_window_buffer_size (joined (record (ends.sends tag) { asking = asking }) g)) (sym (set_same tag got ends.gets)) run))
               | inr ne ↦
-                  subst (λ (x : Asking). Run options (ends.firsts t) options.max_receiver_window_buffer_size (joined (record (ends.sends t) { asking = x }) (set_at tag got ends.gets t))) (sym (set_other tag t asking (λ n. (ends.sends n).asking) ne))
-                  (subst (λ (g : ReceivingEnd). Run options (ends.firsts t) options.max_receiver_window_buffer_size (joined (ends.sends t) g)) (sym (set_other tag t got ends.gets ne)) (h.runs t))
+                  subst (λ (x : Asking). DirectionRun options (ends.firsts t) options.max_receiver_window_buffer_size (joined (record (ends.sends t) { asking = x }) (set_at tag got ends.gets t))) (sym (set_other tag t asking (λ n. (ends.sends n).asking) ne))
+                  (subst (λ (g : ReceivingEnd). DirectionRun options (ends.firsts t) options.max_receiver_window_buffer_size (joined (ends.sends t) g)) (sym (set_other tag t got ends.gets ne)) (h.runs t))
             ];
             small = h.small;
-            sender = sender_asked ends tag asking got (peer_tag e.core) e.below queued past packets h.sender still;
+            sender = sender_asked ends tag asking got (peer_tag e.core) e.queues queued past packets h.sender still;
             asks = elim (decide (peer_tag e.core) tag) [
               | inl e' ↦
                   subst (λ (x : Asking). AsksFit (ends.firsts (peer_tag e.core)) (own_of e) x) (sym (ap (set_at tag asking (λ n. (ends.sends n).asking)) e' ∙ set_same tag asking (λ n. (ends.sends n).asking)))
@@ -96,7 +96,7 @@ module _ (options : Options) (ends : Ends) (e : Endpoint) (queued : List Message
             receiver = record {
               fits = fits;
               current = λ other there'. (
-                  let one : left ≡ other = same_transfer o.after.below.transfer left other is there' in
+                  let one : left ≡ other = same_transfer o.after.queues.transfer left other is there' in
                   record {
                     link = c.link;
                     linked = linked ∙ c.linked;
@@ -126,10 +126,10 @@ module _ (options : Options) (ends : Ends) (e : Endpoint) (queued : List Message
         others t ne at (inl new) = inl (set_other c.link.my.tag t at ends.gets ne ∙ new)
         others t ne at (inr had) = inr had
 
-    now : Run options (ends.firsts c.link.my.tag) options.max_receiver_window_buffer_size (receiving (joined (ends.sends c.link.my.tag) (ends.gets c.link.my.tag)) transfer (ends.gets c.link.my.tag).read)
+    now : DirectionRun options (ends.firsts c.link.my.tag) options.max_receiver_window_buffer_size (receiving (joined (ends.sends c.link.my.tag) (ends.gets c.link.my.tag)) transfer (ends.gets c.link.my.tag).read)
     now =
-        subst (λ (t : TrackerState). Run options (ends.firsts c.link.my.tag) options.max_receiver_window_buffer_size (joined (ends.sends c.link.my.tag) (record { tracker = t; reassembly = transfer.reassembly; read = (ends.gets c.link.my.tag).read }))) c.tracker
-        (subst (λ (r : ReassemblyState). Run options (ends.firsts c.link.my.tag) options.max_receiver_window_buffer_size (joined (ends.sends c.link.my.tag) (record { tracker = (ends.gets c.link.my.tag).tracker; reassembly = r; read = (ends.gets c.link.my.tag).read }))) c.reassembly
+        subst (λ (t : TrackerState). DirectionRun options (ends.firsts c.link.my.tag) options.max_receiver_window_buffer_size (joined (ends.sends c.link.my.tag) (record { tracker = t; reassembly = transfer.reassembly; read = (ends.gets c.link.my.tag).read }))) c.tracker
+        (subst (λ (r : ReassemblyState). DirectionRun options (ends.firsts c.link.my.tag) options.max_receiver_window_buffer_size (joined (ends.sends c.link.my.tag) (record { tracker = (ends.gets c.link.my.tag).tracker; reassembly = r; read = (ends.gets c.link.my.tag).read }))) c.reassembly
         (h.runs c.link.my.tag))
 
     -- ---- what is known of the request that is handled
@@ -145,10 +145,10 @@ module _ (options : Options) (ends : Ends) (e : Endpoint) (queued : List Message
         omega (arith, sent, went, all)
 
     -- An association that begins is another one.
-    new_same : (begun : Begun d o) → IsOpening (came_by input) → link_in o.after.core ≡ Some (link_of begun.my begun.held) → link_of begun.my begun.held ≡ c.link → ⊥
+    new_same : (begun : Begun d o) → IsOpening (came_by input) → identity_in o.after.core ≡ Some (identity_of begun.my begun.held) → identity_of begun.my begun.held ≡ c.link → ⊥
     new_same begun opening linked same' =
         let held = (w.answers.theirs_held c.link c.linked).0 in
-        ((new begun opening linked).other held.link held.held).0 (held.tag_is ∙ ap (λ (l : Link). l.my.tag) (sym same'))
+        ((new begun opening linked).other held.link held.held).0 (held.tag_is ∙ ap (λ (l : AssociationIdentity). l.my.tag) (sym same'))
 
     -- What is asked fits too once a request is performed.
     fits_performed : (known reset : Bool) (first : ℕ) (own : Option Own) (asking : Asking) → AsksFit first own asking → AsksFit first own (performed_where known reset asking)
@@ -163,7 +163,7 @@ module _ (options : Options) (ends : Ends) (e : Endpoint) (queued : List Message
 
     module _ (sent : WasSent (ends.sends c.link.my.tag).sent (came_by input)) (knows : KnowsPeerIn their_past d.core) where
       -- Where nothing was asked nothing is performed.
-      still_nothing : (is_known : Bool) (asking : Asking) → PerformedBy is_known input o (joined (ends.sends c.link.my.tag) (ends.gets c.link.my.tag)) asking → (left : Transfer) → o.after.below.transfer ≡ Some left
+      still_nothing : (is_known : Bool) (asking : Asking) → PerformedBy is_known input o (joined (ends.sends c.link.my.tag) (ends.gets c.link.my.tag)) asking → (left : Transfer) → o.after.queues.transfer ≡ Some left
           → (ends.sends c.link.my.tag).asking ≡ nothing_asked → asking ≡ nothing_asked
       still_nothing is_known asking by left is none = by.3 ∙ go by.0 by.2
         where
@@ -178,7 +178,7 @@ module _ (options : Options) (ends : Ends) (e : Endpoint) (queued : List Message
               (joined (ends.sends c.link.my.tag) (ends.gets c.link.my.tag)) (ends.firsts c.link.my.tag) (h.runs c.link.my.tag) refl sent few_asked knows (says refl) none)
 
       by_turn : (is_known : Bool)
-          → ((left : Transfer) (is : o.after.below.transfer ≡ Some left) → Standing ends e past d their_past w input o may turn new_tags c.link c.linked transfer left there is options.max_receiver_window_buffer_size options
+          → ((left : Transfer) (is : o.after.queues.transfer ≡ Some left) → Standing ends e past d their_past w input o may turn new_tags c.link c.linked transfer left there is options.max_receiver_window_buffer_size options
           (joined (ends.sends c.link.my.tag) (ends.gets c.link.my.tag)) (ends.firsts c.link.my.tag) (h.runs c.link.my.tag) refl sent few_asked knows is_known)
           → ReceiverTurns is_known options (ends.firsts c.link.my.tag) options.max_receiver_window_buffer_size (joined (ends.sends c.link.my.tag) (ends.gets c.link.my.tag)) transfer d input o → Turned
       by_turn is_known stands (receiver_goes_on linked left is fits asking by run) =
@@ -201,9 +201,9 @@ module _ (options : Options) (ends : Ends) (e : Endpoint) (queued : List Message
 
       -- What is performed wants what the newest wants where the receiver stands in step.
       newest_so : IsInStep (requests_of ends w.pairs c.link.my.tag) their_past transfer.reassembly.deferral → PerformsNewest (joined (ends.sends c.link.my.tag) (ends.gets c.link.my.tag)) transfer (came_by input) o.effects
-      newest_so step done = by_left o.after.below.transfer refl
+      newest_so step done = by_left o.after.queues.transfer refl
         where
-          by_left : (found : Option Transfer) → o.after.below.transfer ≡ found → (parameters : List ResetParameter) (reset : RequestedReset) → came_by input ≡ Some (re_config parameters) → requested_in parameters ≡ Some reset
+          by_left : (found : Option Transfer) → o.after.queues.transfer ≡ found → (parameters : List ResetParameter) (reset : RequestedReset) → came_by input ≡ Some (re_config parameters) → requested_in parameters ≡ Some reset
               → IsNewest (joined (ends.sends c.link.my.tag) (ends.gets c.link.my.tag)) transfer reset
           by_left None gone = (let clash : true ≡ false = sym done ∙ reset_none o.effects (ends_ask_nothing d input o transfer may turn there gone) in absurd (cc))
           by_left (Some left) is =
@@ -212,9 +212,9 @@ module _ (options : Options) (ends : Ends) (e : Endpoint) (queued : List Message
 
       turn_goes : StandsSo (requests_of ends w.pairs c.link.my.tag) their_past transfer.reassembly.deferral → Turned
       turn_goes (plain kind some) = by_turn false (λ left is. inl kind) (goes_known false (λ known. (let clash : false ≡ true = known in absurd (cc))))
-      turn_goes (in_step step) = by_left o.after.below.transfer refl
+      turn_goes (in_step step) = by_left o.after.queues.transfer refl
         where
-          by_left : (found : Option Transfer) → o.after.below.transfer ≡ found → Turned
+          by_left : (found : Option Transfer) → o.after.queues.transfer ≡ found → Turned
           by_left None gone =
               by_turn false (λ left is. (let clash : ◌≡◌ {A = Option Transfer} None (Some left) = sym gone ∙ is in absurd (cc))) (goes_known false (λ known. (let clash : false ≡ true = known in absurd (cc))))
           by_left (Some left) is =
@@ -226,7 +226,7 @@ module _ (options : Options) (ends : Ends) (e : Endpoint) (queued : List Message
 
   -- ---- in any turn
 
-  idle_goes : d.below.transfer ≡ None → IdleTurns d input o → Turned
+  idle_goes : d.queues.transfer ≡ None → IdleTurns d input o → Turned
   idle_goes nowhere (idle_stays which none fits unread) =
       idle_rests options ends e queued past packets d their_past reads h input o w may turn nowhere none fits (elim which [ inl gone ↦ gone | inr same' ↦ same' ∙ w.unlinked nowhere ]) (none_performed o.effects (unlinked_asks_nothing d input o may turn (w.unlinked nowhere)).0)
   idle_goes nowhere (idle_begins opens) =
@@ -234,14 +234,14 @@ module _ (options : Options) (ends : Ends) (e : Endpoint) (queued : List Message
 
   -- What is handled in an association was sent in it.
   abbrev pub Sent : Type 0
-  Sent = (transfer : Transfer) (link : Link) → d.below.transfer ≡ Some transfer → link_in d.core ≡ Some link → WasSent (ends.sends link.my.tag).sent (came_by input)
+  Sent = (transfer : Transfer) (link : AssociationIdentity) → d.queues.transfer ≡ Some transfer → identity_in d.core ≡ Some link → WasSent (ends.sends link.my.tag).sent (came_by input)
 
-  by_transfer : Sent → KnowsPeerIn their_past d.core → (found : Option Transfer) → d.below.transfer ≡ found → Turned
+  by_transfer : Sent → KnowsPeerIn their_past d.core → (found : Option Transfer) → d.queues.transfer ≡ found → Turned
   by_transfer sent knows None nowhere = idle_goes nowhere (receivers_begin d input o nowhere h.receiver.fits (λ begun opening linked. (new begun opening linked).own_small) may turn)
   by_transfer sent knows (Some transfer) there =
       let c = h.receiver.current transfer there in
       turn_goes transfer there c (sent transfer c.link there c.linked) knows
-      (subst (λ (t : Option Transfer). StandsSo (requests_of ends w.pairs c.link.my.tag) their_past (waits_in t)) there (w.answers.stands c.link c.linked))
+      (subst (λ (t : Option Transfer). StandsSo (requests_of ends w.pairs c.link.my.tag) their_past (waiting_deferral t)) there (w.answers.stands c.link c.linked))
 
   pub receiver_turns : KnowsPeerIn their_past d.core → Sent → Turned
-  receiver_turns knows sent = by_transfer sent knows d.below.transfer refl
+  receiver_turns knows sent = by_transfer sent knows d.queues.transfer refl

@@ -1,14 +1,14 @@
 -- The sender sends its newest request again under the next number.
 use Rattle.std.proofs.Common.{◌≡◌, ℕ, suc, true, ◌<◌, ◌≤◌, ◌+◌, ◌-◌, ◌^◌, Option, List, [], ◌∷◌, ◌++◌, length, length-append, refl, sym, ◌∙◌, ap, subst, inl, inr, arith}
 use Rattle.std.specs.Prelude.{◌⊎◌}
-use Rattle.dcsctp_spec_runs.specs.Past.{Has}
+use Rattle.dcsctp_spec_runs.specs.Past.{HasEffect}
 use Rattle.dcsctp_spec_lemmas.specs.spec.association.Effect.{Effect, performs}
 use Rattle.dcsctp_spec_lemmas.specs.spec.queues.Reassembly.{DeferralModel}
 use Rattle.dcsctp_spec_lemmas.specs.spec.endpoint.BegunResets.{BegunReset}
 use Rattle.dcsctp_delivery_receiving.specs.Clear.{IsOwn}
 use Rattle.dcsctp_delivery_directions.specs.Directions.{Asking, nothing_asked, asking_renewed}
 use Rattle.dcsctp_delivery_turns.specs.Asking.{AreNumbered}
-use Rattle.dcsctp_delivery_associations.specs.Answered.{Requests, number_at, WantFrom, AreAsked, IsPlaced, IsInStep, all_performed, unaccepted, in_progress, StandsSo, in_step, plain}
+use Rattle.dcsctp_delivery_associations.specs.Answered.{Requests, request_number_at, WantFrom, AreAsked, IsRequestNumber, IsInStep, all_performed, unaccepted, in_progress, StandsSo, in_step, plain}
 use Rattle.dcsctp_delivery_associations.proofs.RequestNumbers.{same_place, want_beyond}
 use Rattle.dcsctp_delivery_associations.proofs.AskedOn as asked
 use Rattle.dcsctp_delivery_associations.proofs.AskedOn.{MayEnd, MayBegin}
@@ -35,7 +35,7 @@ module _ (r : Requests) (their_past : List Effect) (a : (r.asking ≡ nothing_as
       }
     where
       one_was : r.is_interleaved ≡ true → (top : BegunReset) (rest : List BegunReset) → (renewed number newest r).asking.requests ≡ top ∷ rest
-          → ((n : ℕ) × Has (performs r.my n) their_past) ⊎ WantFrom 0 top.reset (renewed number newest r).asking.requests
+          → ((n : ℕ) × HasEffect (performs r.my n) their_past) ⊎ WantFrom 0 top.reset (renewed number newest r).asking.requests
       one_was interleaved top rest same =
           elim a [
             | inl none ↦ (let empty : r.asking.requests ≡ [] = ap (λ (s : Asking). s.requests) none in absurd (cc))
@@ -45,7 +45,7 @@ module _ (r : Requests) (their_past : List Effect) (a : (r.asking ≡ nothing_as
             ]
           ]
 
-  renewed_placed : (n : ℕ) → IsPlaced r n → IsPlaced (renewed number newest r) n
+  renewed_placed : (n : ℕ) → IsRequestNumber r n → IsRequestNumber (renewed number newest r) n
   renewed_placed n at =
       let below = at.below in record { place = at.place; below = omega (arith, below); is = at.is; newest = λ interleaved last. absurd (omega (arith, last, below)) }
 
@@ -84,7 +84,7 @@ numbered_before first (begun ∷ more) requests numbers = numbered_before first 
 
 -- If the newest was performed, that is known.
 pub known_newest : (r : Requests) → length r.asking.requests < 2 ^ 32 - 1 → (newest : BegunReset) (earlier : List BegunReset) → r.asking.requests ≡ newest ∷ earlier → r.is_interleaved ≡ true
-    → IsPlaced r (number_at r.first (length earlier)) → r.asking.is_performed ≡ true
+    → IsRequestNumber r (request_number_at r.first (length earlier)) → r.asking.is_performed ≡ true
 known_newest r few newest earlier is interleaved at =
     let long : length r.asking.requests ≡ suc (length earlier) = ap (λ (l : List BegunReset). length l) is in
     let below = at.below in
@@ -112,23 +112,23 @@ module _ (r : Requests) (their_past : List Effect) (a : (r.asking ≡ nothing_as
       asked.asked_on (renewed number newest r) their_past (inr (renewed_asked r their_past a number newest earlier is out (numbers_between r.first between asking begins))) (few_between r.first between asking begins) between asking
       asked.as_it_was begins
 
-  pub placed_then : (between asking : Asking) → MayGo r their_past between → MayBegin r.first between asking → (number : ℕ) → IsPlaced r number → IsPlaced (after asking) number
+  pub placed_then : (between asking : Asking) → MayGo r their_past between → MayBegin r.first between asking → (number : ℕ) → IsRequestNumber r number → IsRequestNumber (after asking) number
   placed_then _ asking (ends_so between ends) begins n at = asked.placed_on r their_past a few between asking ends begins n at
   placed_then _ asking (was_renewed newest earlier number is out) begins n at =
       let between : Asking = asking_renewed number newest r.asking in
       asked.placed_on (renewed number newest r) their_past (inr (renewed_asked r their_past a number newest earlier is out (numbers_between r.first between asking begins))) (few_between r.first between asking begins) between asking
       asked.as_it_was begins n (renewed_placed r their_past a number newest earlier is out n at)
 
-  pub stands_then : (waits : Option DeferralModel) (between asking : Asking) → MayGo r their_past between → MayBegin r.first between asking → ((number : ℕ) → Has (performs r.my number) their_past → IsPlaced r number)
+  pub stands_then : (waits : Option DeferralModel) (between asking : Asking) → MayGo r their_past between → MayBegin r.first between asking → ((number : ℕ) → HasEffect (performs r.my number) their_past → IsRequestNumber r number)
       → StandsSo r their_past waits → StandsSo (after asking) their_past waits
   stands_then waits _ asking (ends_so between ends) begins placed stands =
       asked.stands_on r their_past a few waits between asking ends begins
-      (λ interleaved newest earlier is has. known_newest r few newest earlier is interleaved (placed (number_at r.first (length earlier)) has)) stands
+      (λ interleaved newest earlier is has. known_newest r few newest earlier is interleaved (placed (request_number_at r.first (length earlier)) has)) stands
   stands_then waits _ asking (was_renewed newest earlier number is out) begins placed stands =
       let between : Asking = asking_renewed number newest r.asking in
       asked.stands_on (renewed number newest r) their_past (inr (renewed_asked r their_past a number newest earlier is out (numbers_between r.first between asking begins))) (few_between r.first between asking begins) waits between asking
       asked.as_it_was begins
       (λ interleaved top rest same has.
       known_newest (renewed number newest r) (few_between r.first between asking begins) top rest same interleaved
-      (renewed_placed r their_past a number newest earlier is out (number_at r.first (length rest)) (placed (number_at r.first (length rest)) has)))
+      (renewed_placed r their_past a number newest earlier is out (request_number_at r.first (length rest)) (placed (request_number_at r.first (length rest)) has)))
       (renewed_stands r their_past a number newest earlier is out waits stands)

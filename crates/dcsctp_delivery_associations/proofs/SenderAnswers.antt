@@ -4,12 +4,12 @@ use Rattle.std.proofs.Common.{◌≡◌, ◌≢◌, ℕ, suc, Bool, true, false,
 use Rattle.dcsctp_spec_lemmas.specs.types.declared.association.Pair.{Pair}
 use Rattle.dcsctp_spec_lemmas.specs.spec.endpoint.Endpoint.{Endpoint, Core, closed, cookie_wait, cookie_echoed, open_in, OutstandingRequest}
 use Rattle.dcsctp_spec_lemmas.specs.spec.endpoint.Outcome.{Outcome}
-use Rattle.dcsctp_spec_runs.specs.Past.{Has}
+use Rattle.dcsctp_spec_runs.specs.Past.{HasEffect}
 use Rattle.dcsctp_spec_lemmas.specs.spec.endpoint.Turn.{Input, Turn}
 use Rattle.dcsctp_spec_runs.specs.World.{after_effects}
-use Rattle.dcsctp_spec_lemmas.specs.spec.association.Effect.{Link, Effect, holds, completes, performs, link_in}
+use Rattle.dcsctp_spec_lemmas.specs.spec.association.Effect.{AssociationIdentity, Effect, holds, completes, performs, identity_in}
 use Rattle.dcsctp_spec_lemmas.specs.spec.queues.Reassembly.{DeferralModel}
-use Rattle.dcsctp_spec_lemmas.specs.spec.queues.Transfer.{Below}
+use Rattle.dcsctp_spec_lemmas.specs.spec.queues.Transfer.{EndpointQueues}
 use Rattle.dcsctp_spec_lemmas.specs.spec.endpoint.BegunResets.{BegunReset}
 use Rattle.dcsctp_spec_lemmas.specs.spec.endpoint.ResetOutcomes.{has_completed}
 use Rattle.dcsctp_delivery_sending.specs.Places.{set_at}
@@ -20,7 +20,7 @@ use Rattle.dcsctp_delivery_turns.specs.Asking.{Own, own_with, own_in, own_of, Ar
 use Rattle.dcsctp_delivery_turns.specs.Runs.{EndsPerformed, IsBetween, as_it_was, once_performed, once_refused, once_renewed}
 use Rattle.dcsctp_delivery_turns.proofs.Completing.{completes_own}
 use Rattle.dcsctp_delivery_associations.specs.Ends.{SendingEnd, ReceivingEnd, Ends, NewPeer}
-use Rattle.dcsctp_delivery_associations.specs.Answered.{Requests, number_at, Answers, requests_of, waits_in, AreAnswered}
+use Rattle.dcsctp_delivery_associations.specs.Answered.{Requests, request_number_at, AnswersRequests, requests_of, waiting_deferral, AreAnswered}
 use Rattle.dcsctp_delivery_associations.specs.Laws.{RefusesNone, CompletesPerformed}
 use Rattle.dcsctp_delivery_associations.proofs.RequestNumbers.{same_place, newest_number}
 use Rattle.dcsctp_delivery_associations.proofs.AnsweringRests.{same_requests}
@@ -38,14 +38,14 @@ small_out None own asking none = omega (arith, none)
 small_out (Some number) own asking out = (let one = out.one in omega (arith, one))
 
 -- It is of the requests that were begun, if there is an association.
-pub asks_so : (first : ℕ) (core : Core) (request : Option OutstandingRequest) (asking : Asking) (link : Link) → link_in core ≡ Some link → AsksFit first (own_in core request) asking → AreNumbered first asking.requests × (asking.out ≤ 1)
+pub asks_so : (first : ℕ) (core : Core) (request : Option OutstandingRequest) (asking : Asking) (link : AssociationIdentity) → identity_in core ≡ Some link → AsksFit first (own_in core request) asking → AreNumbered first asking.requests × (asking.out ≤ 1)
 asks_so first closed request asking link linked fits = absurd (cc)
 asks_so first (cookie_wait my) request asking link linked fits = absurd (cc)
 asks_so first (cookie_echoed my held cookie) request asking link linked fits = (fits.numbers, small_out held.own_outstanding (own_with held request) asking fits.out)
 asks_so first (open_in phase my held) request asking link linked fits = (fits.numbers, small_out held.own_outstanding (own_with held request) asking fits.out)
 
 -- an effect by which a request ends as performed
-pub some_completed : (happened : List Effect) → has_completed happened ≡ true → (my : Pair) × (number : ℕ) × Has (completes my number) happened
+pub some_completed : (happened : List Effect) → has_completed happened ≡ true → (my : Pair) × (number : ℕ) × HasEffect (completes my number) happened
 some_completed [] is = absurd (cc)
 some_completed (effects.completes my number ∷ happened) is = (my, number, inl refl)
 some_completed (effects.draws pair ∷ happened) is = (let found = some_completed happened is in (found.0, found.1, inr found.2))
@@ -74,8 +74,8 @@ newest_is first number found own asking newest earlier is outstanding fits reque
 
 -- ---- a request ends
 
-module _ (requests : ℕ → Requests) (link : Link) (past : List Effect) (theirs : Option Link) (their_past : List Effect) (waits : Option DeferralModel) (h : Answers requests (Some link) past theirs their_past waits)
-    (e : Endpoint) (input : Input) (o : Outcome) (linked : link_in e.core ≡ Some link) (kind : (requests link.peer.tag).is_interleaved ≡ e.below.queue.is_interleaved)
+module _ (requests : ℕ → Requests) (link : AssociationIdentity) (past : List Effect) (theirs : Option AssociationIdentity) (their_past : List Effect) (waits : Option DeferralModel) (h : AnswersRequests requests (Some link) past theirs their_past waits)
+    (e : Endpoint) (input : Input) (o : Outcome) (linked : identity_in e.core ≡ Some link) (kind : (requests link.peer.tag).is_interleaved ≡ e.queues.queue.is_interleaved)
     (fits : AsksFit (requests link.peer.tag).first (own_of e) (requests link.peer.tag).asking) (few : length (requests link.peer.tag).asking.requests < 2 ^ 32 - 1) (completes_so : CompletesPerformed their_past o)
     (may : IsCall input) (turn : Turn e input o) where
   abbrev r : Requests
@@ -85,27 +85,27 @@ module _ (requests : ℕ → Requests) (link : Link) (past : List Effect) (their
   numbers = (asks_so (requests link.peer.tag).first e.core e.outstanding (requests link.peer.tag).asking link linked fits).0
 
   -- The newest was performed if it ends so.
-  performed_newest : has_completed o.effects ≡ true → (newest : BegunReset) (earlier : List BegunReset) → (requests link.peer.tag).asking.requests ≡ newest ∷ earlier → Has (performs link.my newest.number) their_past
+  performed_newest : has_completed o.effects ≡ true → (newest : BegunReset) (earlier : List BegunReset) → (requests link.peer.tag).asking.requests ≡ newest ∷ earlier → HasEffect (performs link.my newest.number) their_past
   performed_newest done newest earlier is =
       let found = some_completed o.effects done in
       let own = completes_own e input o found.0 found.1 may turn found.2 in
       let one : own.link ≡ link = same_link own.linked linked in
-      let mine : found.0 ≡ link.my = sym own.mine ∙ ap (λ (l : Link). l.my) one in
+      let mine : found.0 ≡ link.my = sym own.mine ∙ ap (λ (l : AssociationIdentity). l.my) one in
       let number : newest.number ≡ found.1 = newest_is r.first found.1 (own_of e) own.own r.asking newest earlier own.kept own.outstanding fits is in
       elim (completes_so found.0 found.1 found.2) [
-        | inl has ↦ subst (λ (p : Pair). Has (performs p newest.number) their_past) mine (subst (λ (n : ℕ). Has (performs found.0 n) their_past) (sym number) has)
+        | inl has ↦ subst (λ (p : Pair). HasEffect (performs p newest.number) their_past) mine (subst (λ (n : ℕ). HasEffect (performs found.0 n) their_past) (sym number) has)
         | inr last ↦ absurd (too_many mine (number ∙ last))
       ]
     where
-      same_link : {found : Option Link} {one two : Link} → found ≡ Some one → found ≡ Some two → one ≡ two
+      same_link : {found : Option AssociationIdentity} {one two : AssociationIdentity} → found ≡ Some one → found ≡ Some two → one ≡ two
       same_link first second = cc
 
-      too_many : {pair : Pair} → pair ≡ link.my → newest.number ≡ number_at pair.first_tsn (2 ^ 32 - 1) → ⊥
+      too_many : {pair : Pair} → pair ≡ link.my → newest.number ≡ request_number_at pair.first_tsn (2 ^ 32 - 1) → ⊥
       too_many mine last =
           let long : length (requests link.peer.tag).asking.requests ≡ suc (length earlier) = ap (λ (l : List BegunReset). length l) is in
-          let at : newest.number ≡ number_at (requests link.peer.tag).first (length earlier) = newest_number (requests link.peer.tag).first newest earlier (requests link.peer.tag).asking.requests is numbers in
-          let same : number_at (requests link.peer.tag).first (length earlier) ≡ number_at (requests link.peer.tag).first (2 ^ 32 - 1) =
-          sym at ∙ last ∙ ap (λ (n : ℕ). number_at n (2 ^ 32 - 1)) (ap (λ (p : Pair). p.first_tsn) mine ∙ sym (h.mine_first link refl)) in
+          let at : newest.number ≡ request_number_at (requests link.peer.tag).first (length earlier) = newest_number (requests link.peer.tag).first newest earlier (requests link.peer.tag).asking.requests is numbers in
+          let same : request_number_at (requests link.peer.tag).first (length earlier) ≡ request_number_at (requests link.peer.tag).first (2 ^ 32 - 1) =
+          sym at ∙ last ∙ ap (λ (n : ℕ). request_number_at n (2 ^ 32 - 1)) (ap (λ (p : Pair). p.first_tsn) mine ∙ sym (h.mine_first link refl)) in
           let place : length earlier ≡ 2 ^ 32 - 1 = same_place (requests link.peer.tag).first (length earlier) (2 ^ 32 - 1) same (omega (arith, few, long)) (omega arith) in
           omega (arith, place, long, few)
 
@@ -122,17 +122,17 @@ module _ (requests : ℕ → Requests) (link : Link) (past : List Effect) (their
   ends_performed done interleaved =
       let out = some_out done in
       newest_known requests link past theirs their_past waits h few (kind ∙ interleaved) out.0 out.1 out.2
-      (subst (λ (n : ℕ). Has (performs link.my n) their_past) (newest_number r.first out.0 out.1 r.asking.requests out.2 numbers) (performed_newest done out.0 out.1 out.2))
+      (subst (λ (n : ℕ). HasEffect (performs link.my n) their_past) (newest_number r.first out.0 out.1 r.asking.requests out.2 numbers) (performed_newest done out.0 out.1 out.2))
 
   pub may_go : RefusesNone e o → (between : Asking) → IsBetween o.effects (requests link.peer.tag).asking between → MayGo (requests link.peer.tag) their_past between
   may_go none _ as_it_was = ends_so _ asked.as_it_was
   may_go none _ (once_performed done) =
-      ends_so _ (asked.has_ended (λ interleaved newest earlier is. subst (λ (p : Pair). Has (performs p newest.number) their_past) (sym (h.mine_held link refl).1) (performed_newest done newest earlier is)))
+      ends_so _ (asked.has_ended (λ interleaved newest earlier is. subst (λ (p : Pair). HasEffect (performs p newest.number) their_past) (sym (h.mine_held link refl).1) (performed_newest done newest earlier is)))
   may_go none _ (once_refused done) = ends_so _ (asked.has_ended (λ interleaved. (let clash : true ≡ false = sym done ∙ none (sym kind ∙ interleaved) in absurd (cc))))
   may_go none _ (once_renewed newest earlier number is out next) = was_renewed newest earlier number is out
 
 -- More may be begun.
-pub may_begin : (first : ℕ) (core : Core) (request : Option OutstandingRequest) (between asking : Asking) (link : Link) → link_in core ≡ Some link → AskingGrows between asking → AsksFit first (own_in core request) asking
+pub may_begin : (first : ℕ) (core : Core) (request : Option OutstandingRequest) (between asking : Asking) (link : AssociationIdentity) → identity_in core ≡ Some link → AskingGrows between asking → AsksFit first (own_in core request) asking
     → length asking.requests < 2 ^ 32 - 1 → MayBegin first between asking
 may_begin first core request between asking link linked grows fits few =
     let so = asks_so first core request asking link linked fits in
@@ -142,7 +142,7 @@ may_begin first core request between asking link linked grows fits few =
 
 -- what one end has of the requests
 abbrev of_end : ℕ → Pair → SendingEnd → Requests
-of_end first my end = record { my = my; first = first; asking = end.asking; is_interleaved = end.below.queue.is_interleaved }
+of_end first my end = record { my = my; first = first; asking = end.asking; is_interleaved = end.queues.queue.is_interleaved }
 
 -- Where another end takes its place, others are the same.
 pub set_ends : (ends : Ends) (pairs : ℕ → Pair) (key : ℕ) (end : SendingEnd) (gets : ℕ → ReceivingEnd) (firsts : ℕ → ℕ) (others : ℕ → Pair) (new : Requests) → of_end (firsts key) (others key) end ≡ new
@@ -164,8 +164,8 @@ set_end ends pairs key end new is tag = set_ends ends pairs key end ends.gets en
 
 -- ---- a turn in which the association goes on or ends
 
-module _ (ends : Ends) (e : Endpoint) (past : List Effect) (d : Endpoint) (their_past : List Effect) (w : AreAnswered ends e past d their_past) (key_below : (ends.sends (peer_tag e.core)).below ≡ e.below)
-    (after : Endpoint) (happened : List Effect) (end : SendingEnd) (kind : end.below.queue.is_interleaved ≡ e.below.queue.is_interleaved) where
+module _ (ends : Ends) (e : Endpoint) (past : List Effect) (d : Endpoint) (their_past : List Effect) (w : AreAnswered ends e past d their_past) (key_below : (ends.sends (peer_tag e.core)).queues ≡ e.queues)
+    (after : Endpoint) (happened : List Effect) (end : SendingEnd) (kind : end.queues.queue.is_interleaved ≡ e.queues.queue.is_interleaved) where
   abbrev all : ℕ → Requests
   all = requests_of ends w.pairs
 
@@ -173,61 +173,61 @@ module _ (ends : Ends) (e : Endpoint) (past : List Effect) (d : Endpoint) (their
   grown_to = record ends { sends = set_at (peer_tag e.core) end ends.sends }
 
   -- with this begun
-  module _ (link : Link) (linked : link_in e.core ≡ Some link) (some : link.peer.tag ≢ 0) (between asking : Asking) (is : end.asking ≡ asking) (few : length (ends.sends link.peer.tag).asking.requests < 2 ^ 32 - 1)
+  module _ (link : AssociationIdentity) (linked : identity_in e.core ≡ Some link) (some : link.peer.tag ≢ 0) (between asking : Asking) (is : end.asking ≡ asking) (few : length (ends.sends link.peer.tag).asking.requests < 2 ^ 32 - 1)
       (may : MayGo (requests_of ends w.pairs link.peer.tag) their_past between) (more : MayBegin (ends.firsts link.peer.tag) between asking) where
     key_is : peer_tag e.core ≡ link.peer.tag
     key_is = link_tag e.core link linked
 
-    kind_is : end.below.queue.is_interleaved ≡ (ends.sends link.peer.tag).below.queue.is_interleaved
-    kind_is = kind ∙ sym (ap (λ (t : ℕ). (ends.sends t).below.queue.is_interleaved) (sym key_is) ∙ ap (λ (b : Below). b.queue.is_interleaved) key_below)
+    kind_is : end.queues.queue.is_interleaved ≡ (ends.sends link.peer.tag).queues.queue.is_interleaved
+    kind_is = kind ∙ sym (ap (λ (t : ℕ). (ends.sends t).queues.queue.is_interleaved) (sym key_is) ∙ ap (λ (b : EndpointQueues). b.queue.is_interleaved) key_below)
 
     here : of_end (ends.firsts link.peer.tag) (w.pairs link.peer.tag) end ≡ record (requests_of ends w.pairs link.peer.tag) { asking = asking }
     here =
         ap (λ (a : Asking). record (of_end (ends.firsts link.peer.tag) (w.pairs link.peer.tag) end) { asking = a }) is
         ∙ ap (λ (b : Bool). record (requests_of ends w.pairs link.peer.tag) { asking = asking; is_interleaved = b }) kind_is
 
-    answers_there : Answers (requests_of ends w.pairs) (Some link) past (link_in d.core) their_past (waits_in d.below.transfer)
-    answers_there = subst (λ (l : Option Link). Answers (requests_of ends w.pairs) l past (link_in d.core) their_past (waits_in d.below.transfer)) linked w.answers
+    answers_there : AnswersRequests (requests_of ends w.pairs) (Some link) past (identity_in d.core) their_past (waiting_deferral d.queues.transfer)
+    answers_there = subst (λ (l : Option AssociationIdentity). AnswersRequests (requests_of ends w.pairs) l past (identity_in d.core) their_past (waiting_deferral d.queues.transfer)) linked w.answers
 
-    pub goes_answers : Answers (requests_of (record ends { sends = set_at (peer_tag e.core) end ends.sends }) w.pairs) (Some link) (after_effects happened past) (link_in d.core) their_past (waits_in d.below.transfer)
+    pub goes_answers : AnswersRequests (requests_of (record ends { sends = set_at (peer_tag e.core) end ends.sends }) w.pairs) (Some link) (after_effects happened past) (identity_in d.core) their_past (waiting_deferral d.queues.transfer)
     goes_answers =
-        subst (λ (k : ℕ). Answers (requests_of (record ends { sends = set_at k end ends.sends }) w.pairs) (Some link) (after_effects happened past) (link_in d.core) their_past (waits_in d.below.transfer)) (sym key_is)
+        subst (λ (k : ℕ). AnswersRequests (requests_of (record ends { sends = set_at k end ends.sends }) w.pairs) (Some link) (after_effects happened past) (identity_in d.core) their_past (waiting_deferral d.queues.transfer)) (sym key_is)
         (same_requests (requests_of (record ends { sends = set_at link.peer.tag end ends.sends }) w.pairs) (set_at link.peer.tag (record (requests_of ends w.pairs link.peer.tag) { asking = asking }) (requests_of ends w.pairs))
-        (Some link) (after_effects happened past) (link_in d.core) their_past (waits_in d.below.transfer) (set_end ends w.pairs link.peer.tag end _ here)
-        (asks_on (requests_of ends w.pairs) link past (link_in d.core) their_past (waits_in d.below.transfer) answers_there few some between asking may more happened))
+        (Some link) (after_effects happened past) (identity_in d.core) their_past (waiting_deferral d.queues.transfer) (set_end ends w.pairs link.peer.tag end _ here)
+        (asks_on (requests_of ends w.pairs) link past (identity_in d.core) their_past (waiting_deferral d.queues.transfer) answers_there few some between asking may more happened))
 
   -- The end of the tag 0 may be any.
-  pub closes_answers : (mine : Option Link) (later : List Effect) (zero : SendingEnd)
-      → Answers (requests_of (record ends { sends = set_at (peer_tag e.core) end ends.sends }) w.pairs) mine later (link_in d.core) their_past (waits_in d.below.transfer)
-      → Answers (requests_of (record ends { sends = set_at 0 zero (set_at (peer_tag e.core) end ends.sends) }) w.pairs) None later (link_in d.core) their_past (waits_in d.below.transfer)
+  pub closes_answers : (mine : Option AssociationIdentity) (later : List Effect) (zero : SendingEnd)
+      → AnswersRequests (requests_of (record ends { sends = set_at (peer_tag e.core) end ends.sends }) w.pairs) mine later (identity_in d.core) their_past (waiting_deferral d.queues.transfer)
+      → AnswersRequests (requests_of (record ends { sends = set_at 0 zero (set_at (peer_tag e.core) end ends.sends) }) w.pairs) None later (identity_in d.core) their_past (waiting_deferral d.queues.transfer)
   closes_answers mine later zero answers =
       same_requests (requests_of (record ends { sends = set_at 0 zero (set_at (peer_tag e.core) end ends.sends) }) w.pairs)
-      (set_at 0 (of_end (ends.firsts 0) (w.pairs 0) zero) (requests_of (record ends { sends = set_at (peer_tag e.core) end ends.sends }) w.pairs)) None later (link_in d.core) their_past (waits_in d.below.transfer)
+      (set_at 0 (of_end (ends.firsts 0) (w.pairs 0) zero) (requests_of (record ends { sends = set_at (peer_tag e.core) end ends.sends }) w.pairs)) None later (identity_in d.core) their_past (waiting_deferral d.queues.transfer)
       (set_end (record ends { sends = set_at (peer_tag e.core) end ends.sends }) w.pairs 0 zero _ refl)
-      (closes_on (requests_of (record ends { sends = set_at (peer_tag e.core) end ends.sends }) w.pairs) mine later (link_in d.core) their_past (waits_in d.below.transfer) answers (of_end (ends.firsts 0) (w.pairs 0) zero) later (λ effect has. has))
+      (closes_on (requests_of (record ends { sends = set_at (peer_tag e.core) end ends.sends }) w.pairs) mine later (identity_in d.core) their_past (waiting_deferral d.queues.transfer) answers (of_end (ends.firsts 0) (w.pairs 0) zero) later (λ effect has. has))
 
   -- So it is where there is no association.
-  pub idle_answers : link_in e.core ≡ None → (later : List Effect) → ((effect : Effect) → Has effect past → Has effect later)
-      → Answers (requests_of (record ends { sends = set_at (peer_tag e.core) end ends.sends }) w.pairs) None later (link_in d.core) their_past (waits_in d.below.transfer)
+  pub idle_answers : identity_in e.core ≡ None → (later : List Effect) → ((effect : Effect) → HasEffect effect past → HasEffect effect later)
+      → AnswersRequests (requests_of (record ends { sends = set_at (peer_tag e.core) end ends.sends }) w.pairs) None later (identity_in d.core) their_past (waiting_deferral d.queues.transfer)
   idle_answers none later grows =
-      subst (λ (k : ℕ). Answers (requests_of (record ends { sends = set_at k end ends.sends }) w.pairs) None later (link_in d.core) their_past (waits_in d.below.transfer)) (sym (no_key e.core none))
-      (same_requests (requests_of (record ends { sends = set_at 0 end ends.sends }) w.pairs) (set_at 0 (of_end (ends.firsts 0) (w.pairs 0) end) (requests_of ends w.pairs)) None later (link_in d.core) their_past (waits_in d.below.transfer)
+      subst (λ (k : ℕ). AnswersRequests (requests_of (record ends { sends = set_at k end ends.sends }) w.pairs) None later (identity_in d.core) their_past (waiting_deferral d.queues.transfer)) (sym (no_key e.core none))
+      (same_requests (requests_of (record ends { sends = set_at 0 end ends.sends }) w.pairs) (set_at 0 (of_end (ends.firsts 0) (w.pairs 0) end) (requests_of ends w.pairs)) None later (identity_in d.core) their_past (waiting_deferral d.queues.transfer)
       (set_end ends w.pairs 0 end _ refl)
-      (closes_on (requests_of ends w.pairs) (link_in e.core) past (link_in d.core) their_past (waits_in d.below.transfer) w.answers (of_end (ends.firsts 0) (w.pairs 0) end) later grows))
+      (closes_on (requests_of ends w.pairs) (identity_in e.core) past (identity_in d.core) their_past (waiting_deferral d.queues.transfer) w.answers (of_end (ends.firsts 0) (w.pairs 0) end) later grows))
 
 -- ---- a turn in which an association begins
 
-pub begins_answers : (ends : Ends) (e : Endpoint) (past : List Effect) (d : Endpoint) (their_past : List Effect) (w : AreAnswered ends e past d their_past) (new : Link) → NewPeer past their_past new
+pub begins_answers : (ends : Ends) (e : Endpoint) (past : List Effect) (d : Endpoint) (their_past : List Effect) (w : AreAnswered ends e past d their_past) (new : AssociationIdentity) → NewPeer past their_past new
     → (ends.sends new.peer.tag).asking ≡ nothing_asked → (end : SendingEnd) (gets : ℕ → ReceivingEnd) (firsts : ℕ → ℕ) → firsts new.peer.tag ≡ new.my.first_tsn → ((tag : ℕ) → tag ≢ new.peer.tag → firsts tag ≡ ends.firsts tag)
-    → MayBegin new.my.first_tsn nothing_asked end.asking → ((other : Link) → link_in d.core ≡ Some other → other.my.tag ≡ new.peer.tag → ends.firsts new.peer.tag ≡ new.my.first_tsn)
-    → (later : List Effect) → ((effect : Effect) → Has effect past → Has effect later) → Has (holds new) later
-    → Answers (requests_of (record { sends = set_at new.peer.tag end ends.sends; gets = gets; firsts = firsts }) (set_at new.peer.tag new.my w.pairs)) (Some new) later (link_in d.core) their_past (waits_in d.below.transfer)
+    → MayBegin new.my.first_tsn nothing_asked end.asking → ((other : AssociationIdentity) → identity_in d.core ≡ Some other → other.my.tag ≡ new.peer.tag → ends.firsts new.peer.tag ≡ new.my.first_tsn)
+    → (later : List Effect) → ((effect : Effect) → HasEffect effect past → HasEffect effect later) → HasEffect (holds new) later
+    → AnswersRequests (requests_of (record { sends = set_at new.peer.tag end ends.sends; gets = gets; firsts = firsts }) (set_at new.peer.tag new.my w.pairs)) (Some new) later (identity_in d.core) their_past (waiting_deferral d.queues.transfer)
 begins_answers ends e past d their_past w new is nothing end gets firsts first others begins crossed later grows held =
     same_requests (requests_of (record { sends = set_at new.peer.tag end ends.sends; gets = gets; firsts = firsts }) (set_at new.peer.tag new.my w.pairs))
-    (set_at new.peer.tag (fresh_requests new end.below.queue.is_interleaved end.asking) (requests_of ends w.pairs)) (Some new) later (link_in d.core) their_past (waits_in d.below.transfer)
-    (set_ends ends w.pairs new.peer.tag end gets firsts (set_at new.peer.tag new.my w.pairs) (fresh_requests new end.below.queue.is_interleaved end.asking) here
+    (set_at new.peer.tag (fresh_requests new end.queues.queue.is_interleaved end.asking) (requests_of ends w.pairs)) (Some new) later (identity_in d.core) their_past (waiting_deferral d.queues.transfer)
+    (set_ends ends w.pairs new.peer.tag end gets firsts (set_at new.peer.tag new.my w.pairs) (fresh_requests new end.queues.queue.is_interleaved end.asking) here
     (λ tag ne. (others tag ne, set_other new.peer.tag tag new.my w.pairs ne)))
-    (opens_on (requests_of ends w.pairs) (link_in e.core) past (link_in d.core) their_past (waits_in d.below.transfer) w.answers new is.some nothing is.match end.below.queue.is_interleaved end.asking begins crossed later grows held)
+    (opens_on (requests_of ends w.pairs) (identity_in e.core) past (identity_in d.core) their_past (waiting_deferral d.queues.transfer) w.answers new is.some nothing is.match end.queues.queue.is_interleaved end.asking begins crossed later grows held)
   where
-    here : of_end (firsts new.peer.tag) (set_at new.peer.tag new.my w.pairs new.peer.tag) end ≡ fresh_requests new end.below.queue.is_interleaved end.asking
+    here : of_end (firsts new.peer.tag) (set_at new.peer.tag new.my w.pairs new.peer.tag) end ≡ fresh_requests new end.queues.queue.is_interleaved end.asking
     here = ap (λ (n : ℕ). of_end n (set_at new.peer.tag new.my w.pairs new.peer.tag) end) first ∙ ap (λ (m : Pair). of_end new.my.first_tsn m end) (set_same new.peer.tag new.my w.pairs)

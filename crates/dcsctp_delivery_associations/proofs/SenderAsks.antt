@@ -2,15 +2,15 @@
 use Rattle.std.proofs.Common.{◌≡◌, ◌≢◌, ℕ, true, ◌<◌, ◌-◌, ◌^◌, Option, Some, List, ◌∷◌, length, refl, sym, ◌∙◌, subst, inl, inr}
 use Rattle.std.specs.Prelude.{◌⊎◌}
 use Rattle.dcsctp_spec_lemmas.specs.types.declared.association.Pair.{Pair}
-use Rattle.dcsctp_spec_runs.specs.Past.{Has}
+use Rattle.dcsctp_spec_runs.specs.Past.{HasEffect}
 use Rattle.dcsctp_spec_runs.specs.World.{after_effects}
-use Rattle.dcsctp_spec_lemmas.specs.spec.association.Effect.{Link, Effect, performs}
+use Rattle.dcsctp_spec_lemmas.specs.spec.association.Effect.{AssociationIdentity, Effect, performs}
 use Rattle.dcsctp_spec_lemmas.specs.spec.queues.Reassembly.{DeferralModel}
 use Rattle.dcsctp_spec_lemmas.specs.spec.endpoint.BegunResets.{BegunReset}
 use Rattle.dcsctp_delivery_sending.specs.Places.{set_at}
 use Rattle.dcsctp_delivery_sending.proofs.Places.{decide, set_same, set_other}
 use Rattle.dcsctp_delivery_directions.specs.Directions.{Asking, nothing_asked}
-use Rattle.dcsctp_delivery_associations.specs.Answered.{Requests, number_at, WasHeld, WasJoined, AreAsked, IsPlaced, WerePerformed, StandsSo, Answers}
+use Rattle.dcsctp_delivery_associations.specs.Answered.{Requests, request_number_at, SenderHadPeer, WasJoined, AreAsked, IsRequestNumber, WerePerformed, StandsSo, AnswersRequests}
 use Rattle.dcsctp_delivery_associations.proofs.AskedOn.{held_later, MayBegin}
 use Rattle.dcsctp_delivery_associations.proofs.Renewed.{MayGo, known_newest, asked_then, placed_then, stands_then}
 
@@ -22,7 +22,7 @@ set_requests P key new old here others tag =
       | inr ne ↦ subst (P tag) (sym (set_other key tag new old ne)) (others tag ne)
     ]
 
-module _ (requests : ℕ → Requests) (link : Link) (past : List Effect) (theirs : Option Link) (their_past : List Effect) (waits : Option DeferralModel) (h : Answers requests (Some link) past theirs their_past waits) where
+module _ (requests : ℕ → Requests) (link : AssociationIdentity) (past : List Effect) (theirs : Option AssociationIdentity) (their_past : List Effect) (waits : Option DeferralModel) (h : AnswersRequests requests (Some link) past theirs their_past waits) where
   abbrev pub r : Requests
   r = requests link.peer.tag
 
@@ -30,7 +30,7 @@ module _ (requests : ℕ → Requests) (link : Link) (past : List Effect) (their
   mine = (h.mine_held link refl).1
 
   -- A request of the association that was performed is one of its tag.
-  is_joined : (number : ℕ) → Has (performs link.my number) their_past → WasJoined their_past link.peer.tag (requests link.peer.tag).my
+  is_joined : (number : ℕ) → HasEffect (performs link.my number) their_past → WasJoined their_past link.peer.tag (requests link.peer.tag).my
   is_joined number has =
       let found = h.joined link.my number has in
       elim (decide found.0 link.peer.tag) [
@@ -38,13 +38,13 @@ module _ (requests : ℕ → Requests) (link : Link) (past : List Effect) (their
         | inr ne ↦ absurd (h.mine_apart link refl found.0 (λ is. ne (sym is)) found.1 (sym found.2))
       ]
 
-  pub is_placed : (number : ℕ) → Has (performs link.my number) their_past → IsPlaced (requests link.peer.tag) number
-  is_placed number has = h.performed link.peer.tag (is_joined number has) number (subst (λ (p : Pair). Has (performs p number) their_past) (sym mine) has)
+  pub is_placed : (number : ℕ) → HasEffect (performs link.my number) their_past → IsRequestNumber (requests link.peer.tag) number
+  is_placed number has = h.performed link.peer.tag (is_joined number has) number (subst (λ (p : Pair). HasEffect (performs p number) their_past) (sym mine) has)
 
   -- If the newest was performed, that is known.
   pub newest_known : length r.asking.requests < 2 ^ 32 - 1 → r.is_interleaved ≡ true → (newest : BegunReset) (earlier : List BegunReset) → r.asking.requests ≡ newest ∷ earlier
-      → Has (performs link.my (number_at r.first (length earlier))) their_past → r.asking.is_performed ≡ true
-  newest_known few interleaved newest earlier is has = known_newest (requests link.peer.tag) few newest earlier is interleaved (is_placed (number_at r.first (length earlier)) has)
+      → HasEffect (performs link.my (request_number_at r.first (length earlier))) their_past → r.asking.is_performed ≡ true
+  newest_known few interleaved newest earlier is has = known_newest (requests link.peer.tag) few newest earlier is interleaved (is_placed (request_number_at r.first (length earlier)) has)
 
   module _ (few : length (requests link.peer.tag).asking.requests < 2 ^ 32 - 1) (some : link.peer.tag ≢ 0) (between asking : Asking) (goes : MayGo (requests link.peer.tag) their_past between)
       (begins : MayBegin (requests link.peer.tag).first between asking) (effects : List Effect) where
@@ -71,10 +71,10 @@ module _ (requests : ℕ → Requests) (link : Link) (past : List Effect) (their
         set_requests (λ t n. t ≢ 0 → (n.asking ≡ nothing_asked) ⊎ AreAsked n their_past) link.peer.tag (record (requests link.peer.tag) { asking = asking }) requests
         (λ z. inr (asked_then (requests link.peer.tag) their_past (h.asked link.peer.tag some) few between asking goes begins)) (λ t ne z. h.asked t z) tag zero
 
-    held_still : (tag : ℕ) → tag ≢ 0 → ((all_later tag).asking ≡ nothing_asked) ⊎ WasHeld Past tag (all_later tag).my
+    held_still : (tag : ℕ) → tag ≢ 0 → ((all_later tag).asking ≡ nothing_asked) ⊎ SenderHadPeer Past tag (all_later tag).my
     held_still =
-        set_requests (λ t n. t ≢ 0 → (n.asking ≡ nothing_asked) ⊎ WasHeld Past t n.my) link.peer.tag (record (requests link.peer.tag) { asking = asking }) requests
-        (λ z. inr (subst (WasHeld Past link.peer.tag) (sym mine) (held_later effects past link.peer.tag link.my (h.mine_held link refl).0)))
+        set_requests (λ t n. t ≢ 0 → (n.asking ≡ nothing_asked) ⊎ SenderHadPeer Past t n.my) link.peer.tag (record (requests link.peer.tag) { asking = asking }) requests
+        (λ z. inr (subst (SenderHadPeer Past link.peer.tag) (sym mine) (held_later effects past link.peer.tag link.my (h.mine_held link refl).0)))
         (λ t ne z. elim (h.asked_held t z) [ inl none ↦ inl none | inr held ↦ inr (held_later effects past t (requests t).my held) ])
 
     performed_later : (tag : ℕ) → WasJoined their_past tag (all_later tag).my → WerePerformed (all_later tag) their_past
@@ -82,15 +82,15 @@ module _ (requests : ℕ → Requests) (link : Link) (past : List Effect) (their
         set_requests (λ t n. WasJoined their_past t n.my → WerePerformed n their_past) link.peer.tag (record (requests link.peer.tag) { asking = asking }) requests
         (λ joined number has. placed_then (requests link.peer.tag) their_past (h.asked link.peer.tag some) few between asking goes begins number (h.performed link.peer.tag joined number has)) (λ t ne. h.performed t)
 
-    placed_there : (number : ℕ) → Has (performs (requests link.peer.tag).my number) their_past → IsPlaced (requests link.peer.tag) number
-    placed_there number has = is_placed number (subst (λ (p : Pair). Has (performs p number) their_past) mine has)
+    placed_there : (number : ℕ) → HasEffect (performs (requests link.peer.tag).my number) their_past → IsRequestNumber (requests link.peer.tag) number
+    placed_there number has = is_placed number (subst (λ (p : Pair). HasEffect (performs p number) their_past) mine has)
 
     stands_later : (tag : ℕ) → StandsSo (requests tag) their_past waits → StandsSo (all_later tag) their_past waits
     stands_later =
         set_requests (λ t n. StandsSo (requests t) their_past waits → StandsSo n their_past waits) link.peer.tag (record (requests link.peer.tag) { asking = asking }) requests
         (stands_then (requests link.peer.tag) their_past (h.asked link.peer.tag some) few waits between asking goes begins placed_there) (λ t ne stands. stands)
 
-    pub asks_on : Answers all_later (Some link) Past theirs their_past waits
+    pub asks_on : AnswersRequests all_later (Some link) Past theirs their_past waits
     asks_on =
         record {
           asked = asked_later;

@@ -8,12 +8,12 @@ use Rattle.dcsctp_spec_lemmas.specs.spec.endpoint.Endpoint.{Endpoint}
 use Rattle.dcsctp_spec_lemmas.specs.spec.endpoint.Event.{packets_in}
 use Rattle.dcsctp_spec_lemmas.specs.spec.endpoint.Outcome.{Outcome}
 use Rattle.dcsctp_spec_lemmas.specs.spec.Packet.{Emission}
-use Rattle.dcsctp_spec_runs.specs.Past.{Has}
+use Rattle.dcsctp_spec_runs.specs.Past.{HasEffect}
 use Rattle.dcsctp_spec_lemmas.specs.spec.endpoint.Turn.{Input}
 use Rattle.dcsctp_spec_runs.specs.World.{after_effects}
-use Rattle.dcsctp_spec_lemmas.specs.spec.association.Effect.{Link, Effect, holds, link_of, link_in}
+use Rattle.dcsctp_spec_lemmas.specs.spec.association.Effect.{AssociationIdentity, Effect, holds, identity_of, identity_in}
 use Rattle.dcsctp_spec_lemmas.specs.spec.queues.SendQueue.{empty_queue}
-use Rattle.dcsctp_spec_lemmas.specs.spec.queues.Transfer.{Transfer, Below}
+use Rattle.dcsctp_spec_lemmas.specs.spec.queues.Transfer.{Transfer, EndpointQueues}
 use Rattle.dcsctp_theorem_association.proofs.Growth.{after_within}
 use Rattle.dcsctp_delivery_sending.specs.Places.{set_at}
 use Rattle.dcsctp_delivery_sending.specs.Log.{Message, Fits}
@@ -21,15 +21,15 @@ use Rattle.dcsctp_delivery_sending.specs.Queueing.{QueueWaits}
 use Rattle.dcsctp_delivery_sending.specs.Marking.{all_marked}
 use Rattle.dcsctp_delivery_sending.proofs.Places.{decide, set_same, set_other}
 use Rattle.dcsctp_delivery_sending.proofs.MarkingAll.{all_marked_keep, all_marked_fit}
-use Rattle.dcsctp_delivery_directions.specs.Directions.{Direction, Asking, nothing_asked, Run, IsAwaited}
+use Rattle.dcsctp_delivery_directions.specs.Directions.{Direction, Asking, nothing_asked, DirectionRun, IsAwaited}
 use Rattle.dcsctp_delivery_turns.specs.Actions.{peer_tag, Begun}
 use Rattle.dcsctp_delivery_turns.specs.Asking.{own_of, AsksFit, AskingGrows}
 use Rattle.dcsctp_delivery_turns.specs.Addressed.{AreAddressed}
 use Rattle.dcsctp_delivery_turns.specs.Runs.{sender_at, new_direction}
 use Rattle.dcsctp_delivery_turns.proofs.Runs.{senders_begin}
-use Rattle.dcsctp_delivery_associations.specs.Ends.{SendingEnd, ReceivingEnd, joined, new_end, Ends, HadPeer, Awaits, Sender, NewPeer, HadTag, IsCurrent, Receiver, Between}
+use Rattle.dcsctp_delivery_associations.specs.Ends.{SendingEnd, ReceivingEnd, joined, new_end, Ends, HadPeer, Awaits, Sender, NewPeer, HadTag, IsCurrentEnd, Receiver, Between}
 use Rattle.dcsctp_delivery_directions.proofs.RequestCounts.{requests_more_to, requests_are_sent}
-use Rattle.dcsctp_delivery_associations.specs.Answered.{Answers, requests_of, waits_in, AreAnswered}
+use Rattle.dcsctp_delivery_associations.specs.Answered.{AnswersRequests, requests_of, waiting_deferral, AreAnswered}
 use Rattle.dcsctp_delivery_associations.proofs.AskedOn.{MayBegin}
 use Rattle.dcsctp_delivery_associations.proofs.Counting.{addressed_requests}
 use Rattle.dcsctp_delivery_associations.proofs.SenderAnswers.{may_begin, begins_answers}
@@ -43,42 +43,42 @@ use Rattle.dcsctp_delivery_associations.proofs.WhatIsLeft.{ready_same}
 -- ---- an association begins
 
 -- At the receiver there is the matching association, or none yet.
-data Known (options : Options) (ends : Ends) (d : Endpoint) (new : Link) : Type 0 where
+data Known (options : Options) (ends : Ends) (d : Endpoint) (new : AssociationIdentity) : Type 0 where
   is_crossed : ends.firsts new.peer.tag ≡ new.my.first_tsn → Known options ends d new
-  is_fresh : ends.gets new.peer.tag ≡ new_end options (ends.firsts new.peer.tag) → ((transfer : Transfer) (link : Link) → d.below.transfer ≡ Some transfer → link_in d.core ≡ Some link → link.my.tag ≢ new.peer.tag) → Known options ends d new
+  is_fresh : ends.gets new.peer.tag ≡ new_end options (ends.firsts new.peer.tag) → ((transfer : Transfer) (link : AssociationIdentity) → d.queues.transfer ≡ Some transfer → identity_in d.core ≡ Some link → link.my.tag ≢ new.peer.tag) → Known options ends d new
 
-same_tag : (core : Option Link) (one two : Link) → core ≡ Some one → core ≡ Some two → one.my.tag ≡ two.my.tag
-same_tag core one two first second = (let same : one ≡ two = cc in ap (λ (l : Link). l.my.tag) same)
+same_tag : (core : Option AssociationIdentity) (one two : AssociationIdentity) → core ≡ Some one → core ≡ Some two → one.my.tag ≡ two.my.tag
+same_tag core one two first second = (let same : one ≡ two = cc in ap (λ (l : AssociationIdentity). l.my.tag) same)
 
-module _ (options : Options) (ends : Ends) (d : Endpoint) (past their_past : List Effect) (reads : List Read) (r : Receiver options ends d their_past reads) (new : Link) (is : NewPeer past their_past new) where
+module _ (options : Options) (ends : Ends) (d : Endpoint) (past their_past : List Effect) (reads : List Read) (r : Receiver options ends d their_past reads) (new : AssociationIdentity) (is : NewPeer past their_past new) where
   of_had : HadTag their_past new.peer.tag (ends.firsts new.peer.tag) → ends.firsts new.peer.tag ≡ new.my.first_tsn
   of_had had = sym had.first_is ∙ ap (λ (p : Pair). p.first_tsn) (is.match had.link had.held (inl had.tag_is)).0
 
-  by_begun : ((transfer : Transfer) (link : Link) → d.below.transfer ≡ Some transfer → link_in d.core ≡ Some link → link.my.tag ≢ new.peer.tag) → Known options ends d new
+  by_begun : ((transfer : Transfer) (link : AssociationIdentity) → d.queues.transfer ≡ Some transfer → identity_in d.core ≡ Some link → link.my.tag ≢ new.peer.tag) → Known options ends d new
   by_begun none = elim (r.begun new.peer.tag) [
     | inl fresh ↦ is_fresh fresh none
     | inr had ↦ is_crossed (of_had had)
   ]
 
-  with_current : (transfer : Transfer) → IsCurrent ends d their_past transfer → Known options ends d new
+  with_current : (transfer : Transfer) → IsCurrentEnd ends d their_past transfer → Known options ends d new
   with_current transfer c = elim (decide c.link.my.tag new.peer.tag) [
     | inl e ↦ is_crossed (of_had (subst (λ (t : ℕ). HadTag their_past t (ends.firsts t)) e c.had))
-    | inr ne ↦ by_begun (λ other link there linked same. ne (same_tag (link_in d.core) c.link link c.linked linked ∙ same))
+    | inr ne ↦ by_begun (λ other link there linked same. ne (same_tag (identity_in d.core) c.link link c.linked linked ∙ same))
   ]
 
-  known : (found : Option Transfer) → d.below.transfer ≡ found → Known options ends d new
+  known : (found : Option Transfer) → d.queues.transfer ≡ found → Known options ends d new
   known None none = by_begun (λ transfer link there linked. (let clash : ◌≡◌ {A = Option Transfer} None (Some transfer) = sym none ∙ there in absurd (cc)))
   known (Some transfer) there = with_current transfer (r.current transfer there)
 
 -- The receiver's end under this tag is new, and stays so.
 receiver_renewed : (options : Options) (ends : Ends) (sends : ℕ → SendingEnd) (d : Endpoint) (past : List Effect) (reads : List Read) (tag first : ℕ) → Receiver options ends d past reads
-    → ends.gets tag ≡ new_end options (ends.firsts tag) → ((transfer : Transfer) (link : Link) → d.below.transfer ≡ Some transfer → link_in d.core ≡ Some link → link.my.tag ≢ tag)
+    → ends.gets tag ≡ new_end options (ends.firsts tag) → ((transfer : Transfer) (link : AssociationIdentity) → d.queues.transfer ≡ Some transfer → identity_in d.core ≡ Some link → link.my.tag ≢ tag)
     → Receiver options (record { sends = sends; gets = set_at tag (new_end options first) ends.gets; firsts = set_at tag first ends.firsts }) d past reads
 receiver_renewed options ends sends d past reads tag first r fresh apart =
     record {
       fits = r.fits;
       current = λ transfer there. still transfer there (r.current transfer there);
-      left = ready_same ends.gets (set_at tag (new_end options first) ends.gets) d.left d.below.transfer
+      left = ready_same ends.gets (set_at tag (new_end options first) ends.gets) d.left d.queues.transfer
           (set_all (λ t g. g.reassembly.incoming.ready ≡ (ends.gets t).reassembly.incoming.ready) tag (new_end options first) ends.gets (sym (ap (λ (g : ReceivingEnd). g.reassembly.incoming.ready) fresh)) (λ t ne. refl)) r.left;
       were_read = set_all (λ t g. with_tag t reads ≡ g.read) tag (new_end options first) ends.gets (r.were_read tag ∙ ap (λ (g : ReceivingEnd). g.read) fresh) (λ t ne. r.were_read t);
       begun = λ t. elim (decide t tag) [
@@ -89,7 +89,7 @@ receiver_renewed options ends sends d past reads tag first r fresh apart =
       ];
     }
   where
-    still : (transfer : Transfer) → d.below.transfer ≡ Some transfer → IsCurrent ends d past transfer → IsCurrent (record { sends = sends; gets = set_at tag (new_end options first) ends.gets; firsts = set_at tag first ends.firsts }) d past transfer
+    still : (transfer : Transfer) → d.queues.transfer ≡ Some transfer → IsCurrentEnd ends d past transfer → IsCurrentEnd (record { sends = sends; gets = set_at tag (new_end options first) ends.gets; firsts = set_at tag first ends.firsts }) d past transfer
     still transfer there c =
         let ne : c.link.my.tag ≢ tag = apart transfer c.link there c.linked in
         let same = set_other tag c.link.my.tag (new_end options first) ends.gets ne in
@@ -108,19 +108,19 @@ receiver_renewed options ends sends d past reads tag first r fresh apart =
 
 module _ (options : Options) (ends : Ends) (e : Endpoint) (queued : List Message) (past : List Effect) (packets : List Emission) (d : Endpoint) (their_past : List Effect) (reads : List Read)
     (h : Between options ends e queued past packets d their_past reads) (input : Input) (o : Outcome) (w : AreAnswered ends e past d their_past) (little : AsksLittle (packets ++ packets_in o.events)) (begun : Begun e o) where
-  abbrev pub new : Link
-  new = link_of begun.my begun.held
+  abbrev pub new : AssociationIdentity
+  new = identity_of begun.my begun.held
 
   abbrev pub marks : List Message
-  marks = all_marked (length (ends.sends (peer_tag e.core)).queued) (ends.sends (peer_tag e.core)).below.queue.streams (ends.sends (peer_tag e.core)).queued
+  marks = all_marked (length (ends.sends (peer_tag e.core)).queued) (ends.sends (peer_tag e.core)).queues.queue.streams (ends.sends (peer_tag e.core)).queued
 
   abbrev pub Later : Type 0
-  Later = (other : Options) (room : ℕ) (awaiting : Direction) (queued : List Message) → QueueWaits queued e.below.queue → AllByRecursion Fits queued → Run other begun.my.first_tsn room awaiting → IsAwaited awaiting
+  Later = (other : Options) (room : ℕ) (awaiting : Direction) (queued : List Message) → QueueWaits queued e.queues.queue → AllByRecursion Fits queued → DirectionRun other begun.my.first_tsn room awaiting → IsAwaited awaiting
       → (acknowledged : ℕ) × (asking : Asking) × AskingGrows nothing_asked asking × AsksFit begun.my.first_tsn (own_of o.after) asking
-      × Run other begun.my.first_tsn room (sender_at awaiting queued o.after.below acknowledged (packets_in o.events) asking)
+      × DirectionRun other begun.my.first_tsn room (sender_at awaiting queued o.after.queues acknowledged (packets_in o.events) asking)
 
-  new_held : Has (holds new) (after_effects o.effects past)
-  new_held = subst (λ (l : List Effect). Has (holds new) (after_effects l past)) (sym begun.noted) (after_within begun.later (holds new ∷ past) (holds new) (inl refl))
+  new_held : HasEffect (holds new) (after_effects o.effects past)
+  new_held = subst (λ (l : List Effect). HasEffect (holds new) (after_effects l past)) (sym begun.noted) (after_within begun.later (holds new ∷ past) (holds new) (inl refl))
 
   had_new : HadPeer (after_effects o.effects past) begun.held.peer.tag begun.my.first_tsn
   had_new =
@@ -133,52 +133,52 @@ module _ (options : Options) (ends : Ends) (e : Endpoint) (queued : List Message
 
   -- What is begun in this turn is little.
   begins_little : AreAddressed begun.held.peer.tag (packets_in o.events) → (options : Options) (size : ℕ) (acknowledged : ℕ) (asking : Asking) (direction : Direction) → AskingGrows nothing_asked asking
-      → AsksFit begun.my.first_tsn (own_of o.after) asking → link_in o.after.core ≡ Some new
-      → Run options begun.my.first_tsn size (sender_at direction marks o.after.below acknowledged (packets_in o.events) asking) → MayBegin begun.my.first_tsn nothing_asked asking
+      → AsksFit begun.my.first_tsn (own_of o.after) asking → identity_in o.after.core ≡ Some new
+      → DirectionRun options begun.my.first_tsn size (sender_at direction marks o.after.queues acknowledged (packets_in o.events) asking) → MayBegin begun.my.first_tsn nothing_asked asking
   begins_little addressed options size acknowledged asking direction grows fits linked run =
-      let sent = requests_are_sent options begun.my.first_tsn size (sender_at direction marks o.after.below acknowledged (packets_in o.events) asking) run in
+      let sent = requests_are_sent options begun.my.first_tsn size (sender_at direction marks o.after.queues acknowledged (packets_in o.events) asking) run in
       let went = addressed_requests begun.held.peer.tag (packets_in o.events) addressed in
       let all = requests_more_to begun.held.peer.tag packets (packets_in o.events) in
       let few = little begun.held.peer.tag in
       may_begin begun.my.first_tsn o.after.core o.after.outstanding nothing_asked asking new linked grows fits (omega (arith, sent, went, all, few))
 
   -- The answers are those of the association that begins.
-  answered_by : (later : Ends) → link_in o.after.core ≡ Some new → (pairs : ℕ → Pair)
-      → Answers (requests_of later pairs) (Some new) (after_effects o.effects past) (link_in d.core) their_past (waits_in d.below.transfer) → AreAnswered later o.after (after_effects o.effects past) d their_past
+  answered_by : (later : Ends) → identity_in o.after.core ≡ Some new → (pairs : ℕ → Pair)
+      → AnswersRequests (requests_of later pairs) (Some new) (after_effects o.effects past) (identity_in d.core) their_past (waiting_deferral d.queues.transfer) → AreAnswered later o.after (after_effects o.effects past) d their_past
   answered_by later linked pairs answers =
       record {
         pairs = pairs;
-        answers = subst (λ (l : Option Link). Answers (requests_of later pairs) l (after_effects o.effects past) (link_in d.core) their_past (waits_in d.below.transfer)) (sym linked) answers;
+        answers = subst (λ (l : Option AssociationIdentity). AnswersRequests (requests_of later pairs) l (after_effects o.effects past) (identity_in d.core) their_past (waiting_deferral d.queues.transfer)) (sym linked) answers;
         unlinked = w.unlinked;
       }
 
-  sender_of : (later : Ends) → link_in o.after.core ≡ Some new → Sender later begun.held.peer.tag o.after.below queued (after_effects o.effects past) (packets ++ packets_in o.events)
-      → Sender later (peer_tag o.after.core) o.after.below queued (after_effects o.effects past) (packets ++ packets_in o.events)
+  sender_of : (later : Ends) → identity_in o.after.core ≡ Some new → Sender later begun.held.peer.tag o.after.queues queued (after_effects o.effects past) (packets ++ packets_in o.events)
+      → Sender later (peer_tag o.after.core) o.after.queues queued (after_effects o.effects past) (packets ++ packets_in o.events)
   sender_of later linked sender =
-      subst (λ (k : ℕ). Sender later k o.after.below queued (after_effects o.effects past) (packets ++ packets_in o.events)) (sym (link_tag o.after.core new linked)) sender
+      subst (λ (k : ℕ). Sender later k o.after.queues queued (after_effects o.effects past) (packets ++ packets_in o.events)) (sym (link_tag o.after.core new linked)) sender
 
-  crossed_begins : NewPeer past their_past new → Awaits (ends.sends begun.held.peer.tag) → link_in o.after.core ≡ Some new → AreAddressed begun.held.peer.tag (packets_in o.events)
-      → QueueWaits marks e.below.queue → AllByRecursion Fits marks → Later → ends.firsts begun.held.peer.tag ≡ begun.my.first_tsn
+  crossed_begins : NewPeer past their_past new → Awaits (ends.sends begun.held.peer.tag) → identity_in o.after.core ≡ Some new → AreAddressed begun.held.peer.tag (packets_in o.events)
+      → QueueWaits marks e.queues.queue → AllByRecursion Fits marks → Later → ends.firsts begun.held.peer.tag ≡ begun.my.first_tsn
       → AreEnds options o.after queued (after_effects o.effects past) (packets ++ packets_in o.events) d their_past (messages_of reads)
   crossed_begins is waits linked addressed shown fit later same =
       let to : ℕ = begun.held.peer.tag in
       let ps : List Emission = packets_in o.events in
-      let start : Run options begun.my.first_tsn options.max_receiver_window_buffer_size (joined (ends.sends to) (ends.gets to)) =
-      subst (λ (n : ℕ). Run options n options.max_receiver_window_buffer_size (joined (ends.sends to) (ends.gets to))) same (h.runs to) in
+      let start : DirectionRun options begun.my.first_tsn options.max_receiver_window_buffer_size (joined (ends.sends to) (ends.gets to)) =
+      subst (λ (n : ℕ). DirectionRun options n options.max_receiver_window_buffer_size (joined (ends.sends to) (ends.gets to))) same (h.runs to) in
       let run = later options options.max_receiver_window_buffer_size (joined (ends.sends to) (ends.gets to)) marks shown fit start
       (record { queued = waits.queued; sent = waits.sent; acknowledged = waits.acknowledged; transfer = waits.transfer; asking = waits.asking }) in
-      let end : SendingEnd = renewed_end ends (peer_tag e.core) e.below queued past packets h.sender o.effects to o.after.below run.0 ps run.1 ends.gets ends.firsts in
-      let ends' : Ends = renewed_ends ends (peer_tag e.core) e.below queued past packets h.sender o.effects to o.after.below run.0 ps run.1 ends.gets ends.firsts in
+      let end : SendingEnd = renewed_end ends (peer_tag e.core) e.queues queued past packets h.sender o.effects to o.after.queues run.0 ps run.1 ends.gets ends.firsts in
+      let ends' : Ends = renewed_ends ends (peer_tag e.core) e.queues queued past packets h.sender o.effects to o.after.queues run.0 ps run.1 ends.gets ends.firsts in
       record {
         ends = ends';
         tagged = reads;
         are_all = refl;
         between = record {
-          runs = set_all (λ tag s. Run options (ends.firsts tag) options.max_receiver_window_buffer_size (joined s (ends.gets tag))) to end ends.sends
-              (subst (λ (n : ℕ). Run options n options.max_receiver_window_buffer_size (joined end (ends.gets to))) (sym same) run.4) (λ tag ne. h.runs tag);
+          runs = set_all (λ tag s. DirectionRun options (ends.firsts tag) options.max_receiver_window_buffer_size (joined s (ends.gets tag))) to end ends.sends
+              (subst (λ (n : ℕ). DirectionRun options n options.max_receiver_window_buffer_size (joined end (ends.gets to))) (sym same) run.4) (λ tag ne. h.runs tag);
           small = h.small;
           sender = sender_of ends' linked
-              (renewed ends (peer_tag e.core) e.below queued past packets h.sender o.effects to o.after.below run.0 ps run.1 ends.gets ends.firsts (inr waits)
+              (renewed ends (peer_tag e.core) e.queues queued past packets h.sender o.effects to o.after.queues run.0 ps run.1 ends.gets ends.firsts (inr waits)
               (λ some. subst (λ (n : ℕ). HadPeer (after_effects o.effects past) to n) (sym same) had_new) (λ tag ne. refl) addressed);
           asks = subst (λ (k : ℕ). AsksFit (ends.firsts k) (own_of o.after) (set_at to end ends.sends k).asking) (sym (link_tag o.after.core new linked))
               (subst (λ (s : SendingEnd). AsksFit (ends.firsts to) (own_of o.after) s.asking) (sym (set_same to end ends.sends))
@@ -190,9 +190,9 @@ module _ (options : Options) (ends : Ends) (e : Endpoint) (queued : List Message
             (begins_little addressed options options.max_receiver_window_buffer_size run.0 run.1 (joined (ends.sends to) (ends.gets to)) run.2 run.3 linked run.4) (λ other there tag. same) (after_effects o.effects past) (after_within o.effects past) new_held);
       }
 
-  fresh_begins : NewPeer past their_past new → Awaits (ends.sends begun.held.peer.tag) → link_in o.after.core ≡ Some new → AreAddressed begun.held.peer.tag (packets_in o.events)
-      → QueueWaits marks e.below.queue → AllByRecursion Fits marks → Later → ends.gets begun.held.peer.tag ≡ new_end options (ends.firsts begun.held.peer.tag)
-      → ((transfer : Transfer) (link : Link) → d.below.transfer ≡ Some transfer → link_in d.core ≡ Some link → link.my.tag ≢ begun.held.peer.tag)
+  fresh_begins : NewPeer past their_past new → Awaits (ends.sends begun.held.peer.tag) → identity_in o.after.core ≡ Some new → AreAddressed begun.held.peer.tag (packets_in o.events)
+      → QueueWaits marks e.queues.queue → AllByRecursion Fits marks → Later → ends.gets begun.held.peer.tag ≡ new_end options (ends.firsts begun.held.peer.tag)
+      → ((transfer : Transfer) (link : AssociationIdentity) → d.queues.transfer ≡ Some transfer → identity_in d.core ≡ Some link → link.my.tag ≢ begun.held.peer.tag)
       → AreEnds options o.after queued (after_effects o.effects past) (packets ++ packets_in o.events) d their_past (messages_of reads)
   fresh_begins is waits linked addressed shown fit later fresh apart =
       let to : ℕ = begun.held.peer.tag in
@@ -203,17 +203,17 @@ module _ (options : Options) (ends : Ends) (e : Endpoint) (queued : List Message
       let run = later options options.max_receiver_window_buffer_size
       (new_direction options first options.max_receiver_window_buffer_size [] (record { queue = empty_queue options; transfer = None }) 0 []) marks shown fit (senders_begin options options first options.max_receiver_window_buffer_size)
       (record { queued = refl; sent = refl; acknowledged = refl; transfer = refl; asking = refl }) in
-      let end : SendingEnd = renewed_end ends (peer_tag e.core) e.below queued past packets h.sender o.effects to o.after.below run.0 ps run.1 gets firsts in
-      let ends' : Ends = renewed_ends ends (peer_tag e.core) e.below queued past packets h.sender o.effects to o.after.below run.0 ps run.1 gets firsts in
+      let end : SendingEnd = renewed_end ends (peer_tag e.core) e.queues queued past packets h.sender o.effects to o.after.queues run.0 ps run.1 gets firsts in
+      let ends' : Ends = renewed_ends ends (peer_tag e.core) e.queues queued past packets h.sender o.effects to o.after.queues run.0 ps run.1 gets firsts in
       record {
         ends = ends';
         tagged = reads;
         are_all = refl;
         between = record {
-          runs = set_three (λ tag f s g. Run options f options.max_receiver_window_buffer_size (joined s g)) to first end (new_end options first) ends.firsts ends.sends ends.gets run.4 (λ tag ne. h.runs tag);
+          runs = set_three (λ tag f s g. DirectionRun options f options.max_receiver_window_buffer_size (joined s g)) to first end (new_end options first) ends.firsts ends.sends ends.gets run.4 (λ tag ne. h.runs tag);
           small = set_all (λ tag f. f < 2 ^ 32) to first ends.firsts is.small (λ tag ne. h.small tag);
           sender = sender_of ends' linked
-              (renewed ends (peer_tag e.core) e.below queued past packets h.sender o.effects to o.after.below run.0 ps run.1 gets firsts (inr waits)
+              (renewed ends (peer_tag e.core) e.queues queued past packets h.sender o.effects to o.after.queues run.0 ps run.1 gets firsts (inr waits)
               (λ some. subst (λ (n : ℕ). HadPeer (after_effects o.effects past) to n) (sym (set_same to first ends.firsts)) had_new) (λ tag ne. set_other to tag first ends.firsts ne) addressed);
           asks = subst (λ (k : ℕ). AsksFit (firsts k) (own_of o.after) (set_at to end ends.sends k).asking) (sym (link_tag o.after.core new linked))
               (subst (λ (s : SendingEnd). AsksFit (firsts to) (own_of o.after) s.asking) (sym (set_same to end ends.sends))
@@ -223,29 +223,29 @@ module _ (options : Options) (ends : Ends) (e : Endpoint) (queued : List Message
         answered = answered_by ends' linked (set_at to begun.my w.pairs)
             (begins_answers ends e past d their_past w new is waits.asking end gets firsts (set_same to first ends.firsts) (λ tag ne. set_other to tag first ends.firsts ne)
             (begins_little addressed options options.max_receiver_window_buffer_size run.0 run.1 (new_direction options first options.max_receiver_window_buffer_size [] (record { queue = empty_queue options; transfer = None }) 0 []) run.2 run.3 linked run.4)
-            (λ other there tag. absurd (nowhere d.below.transfer refl other there tag)) (after_effects o.effects past) (after_within o.effects past) new_held);
+            (λ other there tag. absurd (nowhere d.queues.transfer refl other there tag)) (after_effects o.effects past) (after_within o.effects past) new_held);
       }
     where
-      nowhere : (found : Option Transfer) → d.below.transfer ≡ found → (other : Link) → link_in d.core ≡ Some other → other.my.tag ≡ begun.held.peer.tag → ⊥
-      nowhere None none other there tag = (let clash : ◌≡◌ {A = Option Link} None (Some other) = sym (w.unlinked none) ∙ there in absurd (cc))
+      nowhere : (found : Option Transfer) → d.queues.transfer ≡ found → (other : AssociationIdentity) → identity_in d.core ≡ Some other → other.my.tag ≡ begun.held.peer.tag → ⊥
+      nowhere None none other there tag = (let clash : ◌≡◌ {A = Option AssociationIdentity} None (Some other) = sym (w.unlinked none) ∙ there in absurd (cc))
       nowhere (Some transfer) some other there tag = apart transfer other some there tag
 
-  pub begins : NewPeer past their_past new → link_in o.after.core ≡ Some new → AreAddressed begun.held.peer.tag (packets_in o.events)
-      → QueueWaits (ends.sends (peer_tag e.core)).queued e.below.queue → AllByRecursion Fits (ends.sends (peer_tag e.core)).queued → Later
+  pub begins : NewPeer past their_past new → identity_in o.after.core ≡ Some new → AreAddressed begun.held.peer.tag (packets_in o.events)
+      → QueueWaits (ends.sends (peer_tag e.core)).queued e.queues.queue → AllByRecursion Fits (ends.sends (peer_tag e.core)).queued → Later
       → AreEnds options o.after queued (after_effects o.effects past) (packets ++ packets_in o.events) d their_past (messages_of reads)
   begins is linked addressed shown fit later =
       elim (h.sender.begun begun.held.peer.tag is.some) [
-        | inl waits ↦ go waits (known options ends d past their_past reads h.receiver new is d.below.transfer refl)
+        | inl waits ↦ go waits (known options ends d past their_past reads h.receiver new is d.queues.transfer refl)
         | inr had ↦ absurd (is.other had.link had.held had.tag_is)
       ]
     where
-      holds_marks : QueueWaits marks e.below.queue
+      holds_marks : QueueWaits marks e.queues.queue
       holds_marks =
-          subst (λ (b : Below). QueueWaits (all_marked (length (ends.sends (peer_tag e.core)).queued) b.queue.streams (ends.sends (peer_tag e.core)).queued) e.below.queue) (sym h.sender.below_is)
-          (all_marked_keep (length (ends.sends (peer_tag e.core)).queued) (ends.sends (peer_tag e.core)).queued e.below.queue shown)
+          subst (λ (b : EndpointQueues). QueueWaits (all_marked (length (ends.sends (peer_tag e.core)).queued) b.queue.streams (ends.sends (peer_tag e.core)).queued) e.queues.queue) (sym h.sender.queues_are)
+          (all_marked_keep (length (ends.sends (peer_tag e.core)).queued) (ends.sends (peer_tag e.core)).queued e.queues.queue shown)
 
       fit_marks : AllByRecursion Fits marks
-      fit_marks = all_marked_fit (length (ends.sends (peer_tag e.core)).queued) (ends.sends (peer_tag e.core)).below.queue.streams (ends.sends (peer_tag e.core)).queued fit
+      fit_marks = all_marked_fit (length (ends.sends (peer_tag e.core)).queued) (ends.sends (peer_tag e.core)).queues.queue.streams (ends.sends (peer_tag e.core)).queued fit
 
       go : Awaits (ends.sends begun.held.peer.tag) → Known options ends d new → AreEnds options o.after queued (after_effects o.effects past) (packets ++ packets_in o.events) d their_past (messages_of reads)
       go waits (is_crossed same) = crossed_begins is waits linked addressed holds_marks fit_marks later same

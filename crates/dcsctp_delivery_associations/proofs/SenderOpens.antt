@@ -2,29 +2,29 @@
 use Rattle.std.proofs.Common.{◌≡◌, ◌≢◌, ℕ, Bool, ◌<◌, ◌-◌, ◌^◌, Option, None, Some, List, [], length, refl, sym, ◌∙◌, ap, subst, inl, inr, arith}
 use Rattle.std.specs.Prelude.{◌⊎◌}
 use Rattle.dcsctp_spec_lemmas.specs.types.declared.association.Pair.{Pair}
-use Rattle.dcsctp_spec_runs.specs.Past.{Has}
-use Rattle.dcsctp_spec_lemmas.specs.spec.association.Effect.{Link, Effect, holds, performs}
+use Rattle.dcsctp_spec_runs.specs.Past.{HasEffect}
+use Rattle.dcsctp_spec_lemmas.specs.spec.association.Effect.{AssociationIdentity, Effect, holds, performs}
 use Rattle.dcsctp_spec_lemmas.specs.spec.queues.Reassembly.{DeferralModel}
 use Rattle.dcsctp_delivery_sending.specs.Places.{set_at}
 use Rattle.dcsctp_delivery_sending.proofs.Places.{decide, set_same, set_other}
 use Rattle.dcsctp_delivery_directions.specs.Directions.{Asking, nothing_asked}
-use Rattle.dcsctp_delivery_associations.specs.Answered.{Requests, number_at, WasHeld, WasJoined, AreAsked, WerePerformed, all_performed, unaccepted, in_progress, StandsSo, in_step, plain, Answers}
+use Rattle.dcsctp_delivery_associations.specs.Answered.{Requests, request_number_at, SenderHadPeer, WasJoined, AreAsked, WerePerformed, all_performed, unaccepted, in_progress, StandsSo, in_step, plain, AnswersRequests}
 use Rattle.dcsctp_delivery_associations.proofs.AskedOn.{as_it_was, MayBegin, asked_on, stands_on}
 use Rattle.dcsctp_delivery_associations.proofs.SenderAsks.{set_requests}
 
-still_held : (past later : List Effect) → ((effect : Effect) → Has effect past → Has effect later) → (r : Requests) (tag : ℕ) → (r.asking ≡ nothing_asked) ⊎ WasHeld past tag r.my → (r.asking ≡ nothing_asked) ⊎ WasHeld later tag r.my
+still_held : (past later : List Effect) → ((effect : Effect) → HasEffect effect past → HasEffect effect later) → (r : Requests) (tag : ℕ) → (r.asking ≡ nothing_asked) ⊎ SenderHadPeer past tag r.my → (r.asking ≡ nothing_asked) ⊎ SenderHadPeer later tag r.my
 still_held past later grows r tag (inl none) = inl none
 still_held past later grows r tag (inr held) = inr (record { link = held.link; held = grows (holds held.link) held.held; tag_is = held.tag_is; my_is = held.my_is; some = held.some })
 
 -- ---- an association begins
 
 -- those of an association that begins
-abbrev pub fresh_requests : Link → Bool → Asking → Requests
+abbrev pub fresh_requests : AssociationIdentity → Bool → Asking → Requests
 fresh_requests new is_interleaved asking = record { my = new.my; first = new.my.first_tsn; asking = asking; is_interleaved = is_interleaved }
 
-module _ (requests : ℕ → Requests) (mine : Option Link) (past : List Effect) (theirs : Option Link) (their_past : List Effect) (waits : Option DeferralModel) (h : Answers requests mine past theirs their_past waits) (new : Link)
+module _ (requests : ℕ → Requests) (mine : Option AssociationIdentity) (past : List Effect) (theirs : Option AssociationIdentity) (their_past : List Effect) (waits : Option DeferralModel) (h : AnswersRequests requests mine past theirs their_past waits) (new : AssociationIdentity)
     (some : new.peer.tag ≢ 0) (nothing : (requests new.peer.tag).asking ≡ nothing_asked)
-    (match : (other : Link) → Has (holds other) their_past → (other.my.tag ≡ new.peer.tag) ⊎ (other.peer.tag ≡ new.my.tag) → (other.peer ≡ new.my) × (other.my.tag ≡ new.peer.tag)) where
+    (match : (other : AssociationIdentity) → HasEffect (holds other) their_past → (other.my.tag ≡ new.peer.tag) ⊎ (other.peer.tag ≡ new.my.tag) → (other.peer ≡ new.my) × (other.my.tag ≡ new.peer.tag)) where
   -- None of its requests was performed yet.
   joined_here : (tag : ℕ) → WasJoined their_past tag (requests tag).my → (requests tag).my ≡ new.my → tag ≡ new.peer.tag
   joined_here tag joined same =
@@ -33,18 +33,18 @@ module _ (requests : ℕ → Requests) (mine : Option Link) (past : List Effect)
   is_mine : WasJoined their_past new.peer.tag (requests new.peer.tag).my → (requests new.peer.tag).my ≡ new.my
   is_mine joined = sym joined.my_is ∙ (match joined.link joined.held (inl joined.tag_is)).0
 
-  none_performed : (number : ℕ) → Has (performs new.my number) their_past → ⊥
+  none_performed : (number : ℕ) → HasEffect (performs new.my number) their_past → ⊥
   none_performed number has =
       let found = h.joined new.my number has in
       let at : found.0 ≡ new.peer.tag = joined_here found.0 found.1 found.2 in
       let joined : WasJoined their_past new.peer.tag (requests new.peer.tag).my = subst (λ (t : ℕ). WasJoined their_past t (requests t).my) at found.1 in
-      let placed = h.performed new.peer.tag joined number (subst (λ (p : Pair). Has (performs p number) their_past) (sym (is_mine joined)) has) in
+      let placed = h.performed new.peer.tag joined number (subst (λ (p : Pair). HasEffect (performs p number) their_past) (sym (is_mine joined)) has) in
       let below = placed.below in
       let empty : length (requests new.peer.tag).asking.requests ≡ 0 = ap (λ (a : Asking). length a.requests) nothing in
       absurd (omega (arith, below, empty))
 
   module _ (is_interleaved : Bool) (asking : Asking) (begins : MayBegin new.my.first_tsn nothing_asked asking)
-      (first_same : (other : Link) → theirs ≡ Some other → other.my.tag ≡ new.peer.tag → (requests new.peer.tag).first ≡ new.my.first_tsn) (later : List Effect) (grows : (effect : Effect) → Has effect past → Has effect later) (held : Has (holds new) later) where
+      (first_same : (other : AssociationIdentity) → theirs ≡ Some other → other.my.tag ≡ new.peer.tag → (requests new.peer.tag).first ≡ new.my.first_tsn) (later : List Effect) (grows : (effect : Effect) → HasEffect effect past → HasEffect effect later) (held : HasEffect (holds new) later) where
     abbrev before : Requests
     before = fresh_requests new is_interleaved nothing_asked
 
@@ -59,9 +59,9 @@ module _ (requests : ℕ → Requests) (mine : Option Link) (past : List Effect)
         set_requests (λ t n. t ≢ 0 → (n.asking ≡ nothing_asked) ⊎ AreAsked n their_past) new.peer.tag (fresh_requests new is_interleaved asking) requests
         (λ z. inr (asked_on before their_past (inl refl) few nothing_asked asking as_it_was begins)) (λ t ne z. h.asked t z)
 
-    held_opened : (tag : ℕ) → tag ≢ 0 → ((opened tag).asking ≡ nothing_asked) ⊎ WasHeld later tag (opened tag).my
+    held_opened : (tag : ℕ) → tag ≢ 0 → ((opened tag).asking ≡ nothing_asked) ⊎ SenderHadPeer later tag (opened tag).my
     held_opened =
-        set_requests (λ t n. t ≢ 0 → (n.asking ≡ nothing_asked) ⊎ WasHeld later t n.my) new.peer.tag (fresh_requests new is_interleaved asking) requests
+        set_requests (λ t n. t ≢ 0 → (n.asking ≡ nothing_asked) ⊎ SenderHadPeer later t n.my) new.peer.tag (fresh_requests new is_interleaved asking) requests
         (λ z. inr (record { link = new; held = held; tag_is = refl; my_is = refl; some = some })) (λ t ne z. still_held past later grows (requests t) t (h.asked_held t z))
 
     performed_opened : (tag : ℕ) → WasJoined their_past tag (opened tag).my → WerePerformed (opened tag) their_past
@@ -91,18 +91,18 @@ module _ (requests : ℕ → Requests) (mine : Option Link) (past : List Effect)
           ]
         ]
 
-    joined_opened : (my : Pair) (number : ℕ) → Has (performs my number) their_past → (tag : ℕ) × WasJoined their_past tag (opened tag).my × ((opened tag).my ≡ my)
+    joined_opened : (my : Pair) (number : ℕ) → HasEffect (performs my number) their_past → (tag : ℕ) × WasJoined their_past tag (opened tag).my × ((opened tag).my ≡ my)
     joined_opened my number has =
         let found = h.joined my number has in
         elim (decide found.0 new.peer.tag) [
-          | inl e ↦ absurd (none_performed number (subst (λ (p : Pair). Has (performs p number) their_past) (sym found.2 ∙ here e found.1) has))
+          | inl e ↦ absurd (none_performed number (subst (λ (p : Pair). HasEffect (performs p number) their_past) (sym found.2 ∙ here e found.1) has))
           | inr ne ↦ (found.0, subst (WasJoined their_past found.0) (sym (there_is found.0 ne)) found.1, there_is found.0 ne ∙ found.2)
         ]
       where
         here : {tag : ℕ} → tag ≡ new.peer.tag → WasJoined their_past tag (requests tag).my → (requests tag).my ≡ new.my
         here e joined = sym joined.my_is ∙ (match joined.link joined.held (inl (joined.tag_is ∙ e))).0
 
-    theirs_opened : (other : Link) → theirs ≡ Some other → WasJoined their_past other.my.tag other.peer × ((opened other.my.tag).my ≡ other.peer)
+    theirs_opened : (other : AssociationIdentity) → theirs ≡ Some other → WasJoined their_past other.my.tag other.peer × ((opened other.my.tag).my ≡ other.peer)
     theirs_opened other is =
         let found = h.theirs_held other is in (
           found.0,
@@ -116,11 +116,11 @@ module _ (requests : ℕ → Requests) (mine : Option Link) (past : List Effect)
     stands_before : (n : Requests) → n.asking ≡ nothing_asked → n.first ≡ new.my.first_tsn → StandsSo n their_past waits → StandsSo before their_past waits
     stands_before n none first (plain not some') = absurd (some' (ap (λ (a : Asking). a.requests) none))
     stands_before n none first (in_step (all_performed accept perform wait which)) =
-        in_step (all_performed (accept ∙ ap (λ (x : ℕ). Some (number_at x (length n.asking.requests))) first ∙ ap (λ (a : Asking). Some (number_at new.my.first_tsn (length a.requests))) none) perform wait (inl refl))
+        in_step (all_performed (accept ∙ ap (λ (x : ℕ). Some (request_number_at x (length n.asking.requests))) first ∙ ap (λ (a : Asking). Some (request_number_at new.my.first_tsn (length a.requests))) none) perform wait (inl refl))
     stands_before n none first (in_step (unaccepted newest earlier place is below want accept perform wait un)) = (let empty : n.asking.requests ≡ [] = ap (λ (a : Asking). a.requests) none in absurd (cc))
     stands_before n none first (in_step (in_progress newest earlier place is below want accept perform own un)) = (let empty : n.asking.requests ≡ [] = ap (λ (a : Asking). a.requests) none in absurd (cc))
 
-    stands_opened : (other : Link) → theirs ≡ Some other → StandsSo (opened other.my.tag) their_past waits
+    stands_opened : (other : AssociationIdentity) → theirs ≡ Some other → StandsSo (opened other.my.tag) their_past waits
     stands_opened other is =
         elim (decide other.my.tag new.peer.tag) [
           | inl e ↦
@@ -131,12 +131,12 @@ module _ (requests : ℕ → Requests) (mine : Option Link) (past : List Effect)
           | inr ne ↦ subst (λ (n : Requests). StandsSo n their_past waits) (sym (set_other new.peer.tag other.my.tag (fresh_requests new is_interleaved asking) requests ne)) (h.stands other is)
         ]
 
-    mine_apart_opened : (link : Link) → Some new ≡ Some link → (tag : ℕ) → link.peer.tag ≢ tag → WasJoined their_past tag (opened tag).my → link.my ≢ (opened tag).my
+    mine_apart_opened : (link : AssociationIdentity) → Some new ≡ Some link → (tag : ℕ) → link.peer.tag ≢ tag → WasJoined their_past tag (opened tag).my → link.my ≢ (opened tag).my
     mine_apart_opened link is tag ne joined same =
         let one : new ≡ link = cc in
-        mine_only tag (λ e. ne (sym (ap (λ (l : Link). l.peer.tag) one) ∙ sym e)) joined (ap (λ (l : Link). l.my) one ∙ same)
+        mine_only tag (λ e. ne (sym (ap (λ (l : AssociationIdentity). l.peer.tag) one) ∙ sym e)) joined (ap (λ (l : AssociationIdentity). l.my) one ∙ same)
 
-    pub opens_on : Answers opened (Some new) later theirs their_past waits
+    pub opens_on : AnswersRequests opened (Some new) later theirs their_past waits
     opens_on =
         record {
           asked = asked_opened;
@@ -145,20 +145,20 @@ module _ (requests : ℕ → Requests) (mine : Option Link) (past : List Effect)
           apart = apart_opened;
           mine_apart = mine_apart_opened;
           joined = joined_opened;
-          mine_held = λ link is. subst (λ (l : Link). WasHeld later l.peer.tag l.my × ((opened l.peer.tag).my ≡ l.my)) (some_link is) (record { link = new; held = held; tag_is = refl; my_is = refl; some = some }, here_is);
-          mine_first = λ link is. subst (λ (l : Link). (opened l.peer.tag).first ≡ l.my.first_tsn) (some_link is) (ap (λ (n : Requests). n.first) (set_same new.peer.tag (fresh_requests new is_interleaved asking) requests));
+          mine_held = λ link is. subst (λ (l : AssociationIdentity). SenderHadPeer later l.peer.tag l.my × ((opened l.peer.tag).my ≡ l.my)) (some_link is) (record { link = new; held = held; tag_is = refl; my_is = refl; some = some }, here_is);
+          mine_first = λ link is. subst (λ (l : AssociationIdentity). (opened l.peer.tag).first ≡ l.my.first_tsn) (some_link is) (ap (λ (n : Requests). n.first) (set_same new.peer.tag (fresh_requests new is_interleaved asking) requests));
           theirs_held = theirs_opened;
           stands = stands_opened;
         }
       where
-        some_link : {link : Link} → Some new ≡ Some link → new ≡ link
+        some_link : {link : AssociationIdentity} → Some new ≡ Some link → new ≡ link
         some_link is = cc
 
 -- ---- it ends, or there is none
 
 -- The tag 0 is none of the receiver's.
-module _ (requests : ℕ → Requests) (mine : Option Link) (past : List Effect) (theirs : Option Link) (their_past : List Effect) (waits : Option DeferralModel) (h : Answers requests mine past theirs their_past waits) (zero : Requests) (later : List Effect)
-    (grows : (effect : Effect) → Has effect past → Has effect later) where
+module _ (requests : ℕ → Requests) (mine : Option AssociationIdentity) (past : List Effect) (theirs : Option AssociationIdentity) (their_past : List Effect) (waits : Option DeferralModel) (h : AnswersRequests requests mine past theirs their_past waits) (zero : Requests) (later : List Effect)
+    (grows : (effect : Effect) → HasEffect effect past → HasEffect effect later) where
   abbrev pub closed : ℕ → Requests
   closed = set_at 0 zero requests
 
@@ -174,11 +174,11 @@ module _ (requests : ℕ → Requests) (mine : Option Link) (past : List Effect)
   same_pairs : (one two : ℕ) → one ≢ 0 → two ≢ 0 → (closed one).my ≡ (closed two).my → (requests one).my ≡ (requests two).my
   same_pairs one two some some' same = sym (ap (λ (n : Requests). n.my) (there_is' one some)) ∙ same ∙ ap (λ (n : Requests). n.my) (there_is' two some')
 
-  pub closes_on : Answers closed None later theirs their_past waits
+  pub closes_on : AnswersRequests closed None later theirs their_past waits
   closes_on =
       record {
         asked = λ tag some. subst (λ (n : Requests). (n.asking ≡ nothing_asked) ⊎ AreAsked n their_past) (sym (there_is' tag some)) (h.asked tag some);
-        asked_held = λ tag some. subst (λ (n : Requests). (n.asking ≡ nothing_asked) ⊎ WasHeld later tag n.my) (sym (there_is' tag some)) (still_held past later grows (requests tag) tag (h.asked_held tag some));
+        asked_held = λ tag some. subst (λ (n : Requests). (n.asking ≡ nothing_asked) ⊎ SenderHadPeer later tag n.my) (sym (there_is' tag some)) (still_held past later grows (requests tag) tag (h.asked_held tag some));
         performed = λ tag joined. subst (λ (n : Requests). WerePerformed n their_past) (sym (there_is' tag joined.some)) (h.performed tag (joined_then tag joined));
         apart = λ one two ne first second same. h.apart one two ne (joined_then one first) (joined_then two second) (same_pairs one two first.some second.some same);
         mine_apart = λ link is. absurd (cc);

@@ -9,15 +9,15 @@ use Rattle.dcsctp_spec_lemmas.specs.spec.endpoint.Outcome.{Outcome}
 use Rattle.dcsctp_spec_lemmas.specs.spec.Packet.{Emission}
 use Rattle.dcsctp_spec_lemmas.specs.spec.endpoint.Turn.{Input}
 use Rattle.dcsctp_spec_runs.specs.World.{after_effects}
-use Rattle.dcsctp_spec_lemmas.specs.spec.association.Effect.{Effect, link_in}
-use Rattle.dcsctp_spec_lemmas.specs.spec.queues.Transfer.{Below}
+use Rattle.dcsctp_spec_lemmas.specs.spec.association.Effect.{Effect, identity_in}
+use Rattle.dcsctp_spec_lemmas.specs.spec.queues.Transfer.{EndpointQueues}
 use Rattle.dcsctp_delivery_sending.specs.Places.{set_at}
 use Rattle.dcsctp_delivery_sending.specs.Log.{Message, Fits}
 use Rattle.dcsctp_delivery_sending.specs.Queueing.{QueueWaits}
 use Rattle.dcsctp_delivery_sending.specs.Marking.{all_marked}
 use Rattle.dcsctp_delivery_sending.proofs.Places.{decide, set_same, set_other}
 use Rattle.dcsctp_delivery_sending.proofs.MarkingAll.{all_marked_keep, all_marked_fit}
-use Rattle.dcsctp_delivery_directions.specs.Directions.{Asking, nothing_asked, Run}
+use Rattle.dcsctp_delivery_directions.specs.Directions.{Asking, nothing_asked, DirectionRun}
 use Rattle.dcsctp_delivery_turns.specs.Actions.{peer_tag, queued_after}
 use Rattle.dcsctp_delivery_turns.specs.Asking.{own_of, AsksFit}
 use Rattle.dcsctp_delivery_turns.specs.Addressed.{AreAddressed}
@@ -65,28 +65,28 @@ module _ (options : Options) (ends : Ends) (e : Endpoint) (queued : List Message
   abbrev pub Turned : Type 0
   Turned = AreEnds options o.after (queued_after e input queued) (after_effects o.effects past) (packets ++ packets_in o.events) d their_past (messages_of reads)
 
-  pub goes_on : link_in o.after.core ≡ link_in e.core → AreAddressed (peer_tag e.core) (packets_in o.events) → (acknowledged : ℕ) (asking : Asking) → AsksFit (ends.firsts (peer_tag e.core)) (own_of o.after) asking
-      → AreAnswered (grown_ends ends (peer_tag e.core) e.below queued past packets h.sender o.effects more o.after.below acknowledged (packets_in o.events) asking) o.after (after_effects o.effects past) d their_past
-      → Run options (ends.firsts (peer_tag e.core)) options.max_receiver_window_buffer_size
-      (sender_at (joined (ends.sends (peer_tag e.core)) (ends.gets (peer_tag e.core))) (queued_after e input (ends.sends (peer_tag e.core)).queued) o.after.below acknowledged ((ends.sends (peer_tag e.core)).sent ++ packets_in o.events) asking)
+  pub goes_on : identity_in o.after.core ≡ identity_in e.core → AreAddressed (peer_tag e.core) (packets_in o.events) → (acknowledged : ℕ) (asking : Asking) → AsksFit (ends.firsts (peer_tag e.core)) (own_of o.after) asking
+      → AreAnswered (grown_ends ends (peer_tag e.core) e.queues queued past packets h.sender o.effects more o.after.queues acknowledged (packets_in o.events) asking) o.after (after_effects o.effects past) d their_past
+      → DirectionRun options (ends.firsts (peer_tag e.core)) options.max_receiver_window_buffer_size
+      (sender_at (joined (ends.sends (peer_tag e.core)) (ends.gets (peer_tag e.core))) (queued_after e input (ends.sends (peer_tag e.core)).queued) o.after.queues acknowledged ((ends.sends (peer_tag e.core)).sent ++ packets_in o.events) asking)
       → Turned
   goes_on linked addressed acknowledged asking fits answered run =
       let key : ℕ = peer_tag e.core in
-      let end : SendingEnd = grown_end ends key e.below queued past packets h.sender o.effects more o.after.below acknowledged (packets_in o.events) asking in
-      let later : Ends = grown_ends ends key e.below queued past packets h.sender o.effects more o.after.below acknowledged (packets_in o.events) asking in
-      let sender : Sender later key o.after.below (more ++ queued) (after_effects o.effects past) (packets ++ packets_in o.events) =
-      grown ends key e.below queued past packets h.sender o.effects more o.after.below acknowledged (packets_in o.events) asking addressed in
+      let end : SendingEnd = grown_end ends key e.queues queued past packets h.sender o.effects more o.after.queues acknowledged (packets_in o.events) asking in
+      let later : Ends = grown_ends ends key e.queues queued past packets h.sender o.effects more o.after.queues acknowledged (packets_in o.events) asking in
+      let sender : Sender later key o.after.queues (more ++ queued) (after_effects o.effects past) (packets ++ packets_in o.events) =
+      grown ends key e.queues queued past packets h.sender o.effects more o.after.queues acknowledged (packets_in o.events) asking addressed in
       record {
         ends = later;
         tagged = reads;
         are_all = refl;
         between = record {
-          runs = set_all (λ tag s. Run options (ends.firsts tag) options.max_receiver_window_buffer_size (joined s (ends.gets tag))) key end ends.sends
-              (subst (λ (l : List Message). Run options (ends.firsts key) options.max_receiver_window_buffer_size (joined (record end { queued = l }) (ends.gets key))) (input_adds e input (ends.sends key).queued) run)
+          runs = set_all (λ tag s. DirectionRun options (ends.firsts tag) options.max_receiver_window_buffer_size (joined s (ends.gets tag))) key end ends.sends
+              (subst (λ (l : List Message). DirectionRun options (ends.firsts key) options.max_receiver_window_buffer_size (joined (record end { queued = l }) (ends.gets key))) (input_adds e input (ends.sends key).queued) run)
               (λ tag ne. h.runs tag);
           small = h.small;
-          sender = subst (λ (l : List Message). Sender later (peer_tag o.after.core) o.after.below l (after_effects o.effects past) (packets ++ packets_in o.events)) (sym (input_adds e input queued))
-              (subst (λ (k : ℕ). Sender later k o.after.below (more ++ queued) (after_effects o.effects past) (packets ++ packets_in o.events)) (sym (same_key o.after.core e.core linked)) sender);
+          sender = subst (λ (l : List Message). Sender later (peer_tag o.after.core) o.after.queues l (after_effects o.effects past) (packets ++ packets_in o.events)) (sym (input_adds e input queued))
+              (subst (λ (k : ℕ). Sender later k o.after.queues (more ++ queued) (after_effects o.effects past) (packets ++ packets_in o.events)) (sym (same_key o.after.core e.core linked)) sender);
           asks = subst (λ (k : ℕ). AsksFit (ends.firsts k) (own_of o.after) (set_at key end ends.sends k).asking) (sym (same_key o.after.core e.core linked))
               (subst (λ (s : SendingEnd). AsksFit (ends.firsts key) (own_of o.after) s.asking) (sym (set_same key end ends.sends)) fits);
           receiver = receiver_same options ends later.sends d their_past reads h.receiver;
@@ -95,52 +95,52 @@ module _ (options : Options) (ends : Ends) (e : Endpoint) (queued : List Message
       }
 
   -- the ends once it has ended
-  abbrev pub ended_ends : Below → ℕ → Asking → AreAddressed (peer_tag e.core) (packets_in o.events) → Ends
+  abbrev pub ended_ends : EndpointQueues → ℕ → Asking → AreAddressed (peer_tag e.core) (packets_in o.events) → Ends
   ended_ends last acknowledged asking addressed =
-      renewed_ends (grown_ends ends (peer_tag e.core) e.below queued past packets h.sender o.effects more last acknowledged (packets_in o.events) asking) (peer_tag e.core) last (more ++ queued) (after_effects o.effects past)
-      (packets ++ packets_in o.events) (grown ends (peer_tag e.core) e.below queued past packets h.sender o.effects more last acknowledged (packets_in o.events) asking addressed) [] 0 o.after.below 0 [] nothing_asked ends.gets ends.firsts
+      renewed_ends (grown_ends ends (peer_tag e.core) e.queues queued past packets h.sender o.effects more last acknowledged (packets_in o.events) asking) (peer_tag e.core) last (more ++ queued) (after_effects o.effects past)
+      (packets ++ packets_in o.events) (grown ends (peer_tag e.core) e.queues queued past packets h.sender o.effects more last acknowledged (packets_in o.events) asking addressed) [] 0 o.after.queues 0 [] nothing_asked ends.gets ends.firsts
 
-  pub ended : link_in o.after.core ≡ None → (addressed : AreAddressed (peer_tag e.core) (packets_in o.events)) → (last : Below) → o.after.below ≡ record last { transfer = None }
+  pub ended : identity_in o.after.core ≡ None → (addressed : AreAddressed (peer_tag e.core) (packets_in o.events)) → (last : EndpointQueues) → o.after.queues ≡ record last { transfer = None }
       → QueueWaits (queued_after e input (ends.sends (peer_tag e.core)).queued) last.queue → AllByRecursion Fits (queued_after e input (ends.sends (peer_tag e.core)).queued) → (acknowledged : ℕ) (asking : Asking)
       → AreAnswered (ended_ends last acknowledged asking addressed) o.after (after_effects o.effects past) d their_past
-      → Run options (ends.firsts (peer_tag e.core)) options.max_receiver_window_buffer_size
+      → DirectionRun options (ends.firsts (peer_tag e.core)) options.max_receiver_window_buffer_size
       (sender_at (joined (ends.sends (peer_tag e.core)) (ends.gets (peer_tag e.core))) (queued_after e input (ends.sends (peer_tag e.core)).queued) last acknowledged ((ends.sends (peer_tag e.core)).sent ++ packets_in o.events) asking)
       → Turned
   ended none addressed last is shown fit acknowledged asking answered run =
       let key : ℕ = peer_tag e.core in
       let ps : List Emission = packets_in o.events in
-      let end : SendingEnd = grown_end ends key e.below queued past packets h.sender o.effects more last acknowledged ps asking in
-      let middle : Ends = grown_ends ends key e.below queued past packets h.sender o.effects more last acknowledged ps asking in
-      let first : Sender middle key last (more ++ queued) (after_effects o.effects past) (packets ++ ps) = grown ends key e.below queued past packets h.sender o.effects more last acknowledged ps asking addressed in
-      let marked : List Message = marked_queue middle key last (more ++ queued) (after_effects o.effects past) (packets ++ ps) first [] 0 o.after.below 0 [] nothing_asked ends.gets ends.firsts in
-      let later : Ends = renewed_ends middle key last (more ++ queued) (after_effects o.effects past) (packets ++ ps) first [] 0 o.after.below 0 [] nothing_asked ends.gets ends.firsts in
-      let new : SendingEnd = renewed_end middle key last (more ++ queued) (after_effects o.effects past) (packets ++ ps) first [] 0 o.after.below 0 [] nothing_asked ends.gets ends.firsts in
-      let second : Sender later 0 o.after.below (more ++ queued) (after_effects o.effects past) ((packets ++ ps) ++ []) =
-      renewed middle key last (more ++ queued) (after_effects o.effects past) (packets ++ ps) first [] 0 o.after.below 0 [] nothing_asked ends.gets ends.firsts (inl refl) (λ some. absurd (some refl)) (λ tag ne. refl) tt in
+      let end : SendingEnd = grown_end ends key e.queues queued past packets h.sender o.effects more last acknowledged ps asking in
+      let middle : Ends = grown_ends ends key e.queues queued past packets h.sender o.effects more last acknowledged ps asking in
+      let first : Sender middle key last (more ++ queued) (after_effects o.effects past) (packets ++ ps) = grown ends key e.queues queued past packets h.sender o.effects more last acknowledged ps asking addressed in
+      let marked : List Message = marked_queue middle key last (more ++ queued) (after_effects o.effects past) (packets ++ ps) first [] 0 o.after.queues 0 [] nothing_asked ends.gets ends.firsts in
+      let later : Ends = renewed_ends middle key last (more ++ queued) (after_effects o.effects past) (packets ++ ps) first [] 0 o.after.queues 0 [] nothing_asked ends.gets ends.firsts in
+      let new : SendingEnd = renewed_end middle key last (more ++ queued) (after_effects o.effects past) (packets ++ ps) first [] 0 o.after.queues 0 [] nothing_asked ends.gets ends.firsts in
+      let second : Sender later 0 o.after.queues (more ++ queued) (after_effects o.effects past) ((packets ++ ps) ++ []) =
+      renewed middle key last (more ++ queued) (after_effects o.effects past) (packets ++ ps) first [] 0 o.after.queues 0 [] nothing_asked ends.gets ends.firsts (inl refl) (λ some. absurd (some refl)) (λ tag ne. refl) tt in
       let adds : queued_after e input (ends.sends key).queued ≡ end.queued = input_adds e input (ends.sends key).queued in
       let shown' : QueueWaits end.queued last.queue = subst (λ (l : List Message). QueueWaits l last.queue) adds shown in
       let fit' : AllByRecursion Fits end.queued = subst (λ (l : List Message). AllByRecursion Fits l) adds fit in
-      let holds' : QueueWaits marked o.after.below.queue =
-      subst (λ (b : Below). QueueWaits marked b.queue) (sym is)
-      (subst (λ (s : SendingEnd). QueueWaits (all_marked (length s.queued) s.below.queue.streams s.queued) last.queue) (sym (set_same key end ends.sends)) (all_marked_keep (length end.queued) end.queued last.queue shown')) in
+      let holds' : QueueWaits marked o.after.queues.queue =
+      subst (λ (b : EndpointQueues). QueueWaits marked b.queue) (sym is)
+      (subst (λ (s : SendingEnd). QueueWaits (all_marked (length s.queued) s.queues.queue.streams s.queued) last.queue) (sym (set_same key end ends.sends)) (all_marked_keep (length end.queued) end.queued last.queue shown')) in
       let fits' : AllByRecursion Fits marked =
-      subst (λ (s : SendingEnd). AllByRecursion Fits (all_marked (length s.queued) s.below.queue.streams s.queued)) (sym (set_same key end ends.sends)) (all_marked_fit (length end.queued) last.queue.streams end.queued fit') in
-      let anew : Run options (ends.firsts 0) options.max_receiver_window_buffer_size (joined new (new_end options (ends.firsts 0))) =
-      begins_anew options (ends.firsts 0) options.max_receiver_window_buffer_size marked o.after.below fits' holds' (ap (λ (b : Below). b.transfer) is) in
+      subst (λ (s : SendingEnd). AllByRecursion Fits (all_marked (length s.queued) s.queues.queue.streams s.queued)) (sym (set_same key end ends.sends)) (all_marked_fit (length end.queued) last.queue.streams end.queued fit') in
+      let anew : DirectionRun options (ends.firsts 0) options.max_receiver_window_buffer_size (joined new (new_end options (ends.firsts 0))) =
+      begins_anew options (ends.firsts 0) options.max_receiver_window_buffer_size marked o.after.queues fits' holds' (ap (λ (b : EndpointQueues). b.transfer) is) in
       let never : ends.gets 0 ≡ new_end options (ends.firsts 0) = elim (h.receiver.begun 0) [ inl new' ↦ new' | inr had ↦ absurd (had.some refl) ] in
       record {
         ends = later;
         tagged = reads;
         are_all = refl;
         between = record {
-          runs = set_all (λ tag s. Run options (ends.firsts tag) options.max_receiver_window_buffer_size (joined s (ends.gets tag))) 0 new middle.sends
-              (subst (λ (g : ReceivingEnd). Run options (ends.firsts 0) options.max_receiver_window_buffer_size (joined new g)) (sym never) anew)
-              (λ tag ne. set_all (λ tag s. Run options (ends.firsts tag) options.max_receiver_window_buffer_size (joined s (ends.gets tag))) key end ends.sends
-              (subst (λ (l : List Message). Run options (ends.firsts key) options.max_receiver_window_buffer_size (joined (record end { queued = l }) (ends.gets key))) adds run) (λ tag ne. h.runs tag) tag);
+          runs = set_all (λ tag s. DirectionRun options (ends.firsts tag) options.max_receiver_window_buffer_size (joined s (ends.gets tag))) 0 new middle.sends
+              (subst (λ (g : ReceivingEnd). DirectionRun options (ends.firsts 0) options.max_receiver_window_buffer_size (joined new g)) (sym never) anew)
+              (λ tag ne. set_all (λ tag s. DirectionRun options (ends.firsts tag) options.max_receiver_window_buffer_size (joined s (ends.gets tag))) key end ends.sends
+              (subst (λ (l : List Message). DirectionRun options (ends.firsts key) options.max_receiver_window_buffer_size (joined (record end { queued = l }) (ends.gets key))) adds run) (λ tag ne. h.runs tag) tag);
           small = h.small;
-          sender = subst (λ (l : List Message). Sender later (peer_tag o.after.core) o.after.below l (after_effects o.effects past) (packets ++ ps)) (sym (input_adds e input queued))
-              (subst (λ (k : ℕ). Sender later k o.after.below (more ++ queued) (after_effects o.effects past) (packets ++ ps)) (sym (no_key o.after.core none))
-              (subst (λ (l : List Emission). Sender later 0 o.after.below (more ++ queued) (after_effects o.effects past) l) (append-nil (packets ++ ps)) second));
+          sender = subst (λ (l : List Message). Sender later (peer_tag o.after.core) o.after.queues l (after_effects o.effects past) (packets ++ ps)) (sym (input_adds e input queued))
+              (subst (λ (k : ℕ). Sender later k o.after.queues (more ++ queued) (after_effects o.effects past) (packets ++ ps)) (sym (no_key o.after.core none))
+              (subst (λ (l : List Emission). Sender later 0 o.after.queues (more ++ queued) (after_effects o.effects past) l) (append-nil (packets ++ ps)) second));
           asks = unlinked_fit o.after (ends.firsts (peer_tag o.after.core)) (later.sends (peer_tag o.after.core)).asking none;
           receiver = receiver_same options ends later.sends d their_past reads h.receiver;
         };

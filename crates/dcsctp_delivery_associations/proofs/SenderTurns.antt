@@ -8,12 +8,12 @@ use Rattle.dcsctp_spec_lemmas.specs.spec.endpoint.Outcome.{Outcome}
 use Rattle.dcsctp_spec_lemmas.specs.spec.Packet.{Emission}
 use Rattle.dcsctp_spec_lemmas.specs.spec.endpoint.Turn.{Input, Turn}
 use Rattle.dcsctp_spec_runs.specs.World.{after_effects}
-use Rattle.dcsctp_spec_lemmas.specs.spec.association.Effect.{Link, link_in, Effect, link_of}
-use Rattle.dcsctp_spec_lemmas.specs.spec.queues.Transfer.{Below}
+use Rattle.dcsctp_spec_lemmas.specs.spec.association.Effect.{AssociationIdentity, identity_in, Effect, identity_of}
+use Rattle.dcsctp_spec_lemmas.specs.spec.queues.Transfer.{EndpointQueues}
 use Rattle.dcsctp_theorem_association.proofs.Growth.{after_within}
 use Rattle.dcsctp_delivery_sending.specs.Places.{set_at}
 use Rattle.dcsctp_delivery_sending.specs.Log.{Message}
-use Rattle.dcsctp_delivery_directions.specs.Directions.{Direction, Asking, Run}
+use Rattle.dcsctp_delivery_directions.specs.Directions.{Direction, Asking, DirectionRun}
 use Rattle.dcsctp_delivery_directions.proofs.RequestCounts.{requests_more, requests_more_to, requests_are_sent}
 use Rattle.dcsctp_delivery_turns.specs.Actions.{IsOpening, came_by, peer_tag, queued_after, Begun, IsCall}
 use Rattle.dcsctp_delivery_turns.specs.Addressed.{AreAddressed}
@@ -22,7 +22,7 @@ use Rattle.dcsctp_delivery_turns.specs.Runs.{sender_at, IsBetween, EndsPerformed
 use Rattle.dcsctp_delivery_turns.proofs.Completing.{completes_own}
 use Rattle.dcsctp_delivery_turns.proofs.Runs.{senders_go_on}
 use Rattle.dcsctp_delivery_associations.specs.Ends.{SendingEnd, joined, Ends, NewPeer, Between}
-use Rattle.dcsctp_delivery_associations.specs.Answered.{Answers, requests_of, waits_in, AreAnswered}
+use Rattle.dcsctp_delivery_associations.specs.Answered.{AnswersRequests, requests_of, waiting_deferral, AreAnswered}
 use Rattle.dcsctp_delivery_associations.specs.Laws.{RefusesNone, CompletesPerformed, AsksLittle, AreEnds}
 use Rattle.dcsctp_delivery_associations.specs.Reads.{Read, messages_of}
 use Rattle.dcsctp_delivery_associations.proofs.AskedOn as asked
@@ -46,7 +46,7 @@ queues_none more queued same = no_message more (let long = length-append more qu
 -- ---- each turn
 
 module _ (options : Options) (ends : Ends) (e : Endpoint) (queued : List Message) (past : List Effect) (packets : List Emission) (d : Endpoint) (their_past : List Effect) (reads : List Read)
-    (h : Between options ends e queued past packets d their_past reads) (input : Input) (o : Outcome) (new : (begun : Begun e o) → IsOpening (came_by input) → link_in o.after.core ≡ Some (link_of begun.my begun.held) → NewPeer past their_past (link_of begun.my begun.held))
+    (h : Between options ends e queued past packets d their_past reads) (input : Input) (o : Outcome) (new : (begun : Begun e o) → IsOpening (came_by input) → identity_in o.after.core ≡ Some (identity_of begun.my begun.held) → NewPeer past their_past (identity_of begun.my begun.held))
     (w : AreAnswered ends e past d their_past) (little : AsksLittle (packets ++ packets_in o.events)) where
   abbrev key : ℕ
   key = peer_tag e.core
@@ -65,8 +65,8 @@ module _ (options : Options) (ends : Ends) (e : Endpoint) (queued : List Message
       omega (arith, sent, went, all, few)
 
   -- and so is what is begun in this turn.
-  few_then : AreAddressed (peer_tag e.core) (packets_in o.events) → (below : Below) (acknowledged : ℕ) (asking : Asking)
-      → Run options (ends.firsts (peer_tag e.core)) options.max_receiver_window_buffer_size
+  few_then : AreAddressed (peer_tag e.core) (packets_in o.events) → (below : EndpointQueues) (acknowledged : ℕ) (asking : Asking)
+      → DirectionRun options (ends.firsts (peer_tag e.core)) options.max_receiver_window_buffer_size
       (sender_at (joined (ends.sends (peer_tag e.core)) (ends.gets (peer_tag e.core))) (queued_after e input (ends.sends (peer_tag e.core)).queued) below acknowledged ((ends.sends (peer_tag e.core)).sent ++ packets_in o.events) asking)
       → length asking.requests < 2 ^ 32 - 1
   few_then addressed below acknowledged asking run =
@@ -82,18 +82,18 @@ module _ (options : Options) (ends : Ends) (e : Endpoint) (queued : List Message
 
   -- ---- in an association
 
-  module _ (link : Link) (linked : link_in e.core ≡ Some link) (may : IsCall input) (turn : Turn e input o) (completes_so : CompletesPerformed their_past o) where
+  module _ (link : AssociationIdentity) (linked : identity_in e.core ≡ Some link) (may : IsCall input) (turn : Turn e input o) (completes_so : CompletesPerformed their_past o) where
     key_is : peer_tag e.core ≡ link.peer.tag
     key_is = link_tag e.core link linked
 
-    answers : Answers (requests_of ends w.pairs) (Some link) past (link_in d.core) their_past (waits_in d.below.transfer)
-    answers = subst (λ (l : Option Link). Answers (requests_of ends w.pairs) l past (link_in d.core) their_past (waits_in d.below.transfer)) linked w.answers
+    answers : AnswersRequests (requests_of ends w.pairs) (Some link) past (identity_in d.core) their_past (waiting_deferral d.queues.transfer)
+    answers = subst (λ (l : Option AssociationIdentity). AnswersRequests (requests_of ends w.pairs) l past (identity_in d.core) their_past (waiting_deferral d.queues.transfer)) linked w.answers
 
     some : link.peer.tag ≢ 0
     some = (answers.mine_held link refl).0.some
 
-    kind : (ends.sends link.peer.tag).below.queue.is_interleaved ≡ e.below.queue.is_interleaved
-    kind = sym (ap (λ (t : ℕ). (ends.sends t).below.queue.is_interleaved) key_is) ∙ ap (λ (b : Below). b.queue.is_interleaved) h.sender.below_is
+    kind : (ends.sends link.peer.tag).queues.queue.is_interleaved ≡ e.queues.queue.is_interleaved
+    kind = sym (ap (λ (t : ℕ). (ends.sends t).queues.queue.is_interleaved) key_is) ∙ ap (λ (b : EndpointQueues). b.queue.is_interleaved) h.sender.queues_are
 
     fits : AsksFit (ends.firsts link.peer.tag) (own_of e) (ends.sends link.peer.tag).asking
     fits = subst (λ (t : ℕ). AsksFit (ends.firsts t) (own_of e) (ends.sends t).asking) key_is h.asks
@@ -104,84 +104,84 @@ module _ (options : Options) (ends : Ends) (e : Endpoint) (queued : List Message
     performed : EndsPerformed e o (ends.sends (peer_tag e.core)).asking
     performed =
         subst (λ (t : ℕ). EndsPerformed e o (ends.sends t).asking) (sym key_is)
-        (ends_performed (requests_of ends w.pairs) link past (link_in d.core) their_past (waits_in d.below.transfer) answers e input o linked kind fits few completes_so may turn)
+        (ends_performed (requests_of ends w.pairs) link past (identity_in d.core) their_past (waiting_deferral d.queues.transfer) answers e input o linked kind fits few completes_so may turn)
 
     may_be : RefusesNone e o → (between : Asking) → IsBetween o.effects (ends.sends (peer_tag e.core)).asking between → MayGo (requests_of ends w.pairs link.peer.tag) their_past between
     may_be refuses between is =
-        may_go (requests_of ends w.pairs) link past (link_in d.core) their_past (waits_in d.below.transfer) answers e input o linked kind fits few completes_so may turn refuses between
+        may_go (requests_of ends w.pairs) link past (identity_in d.core) their_past (waiting_deferral d.queues.transfer) answers e input o linked kind fits few completes_so may turn refuses between
         (subst (λ (t : ℕ). IsBetween o.effects (ends.sends t).asking between) key_is is)
 
-    begins_so : (core : Core) (request : Option OutstandingRequest) (between asking : Asking) → link_in core ≡ Some link → AskingGrows between asking → AsksFit (ends.firsts (peer_tag e.core)) (own_in core request) asking
+    begins_so : (core : Core) (request : Option OutstandingRequest) (between asking : Asking) → identity_in core ≡ Some link → AskingGrows between asking → AsksFit (ends.firsts (peer_tag e.core)) (own_in core request) asking
         → length asking.requests < 2 ^ 32 - 1 → MayBegin (ends.firsts link.peer.tag) between asking
     begins_so core request between asking there grows fit little' =
         may_begin (ends.firsts link.peer.tag) core request between asking link there grows (subst (λ (t : ℕ). AsksFit (ends.firsts t) (own_in core request) asking) key_is fit) little'
 
     -- what becomes of the requests by this end of the turn
-    goes : (after : Endpoint) (end : SendingEnd) → end.below.queue.is_interleaved ≡ e.below.queue.is_interleaved → (between : Asking) → MayGo (requests_of ends w.pairs link.peer.tag) their_past between
+    goes : (after : Endpoint) (end : SendingEnd) → end.queues.queue.is_interleaved ≡ e.queues.queue.is_interleaved → (between : Asking) → MayGo (requests_of ends w.pairs link.peer.tag) their_past between
         → MayBegin (ends.firsts link.peer.tag) between end.asking
-        → Answers (requests_of (record ends { sends = set_at (peer_tag e.core) end ends.sends }) w.pairs) (Some link) (after_effects o.effects past) (link_in d.core) their_past (waits_in d.below.transfer)
-    goes after end same between ended_so begun_so = goes_answers ends e past d their_past w h.sender.below_is after o.effects end same link linked some between end.asking refl few ended_so begun_so
+        → AnswersRequests (requests_of (record ends { sends = set_at (peer_tag e.core) end ends.sends }) w.pairs) (Some link) (after_effects o.effects past) (identity_in d.core) their_past (waiting_deferral d.queues.transfer)
+    goes after end same between ended_so begun_so = goes_answers ends e past d their_past w h.sender.queues_are after o.effects end same link linked some between end.asking refl few ended_so begun_so
 
   -- ---- in any turn
 
   -- Without an association no request ends.
-  idle_performed : link_in e.core ≡ None → IsCall input → Turn e input o → EndsPerformed e o (ends.sends (peer_tag e.core)).asking
+  idle_performed : identity_in e.core ≡ None → IsCall input → Turn e input o → EndsPerformed e o (ends.sends (peer_tag e.core)).asking
   idle_performed none may turn done interleaved =
       let found = some_completed o.effects done in
       let own = completes_own e input o found.0 found.1 may turn found.2 in
-      let clash : ◌≡◌ {A = Option Link} None (Some own.link) = sym none ∙ own.linked in
+      let clash : ◌≡◌ {A = Option AssociationIdentity} None (Some own.link) = sym none ∙ own.linked in
       absurd (cc)
 
-  performed_by : (found : Option Link) → link_in e.core ≡ found → IsCall input → Turn e input o → CompletesPerformed their_past o → EndsPerformed e o (ends.sends (peer_tag e.core)).asking
+  performed_by : (found : Option AssociationIdentity) → identity_in e.core ≡ found → IsCall input → Turn e input o → CompletesPerformed their_past o → EndsPerformed e o (ends.sends (peer_tag e.core)).asking
   performed_by None none may turn completes_so = idle_performed none may turn
   performed_by (Some link) linked may turn completes_so = performed link linked may turn completes_so
 
   -- the end of the sender after the turn, with this below
-  abbrev grown_to : Below → ℕ → Asking → SendingEnd
-  grown_to below acknowledged asking = grown_end ends (peer_tag e.core) e.below queued past packets h.sender o.effects (queued_after e input []) below acknowledged (packets_in o.events) asking
+  abbrev grown_to : EndpointQueues → ℕ → Asking → SendingEnd
+  grown_to below acknowledged asking = grown_end ends (peer_tag e.core) e.queues queued past packets h.sender o.effects (queued_after e input []) below acknowledged (packets_in o.events) asking
 
-  goes_answered : (found : Option Link) → link_in e.core ≡ found → IsCall input → Turn e input o → RefusesNone e o → CompletesPerformed their_past o → link_in o.after.core ≡ link_in e.core
-      → AreAddressed (peer_tag e.core) (packets_in o.events) → o.after.below.queue.is_interleaved ≡ e.below.queue.is_interleaved → (acknowledged : ℕ) (between asking : Asking)
+  goes_answered : (found : Option AssociationIdentity) → identity_in e.core ≡ found → IsCall input → Turn e input o → RefusesNone e o → CompletesPerformed their_past o → identity_in o.after.core ≡ identity_in e.core
+      → AreAddressed (peer_tag e.core) (packets_in o.events) → o.after.queues.queue.is_interleaved ≡ e.queues.queue.is_interleaved → (acknowledged : ℕ) (between asking : Asking)
       → IsBetween o.effects (ends.sends (peer_tag e.core)).asking between → AskingGrows between asking → AsksFit (ends.firsts (peer_tag e.core)) (own_of o.after) asking → length asking.requests < 2 ^ 32 - 1
-      → AreAnswered (grown_ends ends (peer_tag e.core) e.below queued past packets h.sender o.effects (queued_after e input []) o.after.below acknowledged (packets_in o.events) asking) o.after (after_effects o.effects past) d their_past
+      → AreAnswered (grown_ends ends (peer_tag e.core) e.queues queued past packets h.sender o.effects (queued_after e input []) o.after.queues acknowledged (packets_in o.events) asking) o.after (after_effects o.effects past) d their_past
   goes_answered None none may turn refuses completes_so linked addressed kind' acknowledged between asking is grows fit little' =
       record {
         pairs = w.pairs;
-        answers = subst (λ (l : Option Link). Answers (requests_of (record ends { sends = set_at (peer_tag e.core) (grown_to o.after.below acknowledged asking) ends.sends }) w.pairs) l (after_effects o.effects past) (link_in d.core) their_past (waits_in d.below.transfer))
-            (sym (linked ∙ none)) (idle_answers ends e past d their_past w h.sender.below_is o.after o.effects (grown_to o.after.below acknowledged asking) kind' none (after_effects o.effects past) (after_within o.effects past));
+        answers = subst (λ (l : Option AssociationIdentity). AnswersRequests (requests_of (record ends { sends = set_at (peer_tag e.core) (grown_to o.after.queues acknowledged asking) ends.sends }) w.pairs) l (after_effects o.effects past) (identity_in d.core) their_past (waiting_deferral d.queues.transfer))
+            (sym (linked ∙ none)) (idle_answers ends e past d their_past w h.sender.queues_are o.after o.effects (grown_to o.after.queues acknowledged asking) kind' none (after_effects o.effects past) (after_within o.effects past));
         unlinked = w.unlinked;
       }
   goes_answered (Some link) there may turn refuses completes_so linked addressed kind' acknowledged between asking is grows fit little' =
       record {
         pairs = w.pairs;
-        answers = subst (λ (l : Option Link). Answers (requests_of (record ends { sends = set_at (peer_tag e.core) (grown_to o.after.below acknowledged asking) ends.sends }) w.pairs) l (after_effects o.effects past) (link_in d.core) their_past (waits_in d.below.transfer))
+        answers = subst (λ (l : Option AssociationIdentity). AnswersRequests (requests_of (record ends { sends = set_at (peer_tag e.core) (grown_to o.after.queues acknowledged asking) ends.sends }) w.pairs) l (after_effects o.effects past) (identity_in d.core) their_past (waiting_deferral d.queues.transfer))
             (sym (linked ∙ there))
-            (goes link there may turn completes_so o.after (grown_to o.after.below acknowledged asking) kind' between (may_be link there may turn completes_so refuses between is)
+            (goes link there may turn completes_so o.after (grown_to o.after.queues acknowledged asking) kind' between (may_be link there may turn completes_so refuses between is)
             (begins_so link there may turn completes_so o.after.core o.after.outstanding between asking (linked ∙ there) grows fit little'));
         unlinked = w.unlinked;
       }
 
   -- the ends once the association has ended
-  abbrev over : Below → ℕ → Asking → AreAddressed (peer_tag e.core) (packets_in o.events) → Ends
+  abbrev over : EndpointQueues → ℕ → Asking → AreAddressed (peer_tag e.core) (packets_in o.events) → Ends
   over last acknowledged asking addressed = ended_ends options ends e queued past packets d their_past reads h input o last acknowledged asking addressed
 
-  ends_answered : (found : Option Link) → link_in e.core ≡ found → IsCall input → Turn e input o → CompletesPerformed their_past o → link_in o.after.core ≡ None
-      → (addressed : AreAddressed (peer_tag e.core) (packets_in o.events)) (last : Below) → last.queue.is_interleaved ≡ e.below.queue.is_interleaved → (acknowledged : ℕ) (asking : Asking)
+  ends_answered : (found : Option AssociationIdentity) → identity_in e.core ≡ found → IsCall input → Turn e input o → CompletesPerformed their_past o → identity_in o.after.core ≡ None
+      → (addressed : AreAddressed (peer_tag e.core) (packets_in o.events)) (last : EndpointQueues) → last.queue.is_interleaved ≡ e.queues.queue.is_interleaved → (acknowledged : ℕ) (asking : Asking)
       → AskingGrows (ends.sends (peer_tag e.core)).asking asking → AsksFit (ends.firsts (peer_tag e.core)) (own_of e) asking → length asking.requests < 2 ^ 32 - 1
       → AreAnswered (over last acknowledged asking addressed) o.after (after_effects o.effects past) d their_past
   ends_answered None there may turn completes_so none addressed last kind' acknowledged asking grows fit little' =
       record {
         pairs = w.pairs;
-        answers = subst (λ (l : Option Link). Answers (requests_of (over last acknowledged asking addressed) w.pairs) l (after_effects o.effects past) (link_in d.core) their_past (waits_in d.below.transfer)) (sym none)
-            (closes_answers ends e past d their_past w h.sender.below_is o.after o.effects (grown_to last acknowledged asking) kind' None (after_effects o.effects past) _
-            (idle_answers ends e past d their_past w h.sender.below_is o.after o.effects (grown_to last acknowledged asking) kind' there (after_effects o.effects past) (after_within o.effects past)));
+        answers = subst (λ (l : Option AssociationIdentity). AnswersRequests (requests_of (over last acknowledged asking addressed) w.pairs) l (after_effects o.effects past) (identity_in d.core) their_past (waiting_deferral d.queues.transfer)) (sym none)
+            (closes_answers ends e past d their_past w h.sender.queues_are o.after o.effects (grown_to last acknowledged asking) kind' None (after_effects o.effects past) _
+            (idle_answers ends e past d their_past w h.sender.queues_are o.after o.effects (grown_to last acknowledged asking) kind' there (after_effects o.effects past) (after_within o.effects past)));
         unlinked = w.unlinked;
       }
   ends_answered (Some link) there may turn completes_so none addressed last kind' acknowledged asking grows fit little' =
       record {
         pairs = w.pairs;
-        answers = subst (λ (l : Option Link). Answers (requests_of (over last acknowledged asking addressed) w.pairs) l (after_effects o.effects past) (link_in d.core) their_past (waits_in d.below.transfer)) (sym none)
-            (closes_answers ends e past d their_past w h.sender.below_is o.after o.effects (grown_to last acknowledged asking) kind' (Some link) (after_effects o.effects past) _
+        answers = subst (λ (l : Option AssociationIdentity). AnswersRequests (requests_of (over last acknowledged asking addressed) w.pairs) l (after_effects o.effects past) (identity_in d.core) their_past (waiting_deferral d.queues.transfer)) (sym none)
+            (closes_answers ends e past d their_past w h.sender.queues_are o.after o.effects (grown_to last acknowledged asking) kind' (Some link) (after_effects o.effects past) _
             (goes link there may turn completes_so o.after (grown_to last acknowledged asking) kind' (ends.sends link.peer.tag).asking as_it_was_asked
             (begins_so link there may turn completes_so e.core e.outstanding (ends.sends link.peer.tag).asking asking there (subst (λ (t : ℕ). AskingGrows (ends.sends t).asking asking) (link_tag e.core link there) grows) fit little')));
         unlinked = w.unlinked;
@@ -195,10 +195,10 @@ module _ (options : Options) (ends : Ends) (e : Endpoint) (queued : List Message
       → AreEnds options o.after (queued_after e input queued) (after_effects o.effects past) (packets ++ packets_in o.events) d their_past (messages_of reads)
   by_turn may turn refuses completes_so (run_goes_on linked addressed kind' acknowledged between asking is grows fit run) =
       goes_on options ends e queued past packets d their_past reads h input o linked addressed acknowledged asking fit
-      (goes_answered (link_in e.core) refl may turn refuses completes_so linked addressed kind' acknowledged between asking is grows fit (few_then addressed o.after.below acknowledged asking run)) run
+      (goes_answered (identity_in e.core) refl may turn refuses completes_so linked addressed kind' acknowledged between asking is grows fit (few_then addressed o.after.queues acknowledged asking run)) run
   by_turn may turn refuses completes_so (run_ends none addressed last kind' acknowledged asking grows fit run is shown fit') =
       ended options ends e queued past packets d their_past reads h input o none addressed last is shown fit' acknowledged asking
-      (ends_answered (link_in e.core) refl may turn completes_so none addressed last kind' acknowledged asking grows fit (few_then addressed last acknowledged asking run)) run
+      (ends_answered (identity_in e.core) refl may turn completes_so none addressed last kind' acknowledged asking grows fit (few_then addressed last acknowledged asking run)) run
   by_turn may turn refuses completes_so (run_begins begun opening linked addressed same shown fit later) =
       let none : queued_after e input [] ≡ [] = queues_none (queued_after e input []) (ends.sends (peer_tag e.core)).queued (sym (input_adds e input (ends.sends (peer_tag e.core)).queued) ∙ same) in
       let stays : queued_after e input queued ≡ queued = input_adds e input queued ∙ ap (λ (l : List Message). l ++ queued) none in
@@ -209,8 +209,8 @@ module _ (options : Options) (ends : Ends) (e : Endpoint) (queued : List Message
       → AreEnds options o.after (queued_after e input queued) (after_effects o.effects past) (packets ++ packets_in o.events) d their_past (messages_of reads)
   sender_turns few refuses completes_so may turn =
       by_turn may turn refuses completes_so
-      (senders_go_on options (ends.firsts key) options.max_receiver_window_buffer_size now e input o (h.runs key) (h.small key) h.sender.below_is h.asks
-      (performed_by (link_in e.core) refl may turn completes_so) (λ begun opening linked. (new begun opening linked).small)
+      (senders_go_on options (ends.firsts key) options.max_receiver_window_buffer_size now e input o (h.runs key) (h.small key) h.sender.queues_are h.asks
+      (performed_by (identity_in e.core) refl may turn completes_so) (λ begun opening linked. (new begun opening linked).small)
       (let long = ap (λ (l : List Message). length l) (input_adds e input (ends.sends key).queued) ∙ length-append (queued_after e input []) (ends.sends key).queued in
       let same = ap (λ (l : List Message). length l) (input_adds e input queued) ∙ length-append (queued_after e input []) queued in
       let size = h.sender.long in

@@ -5,8 +5,8 @@ use Rattle.std.proofs.lemmas.List.{length-append}
 use Rattle.dcsctp_spec_lemmas.specs.spec.endpoint.Endpoint.{Core, closed, cookie_wait, cookie_echoed, open_in}
 use Rattle.dcsctp_spec_lemmas.specs.spec.Packet.{Emission}
 use Rattle.dcsctp_spec_runs.specs.World.{after_effects}
-use Rattle.dcsctp_spec_lemmas.specs.spec.association.Effect.{Link, Effect, holds, link_in}
-use Rattle.dcsctp_spec_lemmas.specs.spec.queues.Transfer.{Below}
+use Rattle.dcsctp_spec_lemmas.specs.spec.association.Effect.{AssociationIdentity, Effect, holds, identity_in}
+use Rattle.dcsctp_spec_lemmas.specs.spec.queues.Transfer.{EndpointQueues}
 use Rattle.dcsctp_theorem_association.proofs.Growth.{after_within}
 use Rattle.dcsctp_delivery_sending.specs.Places as places
 use Rattle.dcsctp_delivery_sending.specs.Places.{set_at}
@@ -22,37 +22,37 @@ use Rattle.dcsctp_delivery_turns.specs.Addressed.{IsAddressed, AreAddressed}
 use Rattle.dcsctp_delivery_directions.specs.Requests.{requests_in, requests_to}
 use Rattle.dcsctp_delivery_directions.proofs.RequestCounts.{requests_more, requests_more_to}
 use Rattle.dcsctp_delivery_associations.proofs.Counting.{addressed_requests}
-use Rattle.dcsctp_delivery_associations.specs.Ends.{SendingEnd, ReceivingEnd, Ends, Leaves, HadPeer, Awaits, IsOfEnds, AreOfEnds, Sender}
+use Rattle.dcsctp_delivery_associations.specs.Ends.{SendingEnd, ReceivingEnd, Ends, MarksLeft, HadPeer, Awaits, IsOfEnds, AreOfEnds, Sender}
 use Rattle.dcsctp_delivery_associations.proofs.Counting.{more_to, addressed_counts}
 use Rattle.dcsctp_delivery_associations.proofs.Growing.{set_all, AllFound, found_later, found_then, found_grown, marked_grown, marked_still}
 
 -- ---- the key of an association
 
-key_of : Option Link → ℕ
+key_of : Option AssociationIdentity → ℕ
 key_of None = 0
 key_of (Some link) = link.peer.tag
 
-link_key : (core : Core) → peer_tag core ≡ key_of (link_in core)
+link_key : (core : Core) → peer_tag core ≡ key_of (identity_in core)
 unfolding key_of
 link_key closed = refl
 link_key (cookie_wait my) = refl
 link_key (cookie_echoed my held cookie) = refl
 link_key (open_in phase my held) = refl
 
-pub same_key : (core other : Core) → link_in core ≡ link_in other → peer_tag core ≡ peer_tag other
+pub same_key : (core other : Core) → identity_in core ≡ identity_in other → peer_tag core ≡ peer_tag other
 same_key core other same = link_key core ∙ ap key_of same ∙ sym (link_key other)
 
-pub no_key : (core : Core) → link_in core ≡ None → peer_tag core ≡ 0
+pub no_key : (core : Core) → identity_in core ≡ None → peer_tag core ≡ 0
 unfolding key_of
 no_key core none = link_key core ∙ ap key_of none
 
-pub link_tag : (core : Core) (link : Link) → link_in core ≡ Some link → peer_tag core ≡ link.peer.tag
+pub link_tag : (core : Core) (link : AssociationIdentity) → identity_in core ≡ Some link → peer_tag core ≡ link.peer.tag
 unfolding key_of
 link_tag core link is = link_key core ∙ ap key_of is
 
 -- ---- packets
 
-pub of_more : (ends later : Ends) (packets : List Emission) → ((tag : ℕ) (emission : Emission) → tag ≢ 0 → places.Has emission (ends.sends tag).sent → places.Has emission (later.sends tag).sent)
+pub of_more : (ends later : Ends) (packets : List Emission) → ((tag : ℕ) (emission : Emission) → tag ≢ 0 → places.HasEntry emission (ends.sends tag).sent → places.HasEntry emission (later.sends tag).sent)
     → AreOfEnds ends packets → AreOfEnds later packets
 of_more ends later [] more are = tt
 of_more ends later (p ∷ packets) more are = (one are.0, of_more ends later packets more are.1)
@@ -67,21 +67,21 @@ of_both ends [] other are are' = are'
 of_both ends (p ∷ one) other are are' = (are.0, of_both ends one other are.1 are')
 
 -- packets that go to one tag, whose end has them
-of_new : (ends : Ends) (to : ℕ) (packets : List Emission) → ((emission : Emission) → places.Has emission packets → (to ≡ 0) ⊎ places.Has emission (ends.sends to).sent) → AreAddressed to packets → AreOfEnds ends packets
+of_new : (ends : Ends) (to : ℕ) (packets : List Emission) → ((emission : Emission) → places.HasEntry emission packets → (to ≡ 0) ⊎ places.HasEntry emission (ends.sends to).sent) → AreAddressed to packets → AreOfEnds ends packets
 of_new ends to [] has are = tt
 of_new ends to (p ∷ packets) has are = (one are.0 (has p (inl refl)), of_new ends to packets (λ q h. has q (inr h)) are.1)
   where
-    one : IsAddressed to p → (to ≡ 0) ⊎ places.Has p (ends.sends to).sent → IsOfEnds ends p
+    one : IsAddressed to p → (to ≡ 0) ⊎ places.HasEntry p (ends.sends to).sent → IsOfEnds ends p
     one (inl none) h = inl none
     one (inr (tag, free)) (inl zero) = inr (free, inl (tag ∙ zero))
-    one (inr (tag, free)) (inr h) = inr (free, inr (subst (λ (t : ℕ). places.Has p (ends.sends t).sent) (sym tag) h))
+    one (inr (tag, free)) (inr h) = inr (free, inr (subst (λ (t : ℕ). places.HasEntry p (ends.sends t).sent) (sym tag) h))
 
-pub has_front : (p : Emission) (one other : List Emission) → places.Has p one → places.Has p (one ++ other)
+pub has_front : (p : Emission) (one other : List Emission) → places.HasEntry p one → places.HasEntry p (one ++ other)
 has_front p [] other h = absurd h
 has_front p (q ∷ one) other (inl e) = inl e
 has_front p (q ∷ one) other (inr h) = inr (has_front p one other h)
 
-pub has_back : (p : Emission) (one other : List Emission) → places.Has p other → places.Has p (one ++ other)
+pub has_back : (p : Emission) (one other : List Emission) → places.HasEntry p other → places.HasEntry p (one ++ other)
 has_back p [] other h = h
 has_back p (q ∷ one) other h = inr (has_back p one other h)
 
@@ -92,29 +92,29 @@ had_later effects past tag first had = record { link = had.link; held = after_wi
 
 -- ---- the current end grows
 
-module _ (ends : Ends) (key : ℕ) (below : Below) (queued : List Message) (past : List Effect) (packets : List Emission) (h : Sender ends key below queued past packets)
-    (effects : List Effect) (more : List Message) (after : Below) (acknowledged : ℕ) (ps : List Emission) (asking : Asking) where
+module _ (ends : Ends) (key : ℕ) (below : EndpointQueues) (queued : List Message) (past : List Effect) (packets : List Emission) (h : Sender ends key below queued past packets)
+    (effects : List Effect) (more : List Message) (after : EndpointQueues) (acknowledged : ℕ) (ps : List Emission) (asking : Asking) where
   abbrev pub grown_end : SendingEnd
-  grown_end = record { queued = more ++ (ends.sends key).queued; below = after; acknowledged = acknowledged; sent = (ends.sends key).sent ++ ps; asking = asking }
+  grown_end = record { queued = more ++ (ends.sends key).queued; queues = after; acknowledged = acknowledged; sent = (ends.sends key).sent ++ ps; asking = asking }
 
   abbrev pub grown_ends : Ends
   grown_ends = record ends { sends = set_at key grown_end ends.sends }
 
-  grown_last : (tag : ℕ) → tag ≢ key → Leaves (ends.sends tag) (more ++ (ends.sends key).queued)
+  grown_last : (tag : ℕ) → tag ≢ key → MarksLeft (ends.sends tag) (more ++ (ends.sends key).queued)
   grown_last tag ne place below gone =
       marked_grown more (ends.sends key).queued place (let short = h.short tag in let long = h.long in omega (arith, below, short, long)) (h.last tag ne place below gone)
 
-  grown_sent : (tag : ℕ) (emission : Emission) → tag ≢ 0 → places.Has emission (ends.sends tag).sent → places.Has emission (grown_ends.sends tag).sent
+  grown_sent : (tag : ℕ) (emission : Emission) → tag ≢ 0 → places.HasEntry emission (ends.sends tag).sent → places.HasEntry emission (grown_ends.sends tag).sent
   grown_sent tag emission some has =
       elim (decide tag key) [
         | inl e ↦
-            subst (λ (n : ℕ). places.Has emission (grown_ends.sends n).sent) (sym e)
-            (subst (λ (s : SendingEnd). places.Has emission s.sent) (sym (set_same key grown_end ends.sends))
-            (has_front emission (ends.sends key).sent ps (subst (λ (n : ℕ). places.Has emission (ends.sends n).sent) e has)))
-        | inr ne ↦ subst (λ (s : SendingEnd). places.Has emission s.sent) (sym (set_other key tag grown_end ends.sends ne)) has
+            subst (λ (n : ℕ). places.HasEntry emission (grown_ends.sends n).sent) (sym e)
+            (subst (λ (s : SendingEnd). places.HasEntry emission s.sent) (sym (set_same key grown_end ends.sends))
+            (has_front emission (ends.sends key).sent ps (subst (λ (n : ℕ). places.HasEntry emission (ends.sends n).sent) e has)))
+        | inr ne ↦ subst (λ (s : SendingEnd). places.HasEntry emission s.sent) (sym (set_other key tag grown_end ends.sends ne)) has
       ]
 
-  grown_pairs : (one other : ℕ) → one ≢ other → Leaves (grown_ends.sends one) (grown_ends.sends other).queued ⊎ Leaves (grown_ends.sends other) (grown_ends.sends one).queued
+  grown_pairs : (one other : ℕ) → one ≢ other → MarksLeft (grown_ends.sends one) (grown_ends.sends other).queued ⊎ MarksLeft (grown_ends.sends other) (grown_ends.sends one).queued
   grown_pairs one other ne =
       elim (decide one key) [
         | inl e ↦ inr (behind other one e (λ is. ne (e ∙ sym is)))
@@ -125,21 +125,21 @@ module _ (ends : Ends) (key : ℕ) (below : Below) (queued : List Message) (past
             ]
       ]
     where
-      behind : (tag at : ℕ) → at ≡ key → tag ≢ key → Leaves (grown_ends.sends tag) (grown_ends.sends at).queued
+      behind : (tag at : ℕ) → at ≡ key → tag ≢ key → MarksLeft (grown_ends.sends tag) (grown_ends.sends at).queued
       behind tag at e ne =
-          subst (λ (s : SendingEnd). Leaves s (grown_ends.sends at).queued) (sym (set_other key tag grown_end ends.sends ne))
-          (subst (λ (n : ℕ). Leaves (ends.sends tag) (grown_ends.sends n).queued) (sym e)
-          (subst (λ (s : SendingEnd). Leaves (ends.sends tag) s.queued) (sym (set_same key grown_end ends.sends)) (grown_last tag ne)))
+          subst (λ (s : SendingEnd). MarksLeft s (grown_ends.sends at).queued) (sym (set_other key tag grown_end ends.sends ne))
+          (subst (λ (n : ℕ). MarksLeft (ends.sends tag) (grown_ends.sends n).queued) (sym e)
+          (subst (λ (s : SendingEnd). MarksLeft (ends.sends tag) s.queued) (sym (set_same key grown_end ends.sends)) (grown_last tag ne)))
 
-      both : (grown_ends.sends one) ≡ ends.sends one → (grown_ends.sends other) ≡ ends.sends other → Leaves (ends.sends one) (ends.sends other).queued ⊎ Leaves (ends.sends other) (ends.sends one).queued
-          → Leaves (grown_ends.sends one) (grown_ends.sends other).queued ⊎ Leaves (grown_ends.sends other) (grown_ends.sends one).queued
-      both e f (inl l) = inl (subst (λ (s : SendingEnd). Leaves s (grown_ends.sends other).queued) (sym e) (subst (λ (s : SendingEnd). Leaves (ends.sends one) s.queued) (sym f) l))
-      both e f (inr l) = inr (subst (λ (s : SendingEnd). Leaves s (grown_ends.sends one).queued) (sym f) (subst (λ (s : SendingEnd). Leaves (ends.sends other) s.queued) (sym e) l))
+      both : (grown_ends.sends one) ≡ ends.sends one → (grown_ends.sends other) ≡ ends.sends other → MarksLeft (ends.sends one) (ends.sends other).queued ⊎ MarksLeft (ends.sends other) (ends.sends one).queued
+          → MarksLeft (grown_ends.sends one) (grown_ends.sends other).queued ⊎ MarksLeft (grown_ends.sends other) (grown_ends.sends one).queued
+      both e f (inl l) = inl (subst (λ (s : SendingEnd). MarksLeft s (grown_ends.sends other).queued) (sym e) (subst (λ (s : SendingEnd). MarksLeft (ends.sends one) s.queued) (sym f) l))
+      both e f (inr l) = inr (subst (λ (s : SendingEnd). MarksLeft s (grown_ends.sends one).queued) (sym f) (subst (λ (s : SendingEnd). MarksLeft (ends.sends other) s.queued) (sym e) l))
 
   pub grown : AreAddressed key ps → Sender grown_ends key after (more ++ queued) (after_effects effects past) (packets ++ ps)
   grown addressed =
       record {
-        below_is = ap (λ (s : SendingEnd). s.below) (set_same key grown_end ends.sends);
+        queues_are = ap (λ (s : SendingEnd). s.queues) (set_same key grown_end ends.sends);
         long = ap (λ (s : SendingEnd). length s.queued) (set_same key grown_end ends.sends) ∙ length-append more (ends.sends key).queued ∙ ap (λ (n : ℕ). length more + n) h.long ∙ sym (length-append more queued);
         marks = set_all (λ tag s. AllFound s.queued (more ++ queued)) key grown_end ends.sends (found_grown more (ends.sends key).queued queued h.long (h.marks key))
             (λ tag ne place mark at. found_later more queued mark place (h.marks tag place mark at));
@@ -152,8 +152,8 @@ module _ (ends : Ends) (key : ℕ) (below : Below) (queued : List Message) (past
         few_requests = set_all (λ tag s. requests_in s.sent ≤ requests_to tag (packets ++ ps)) key grown_end ends.sends
             (let a = requests_more (ends.sends key).sent ps in let b = requests_more_to key packets ps in let c = addressed_requests key ps addressed in let d = h.few_requests key in omega (arith, a, b, c, d))
             (λ tag ne. (let b = requests_more_to tag packets ps in let c = h.few_requests tag in omega (arith, b, c)));
-        last = λ tag ne. subst (λ (s : SendingEnd). Leaves s (grown_ends.sends key).queued) (sym (set_other key tag grown_end ends.sends ne))
-            (subst (λ (s : SendingEnd). Leaves (ends.sends tag) s.queued) (sym (set_same key grown_end ends.sends)) (grown_last tag ne));
+        last = λ tag ne. subst (λ (s : SendingEnd). MarksLeft s (grown_ends.sends key).queued) (sym (set_other key tag grown_end ends.sends ne))
+            (subst (λ (s : SendingEnd). MarksLeft (ends.sends tag) s.queued) (sym (set_same key grown_end ends.sends)) (grown_last tag ne));
         pairs = grown_pairs;
         current = λ some. had_later effects past key (ends.firsts key) (h.current some);
         begun = λ tag some. elim (decide tag key) [
@@ -162,7 +162,7 @@ module _ (ends : Ends) (key : ℕ) (below : Below) (queued : List Message) (past
         ];
         all_sent = of_both grown_ends packets ps (of_more ends grown_ends packets grown_sent h.all_sent)
             (of_new grown_ends key ps
-            (λ emission has. inr (subst (λ (s : SendingEnd). places.Has emission s.sent) (sym (set_same key grown_end ends.sends)) (has_back emission (ends.sends key).sent ps has))) addressed);
+            (λ emission has. inr (subst (λ (s : SendingEnd). places.HasEntry emission s.sent) (sym (set_same key grown_end ends.sends)) (has_back emission (ends.sends key).sent ps has))) addressed);
       }
     where
       begun_before : (tag : ℕ) → tag ≢ key → Awaits (ends.sends tag) ⊎ HadPeer past tag (ends.firsts tag) → Awaits (grown_ends.sends tag) ⊎ HadPeer (after_effects effects past) tag (ends.firsts tag)
@@ -171,42 +171,42 @@ module _ (ends : Ends) (key : ℕ) (below : Below) (queued : List Message) (past
 
 -- ---- another end takes its place, in which all that no longer waits is marked
 
-module _ (ends : Ends) (key : ℕ) (below : Below) (queued : List Message) (past : List Effect) (packets : List Emission) (h : Sender ends key below queued past packets)
-    (effects : List Effect) (to : ℕ) (after : Below) (acknowledged : ℕ) (ps : List Emission) (asking : Asking) (gets : ℕ → ReceivingEnd) (firsts : ℕ → ℕ) where
+module _ (ends : Ends) (key : ℕ) (below : EndpointQueues) (queued : List Message) (past : List Effect) (packets : List Emission) (h : Sender ends key below queued past packets)
+    (effects : List Effect) (to : ℕ) (after : EndpointQueues) (acknowledged : ℕ) (ps : List Emission) (asking : Asking) (gets : ℕ → ReceivingEnd) (firsts : ℕ → ℕ) where
   abbrev pub marked_queue : List Message
-  marked_queue = all_marked (length (ends.sends key).queued) (ends.sends key).below.queue.streams (ends.sends key).queued
+  marked_queue = all_marked (length (ends.sends key).queued) (ends.sends key).queues.queue.streams (ends.sends key).queued
 
   abbrev pub renewed_end : SendingEnd
-  renewed_end = record { queued = marked_queue; below = after; acknowledged = acknowledged; sent = ps; asking = asking }
+  renewed_end = record { queued = marked_queue; queues = after; acknowledged = acknowledged; sent = ps; asking = asking }
 
   abbrev pub renewed_ends : Ends
   renewed_ends = record { sends = set_at to renewed_end ends.sends; gets = gets; firsts = firsts }
 
   are : AreMarked marked_queue (ends.sends key).queued
-  are = all_are_marked (length (ends.sends key).queued) (ends.sends key).below.queue.streams (ends.sends key).queued
+  are = all_are_marked (length (ends.sends key).queued) (ends.sends key).queues.queue.streams (ends.sends key).queued
 
-  renewed_last : (tag : ℕ) → Leaves (ends.sends tag) marked_queue
+  renewed_last : (tag : ℕ) → MarksLeft (ends.sends tag) marked_queue
   renewed_last tag =
       elim (decide tag key) [
         | inl e ↦
-            subst (λ (n : ℕ). Leaves (ends.sends n) marked_queue) (sym e)
-            (λ place below gone. gone_are_marked (length (ends.sends key).queued) place (ends.sends key).below.queue.streams (ends.sends key).queued below gone)
+            subst (λ (n : ℕ). MarksLeft (ends.sends n) marked_queue) (sym e)
+            (λ place below gone. gone_are_marked (length (ends.sends key).queued) place (ends.sends key).queues.queue.streams (ends.sends key).queued below gone)
         | inr ne ↦ λ place below gone. marked_still marked_queue (ends.sends key).queued place are (h.last tag ne place below gone)
       ]
 
-  renewed_behind : (tag at : ℕ) → at ≡ to → tag ≢ to → Leaves (renewed_ends.sends tag) (renewed_ends.sends at).queued
+  renewed_behind : (tag at : ℕ) → at ≡ to → tag ≢ to → MarksLeft (renewed_ends.sends tag) (renewed_ends.sends at).queued
   renewed_behind tag at e ne =
-      subst (λ (s : SendingEnd). Leaves s (renewed_ends.sends at).queued) (sym (set_other to tag renewed_end ends.sends ne))
-      (subst (λ (n : ℕ). Leaves (ends.sends tag) (renewed_ends.sends n).queued) (sym e)
-      (subst (λ (s : SendingEnd). Leaves (ends.sends tag) s.queued) (sym (set_same to renewed_end ends.sends)) (renewed_last tag)))
+      subst (λ (s : SendingEnd). MarksLeft s (renewed_ends.sends at).queued) (sym (set_other to tag renewed_end ends.sends ne))
+      (subst (λ (n : ℕ). MarksLeft (ends.sends tag) (renewed_ends.sends n).queued) (sym e)
+      (subst (λ (s : SendingEnd). MarksLeft (ends.sends tag) s.queued) (sym (set_same to renewed_end ends.sends)) (renewed_last tag)))
 
   renewed_both : (one other : ℕ) → (renewed_ends.sends one) ≡ ends.sends one → (renewed_ends.sends other) ≡ ends.sends other
-      → Leaves (ends.sends one) (ends.sends other).queued ⊎ Leaves (ends.sends other) (ends.sends one).queued
-      → Leaves (renewed_ends.sends one) (renewed_ends.sends other).queued ⊎ Leaves (renewed_ends.sends other) (renewed_ends.sends one).queued
-  renewed_both one other e f (inl l) = inl (subst (λ (s : SendingEnd). Leaves s (renewed_ends.sends other).queued) (sym e) (subst (λ (s : SendingEnd). Leaves (ends.sends one) s.queued) (sym f) l))
-  renewed_both one other e f (inr l) = inr (subst (λ (s : SendingEnd). Leaves s (renewed_ends.sends one).queued) (sym f) (subst (λ (s : SendingEnd). Leaves (ends.sends other) s.queued) (sym e) l))
+      → MarksLeft (ends.sends one) (ends.sends other).queued ⊎ MarksLeft (ends.sends other) (ends.sends one).queued
+      → MarksLeft (renewed_ends.sends one) (renewed_ends.sends other).queued ⊎ MarksLeft (renewed_ends.sends other) (renewed_ends.sends one).queued
+  renewed_both one other e f (inl l) = inl (subst (λ (s : SendingEnd). MarksLeft s (renewed_ends.sends other).queued) (sym e) (subst (λ (s : SendingEnd). MarksLeft (ends.sends one) s.queued) (sym f) l))
+  renewed_both one other e f (inr l) = inr (subst (λ (s : SendingEnd). MarksLeft s (renewed_ends.sends one).queued) (sym f) (subst (λ (s : SendingEnd). MarksLeft (ends.sends other) s.queued) (sym e) l))
 
-  renewed_pairs : (one other : ℕ) → one ≢ other → Leaves (renewed_ends.sends one) (renewed_ends.sends other).queued ⊎ Leaves (renewed_ends.sends other) (renewed_ends.sends one).queued
+  renewed_pairs : (one other : ℕ) → one ≢ other → MarksLeft (renewed_ends.sends one) (renewed_ends.sends other).queued ⊎ MarksLeft (renewed_ends.sends other) (renewed_ends.sends one).queued
   renewed_pairs one other ne =
       elim (decide one to) [
         | inl e ↦ inr (renewed_behind other one e (λ is. ne (e ∙ sym is)))
@@ -217,22 +217,22 @@ module _ (ends : Ends) (key : ℕ) (below : Below) (queued : List Message) (past
             ]
       ]
 
-  renewed_sent : (to ≡ 0) ⊎ Awaits (ends.sends to) → (tag : ℕ) (emission : Emission) → tag ≢ 0 → places.Has emission (ends.sends tag).sent → places.Has emission (renewed_ends.sends tag).sent
+  renewed_sent : (to ≡ 0) ⊎ Awaits (ends.sends to) → (tag : ℕ) (emission : Emission) → tag ≢ 0 → places.HasEntry emission (ends.sends tag).sent → places.HasEntry emission (renewed_ends.sends tag).sent
   renewed_sent fresh tag emission some has =
       elim (decide tag to) [
         | inl e ↦ absurd (nothing e fresh)
-        | inr ne ↦ subst (λ (s : SendingEnd). places.Has emission s.sent) (sym (set_other to tag renewed_end ends.sends ne)) has
+        | inr ne ↦ subst (λ (s : SendingEnd). places.HasEntry emission s.sent) (sym (set_other to tag renewed_end ends.sends ne)) has
       ]
     where
       nothing : tag ≡ to → (to ≡ 0) ⊎ Awaits (ends.sends to) → ⊥
       nothing e (inl zero) = some (e ∙ zero)
-      nothing e (inr waits) = subst (λ (l : List Emission). places.Has emission l) waits.sent (subst (λ (n : ℕ). places.Has emission (ends.sends n).sent) e has)
+      nothing e (inr waits) = subst (λ (l : List Emission). places.HasEntry emission l) waits.sent (subst (λ (n : ℕ). places.HasEntry emission (ends.sends n).sent) e has)
 
   pub renewed : (to ≡ 0) ⊎ Awaits (ends.sends to) → (to ≢ 0 → HadPeer (after_effects effects past) to (firsts to)) → ((tag : ℕ) → tag ≢ to → firsts tag ≡ ends.firsts tag) → AreAddressed to ps
       → Sender renewed_ends to after queued (after_effects effects past) (packets ++ ps)
   renewed fresh had kept addressed =
       record {
-        below_is = ap (λ (s : SendingEnd). s.below) (set_same to renewed_end ends.sends);
+        queues_are = ap (λ (s : SendingEnd). s.queues) (set_same to renewed_end ends.sends);
         long = ap (λ (s : SendingEnd). length s.queued) (set_same to renewed_end ends.sends) ∙ are.size ∙ h.long;
         marks = set_all (λ tag s. AllFound s.queued queued) to renewed_end ends.sends (found_then marked_queue (ends.sends key).queued queued are (h.marks key)) (λ tag ne. h.marks tag);
         short = set_all (λ tag s. length s.queued ≤ length queued) to renewed_end ends.sends (let a = are.size in let b = h.long in omega (arith, a, b)) (λ tag ne. h.short tag);
@@ -248,7 +248,7 @@ module _ (ends : Ends) (key : ℕ) (below : Below) (queued : List Message) (past
           | inr ne ↦ begun_before tag ne (h.begun tag some)
         ];
         all_sent = of_both renewed_ends packets ps (of_more ends renewed_ends packets (renewed_sent fresh) h.all_sent)
-            (of_new renewed_ends to ps (λ emission has. inr (subst (λ (s : SendingEnd). places.Has emission s.sent) (sym (set_same to renewed_end ends.sends)) has)) addressed);
+            (of_new renewed_ends to ps (λ emission has. inr (subst (λ (s : SendingEnd). places.HasEntry emission s.sent) (sym (set_same to renewed_end ends.sends)) has)) addressed);
       }
     where
       begun_before : (tag : ℕ) → tag ≢ to → Awaits (ends.sends tag) ⊎ HadPeer past tag (ends.firsts tag) → Awaits (renewed_ends.sends tag) ⊎ HadPeer (after_effects effects past) tag (firsts tag)

@@ -1,15 +1,15 @@
 -- What effects leave of the numbers of the peer's requests, if none is accepted or performed.
 use Rattle.std.proofs.Common.{◌≡◌, ℕ, ◌%◌, ◌^◌, true, false, None, Some, List, [], ◌∷◌, refl, ap, inl, inr}
 use Rattle.dcsctp_spec_lemmas.specs.types.declared.association.Pair.{Pair}
-use Rattle.dcsctp_spec_runs.specs.Past.{Has, number_to_accept, number_to_perform}
+use Rattle.dcsctp_spec_runs.specs.Past.{HasEffect, number_to_accept, number_to_perform}
 use Rattle.dcsctp_spec_runs.specs.World.{after_effects}
 use Rattle.dcsctp_spec_lemmas.specs.spec.association.Effect as effects
-use Rattle.dcsctp_spec_lemmas.specs.spec.association.Effect.{Link, Effect}
+use Rattle.dcsctp_spec_lemmas.specs.spec.association.Effect.{AssociationIdentity, Effect}
 use Rattle.dcsctp_spec_lemmas.specs.spec.endpoint.ResetOutcomes.{has_reset}
 use Rattle.dcsctp_delivery_turns.specs.PeerRequests.{NoneAsked}
 
 -- Where no association is noted and none ends, the numbers stay.
-pub same_numbers : (happened past : List Effect) → NoneAsked happened → ((link : Link) → Has (effects.holds link) happened → ⊥) → (Has effects.ends happened → ⊥)
+pub same_numbers : (happened past : List Effect) → NoneAsked happened → ((link : AssociationIdentity) → HasEffect (effects.holds link) happened → ⊥) → (HasEffect effects.ends happened → ⊥)
     → (number_to_accept (after_effects happened past) ≡ number_to_accept past) × (number_to_perform (after_effects happened past) ≡ number_to_perform past)
 same_numbers [] past none no_holds no_ends = (refl, refl)
 same_numbers (effects.accepts number ∷ happened) past none no_holds no_ends = absurd none
@@ -26,7 +26,7 @@ same_numbers (effects.completes my number ∷ happened) past none no_holds no_en
 same_numbers (effects.fails number ∷ happened) past none no_holds no_ends = same_numbers happened (effects.fails number ∷ past) none (λ l h. no_holds l (inr h)) (λ h. no_ends (inr h))
 
 -- Where an association begins, the peer's first request has its first TSN.
-pub first_numbers : (new : Link) (happened past : List Effect) → NoneAsked happened → ((link : Link) → Has (effects.holds link) happened → link ≡ new) → (Has effects.ends happened → ⊥)
+pub first_numbers : (new : AssociationIdentity) (happened past : List Effect) → NoneAsked happened → ((link : AssociationIdentity) → HasEffect (effects.holds link) happened → link ≡ new) → (HasEffect effects.ends happened → ⊥)
     → number_to_accept past ≡ Some (new.peer.first_tsn % 2 ^ 32) → number_to_perform past ≡ None
     → (number_to_accept (after_effects happened past) ≡ Some (new.peer.first_tsn % 2 ^ 32)) × (number_to_perform (after_effects happened past) ≡ None)
 first_numbers new [] past none only no_ends accept perform = (accept, perform)
@@ -35,7 +35,7 @@ first_numbers new (effects.performs peer number ∷ happened) past none only no_
 first_numbers new (effects.resumes link own last ∷ happened) past none only no_ends accept perform = absurd none
 first_numbers new (effects.ends ∷ happened) past none only no_ends accept perform = absurd (no_ends (inl refl))
 first_numbers new (effects.holds link ∷ happened) past none only no_ends accept perform =
-    first_numbers new happened (effects.holds link ∷ past) none (λ l h. only l (inr h)) (λ h. no_ends (inr h)) (ap (λ (l : Link). Some (l.peer.first_tsn % 2 ^ 32)) (only link (inl refl))) refl
+    first_numbers new happened (effects.holds link ∷ past) none (λ l h. only l (inr h)) (λ h. no_ends (inr h)) (ap (λ (l : AssociationIdentity). Some (l.peer.first_tsn % 2 ^ 32)) (only link (inl refl))) refl
 first_numbers new (effects.draws pair ∷ happened) past none only no_ends accept perform = first_numbers new happened (effects.draws pair ∷ past) none (λ l h. only l (inr h)) (λ h. no_ends (inr h)) accept perform
 first_numbers new (effects.sends packet ∷ happened) past none only no_ends accept perform = first_numbers new happened (effects.sends packet ∷ past) none (λ l h. only l (inr h)) (λ h. no_ends (inr h)) accept perform
 first_numbers new (effects.connects link ∷ happened) past none only no_ends accept perform = first_numbers new happened (effects.connects link ∷ past) none (λ l h. only l (inr h)) (λ h. no_ends (inr h)) accept perform
@@ -61,7 +61,7 @@ reset_none (effects.gives_up number ∷ happened) none = reset_none happened non
 reset_none (effects.completes my number ∷ happened) none = reset_none happened none
 reset_none (effects.fails number ∷ happened) none = reset_none happened none
 
-pub some_reset : (happened : List Effect) → has_reset happened ≡ true → (peer : Pair) × (number : ℕ) × Has (effects.performs peer number) happened
+pub some_reset : (happened : List Effect) → has_reset happened ≡ true → (peer : Pair) × (number : ℕ) × HasEffect (effects.performs peer number) happened
 some_reset [] is = absurd (cc)
 some_reset (effects.performs peer number ∷ happened) is = (peer, number, inl refl)
 some_reset (effects.draws pair ∷ happened) is = (let found = some_reset happened is in (found.0, found.1, inr found.2))
@@ -76,7 +76,7 @@ some_reset (effects.holds link ∷ happened) is = (let found = some_reset happen
 some_reset (effects.ends ∷ happened) is = (let found = some_reset happened is in (found.0, found.1, inr found.2))
 some_reset (effects.resumes link own last ∷ happened) is = (let found = some_reset happened is in (found.0, found.1, inr found.2))
 
-pub performs_reset : (happened : List Effect) (peer : Pair) (number : ℕ) → Has (effects.performs peer number) happened → has_reset happened ≡ true
+pub performs_reset : (happened : List Effect) (peer : Pair) (number : ℕ) → HasEffect (effects.performs peer number) happened → has_reset happened ≡ true
 performs_reset [] peer number has = absurd has
 performs_reset (effects.performs other another ∷ happened) peer number has = refl
 performs_reset (effects.draws pair ∷ happened) peer number (inl is) = absurd (cc)

@@ -51,8 +51,8 @@ call_is_own (restores state) may = absurd may
 
 module _ (d : Endpoint) (input : Input) (o : Outcome) (may : IsCall input) (turn : Turn d input o) where
   -- In an association nothing is left.
-  pub none_left : (gets : ℕ → ReceivingEnd) (transfer : Transfer) → o.after.below.transfer ≡ Some transfer → LeavesReady gets d.left d.below.transfer → o.after.left ≡ []
-  none_left gets transfer is before = go d.below.transfer o.after.below.transfer (messages_left_stay d input o (call_is_own input may) turn) is before
+  pub none_left : (gets : ℕ → ReceivingEnd) (transfer : Transfer) → o.after.queues.transfer ≡ Some transfer → LeavesReady gets d.left d.queues.transfer → o.after.left ≡ []
+  none_left gets transfer is before = go d.queues.transfer o.after.queues.transfer (messages_left_stay d input o (call_is_own input may) turn) is before
     where
       go : (old new : Option Transfer) → LeftWhere d input old new o.after.left → new ≡ Some transfer → LeavesReady gets d.left old → o.after.left ≡ []
       go None None stays there ready = absurd (cc)
@@ -61,15 +61,15 @@ module _ (d : Endpoint) (input : Input) (o : Outcome) (may : IsCall input) (turn
       go (Some old) (Some new) (inl same) there none = same ∙ none
       go (Some old) (Some new) (inr gone) there none = gone
 
-  pub goes_left : (gets later : ℕ → ReceivingEnd) (transfer : Transfer) → o.after.below.transfer ≡ Some transfer → LeavesReady gets d.left d.below.transfer → LeavesReady later o.after.left o.after.below.transfer
+  pub goes_left : (gets later : ℕ → ReceivingEnd) (transfer : Transfer) → o.after.queues.transfer ≡ Some transfer → LeavesReady gets d.left d.queues.transfer → LeavesReady later o.after.left o.after.queues.transfer
   goes_left gets later transfer is before = subst (LeavesReady later o.after.left) (sym is) (none_left gets transfer is before)
 
   -- What an association leaves is what was ready in it.
-  pub ends_left : (gets : ℕ → ReceivingEnd) (tag : ℕ) (transfer : Transfer) → d.below.transfer ≡ Some transfer → o.after.below.transfer ≡ None → (gets tag).reassembly ≡ transfer.reassembly → LeavesReady gets d.left d.below.transfer
-      → LeavesReady gets o.after.left o.after.below.transfer
+  pub ends_left : (gets : ℕ → ReceivingEnd) (tag : ℕ) (transfer : Transfer) → d.queues.transfer ≡ Some transfer → o.after.queues.transfer ≡ None → (gets tag).reassembly ≡ transfer.reassembly → LeavesReady gets d.left d.queues.transfer
+      → LeavesReady gets o.after.left o.after.queues.transfer
   ends_left gets tag transfer there gone same before =
-      left_idle gets o.after.left o.after.below.transfer gone
-      (go d.options.follow_rfc d.below.transfer o.after.below.transfer (messages_left_stay d input o (call_is_own input may) turn) there gone (subst (LeavesReady gets d.left) there before) refl)
+      left_idle gets o.after.left o.after.queues.transfer gone
+      (go d.options.follow_rfc d.queues.transfer o.after.queues.transfer (messages_left_stay d input o (call_is_own input may) turn) there gone (subst (LeavesReady gets d.left) there before) refl)
     where
       go : (b : Bool) (old new : Option Transfer) → LeftWhere d input old new o.after.left → old ≡ Some transfer → new ≡ None → d.left ≡ [] → d.options.follow_rfc ≡ b
           → (o.after.left ≡ []) ⊎ ((tag : ℕ) × ((gets tag).reassembly.incoming.ready ≡ o.after.left))
@@ -81,8 +81,8 @@ module _ (d : Endpoint) (input : Input) (o : Outcome) (may : IsCall input) (turn
       go false (Some old) None stays is none empty follows = inl (stays ∙ ap (λ (f : Bool). if f then old.reassembly.incoming.ready else d.left) follows ∙ empty)
 
   -- Without an association the user's call may have taken one.
-  pub left_taken : d.below.transfer ≡ None → o.after.below.transfer ≡ None → o.after.left ≡ left_once input d.left
-  left_taken none gone = go d.below.transfer o.after.below.transfer (messages_left_stay d input o (call_is_own input may) turn) none gone
+  pub left_taken : d.queues.transfer ≡ None → o.after.queues.transfer ≡ None → o.after.left ≡ left_once input d.left
+  left_taken none gone = go d.queues.transfer o.after.queues.transfer (messages_left_stay d input o (call_is_own input may) turn) none gone
     where
       go : (old new : Option Transfer) → LeftWhere d input old new o.after.left → old ≡ None → new ≡ None → o.after.left ≡ left_once input d.left
       go None None stays before after = stays

@@ -42,7 +42,7 @@ may_read (restores state) = reads_none (restores state) (record { left = λ m. r
 -- ---- nothing is read
 
 -- An association reads nothing in this turn, so nothing is read.
-pub reads_still : (d : Endpoint) (input : Input) (transfer : Transfer) (reads : List MessageContent) → d.below.transfer ≡ Some transfer → ((read : List MessageContent) → read_after d input read ≡ read) → reads_after d input reads ≡ reads
+pub reads_still : (d : Endpoint) (input : Input) (transfer : Transfer) (reads : List MessageContent) → d.queues.transfer ≡ Some transfer → ((read : List MessageContent) → read_after d input read ≡ read) → reads_after d input reads ≡ reads
 reads_still d input transfer reads there unread = go input (may_read input) unread
   where
     go : (i : Input) → MayRead i → ((read : List MessageContent) → read_after d i read ≡ read) → reads_after d i reads ≡ reads
@@ -73,7 +73,7 @@ pub tagged_messages : (tag : ℕ) (d : Endpoint) (input : Input) (reads : List R
 tagged_messages tag d input reads = go input (may_read input)
   where
     go : (i : Input) → MayRead i → messages_of (tagged_after tag d i reads) ≡ reads_after d i (messages_of reads)
-    go _ reads_first = first_messages tag (ready_where d.left d.below.transfer) reads
+    go _ reads_first = first_messages tag (ready_where d.left d.queues.transfer) reads
     go _ (reads_none i rests) = ap messages_of (rests.tagged tag d reads) ∙ sym (rests.all d (messages_of reads))
 
 -- ---- those of one association
@@ -103,7 +103,7 @@ first_other tag own (m ∷ ready) reads ne =
     ∙ elim (eqb_tells own tag) [ inl t ↦ absurd (ne (sym t.1)) | inr t ↦ ap (λ (b : Bool). if b then with_tag tag reads ++ m ∷ [] else with_tag tag reads) t.0 ]
 
 -- In an association what is read is its own.
-pub own_read : (tag : ℕ) (d : Endpoint) (input : Input) (transfer : Transfer) (reads : List Read) → d.below.transfer ≡ Some transfer → with_tag tag (tagged_after tag d input reads) ≡ read_after d input (with_tag tag reads)
+pub own_read : (tag : ℕ) (d : Endpoint) (input : Input) (transfer : Transfer) (reads : List Read) → d.queues.transfer ≡ Some transfer → with_tag tag (tagged_after tag d input reads) ≡ read_after d input (with_tag tag reads)
 own_read tag d input transfer reads there = go input (may_read input)
   where
     go : (i : Input) → MayRead i → with_tag tag (tagged_after tag d i reads) ≡ read_after d i (with_tag tag reads)
@@ -116,5 +116,5 @@ pub other_read : (own : ℕ) (d : Endpoint) (input : Input) (reads : List Read) 
 other_read own d input reads tag ne = go input (may_read input)
   where
     go : (i : Input) → MayRead i → with_tag tag (tagged_after own d i reads) ≡ with_tag tag reads
-    go _ reads_first = first_other tag own (ready_where d.left d.below.transfer) reads ne
+    go _ reads_first = first_other tag own (ready_where d.left d.queues.transfer) reads ne
     go _ (reads_none i rests) = ap (with_tag tag) (rests.tagged own d reads)

@@ -4,19 +4,19 @@ use Rattle.std.specs.Prelude.{◌≡◌, ◌≢◌, ◌<◌, ◌≤◌, ◌^◌,
 use Rattle.dcsctp_spec_lemmas.specs.types.declared.options.Options.{Options}
 use Rattle.dcsctp_spec_lemmas.specs.spec.endpoint.Endpoint.{Endpoint}
 use Rattle.dcsctp_spec_lemmas.specs.spec.Packet.{Emission}
-use Rattle.dcsctp_spec_runs.specs.Past.{Has}
-use Rattle.dcsctp_spec_lemmas.specs.spec.association.Effect.{Link, Effect, holds, link_in}
+use Rattle.dcsctp_spec_runs.specs.Past.{HasEffect}
+use Rattle.dcsctp_spec_lemmas.specs.spec.association.Effect.{AssociationIdentity, Effect, holds, identity_in}
 use Rattle.dcsctp_spec_lemmas.specs.types.queues.Messages.{MessageContent}
 use Rattle.dcsctp_spec_lemmas.specs.spec.queues.Reassembly.{ReassemblyState, new_reassembly}
 use Rattle.dcsctp_spec_lemmas.specs.spec.queues.Tracker.{TrackerState, new_tracker}
-use Rattle.dcsctp_spec_lemmas.specs.spec.queues.Transfer.{Transfer, Below}
+use Rattle.dcsctp_spec_lemmas.specs.spec.queues.Transfer.{Transfer, EndpointQueues}
 use Rattle.dcsctp_delivery_sending.specs.Places as places
 use Rattle.dcsctp_delivery_sending.specs.Places.{at_place}
 use Rattle.dcsctp_delivery_sending.specs.Log.{Message}
 use Rattle.dcsctp_delivery_sending.specs.Flushes.{NoData}
 use Rattle.dcsctp_delivery_sending.specs.ChunkCounts.{chunks_in, chunks_to}
 use Rattle.dcsctp_delivery_sending.specs.Marking.{WaitsNoLonger, FindsMarked, IsMarked}
-use Rattle.dcsctp_delivery_directions.specs.Directions.{Direction, Asking, nothing_asked, Run}
+use Rattle.dcsctp_delivery_directions.specs.Directions.{Direction, Asking, nothing_asked, DirectionRun}
 use Rattle.dcsctp_delivery_directions.specs.Requests.{requests_in, requests_to}
 use Rattle.dcsctp_delivery_turns.specs.Asking.{own_of, AsksFit, SomeFit}
 use Rattle.dcsctp_delivery_turns.specs.Actions.{NoEnd, peer_tag}
@@ -26,7 +26,7 @@ use Rattle.dcsctp_delivery_associations.specs.Reads.{Read, with_tag}
 
 pub record SendingEnd : Type 0 where
   pub queued : List Message
-  pub below : Below
+  pub queues : EndpointQueues
   pub acknowledged : ℕ
   pub sent : List Emission
   pub asking : Asking
@@ -40,7 +40,7 @@ abbrev pub joined : SendingEnd → ReceivingEnd → Direction
 joined sends gets =
     record {
       queued = sends.queued;
-      below = sends.below;
+      queues = sends.queues;
       acknowledged = sends.acknowledged;
       sent = sends.sent;
       tracker = gets.tracker;
@@ -59,19 +59,19 @@ pub record Ends : Type 0 where
   pub gets : ℕ → ReceivingEnd
   pub firsts : ℕ → ℕ
 
-abbrev pub Runs : Options → Ends → Type 0
-Runs options ends = (tag : ℕ) → Run options (ends.firsts tag) options.max_receiver_window_buffer_size (joined (ends.sends tag) (ends.gets tag))
+abbrev pub EndsRun : Options → Ends → Type 0
+EndsRun options ends = (tag : ℕ) → DirectionRun options (ends.firsts tag) options.max_receiver_window_buffer_size (joined (ends.sends tag) (ends.gets tag))
 
 -- ---- the sender
 
 -- Each message of the one end that no longer waits there is marked as spent in the other list.
-abbrev pub Leaves : SendingEnd → List Message → Type 0
-Leaves sends queued = (place : ℕ) → place < length sends.queued → WaitsNoLonger place sends.below.queue.streams → IsMarked place queued
+abbrev pub MarksLeft : SendingEnd → List Message → Type 0
+MarksLeft sends queued = (place : ℕ) → place < length sends.queued → WaitsNoLonger place sends.queues.queue.streams → IsMarked place queued
 
 -- The sender had an association with this tag of the peer, which began with this TSN.
 pub record HadPeer (past : List Effect) (tag first : ℕ) : Type 0 where
-  pub link : Link
-  pub held : Has (holds link) past
+  pub link : AssociationIdentity
+  pub held : HasEffect (holds link) past
   pub tag_is : link.peer.tag ≡ tag
   pub first_is : link.my.first_tsn ≡ first
 
@@ -80,12 +80,12 @@ pub record Awaits (sends : SendingEnd) : Type 0 where
   pub queued : sends.queued ≡ []
   pub sent : sends.sent ≡ []
   pub acknowledged : sends.acknowledged ≡ 0
-  pub transfer : sends.below.transfer ≡ None
+  pub transfer : sends.queues.transfer ≡ None
   pub asking : sends.asking ≡ nothing_asked
 
 -- Packets with data are of the association of their tag. No data is ever handled under the tag 0.
 abbrev pub IsOfEnds : Ends → Emission → Type 0
-IsOfEnds ends emission = NoData emission.packet.contents ⊎ (NoEnd emission.packet.contents × ((emission.packet.tag ≡ 0) ⊎ places.Has emission (ends.sends emission.packet.tag).sent))
+IsOfEnds ends emission = NoData emission.packet.contents ⊎ (NoEnd emission.packet.contents × ((emission.packet.tag ≡ 0) ⊎ places.HasEntry emission (ends.sends emission.packet.tag).sent))
 
 abbrev pub AreOfEnds : Ends → List Emission → Type 0
 AreOfEnds ends [] = Unit {0}
@@ -93,41 +93,41 @@ AreOfEnds ends (emission ∷ emissions) = IsOfEnds ends emission × AreOfEnds en
 
 -- The sender, whose peer has the tag `key` now, and which has this below: with these messages queued, this past, and these packets sent.
 -- Without an association its end is that of the tag 0.
-pub record Sender (ends : Ends) (key : ℕ) (below : Below) (queued : List Message) (past : List Effect) (packets : List Emission) : Type 0 where
-  pub below_is : (ends.sends key).below ≡ below
+pub record Sender (ends : Ends) (key : ℕ) (sender_queues : EndpointQueues) (queued : List Message) (past : List Effect) (packets : List Emission) : Type 0 where
+  pub queues_are : (ends.sends key).queues ≡ sender_queues
   pub long : length (ends.sends key).queued ≡ length queued
   pub marks : (tag place : ℕ) (mark : Message) → at_place place (ends.sends tag).queued ≡ Some mark → FindsMarked mark queued place
   pub short : (tag : ℕ) → length (ends.sends tag).queued ≤ length queued
   pub few : (tag : ℕ) → chunks_in (ends.sends tag).sent ≤ chunks_to tag packets
   pub few_requests : (tag : ℕ) → requests_in (ends.sends tag).sent ≤ requests_to tag packets
-  pub last : (tag : ℕ) → tag ≢ key → Leaves (ends.sends tag) (ends.sends key).queued
-  pub pairs : (one other : ℕ) → one ≢ other → Leaves (ends.sends one) (ends.sends other).queued ⊎ Leaves (ends.sends other) (ends.sends one).queued
+  pub last : (tag : ℕ) → tag ≢ key → MarksLeft (ends.sends tag) (ends.sends key).queued
+  pub pairs : (one other : ℕ) → one ≢ other → MarksLeft (ends.sends one) (ends.sends other).queued ⊎ MarksLeft (ends.sends other) (ends.sends one).queued
   pub current : key ≢ 0 → HadPeer past key (ends.firsts key)
   pub begun : (tag : ℕ) → tag ≢ 0 → Awaits (ends.sends tag) ⊎ HadPeer past tag (ends.firsts tag)
   pub all_sent : AreOfEnds ends packets
 
 -- What an association that begins at the sender has to be: its peer's tag is a new one, and what the receiver had under one of its tags is
 -- the matching one.
-pub record NewPeer (past their_past : List Effect) (link : Link) : Type 0 where
+pub record NewPeer (past their_past : List Effect) (link : AssociationIdentity) : Type 0 where
   pub some : link.peer.tag ≢ 0
   pub small : link.my.first_tsn < 2 ^ 32
-  pub other : (old : Link) → Has (holds old) past → old.peer.tag ≢ link.peer.tag
-  pub match : (theirs : Link) → Has (holds theirs) their_past → (theirs.my.tag ≡ link.peer.tag) ⊎ (theirs.peer.tag ≡ link.my.tag) → (theirs.peer ≡ link.my) × (theirs.my.tag ≡ link.peer.tag)
+  pub other : (old : AssociationIdentity) → HasEffect (holds old) past → old.peer.tag ≢ link.peer.tag
+  pub match : (theirs : AssociationIdentity) → HasEffect (holds theirs) their_past → (theirs.my.tag ≡ link.peer.tag) ⊎ (theirs.peer.tag ≡ link.my.tag) → (theirs.peer ≡ link.my) × (theirs.my.tag ≡ link.peer.tag)
 
 -- ---- the receiver
 
 -- The receiver had an association with this own tag, whose peer began with this TSN.
 pub record HadTag (past : List Effect) (tag first : ℕ) : Type 0 where
-  pub link : Link
-  pub held : Has (holds link) past
+  pub link : AssociationIdentity
+  pub held : HasEffect (holds link) past
   pub tag_is : link.my.tag ≡ tag
   pub first_is : link.peer.first_tsn ≡ first
   pub some : tag ≢ 0
 
 -- Its association is there, and this end has what it has received.
-pub record IsCurrent (ends : Ends) (e : Endpoint) (past : List Effect) (transfer : Transfer) : Type 0 where
-  pub link : Link
-  pub linked : link_in e.core ≡ Some link
+pub record IsCurrentEnd (ends : Ends) (e : Endpoint) (past : List Effect) (transfer : Transfer) : Type 0 where
+  pub link : AssociationIdentity
+  pub linked : identity_in e.core ≡ Some link
   pub had : HadTag past link.my.tag (ends.firsts link.my.tag)
   pub tracker : (ends.gets link.my.tag).tracker ≡ transfer.tracker
   pub reassembly : (ends.gets link.my.tag).reassembly ≡ transfer.reassembly
@@ -139,24 +139,24 @@ LeavesReady gets left (Some transfer) = left ≡ []
 
 pub record Receiver (options : Options) (ends : Ends) (e : Endpoint) (past : List Effect) (reads : List Read) : Type 0 where
   pub fits : SomeFit (own_of e)
-  pub current : (transfer : Transfer) → e.below.transfer ≡ Some transfer → IsCurrent ends e past transfer
-  pub left : LeavesReady ends.gets e.left e.below.transfer
+  pub current : (transfer : Transfer) → e.queues.transfer ≡ Some transfer → IsCurrentEnd ends e past transfer
+  pub left : LeavesReady ends.gets e.left e.queues.transfer
   pub were_read : (tag : ℕ) → with_tag tag reads ≡ (ends.gets tag).read
   pub begun : (tag : ℕ) → (ends.gets tag ≡ new_end options (ends.firsts tag)) ⊎ HadTag past tag (ends.firsts tag)
 
 -- What an association that begins at the receiver has to be: both tags are new ones.
-pub record NewTag (past their_past : List Effect) (link : Link) : Type 0 where
+pub record NewTag (past their_past : List Effect) (link : AssociationIdentity) : Type 0 where
   pub some : link.my.tag ≢ 0
   pub small : link.peer.first_tsn < 2 ^ 32
   pub own_small : link.my.first_tsn < 2 ^ 32
-  pub other : (old : Link) → Has (holds old) past → (old.my.tag ≢ link.my.tag) × (old.peer.tag ≢ link.peer.tag)
-  pub match : (theirs : Link) → Has (holds theirs) their_past → (theirs.peer.tag ≡ link.my.tag) ⊎ (theirs.my.tag ≡ link.peer.tag) → (theirs.my ≡ link.peer) × (theirs.peer.tag ≡ link.my.tag)
+  pub other : (old : AssociationIdentity) → HasEffect (holds old) past → (old.my.tag ≢ link.my.tag) × (old.peer.tag ≢ link.peer.tag)
+  pub match : (theirs : AssociationIdentity) → HasEffect (holds theirs) their_past → (theirs.peer.tag ≡ link.my.tag) ⊎ (theirs.my.tag ≡ link.peer.tag) → (theirs.my ≡ link.peer) × (theirs.peer.tag ≡ link.my.tag)
 
 -- ---- both
 
 pub record Between (options : Options) (ends : Ends) (e : Endpoint) (queued : List Message) (past : List Effect) (packets : List Emission) (other : Endpoint) (their_past : List Effect) (reads : List Read) : Type 0 where
-  pub runs : Runs options ends
+  pub runs : EndsRun options ends
   pub small : (tag : ℕ) → ends.firsts tag < 2 ^ 32
-  pub sender : Sender ends (peer_tag e.core) e.below queued past packets
+  pub sender : Sender ends (peer_tag e.core) e.queues queued past packets
   pub asks : AsksFit (ends.firsts (peer_tag e.core)) (own_of e) (ends.sends (peer_tag e.core)).asking
   pub receiver : Receiver options ends other their_past reads

@@ -8,7 +8,7 @@ use Rattle.dcsctp_spec_lemmas.specs.spec.endpoint.Outcome.{Outcome}
 use Rattle.dcsctp_spec_lemmas.specs.spec.Packet.{Emission}
 use Rattle.dcsctp_spec_lemmas.specs.spec.endpoint.Turn.{Input, Turn}
 use Rattle.dcsctp_spec_runs.specs.World.{after_effects}
-use Rattle.dcsctp_spec_lemmas.specs.spec.association.Effect.{Link, Effect, link_of, link_in}
+use Rattle.dcsctp_spec_lemmas.specs.spec.association.Effect.{AssociationIdentity, Effect, identity_of, identity_in}
 use Rattle.dcsctp_spec_lemmas.specs.types.queues.Messages.{MessageContent}
 use Rattle.dcsctp_spec_lemmas.specs.spec.queues.Transfer.{Transfer}
 use Rattle.dcsctp_delivery_sending.specs.Log.{Message}
@@ -18,21 +18,21 @@ use Rattle.dcsctp_delivery_turns.specs.Actions.{IsOpening, came_by, queued_after
 use Rattle.dcsctp_delivery_turns.specs.Actions.{has_refused}
 use Rattle.dcsctp_delivery_turns.specs.PeerRequests.{KnowsPeerIn}
 use Rattle.dcsctp_spec_lemmas.specs.types.declared.association.Pair.{Pair}
-use Rattle.dcsctp_spec_runs.specs.Past.{Has}
+use Rattle.dcsctp_spec_runs.specs.Past.{HasEffect}
 use Rattle.dcsctp_spec_lemmas.specs.spec.association.Effect.{holds, completes, performs}
 use Rattle.dcsctp_delivery_directions.specs.Requests.{requests_to}
-use Rattle.dcsctp_delivery_associations.specs.Answered.{number_at, AreAnswered}
+use Rattle.dcsctp_delivery_associations.specs.Answered.{request_number_at, AreAnswered}
 use Rattle.dcsctp_delivery_turns.specs.Sides.{WasSent}
 use Rattle.dcsctp_delivery_associations.specs.Ends.{Ends, NewPeer, NewTag, Between}
 use Rattle.dcsctp_delivery_associations.specs.Reads.{Read, reads_after, messages_of}
 
 -- In an association with interleaving no own request to reset streams fails.
 abbrev pub RefusesNone : Endpoint → Outcome → Type 0
-RefusesNone e o = e.below.queue.is_interleaved ≡ true → has_refused o.effects ≡ false
+RefusesNone e o = e.queues.queue.is_interleaved ≡ true → has_refused o.effects ≡ false
 
 -- An own request that ends as performed was performed by the peer, or it is the 2^32nd of its association.
 abbrev pub CompletesPerformed : List Effect → Outcome → Type 0
-CompletesPerformed their_past o = (my : Pair) (number : ℕ) → Has (completes my number) o.effects → Has (performs my number) their_past ⊎ (number ≡ number_at my.first_tsn (2 ^ 32 - 1))
+CompletesPerformed their_past o = (my : Pair) (number : ℕ) → HasEffect (completes my number) o.effects → HasEffect (performs my number) their_past ⊎ (number ≡ request_number_at my.first_tsn (2 ^ 32 - 1))
 
 -- Fewer than 2^32 - 1 requests to reset streams went to each tag.
 abbrev pub AsksLittle : List Emission → Type 0
@@ -55,7 +55,7 @@ EndsBegin = (mine options : Options) → AreEnds options (fresh_endpoint mine) [
 abbrev pub SendersTurn : Type 0
 SendersTurn =
     (options : Options) (ends : Ends) (e : Endpoint) (queued : List Message) (past : List Effect) (packets : List Emission) (other : Endpoint) (their_past : List Effect) (reads : List Read) (input : Input) (o : Outcome)
-    → Between options ends e queued past packets other their_past reads → AreAnswered ends e past other their_past → ((begun : Begun e o) → IsOpening (came_by input) → link_in o.after.core ≡ Some (link_of begun.my begun.held) → NewPeer past their_past (link_of begun.my begun.held)) → length (queued_after e input queued) < 2 ^ 64 → AsksLittle (packets ++ packets_in o.events)
+    → Between options ends e queued past packets other their_past reads → AreAnswered ends e past other their_past → ((begun : Begun e o) → IsOpening (came_by input) → identity_in o.after.core ≡ Some (identity_of begun.my begun.held) → NewPeer past their_past (identity_of begun.my begun.held)) → length (queued_after e input queued) < 2 ^ 64 → AsksLittle (packets ++ packets_in o.events)
     → RefusesNone e o → CompletesPerformed their_past o → IsCall input → Turn e input o → AreEnds options o.after (queued_after e input queued) (after_effects o.effects past) (packets ++ packets_in o.events) other their_past (messages_of reads)
 
 -- So does one of the receiver, if what is handled in its association was sent in it, each that is noted is of a new tag, and few requests
@@ -64,8 +64,8 @@ abbrev pub ReceiversTurn : Type 0
 ReceiversTurn =
     (options : Options) (ends : Ends) (e : Endpoint) (queued : List Message) (past : List Effect) (packets : List Emission) (other : Endpoint) (their_past : List Effect) (reads : List Read) (input : Input) (o : Outcome)
     → Between options ends e queued past packets other their_past reads → AreAnswered ends e past other their_past → length queued < 2 ^ 64 → AsksLittle packets → SameOptions options other.options → KnowsPeerIn their_past other.core
-    → ((link old : Link) → Has (holds link) o.effects → Has (holds old) their_past → old.my.tag ≢ link.my.tag) → ((begun : Begun other o) → IsOpening (came_by input) → link_in o.after.core ≡ Some (link_of begun.my begun.held) → NewTag their_past past (link_of begun.my begun.held))
-    → ((transfer : Transfer) (link : Link) → other.below.transfer ≡ Some transfer → link_in other.core ≡ Some link → WasSent (ends.sends link.my.tag).sent (came_by input)) → IsCall input → Turn other input o
+    → ((link old : AssociationIdentity) → HasEffect (holds link) o.effects → HasEffect (holds old) their_past → old.my.tag ≢ link.my.tag) → ((begun : Begun other o) → IsOpening (came_by input) → identity_in o.after.core ≡ Some (identity_of begun.my begun.held) → NewTag their_past past (identity_of begun.my begun.held))
+    → ((transfer : Transfer) (link : AssociationIdentity) → other.queues.transfer ≡ Some transfer → identity_in other.core ≡ Some link → WasSent (ends.sends link.my.tag).sent (came_by input)) → IsCall input → Turn other input o
     → AreEnds options e queued past packets o.after (after_effects o.effects their_past) (reads_after other input (messages_of reads))
 
 -- Each message that was read, in any association or after it, was queued, and none twice, if fewer than 2^30 chunks of data went to each tag: none

@@ -8,7 +8,7 @@ use Rattle.dcsctp_delivery_turns.specs.Actions.{with_first}
 
 -- the messages that were read, oldest first, with the one that this call reads: the first that can be taken
 abbrev pub reads_after : Endpoint → Input → List MessageContent → List MessageContent
-reads_after e user_takes reads = with_first (ready_where e.left e.below.transfer) reads
+reads_after e user_takes reads = with_first (ready_where e.left e.queues.transfer) reads
 reads_after e input reads = reads
 
 -- ---- by the association
@@ -25,7 +25,7 @@ and_first tag (message ∷ messages) reads = reads ++ record { tag = tag; messag
 
 -- with the one that this call reads, if an association with this tag received it
 abbrev pub tagged_after : ℕ → Endpoint → Input → List Read → List Read
-tagged_after tag e user_takes reads = and_first tag (ready_where e.left e.below.transfer) reads
+tagged_after tag e user_takes reads = and_first tag (ready_where e.left e.queues.transfer) reads
 tagged_after tag e input reads = reads
 
 -- those of the association with this own tag

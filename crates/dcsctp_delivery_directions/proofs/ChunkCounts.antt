@@ -12,9 +12,9 @@ use Rattle.dcsctp_spec.specs.queues.Transfer.{Transfer}
 use Rattle.dcsctp_spec.specs.endpoint.FlushOutcomes.{flush_of}
 use Rattle.dcsctp_spec.specs.endpoint.MessageOutcomes.{sending_queued}
 use Rattle.dcsctp_spec.specs.endpoint.SettingOutcomes.{set_in_queue}
-use Rattle.dcsctp_delivery_sending.specs.ChunkCounts.{chunks_in, going, tsns_of, tsns_where, tsns_below}
+use Rattle.dcsctp_delivery_sending.specs.ChunkCounts.{chunks_in, going, tsns_of, tsns_where, tsns_of_queues}
 use Rattle.dcsctp_delivery_sending.specs.Stages.{Bears}
-use Rattle.dcsctp_delivery_directions.specs.Directions.{Direction, in_flight, assigned, Step, queues, sets, prepares, commits, rolls_back, resends, resends_nothing, speaks, asks_again, renews, turns_aside, tracks, defers, flushes, acknowledges, loses, receives, forwards, receives_interleaved, forwards_interleaved, performs, resets, takes, NoneInFlight, Run, begins, goes_on, starts}
+use Rattle.dcsctp_delivery_directions.specs.Directions.{Direction, tsns_in_flight, assigned, DirectionStep, queues, sets, prepares, commits, rolls_back, resends, resends_nothing, speaks, asks_again, renews, turns_aside, tracks, defers, flushes, acknowledges, loses, receives, forwards, receives_interleaved, forwards_interleaved, performs, resets, takes, NoneInFlight, DirectionRun, begins, goes_on, starts}
 use Rattle.dcsctp_delivery_sending.proofs.Acknowledged.{acknowledged_bear, lost_bear}
 use Rattle.dcsctp_delivery_sending.proofs.ChunkCounts.{one_at_most, flushes_assign_few, at_once_same}
 use Rattle.dcsctp_delivery_directions.proofs.Directions.{run_stands}
@@ -23,7 +23,7 @@ use Rattle.dcsctp_delivery_directions.proofs.Steps.{more_queued}
 use Rattle.dcsctp_delivery_directions.proofs.Standing.{Stands, same_flight, timed_outstanding}
 
 abbrev FewSent : Direction → Type 0
-FewSent direction = direction.acknowledged + tsns_below direction.below ≤ 1 + 2 * chunks_in direction.sent
+FewSent direction = direction.acknowledged + tsns_of_queues direction.queues ≤ 1 + 2 * chunks_in direction.sent
 
 -- ---- what changes the queue alone
 
@@ -39,35 +39,35 @@ chunks_more (emission ∷ sent) more = (let rest = chunks_more sent more in omeg
 
 -- ---- each step
 
-module _ (options : Options) (first size : ℕ) (small : first < 2 ^ 32) (old : Direction) (run : Run options first size old) (few : length old.queued < 2 ^ 64) (h : FewSent old) where
+module _ (options : Options) (first size : ℕ) (small : first < 2 ^ 32) (old : Direction) (run : DirectionRun options first size old) (few : length old.queued < 2 ^ 64) (h : FewSent old) where
   standing : Stands first old
   standing = run_stands options first size old small few run
 
-  at_known : (transfer : Transfer) → old.below.transfer ≡ Some transfer → tsns_below old.below ≡ tsns_of old.below.queue transfer.retransmission.outstanding.items
-  at_known transfer known = ap (λ (t : Option Transfer). tsns_where old.below.queue t) known
+  at_known : (transfer : Transfer) → old.queues.transfer ≡ Some transfer → tsns_of_queues old.queues ≡ tsns_of old.queues.queue transfer.retransmission.outstanding.items
+  at_known transfer known = ap (λ (t : Option Transfer). tsns_where old.queues.queue t) known
 
-  by_queue : (queue : SendQueueState) → queue.under_way ≡ old.below.queue.under_way → old.acknowledged + tsns_where queue old.below.transfer ≤ 1 + 2 * chunks_in old.sent
-  by_queue queue same = (let way = way_same old.below.queue queue old.below.transfer same in omega (arith, way, h))
+  by_queue : (queue : SendQueueState) → queue.under_way ≡ old.queues.queue.under_way → old.acknowledged + tsns_where queue old.queues.transfer ≤ 1 + 2 * chunks_in old.sent
+  by_queue queue same = (let way = way_same old.queues.queue queue old.queues.transfer same in omega (arith, way, h))
 
-  stepped_few : (new : Direction) → Step old new → FewSent new
+  stepped_few : (new : Direction) → DirectionStep old new → FewSent new
   unfolding standing
-  stepped_few _ (queues now sending fits some) = by_queue (sending_queued now sending old.below.queue) refl
-  stepped_few _ (sets setting) = by_queue (set_in_queue setting old.below.queue) (set_way setting old.below.queue)
-  stepped_few _ (prepares ids) = by_queue (prepared_all ids old.below.queue) (all_way ids old.below.queue)
-  stepped_few _ (commits go_on) = by_queue (queue_committed old.below.queue) refl
-  stepped_few _ rolls_back = by_queue (queue_rolled_back old.below.queue) refl
+  stepped_few _ (queues now sending fits some) = by_queue (sending_queued now sending old.queues.queue) refl
+  stepped_few _ (sets setting) = by_queue (set_in_queue setting old.queues.queue) (set_way setting old.queues.queue)
+  stepped_few _ (prepares ids) = by_queue (prepared_all ids old.queues.queue) (all_way ids old.queues.queue)
+  stepped_few _ (commits go_on) = by_queue (queue_committed old.queues.queue) refl
+  stepped_few _ rolls_back = by_queue (queue_rolled_back old.queues.queue) refl
   stepped_few _ (flushes e draft answers same no_data allowed) =
       let assigns = flushes_assign_few e draft answers allowed in
-      let before : tsns_below e.below ≡ tsns_below old.below = ap tsns_below same in
+      let before : tsns_of_queues e.queues ≡ tsns_of_queues old.queues = ap tsns_of_queues same in
       let sent = chunks_more old.sent (packets_in (flush_of e draft answers).events) in
       omega (arith, assigns, before, sent, h)
   stepped_few _ (resends now room transfer left tsns chunks emission known sends are contents) =
-      let size = at_once_same now room old.below.queue transfer.retransmission left tsns sends in
+      let size = at_once_same now room old.queues.queue transfer.retransmission left tsns sends in
       let before = at_known transfer known in
       let sent = chunks_more old.sent (emission ∷ []) in
       omega (arith, size, before, sent, h)
   stepped_few _ (resends_nothing now room transfer left tsns known sends) =
-      let size = at_once_same now room old.below.queue transfer.retransmission left tsns sends in
+      let size = at_once_same now room old.queues.queue transfer.retransmission left tsns sends in
       let before = at_known transfer known in
       omega (arith, size, before, h)
   stepped_few _ (speaks emission no_data) = (let sent = chunks_more old.sent (emission ∷ []) in omega (arith, sent, h))
@@ -78,7 +78,7 @@ module _ (options : Options) (first size : ℕ) (small : first < 2 ^ 32) (old : 
       let before = at_known transfer known in
       omega (arith, size, before, h)
   stepped_few _ (acknowledges now sack transfer new known valid does) =
-      let flight : Bears standing.history first old.acknowledged transfer.retransmission.outstanding = same_flight standing.history first old.acknowledged old.below.transfer standing.below.flight transfer known in
+      let flight : Bears standing.history first old.acknowledged transfer.retransmission.outstanding = same_flight standing.history first old.acknowledged old.queues.transfer standing.queues.flight transfer known in
       let bears = acknowledged_bear standing.history first old.acknowledged now sack.cumulative_tsn_ack sack.a_rwnd does.blocks transfer.retransmission does.left valid flight does.acknowledges in
       let same : new.retransmission.outstanding ≡ does.left.outstanding = ap (λ (t : Transfer). t.retransmission.outstanding) does.is ∙ timed_outstanding does.round_trip (record transfer { retransmission = does.left }) in
       let size : length new.retransmission.outstanding.items ≡ length does.left.outstanding.items = ap (λ (o : OutstandingState). length o.items) same in
@@ -87,7 +87,7 @@ module _ (options : Options) (first size : ℕ) (small : first < 2 ^ 32) (old : 
       let count' = bears.count in
       omega (arith, size, before, h, count, count')
   stepped_few _ (loses now transfer known) =
-      let flight : Bears standing.history first old.acknowledged transfer.retransmission.outstanding = same_flight standing.history first old.acknowledged old.below.transfer standing.below.flight transfer known in
+      let flight : Bears standing.history first old.acknowledged transfer.retransmission.outstanding = same_flight standing.history first old.acknowledged old.queues.transfer standing.queues.flight transfer known in
       let count = flight.count in
       let count' = (lost_bear standing.history first old.acknowledged now transfer.retransmission flight).count in
       let before = at_known transfer known in
@@ -111,21 +111,21 @@ none_sent first acknowledged is_interleaved queue (Some transfer) none zero =
     let size : length transfer.retransmission.outstanding.items ≡ 0 = ap (λ (l : List Item). length l) none.1 in
     omega (arith, way, size, zero)
 
-few_sent : (options : Options) (first size : ℕ) (direction : Direction) → first < 2 ^ 32 → length direction.queued < 2 ^ 64 → Run options first size direction → FewSent direction
+few_sent : (options : Options) (first size : ℕ) (direction : Direction) → first < 2 ^ 32 → length direction.queued < 2 ^ 64 → DirectionRun options first size direction → FewSent direction
 few_sent options first size _ small few (begins direction b) =
-    (let none = none_sent first direction.acknowledged direction.below.queue.is_interleaved direction.below.queue direction.below.transfer b.flight b.acknowledged in omega (arith, none))
+    (let none = none_sent first direction.acknowledged direction.queues.queue.is_interleaved direction.queues.queue direction.queues.transfer b.flight b.acknowledged in omega (arith, none))
 few_sent options first size _ small few (goes_on old direction run step) =
     let before : length old.queued < 2 ^ 64 = omega (arith, few, more_queued old direction step) in
     stepped_few options first size small old run before (few_sent options first size old small before run) direction step
 few_sent options first size _ small few (starts old queued below run awaited fit waits none) =
     (let nothing = none_sent first old.acknowledged below.queue.is_interleaved below.queue below.transfer none awaited.acknowledged in omega (arith, nothing))
 
-assigned_below : (queue : SendQueueState) (transfer : Option Transfer) → in_flight transfer ≤ tsns_where queue transfer
+assigned_below : (queue : SendQueueState) (transfer : Option Transfer) → tsns_in_flight transfer ≤ tsns_where queue transfer
 assigned_below queue None = omega arith
 assigned_below queue (Some transfer) = omega arith
 
-pub few_for_chunks : (options : Options) (first size : ℕ) (direction : Direction) → Run options first size direction → first < 2 ^ 32 → length direction.queued < 2 ^ 64 → assigned direction ≤ 1 + 2 * chunks_in direction.sent
+pub few_for_chunks : (options : Options) (first size : ℕ) (direction : Direction) → DirectionRun options first size direction → first < 2 ^ 32 → length direction.queued < 2 ^ 64 → assigned direction ≤ 1 + 2 * chunks_in direction.sent
 few_for_chunks options first size direction run small few =
     let sent = few_sent options first size direction small few run in
-    let below = assigned_below direction.below.queue direction.below.transfer in
+    let below = assigned_below direction.queues.queue direction.queues.transfer in
     omega (arith, sent, below)

@@ -6,7 +6,7 @@ use Rattle.dcsctp_spec.specs.queues.Reassembly.{ReassemblyState}
 use Rattle.dcsctp_spec.specs.types.queues.SendStreams.{Stream}
 use Rattle.dcsctp_spec.specs.endpoint.BegunResets.{BegunReset}
 use Rattle.dcsctp_delivery_sending.specs.Places.{at_place}
-use Rattle.dcsctp_delivery_sending.specs.Log.{Fits, Message, Piece, Slot, Cut, History, grown, with_mark}
+use Rattle.dcsctp_delivery_sending.specs.Log.{Fits, Message, Piece, Slot, Cut, History, log_extended, with_mark}
 use Rattle.dcsctp_delivery_sending.specs.Flushes.{NamedBy}
 use Rattle.dcsctp_delivery_sending.specs.Numbers.{AreKept, is_handed_out, stream_named}
 use Rattle.dcsctp_delivery_receiving.specs.Clear.{Unsent}
@@ -52,7 +52,7 @@ not_new more log streams id n f kept handed on at =
     ]
 
 pub cleared_more : (more : List Slot) (history : History) (first cumulative : ℕ) (streams : List Stream) (reassembly : ReassemblyState) → IsCleared history first cumulative streams reassembly
-    → IsCleared (grown more history) first cumulative streams reassembly
+    → IsCleared (log_extended more history) first cumulative streams reassembly
 cleared_more more history first cumulative streams reassembly c =
     record {
       mark = c.mark;
@@ -62,7 +62,7 @@ cleared_more more history first cumulative streams reassembly c =
       clear = λ id small handed names below. c.clear id small handed names (λ n f at on. below n f (at_more more history.log n (Some f) at) on);
     }
 
-pub quiet_more : (more : List Slot) (history : History) (out : ℕ) (streams : List Stream) → AreKept streams more → AreQuiet history out streams → AreQuiet (grown more history) out streams
+pub quiet_more : (more : List Slot) (history : History) (out : ℕ) (streams : List Stream) → AreKept streams more → AreQuiet history out streams → AreQuiet (log_extended more history) out streams
 quiet_more more history out streams kept quiet id handed =
     elim (quiet id handed) [
       | inl none ↦ inl (λ n f at on. none n f (not_new more history.log streams id n f kept handed on at) on)
@@ -88,7 +88,7 @@ too_great queued log id fit cut great n f at on =
 module _ (more : List Slot) (history : History) (begun : BegunReset) (ids : List ℕ) (bound out : ℕ) (before after : List Stream) (low : length history.log ≤ bound) (kept : AreKept after more)
     (handed : (id : ℕ) → is_handed_out (stream_named id after).pause ≡ true → (is_handed_out (stream_named id before).pause ≡ true) ⊎ NamedBy (Some begun) ids id) (quiet : AreQuiet history out before) where
   abbrev pub now : History
-  now = with_mark (Some begun) ids bound (grown more history)
+  now = with_mark (Some begun) ids bound (log_extended more history)
 
   pub quiet_asked : AreQuiet now (suc out) after
   quiet_asked id is =

@@ -5,11 +5,11 @@ use Rattle.std.proofs.lemmas.List.{length-append}
 use Rattle.dcsctp_spec.specs.endpoint.Endpoint.{Endpoint}
 use Rattle.dcsctp_spec.specs.endpoint.Event.{Event, packets_in}
 use Rattle.dcsctp_spec.specs.Packet.{Emission}
-use Rattle.dcsctp_spec.specs.queues.Transfer.{Below}
+use Rattle.dcsctp_spec.specs.queues.Transfer.{EndpointQueues}
 use Rattle.dcsctp_spec.specs.endpoint.BegunResets.{BegunReset}
 use Rattle.dcsctp_spec.specs.endpoint.FlushOutcomes.{first_ask, packets_allowed, Answer, FlushAnswers, flush_of}
-use Rattle.dcsctp_delivery_sending.specs.Log.{History, Slot, grown, with_mark}
-use Rattle.dcsctp_delivery_sending.specs.Flushes.{NoData, StandsBelow, Sends, begun_by}
+use Rattle.dcsctp_delivery_sending.specs.Log.{History, Slot, log_extended, with_mark}
+use Rattle.dcsctp_delivery_sending.specs.Flushes.{NoData, QueuesFollowLog, SendsLogged, reset_begun_by}
 use Rattle.dcsctp_delivery_directions.specs.Directions.{Direction, asking_with}
 use Rattle.dcsctp_delivery_sending.proofs.Packets.{none_said}
 use Rattle.dcsctp_delivery_sending.proofs.Flushes.{flush_sends}
@@ -23,18 +23,18 @@ pub few_before : (more log : List Slot) → length (more ++ log) < 2 ^ 31 → le
 few_before more log little = omega (arith, little, length-append more log)
 
 module _ (first : ℕ) (old : Direction) (s : Stands first old) where
-  module _ (below : Below) (events : List (Event Emission)) (next : below.queue.next_message_id ≡ old.below.queue.next_message_id) (kind : below.queue.is_interleaved ≡ old.below.queue.is_interleaved) where
-    flushed : (begun : Option BegunReset) → Sends old.queued s.history first old.acknowledged old.below.queue begun below events
-        → Stands first (record old { below = below; sent = old.sent ++ packets_in events; asking = asking_with begun old.asking })
+  module _ (below : EndpointQueues) (events : List (Event Emission)) (next : below.queue.next_message_id ≡ old.queues.queue.next_message_id) (kind : below.queue.is_interleaved ≡ old.queues.queue.is_interleaved) where
+    flushed : (begun : Option BegunReset) → SendsLogged old.queued s.history first old.acknowledged old.queues.queue begun below events
+        → Stands first (record old { queues = below; sent = old.sent ++ packets_in events; asking = asking_with begun old.asking })
     flushed None sends =
-        let fewer : Fewer below.queue.streams old.below.queue.streams = λ id handed. elim (sends.handed id handed) [ inl was ↦ was | inr named ↦ absurd named ] in
+        let fewer : Fewer below.queue.streams old.queues.queue.streams = λ id handed. elim (sends.handed id handed) [ inl was ↦ was | inr named ↦ absurd named ] in
         record {
-          history = grown sends.more s.history;
+          history = log_extended sends.more s.history;
           fit = s.fit;
           next = next ∙ s.next;
-          below = sends.stands;
-          packets = emissions_both (grown sends.more s.history) first old.sent (packets_in events) (packets_later s.history (grown sends.more s.history) (extends_grown sends.more s.history) first old.sent s.packets) sends.packets;
-          count = counted_flight (grown sends.more s.history) first old.acknowledged below.transfer sends.stands.flight;
+          queues = sends.stands;
+          packets = emissions_both (log_extended sends.more s.history) first old.sent (packets_in events) (packets_later s.history (log_extended sends.more s.history) (extends_grown sends.more s.history) first old.sent s.packets) sends.packets;
+          count = counted_flight (log_extended sends.more s.history) first old.acknowledged below.transfer sends.stands.flight;
           asked = s.asked;
           quiet = quiet_more sends.more s.history old.asking.out below.queue.streams sends.kept (λ id handed. s.quiet id (fewer id handed));
           arrived = λ little. (
@@ -45,22 +45,22 @@ module _ (first : ℕ) (old : Direction) (s : Stands first old) where
                 once = a.once;
                 received = received_more old.queued [] s.history sends.more first a.places old.tracker old.reassembly sends.current a.received;
                 cleared = λ is performed. cleared_more sends.more s.history first old.tracker.cumulative below.queue.streams old.reassembly
-                    (cleared_fewer s.history first old.tracker.cumulative old.below.queue.streams below.queue.streams old.reassembly fewer (a.cleared (sym kind ∙ is) performed));
+                    (cleared_fewer s.history first old.tracker.cumulative old.queues.queue.streams below.queue.streams old.reassembly fewer (a.cleared (sym kind ∙ is) performed));
               }
               );
         }
     flushed (Some begun) sends =
-        let now : History = with_mark (Some begun) sends.ids sends.bound (grown sends.more s.history) in
+        let now : History = with_mark (Some begun) sends.ids sends.bound (log_extended sends.more s.history) in
         record {
           history = now;
           fit = s.fit;
           next = next ∙ s.next;
-          below = sends.stands;
+          queues = sends.stands;
           packets = emissions_both now first old.sent (packets_in events)
               (packets_later s.history now (extends_noted (Some begun) sends.ids sends.bound sends.more s.history sends.low) first old.sent s.packets) sends.packets;
           count = counted_flight now first old.acknowledged below.transfer sends.stands.flight;
           asked = ap (λ (l : List BegunReset). begun ∷ l) s.asked;
-          quiet = quiet_asked sends.more s.history begun sends.ids sends.bound old.asking.out old.below.queue.streams below.queue.streams sends.low sends.kept sends.handed s.quiet;
+          quiet = quiet_asked sends.more s.history begun sends.ids sends.bound old.asking.out old.queues.queue.streams below.queue.streams sends.low sends.kept sends.handed s.quiet;
           arrived = λ little. (
               let a = s.arrived (few_before sends.more s.history.log little) in
               record {
@@ -74,16 +74,16 @@ module _ (first : ℕ) (old : Direction) (s : Stands first old) where
               );
         }
 
-  pub stepped_flushes : (e : Endpoint) (draft : Emission) (answers : List Answer) → e.below ≡ old.below → NoData draft.packet.contents → FlushAnswers e draft answers
+  pub stepped_flushes : (e : Endpoint) (draft : Emission) (answers : List Answer) → e.queues ≡ old.queues → NoData draft.packet.contents → FlushAnswers e draft answers
       → Stands first (record old {
-        below = (flush_of e draft answers).after.below;
+        queues = (flush_of e draft answers).after.queues;
         sent = old.sent ++ packets_in (flush_of e draft answers).events;
-        asking = asking_with (begun_by answers) old.asking;
+        asking = asking_with (reset_begun_by answers) old.asking;
       })
   stepped_flushes e draft answers same no_data allowed =
-      let after : Below = (flush_of e draft answers).after.below in
+      let after : EndpointQueues = (flush_of e draft answers).after.queues in
       let events = (flush_of e draft answers).events in
-      let sends : Sends old.queued s.history first old.acknowledged e.below.queue (begun_by answers) after events =
-      flush_sends old.queued s.history first old.acknowledged e draft answers (subst (λ (b : Below). StandsBelow old.queued s.history first old.acknowledged b) (sym same) s.below) (none_said s.history first draft.packet.contents no_data) allowed in
-      flushed after events (flush_next first_ask (packets_allowed e.options.max_burst e.core) e draft answers allowed ∙ ap (λ (b : Below). b.queue.next_message_id) same) (flush_kind first_ask (packets_allowed e.options.max_burst e.core) e draft answers allowed ∙ ap (λ (b : Below). b.queue.is_interleaved) same) (begun_by answers)
-      (subst (λ (b : Below). Sends old.queued s.history first old.acknowledged b.queue (begun_by answers) after events) same sends)
+      let sends : SendsLogged old.queued s.history first old.acknowledged e.queues.queue (reset_begun_by answers) after events =
+      flush_sends old.queued s.history first old.acknowledged e draft answers (subst (λ (b : EndpointQueues). QueuesFollowLog old.queued s.history first old.acknowledged b) (sym same) s.queues) (none_said s.history first draft.packet.contents no_data) allowed in
+      flushed after events (flush_next first_ask (packets_allowed e.options.max_burst e.core) e draft answers allowed ∙ ap (λ (b : EndpointQueues). b.queue.next_message_id) same) (flush_kind first_ask (packets_allowed e.options.max_burst e.core) e draft answers allowed ∙ ap (λ (b : EndpointQueues). b.queue.is_interleaved) same) (reset_begun_by answers)
+      (subst (λ (b : EndpointQueues). SendsLogged old.queued s.history first old.acknowledged b.queue (reset_begun_by answers) after events) same sends)

@@ -5,14 +5,14 @@ use Rattle.std.proofs.lemmas.Bool.{eqb-true}
 use Rattle.dcsctp_spec.specs.types.declared.options.Options.{Options}
 use Rattle.dcsctp_spec.specs.types.declared.sending.UnderWay.{UnderWay}
 use Rattle.dcsctp_spec.specs.types.queues.SendStreams.{Waiting, Stream, front_of, stream_at}
-use Rattle.dcsctp_delivery_sending.specs.Places.{Has, at_place}
+use Rattle.dcsctp_delivery_sending.specs.Places.{HasEntry, at_place}
 use Rattle.dcsctp_delivery_sending.specs.Log.{Message, Piece, Slot, History, Cut}
 use Rattle.dcsctp_delivery_sending.specs.Marking.{NoneNamed, WaitsNoLonger}
-use Rattle.dcsctp_delivery_directions.specs.Marking.{IsFresh, DeliveredForGood}
+use Rattle.dcsctp_delivery_directions.specs.Marking.{IsUnspent, DeliveredForGood}
 use Rattle.dcsctp_delivery_sending.specs.Pieces.{AllQueued, AllBeyond, unbegun, ComesTo, IsGoing, Going, HoldsQueued}
 use Rattle.dcsctp_delivery_receiving.specs.Received.{Reassembles, untouched, placed}
 use Rattle.dcsctp_delivery_receiving.specs.Rows.{Spent}
-use Rattle.dcsctp_delivery_directions.specs.Directions.{Direction, Run, assigned}
+use Rattle.dcsctp_delivery_directions.specs.Directions.{Direction, DirectionRun, assigned}
 use Rattle.dcsctp_delivery_sending.proofs.Places.{decide, at_below}
 use Rattle.dcsctp_delivery_receiving.proofs.Distinct.{has_left}
 use Rattle.dcsctp_delivery_sending.proofs.Streams.{newest_at}
@@ -125,7 +125,7 @@ record SpentBy (log : List Slot) (place : ℕ) : Type 0 where
   got : List ℕ
   spent : Spent log got place
 
-spent_of : (queued : List Message) (history : History) (first : ℕ) (got read : List ℕ) (incoming : _) (place : ℕ) → Reassembles queued history first got read incoming → Has place read → SpentBy history.log place
+spent_of : (queued : List Message) (history : History) (first : ℕ) (got read : List ℕ) (incoming : _) (place : ℕ) → Reassembles queued history first got read incoming → HasEntry place read → SpentBy history.log place
 spent_of queued history first got read incoming place (untouched none number holds) h =
     let held = holds 0 in record { got = []; spent = held.spent place (has_left place read held.places h) }
 spent_of queued history first got read incoming place (placed base is held) h = record { got = got; spent = held.spent place (has_left place read held.places h) }
@@ -136,19 +136,19 @@ spent_gone queued log streams u place cut queue_holds by =
     subst (λ (p : ℕ). WaitsNoLonger p streams) s.same
     (ended_gone queued log cut s.last_offset s.last s.at_last (eqb-true (s.last.start + s.last.size) (length s.last.message.payload) s.ends) streams u queue_holds)
 
-spent_fresh : (queued : List Message) (log : List Slot) (place : ℕ) → Cut queued log → SpentBy log place → IsFresh queued place
+spent_fresh : (queued : List Message) (log : List Slot) (place : ℕ) → Cut queued log → SpentBy log place → IsUnspent queued place
 spent_fresh queued log place cut by =
     let s = by.spent in
     let piece = cut.pieces s.last_offset s.last s.at_last in
     record { message = s.last.message; at = ap (λ (k : ℕ). at_place k queued) (sym s.same) ∙ piece.at; fresh = piece.fresh }
 
-pub directions_deliver_for_good : (options : Options) (first size : ℕ) (direction : Direction) → Run options first size direction → first < 2 ^ 32 → assigned direction < 2 ^ 31 → length direction.queued < 2 ^ 64 → DeliveredForGood direction
+pub directions_deliver_for_good : (options : Options) (first size : ℕ) (direction : Direction) → DirectionRun options first size direction → first < 2 ^ 32 → assigned direction < 2 ^ 31 → length direction.queued < 2 ^ 64 → DeliveredForGood direction
 directions_deliver_for_good options first size direction run small little few =
     let s = run_stands options first size direction small few run in
     let a = s.arrived (omega (arith, s.count, little)) in
     record {
       delivered = record { places = a.places; were_queued = a.were; once = a.once };
-      waits_no_longer = λ place h. spent_gone direction.queued s.history.log direction.below.queue.streams direction.below.queue.under_way place s.below.cut s.below.queue_holds
+      waits_no_longer = λ place h. spent_gone direction.queued s.history.log direction.queues.queue.streams direction.queues.queue.under_way place s.queues.cut s.queues.queue_holds
           (spent_of direction.queued s.history first a.received.got a.places direction.reassembly.incoming place a.received.holds h);
-      fresh = λ place h. spent_fresh direction.queued s.history.log place s.below.cut (spent_of direction.queued s.history first a.received.got a.places direction.reassembly.incoming place a.received.holds h);
+      fresh = λ place h. spent_fresh direction.queued s.history.log place s.queues.cut (spent_of direction.queued s.history first a.received.got a.places direction.reassembly.incoming place a.received.holds h);
     }

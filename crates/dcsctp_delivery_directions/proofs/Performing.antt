@@ -5,13 +5,13 @@ use Rattle.std.proofs.lemmas.Bool.Decides.{leb_tells, nat_tests}
 use Rattle.std.proofs.lemmas.Bool.{eq-eqb, eqb-true}
 use Rattle.dcsctp_spec.specs.queues.Incoming.{is_named}
 use Rattle.dcsctp_spec.specs.queues.Numbers.{ahead_of, is_tsn_beyond}
-use Rattle.dcsctp_spec.specs.queues.Reassembly.{ReassemblyState, Leaves}
+use Rattle.dcsctp_spec.specs.queues.Reassembly.{ReassemblyState, EndsDeferral}
 use Rattle.dcsctp_spec.specs.endpoint.BegunResets.{BegunReset, stream_field}
-use Rattle.dcsctp_delivery_sending.specs.Places.{Has}
+use Rattle.dcsctp_delivery_sending.specs.Places.{HasEntry}
 use Rattle.dcsctp_delivery_sending.specs.Log.{Mark}
 use Rattle.dcsctp_delivery_receiving.specs.Clear.{IsOwn}
 use Rattle.dcsctp_delivery_receiving.specs.Tracked.{tracked}
-use Rattle.dcsctp_delivery_directions.specs.Directions.{Direction, is_reached}
+use Rattle.dcsctp_delivery_directions.specs.Directions.{Direction, is_reset_reached}
 use Rattle.dcsctp_delivery_sending.proofs.Counting.{told}
 use Rattle.dcsctp_delivery_sending.proofs.Chunks.{kinds_of}
 use Rattle.dcsctp_delivery_receiving.proofs.Reassembled.{left_keeps}
@@ -72,17 +72,17 @@ newest_of [] begun earlier is = absurd (cc)
 newest_of (mark ∷ marks) begun earlier is = record { mark = mark; earlier = marks; is = refl; begins = cc }
 
 pub stepped_performs : (first : ℕ) (old : Direction) → first < 2 ^ 32 → Stands first old → (newest : BegunReset) (earlier : List BegunReset) (new : ReassemblyState) → old.asking.requests ≡ newest ∷ earlier
-    → is_reached newest.reset old.tracker ≡ true → IsOwn newest.reset old.reassembly.deferral → Leaves newest.reset.streams old.reassembly new
+    → is_reset_reached newest.reset old.tracker ≡ true → IsOwn newest.reset old.reassembly.deferral → EndsDeferral newest.reset.streams old.reassembly new
     → Stands first (record old { reassembly = new; asking = record old.asking { is_performed = true } })
 stepped_performs first old small s newest earlier new asks reached own leaves =
     let m = newest_of s.history.marks newest earlier (sym s.asked ∙ asks) in
-    let has : Has m.mark s.history.marks = subst (λ (l : List Mark). Has m.mark l) (sym m.is) (inl refl) in
-    let is_mark = s.below.marks m.mark has in
+    let has : HasEntry m.mark s.history.marks = subst (λ (l : List Mark). HasEntry m.mark l) (sym m.is) (inl refl) in
+    let is_mark = s.queues.marks m.mark has in
     record {
       history = s.history;
       fit = s.fit;
       next = s.next;
-      below = s.below;
+      queues = s.queues;
       packets = s.packets;
       count = s.count;
       asked = s.asked;
@@ -96,7 +96,7 @@ stepped_performs first old small s newest earlier new asks reached own leaves =
             places = a.places;
             were = a.were;
             once = a.once;
-            received = left_keeps old.queued s.history first s.below.cut (told s.history old.below.queue s.below.numbers little) few a.places newest.reset.streams old.tracker old.reassembly new a.received leaves;
+            received = left_keeps old.queued s.history first s.queues.cut (told s.history old.queues.queue s.queues.numbers little) few a.places newest.reset.streams old.tracker old.reassembly new a.received leaves;
             cleared = λ kind performed.
                 record {
                   mark = m.mark;
@@ -104,8 +104,8 @@ stepped_performs first old small s newest earlier new asks reached own leaves =
                   is = m.is;
                   passed = passed_before first m.mark.bound old.tracker.cumulative a.received.tracks.started (omega (arith, within, little))
                       (subst (λ (k : ℕ). not (is_tsn_beyond k (old.tracker.cumulative % 2 ^ 32)) ≡ true) is reached);
-                  clear = λ id small handed names below. performing_clears old.queued s.history first id a.places m.mark old.tracker old.reassembly new (kinds_of s.below.numbers (sym kind)) few a.received has within is_mark.last names (subst (λ (l : List ℕ). is_named l id ≡ true) (sym is_mark.fields) (named_field m.mark.ids id small names)) below
-                      (subst (λ (b : BegunReset). IsOwn b.reset old.reassembly.deferral) (sym m.begins) own) (subst (λ (b : BegunReset). Leaves b.reset.streams old.reassembly new) (sym m.begins) leaves);
+                  clear = λ id small handed names below. performing_clears old.queued s.history first id a.places m.mark old.tracker old.reassembly new (kinds_of s.queues.numbers (sym kind)) few a.received has within is_mark.last names (subst (λ (l : List ℕ). is_named l id ≡ true) (sym is_mark.fields) (named_field m.mark.ids id small names)) below
+                      (subst (λ (b : BegunReset). IsOwn b.reset old.reassembly.deferral) (sym m.begins) own) (subst (λ (b : BegunReset). EndsDeferral b.reset.streams old.reassembly new) (sym m.begins) leaves);
                 };
           }
           );

@@ -7,18 +7,18 @@ use Rattle.dcsctp_spec.specs.Packet.{unworked, plain, Emission}
 use Rattle.dcsctp_spec.specs.types.declared.arrivals.SkippedTo.{SkippedTo}
 use Rattle.dcsctp_spec.specs.queues.Arrivals.{Arrival, data_arrival, i_data_arrival, skipped_in, messages_skipped_in}
 use Rattle.dcsctp_spec.specs.types.queues.Messages.{MessageContent}
-use Rattle.dcsctp_spec.specs.queues.Reassembly.{ReassemblyState, with_ready, deferring, Leaves}
+use Rattle.dcsctp_spec.specs.queues.Reassembly.{ReassemblyState, with_ready, deferring, EndsDeferral}
 use Rattle.dcsctp_spec.specs.types.queues.SendStreams.{Stream}
 use Rattle.dcsctp_spec.specs.queues.Tracker.{TrackerState}
 use Rattle.dcsctp_spec.specs.queues.Transfer.{Transfer}
 use Rattle.dcsctp_spec.specs.endpoint.TransferMoves.{ReceivesData, MovesForward}
-use Rattle.dcsctp_delivery_sending.specs.Places.{Has, at_place}
+use Rattle.dcsctp_delivery_sending.specs.Places.{HasEntry, at_place}
 use Rattle.dcsctp_delivery_sending.specs.Log.{Piece, Mark, History, Resets}
-use Rattle.dcsctp_delivery_sending.specs.Numbers.{AreOfKind, Told}
+use Rattle.dcsctp_delivery_sending.specs.Numbers.{AreOfKind, IsUnambiguous}
 use Rattle.dcsctp_delivery_sending.specs.Flushes.{IsData, IsInterleaved, IsForward, IsPassed}
 use Rattle.dcsctp_delivery_receiving.specs.Clear.{IsClear, IsOver}
 use Rattle.dcsctp_delivery_receiving.specs.Ready.{AreDistinct, SkipAll}
-use Rattle.dcsctp_delivery_receiving.specs.Received.{Carries, IsTsn, Few, Received}
+use Rattle.dcsctp_delivery_receiving.specs.Received.{Carries, IsTsn, Few, HasReceived}
 use Rattle.dcsctp_delivery_directions.specs.Directions.{Direction}
 use Rattle.dcsctp_delivery_sending.proofs.Counting.{told}
 use Rattle.dcsctp_delivery_sending.proofs.Chunks.{kinds_of}
@@ -38,7 +38,7 @@ use Rattle.dcsctp_delivery_directions.proofs.Standing.{IsCleared, Arrived, Stand
 over_of : (history : History) (first cumulative id : ℕ) (streams : List Stream) (reassembly : ReassemblyState) (c : IsCleared history first cumulative streams reassembly) → Resets c.mark id
     → ((n : ℕ) (f : Piece) → at_place n history.log ≡ Some (Some f) → f.message.stream ≡ id → n < c.mark.bound) → IsOver history first cumulative id
 over_of history first cumulative id streams reassembly c names below =
-    record { mark = c.mark; has = subst (λ (l : List Mark). Has c.mark l) (sym c.is) (inl refl); names = names; below = below; passed = c.passed }
+    record { mark = c.mark; has = subst (λ (l : List Mark). HasEntry c.mark l) (sym c.is) (inl refl); names = names; below = below; passed = c.passed }
 
 stays_cleared : (history : History) (first before after : ℕ) (streams : List Stream) (old new : ReassemblyState) → before ≤ after → ((id : ℕ) → IsOver history first before id → IsClear id old → IsClear id new)
     → IsCleared history first before streams old → IsCleared history first after streams new
@@ -53,16 +53,16 @@ stays_cleared history first before after streams old new up clears c =
 
 module _ (first : ℕ) (old : Direction) (small : first < 2 ^ 32) (s : Stands first old) where
   -- the receiver's part is another one
-  stepped_arrived : (tracker : TrackerState) (reassembly : ReassemblyState) → (length s.history.log < 2 ^ 31 → (a : Arrived first s.history old) → Received old.queued s.history first a.places tracker reassembly)
-      → (length s.history.log < 2 ^ 31 → (a : Arrived first s.history old) → old.below.queue.is_interleaved ≡ true → IsCleared s.history first old.tracker.cumulative old.below.queue.streams old.reassembly
-      → IsCleared s.history first tracker.cumulative old.below.queue.streams reassembly)
+  stepped_arrived : (tracker : TrackerState) (reassembly : ReassemblyState) → (length s.history.log < 2 ^ 31 → (a : Arrived first s.history old) → HasReceived old.queued s.history first a.places tracker reassembly)
+      → (length s.history.log < 2 ^ 31 → (a : Arrived first s.history old) → old.queues.queue.is_interleaved ≡ true → IsCleared s.history first old.tracker.cumulative old.queues.queue.streams old.reassembly
+      → IsCleared s.history first tracker.cumulative old.queues.queue.streams reassembly)
       → Stands first (record old { tracker = tracker; reassembly = reassembly })
   stepped_arrived tracker reassembly receives' clears =
       record {
         history = s.history;
         fit = s.fit;
         next = s.next;
-        below = s.below;
+        queues = s.queues;
         packets = s.packets;
         count = s.count;
         asked = s.asked;
@@ -72,25 +72,25 @@ module _ (first : ℕ) (old : Direction) (small : first < 2 ^ 32) (s : Stands fi
       }
 
   -- a receiver knows the log
-  known_log : length s.history.log < 2 ^ 31 → Told s.history
-  known_log little = told s.history old.below.queue s.below.numbers little
+  known_log : length s.history.log < 2 ^ 31 → IsUnambiguous s.history
+  known_log little = told s.history old.queues.queue s.queues.numbers little
 
   known_few : length s.history.log < 2 ^ 31 → Few s.history first
   known_few little = few_of first s.history small little
 
-  known_kinds : old.below.queue.is_interleaved ≡ true → AreOfKind true s.history.log
-  known_kinds is = kinds_of s.below.numbers (sym is)
+  known_kinds : old.queues.queue.is_interleaved ≡ true → AreOfKind true s.history.log
+  known_kinds is = kinds_of s.queues.numbers (sym is)
 
   module _ (theirs new : Transfer) (same : theirs.tracker ≡ old.tracker) (same' : theirs.reassembly ≡ old.reassembly) where
-    received_at : (a : Arrived first s.history old) → Received old.queued s.history first a.places theirs.tracker theirs.reassembly
+    received_at : (a : Arrived first s.history old) → HasReceived old.queued s.history first a.places theirs.tracker theirs.reassembly
     received_at a =
-        subst (λ (t : TrackerState). Received old.queued s.history first a.places t theirs.reassembly) (sym same)
-        (subst (λ (r : ReassemblyState). Received old.queued s.history first a.places old.tracker r) (sym same') a.received)
+        subst (λ (t : TrackerState). HasReceived old.queued s.history first a.places t theirs.reassembly) (sym same)
+        (subst (λ (r : ReassemblyState). HasReceived old.queued s.history first a.places old.tracker r) (sym same') a.received)
 
-    cleared_at : IsCleared s.history first old.tracker.cumulative old.below.queue.streams old.reassembly → IsCleared s.history first theirs.tracker.cumulative old.below.queue.streams theirs.reassembly
+    cleared_at : IsCleared s.history first old.tracker.cumulative old.queues.queue.streams old.reassembly → IsCleared s.history first theirs.tracker.cumulative old.queues.queue.streams theirs.reassembly
     cleared_at c =
-        subst (λ (t : TrackerState). IsCleared s.history first t.cumulative old.below.queue.streams theirs.reassembly) (sym same)
-        (subst (λ (r : ReassemblyState). IsCleared s.history first old.tracker.cumulative old.below.queue.streams r) (sym same') c)
+        subst (λ (t : TrackerState). IsCleared s.history first t.cumulative old.queues.queue.streams theirs.reassembly) (sym same)
+        (subst (λ (r : ReassemblyState). IsCleared s.history first old.tracker.cumulative old.queues.queue.streams r) (sym same') c)
 
     -- ---- data
 
@@ -98,12 +98,12 @@ module _ (first : ℕ) (old : Direction) (small : first < 2 ^ 32) (s : Stands fi
         → Stands first (record old { tracker = new.tracker; reassembly = new.reassembly })
     takes_data offset arrival carries does =
         stepped_arrived new.tracker new.reassembly
-        (λ little a. receiving_keeps old.queued s.history first s.below.cut (known_log little) (known_few little) a.places offset arrival theirs new carries (received_at a) does)
+        (λ little a. receiving_keeps old.queued s.history first s.queues.cut (known_log little) (known_few little) a.places offset arrival theirs new carries (received_at a) does)
         (λ little a is c. (
         let few = known_few little in
         let received = received_at a in
         let up = received_up old.queued s.history first a.places arrival theirs new received does in
-        stays_cleared s.history first theirs.tracker.cumulative new.tracker.cumulative old.below.queue.streams theirs.reassembly new.reassembly up
+        stays_cleared s.history first theirs.tracker.cumulative new.tracker.cumulative old.queues.queue.streams theirs.reassembly new.reassembly up
         (λ id over clear. clear_through_data old.queued s.history first id a.places offset arrival theirs new few received over carries clear does) (cleared_at c)
         ))
 
@@ -115,10 +115,10 @@ module _ (first : ℕ) (old : Direction) (small : first < 2 ^ 32) (s : Stands fi
         last_passed = record { offset = passed; below = omega (arith, below); is = is ∙ omega arith }
 
       passes : (passed : ℕ) → passed ≤ length s.history.log → tsn ≡ (first + passed + (2 ^ 32 - 1)) % 2 ^ 32 → SkipAll s.history passed entries → length s.history.log < 2 ^ 31 → (a : Arrived first s.history old)
-          → Received old.queued s.history first a.places new.tracker new.reassembly
+          → HasReceived old.queued s.history first a.places new.tracker new.reassembly
       passes zero below is skip little a = passing_nothing old.queued s.history first (known_few little) a.places tsn entries theirs new is (received_at a) does
       passes (suc passed) below is skip little a =
-          forwarding_keeps old.queued s.history first s.below.cut (known_log little) (known_few little) a.places tsn entries theirs new (last_passed passed below is)
+          forwarding_keeps old.queued s.history first s.queues.cut (known_log little) (known_few little) a.places tsn entries theirs new (last_passed passed below is)
           (subst (λ (k : ℕ). SkipAll s.history k entries) (omega arith) skip) (received_at a) does
 
       clears : (passed : ℕ) → passed ≤ length s.history.log → tsn ≡ (first + passed + (2 ^ 32 - 1)) % 2 ^ 32 → SkipAll s.history passed entries → length s.history.log < 2 ^ 31 → (a : Arrived first s.history old)
@@ -134,55 +134,55 @@ module _ (first : ℕ) (old : Direction) (small : first < 2 ^ 32) (s : Stands fi
           stepped_arrived new.tracker new.reassembly (λ little a. passes passed.passed passed.below passed.is skip little a)
           (λ little a is c. (
           let up = forwarded_up old.queued s.history first a.places tsn entries theirs new (received_at a) does in
-          stays_cleared s.history first theirs.tracker.cumulative new.tracker.cumulative old.below.queue.streams theirs.reassembly new.reassembly up
+          stays_cleared s.history first theirs.tracker.cumulative new.tracker.cumulative old.queues.queue.streams theirs.reassembly new.reassembly up
           (clears passed.passed passed.below passed.is skip little a (known_kinds is)) (cleared_at c)
           ))
 
     -- ---- the chunks of a packet that was sent
 
-    pub stepped_receives : (emission : Emission) (chunk : DataContent) → Has emission old.sent → Has (plain (unworked (data_chunk chunk))) emission.packet.contents → chunk.payload ≢ []
+    pub stepped_receives : (emission : Emission) (chunk : DataContent) → HasEntry emission old.sent → HasEntry (plain (unworked (data_chunk chunk))) emission.packet.contents → chunk.payload ≢ []
         → ReceivesData (data_arrival chunk) theirs new → Stands first (record old { tracker = new.tracker; reassembly = new.reassembly })
     stepped_receives emission chunk was holds some does =
         let is : IsData s.history.log first chunk = content_said s.history first (plain (unworked (data_chunk chunk))) emission.packet.contents (packet_said s.history first emission old.sent s.packets was) holds in
-        takes_data is.number (data_arrival chunk) (carries_piece old.queued s.history.log first chunk s.below.cut s.fit is some) does
+        takes_data is.number (data_arrival chunk) (carries_piece old.queued s.history.log first chunk s.queues.cut s.fit is some) does
 
-    pub stepped_receives_interleaved : (emission : Emission) (chunk : IDataContent) → Has emission old.sent → Has (plain (unworked (i_data_chunk chunk))) emission.packet.contents → chunk.payload ≢ []
+    pub stepped_receives_interleaved : (emission : Emission) (chunk : IDataContent) → HasEntry emission old.sent → HasEntry (plain (unworked (i_data_chunk chunk))) emission.packet.contents → chunk.payload ≢ []
         → ReceivesData (i_data_arrival chunk) theirs new → Stands first (record old { tracker = new.tracker; reassembly = new.reassembly })
     stepped_receives_interleaved emission chunk was holds some does =
         let is : IsInterleaved s.history.log first chunk = content_said s.history first (plain (unworked (i_data_chunk chunk))) emission.packet.contents (packet_said s.history first emission old.sent s.packets was) holds in
-        takes_data is.number (i_data_arrival chunk) (carries_interleaved old.queued s.history.log first chunk s.below.cut s.fit is some) does
+        takes_data is.number (i_data_arrival chunk) (carries_interleaved old.queued s.history.log first chunk s.queues.cut s.fit is some) does
 
-    pub stepped_forwards : (emission : Emission) (tsn : ℕ) (bytes : List ℕ) → Has emission old.sent → Has (plain (unworked (forward_tsn_chunk tsn bytes))) emission.packet.contents
+    pub stepped_forwards : (emission : Emission) (tsn : ℕ) (bytes : List ℕ) → HasEntry emission old.sent → HasEntry (plain (unworked (forward_tsn_chunk tsn bytes))) emission.packet.contents
         → MovesForward tsn (skipped_in bytes) theirs new → Stands first (record old { tracker = new.tracker; reassembly = new.reassembly })
     stepped_forwards emission tsn bytes was holds does =
         let is : IsForward false s.history first tsn bytes =
         content_said s.history first (plain (unworked (forward_tsn_chunk tsn bytes))) emission.packet.contents (packet_said s.history first emission old.sent s.packets was) holds in
         skips tsn (skipped_in bytes) does is.passed (forward_skips s.history first tsn bytes is)
 
-    pub stepped_forwards_interleaved : (emission : Emission) (tsn : ℕ) (bytes : List ℕ) → Has emission old.sent → Has (plain (unworked (i_forward_tsn_chunk tsn bytes))) emission.packet.contents
+    pub stepped_forwards_interleaved : (emission : Emission) (tsn : ℕ) (bytes : List ℕ) → HasEntry emission old.sent → HasEntry (plain (unworked (i_forward_tsn_chunk tsn bytes))) emission.packet.contents
         → MovesForward tsn (messages_skipped_in bytes) theirs new → Stands first (record old { tracker = new.tracker; reassembly = new.reassembly })
     stepped_forwards_interleaved emission tsn bytes was holds does =
         let is : IsForward true s.history first tsn bytes =
         content_said s.history first (plain (unworked (i_forward_tsn_chunk tsn bytes))) emission.packet.contents (packet_said s.history first emission old.sent s.packets was) holds in
-        skips tsn (messages_skipped_in bytes) does is.passed (messages_skipped old.queued s.history first tsn bytes s.below.cut s.fit is)
+        skips tsn (messages_skipped_in bytes) does is.passed (messages_skipped old.queued s.history first tsn bytes s.queues.cut s.fit is)
 
   -- ---- the rest
 
   pub stepped_tracks : (new : TrackerState) → new.cumulative ≡ old.tracker.cumulative → new.ranges ≡ old.tracker.ranges → Stands first (record old { tracker = new })
   stepped_tracks new cumulative ranges =
       stepped_arrived new old.reassembly (λ little a. tracked_so old.queued s.history first a.places old.tracker new old.reassembly cumulative ranges a.received)
-      (λ little a is c. subst (λ (k : ℕ). IsCleared s.history first k old.below.queue.streams old.reassembly) (sym cumulative) c)
+      (λ little a is c. subst (λ (k : ℕ). IsCleared s.history first k old.queues.queue.streams old.reassembly) (sym cumulative) c)
 
   pub stepped_defers : (last_tsn : ℕ) (streams : List ℕ) → Stands first (record old { reassembly = deferring last_tsn streams old.reassembly })
   stepped_defers last_tsn streams =
       stepped_arrived old.tracker (deferring last_tsn streams old.reassembly) (λ little a. deferring_keeps old.queued s.history first a.places last_tsn streams old.tracker old.reassembly a.received)
-      (λ little a is c. stays_cleared s.history first old.tracker.cumulative old.tracker.cumulative old.below.queue.streams old.reassembly (deferring last_tsn streams old.reassembly) (omega arith)
+      (λ little a is c. stays_cleared s.history first old.tracker.cumulative old.tracker.cumulative old.queues.queue.streams old.reassembly (deferring last_tsn streams old.reassembly) (omega arith)
       (λ id over clear. (clear_through_rest id old.reassembly clear).0 last_tsn streams) c)
 
-  pub stepped_resets : (streams : List ℕ) (new : ReassemblyState) → Leaves streams old.reassembly new → Stands first (record old { reassembly = new })
+  pub stepped_resets : (streams : List ℕ) (new : ReassemblyState) → EndsDeferral streams old.reassembly new → Stands first (record old { reassembly = new })
   stepped_resets streams new leaves =
-      stepped_arrived old.tracker new (λ little a. left_keeps old.queued s.history first s.below.cut (known_log little) (known_few little) a.places streams old.tracker old.reassembly new a.received leaves)
-      (λ little a is c. stays_cleared s.history first old.tracker.cumulative old.tracker.cumulative old.below.queue.streams old.reassembly new (omega arith)
+      stepped_arrived old.tracker new (λ little a. left_keeps old.queued s.history first s.queues.cut (known_log little) (known_few little) a.places streams old.tracker old.reassembly new a.received leaves)
+      (λ little a is c. stays_cleared s.history first old.tracker.cumulative old.tracker.cumulative old.queues.queue.streams old.reassembly new (omega arith)
       (λ id over clear. clear_through_resets id streams old.reassembly new clear leaves) c)
 
   pub stepped_takes : (message : MessageContent) (messages : List MessageContent) → old.reassembly.incoming.ready ≡ message ∷ messages
@@ -192,7 +192,7 @@ module _ (first : ℕ) (old : Direction) (small : first < 2 ^ 32) (s : Stands fi
         history = s.history;
         fit = s.fit;
         next = s.next;
-        below = s.below;
+        queues = s.queues;
         packets = s.packets;
         count = s.count;
         asked = s.asked;
@@ -203,9 +203,9 @@ module _ (first : ℕ) (old : Direction) (small : first < 2 ^ 32) (s : Stands fi
             record {
               places = a.places ++ t.place ∷ [];
               were = both_queued old.queued a.places (t.place ∷ []) old.read (message ∷ []) a.were (record { message = t.sent; at = t.at; stream = t.stream; ppid = t.ppid; payload = t.payload }, tt);
-              once = distinct_with t.place a.places [] (subst (λ (l : List ℕ). AreDistinct l) (sym (append-nil a.places)) a.once) (λ h. t.fresh (subst (λ (l : List ℕ). Has t.place l) (append-nil a.places) h));
+              once = distinct_with t.place a.places [] (subst (λ (l : List ℕ). AreDistinct l) (sym (append-nil a.places)) a.once) (λ h. t.fresh (subst (λ (l : List ℕ). HasEntry t.place l) (append-nil a.places) h));
               received = t.received;
-              cleared = λ is performed. stays_cleared s.history first old.tracker.cumulative old.tracker.cumulative old.below.queue.streams old.reassembly (with_ready messages old.reassembly) (omega arith)
+              cleared = λ is performed. stays_cleared s.history first old.tracker.cumulative old.tracker.cumulative old.queues.queue.streams old.reassembly (with_ready messages old.reassembly) (omega arith)
                   (λ id over clear. (clear_through_rest id old.reassembly clear).1 messages) (a.cleared is performed);
             }
             );

@@ -4,7 +4,7 @@ use Rattle.dcsctp_spec.specs.Packet.{Content, Emission}
 use Rattle.dcsctp_spec.specs.association.FlushChanges.{reset_request}
 use Rattle.dcsctp_spec.specs.endpoint.BegunResets.{BegunReset}
 use Rattle.dcsctp_spec.specs.types.queues.SendStreams.{Stream}
-use Rattle.dcsctp_delivery_sending.specs.Places.{Has, at_place}
+use Rattle.dcsctp_delivery_sending.specs.Places.{HasEntry, at_place}
 use Rattle.dcsctp_delivery_sending.specs.Log.{Piece, Mark, mark_renewed, History, with_renewed, Resets}
 use Rattle.dcsctp_delivery_sending.specs.Flushes.{SayAll, IsBegun}
 use Rattle.dcsctp_delivery_directions.specs.Directions.{Direction, asking_renewed}
@@ -20,15 +20,15 @@ quiet_renewed : (history : History) (number : ℕ) (newest : Mark) (earlier : Li
 quiet_renewed history number newest earlier out streams is one quiet id handed =
     elim (quiet id handed) [
       | inl none ↦ inl none
-      | inr b ↦ inr (behind b (subst (λ (l : List Mark). Has b.mark (take 1 l)) is (subst (λ (n : ℕ). Has b.mark (take n history.marks)) one b.has)))
+      | inr b ↦ inr (behind b (subst (λ (l : List Mark). HasEntry b.mark (take 1 l)) is (subst (λ (n : ℕ). HasEntry b.mark (take n history.marks)) one b.has)))
     ]
   where
-    behind : (b : IsBehind history out id) → Has b.mark (take 1 (newest ∷ earlier)) → IsBehind (with_renewed number newest history) out id
+    behind : (b : IsBehind history out id) → HasEntry b.mark (take 1 (newest ∷ earlier)) → IsBehind (with_renewed number newest history) out id
     behind b has =
         elim has [
           | inl same ↦ record {
             mark = mark_renewed number newest;
-            has = subst (λ (n : ℕ). Has (mark_renewed number newest) (take n (mark_renewed number newest ∷ history.marks))) (sym one) (inl refl);
+            has = subst (λ (n : ℕ). HasEntry (mark_renewed number newest) (take n (mark_renewed number newest ∷ history.marks))) (sym one) (inl refl);
             names = subst (λ (m : Mark). Resets m id) same b.names;
             below = subst (λ (m : Mark). (n : ℕ) (f : Piece) → at_place n history.log ≡ Some (Some f) → f.message.stream ≡ id → n < m.bound) same b.below;
           }
@@ -40,7 +40,7 @@ module _ (first : ℕ) (old : Direction) (s : Stands first old) where
       → emission.packet.contents ≡ reset_request number newest.reset ∷ [] → Stands first (record old { sent = old.sent ++ emission ∷ []; asking = asking_renewed number newest old.asking })
   stepped_renews emission newest earlier number asks one contents =
       let m = newest_of s.history.marks newest earlier (sym s.asked ∙ asks) in
-      let known : Has m.mark s.history.marks = subst (λ (l : List Mark). Has m.mark l) (sym m.is) (inl refl) in
+      let known : HasEntry m.mark s.history.marks = subst (λ (l : List Mark). HasEntry m.mark l) (sym m.is) (inl refl) in
       let now : History = with_renewed number m.mark s.history in
       let begun : (mark_renewed number m.mark).begun ≡ record { number = number; reset = newest.reset } = ap (λ (b : BegunReset). record { number = number; reset = b.reset }) m.begins in
       let asked : IsBegun now number newest.reset = record { mark = mark_renewed number m.mark; has = inl refl; is = begun } in
@@ -49,11 +49,11 @@ module _ (first : ℕ) (old : Direction) (s : Stands first old) where
         history = now;
         fit = s.fit;
         next = s.next;
-        below = below_renewed s.history number m.mark known old.queued first old.acknowledged old.below s.below;
+        queues = below_renewed s.history number m.mark known old.queued first old.acknowledged old.queues s.queues;
         packets = emissions_both now first old.sent (emission ∷ []) (packets_later s.history now (extends_renewed number m.mark s.history known) first old.sent s.packets) (says, tt);
         count = s.count;
         asked = ap (λ (l : List BegunReset). record { number = number; reset = newest.reset } ∷ l) s.asked ∙ ap (λ (b : BegunReset). b ∷ map (λ mark. mark.begun) s.history.marks) (sym begun);
-        quiet = quiet_renewed s.history number m.mark m.earlier old.asking.out old.below.queue.streams m.is one s.quiet;
+        quiet = quiet_renewed s.history number m.mark m.earlier old.asking.out old.queues.queue.streams m.is one s.quiet;
         arrived = λ little. (
             let a = s.arrived little in
             record {

@@ -8,9 +8,9 @@ use Rattle.dcsctp_spec.specs.Packet.{plain, Content, init, init_ack, cookie_echo
 use Rattle.dcsctp_spec.specs.Reconfiguration.{ResetParameter, outgoing_reset_request, incoming_reset_request, reconfiguration_response, other_reset_parameter}
 use Rattle.dcsctp_spec.specs.association.Choices.{plain_contents}
 use Rattle.dcsctp_spec.specs.endpoint.BegunResets.{BegunReset, request_contents}
-use Rattle.dcsctp_spec.specs.endpoint.FlushOutcomes.{Told, told_event, Answer, answer_contents, filled, goes_out, asked, next_draft, flush_of}
-use Rattle.dcsctp_delivery_sending.specs.Flushes.{NoRequests, NoContent, NoData, begun_by}
-use Rattle.dcsctp_delivery_directions.specs.Directions.{Asking, asking_with, Direction, Step, queues, sets, prepares, commits, rolls_back, resends, resends_nothing, speaks, asks_again, renews, turns_aside, tracks, defers, flushes, acknowledges, loses, receives, forwards, receives_interleaved, forwards_interleaved, performs, resets, takes, Run, begins, goes_on, starts}
+use Rattle.dcsctp_spec.specs.endpoint.FlushOutcomes.{FillingEvent, filling_event, Answer, answer_contents, filled, goes_out, asked, next_draft, flush_of}
+use Rattle.dcsctp_delivery_sending.specs.Flushes.{NoRequests, NoContent, NoData, reset_begun_by}
+use Rattle.dcsctp_delivery_directions.specs.Directions.{Asking, asking_with, Direction, DirectionStep, queues, sets, prepares, commits, rolls_back, resends, resends_nothing, speaks, asks_again, renews, turns_aside, tracks, defers, flushes, acknowledges, loses, receives, forwards, receives_interleaved, forwards_interleaved, performs, resets, takes, DirectionRun, begins, goes_on, starts}
 use Rattle.dcsctp_delivery_directions.specs.Requests.{one_if_asked, is_request, requests_among, requests_in, requests_to}
 use Rattle.dcsctp_delivery_directions.proofs.Requests.{packets_apart, told_then, told_alone}
 
@@ -68,7 +68,7 @@ asking_counts : (begun : Option BegunReset) (asking : Asking) → length (asking
 asking_counts None asking = omega arith
 asking_counts (Some begun) asking = omega arith
 
-out_counts : (e : Endpoint) (told : List Told) (with_checksum : Bool) (tag : ℕ) (contents : List Content) → requests_in (packets_in (goes_out e (map told_event told) with_checksum tag contents).events) ≡ requests_among contents
+out_counts : (e : Endpoint) (told : List FillingEvent) (with_checksum : Bool) (tag : ℕ) (contents : List Content) → requests_in (packets_in (goes_out e (map filling_event told) with_checksum tag contents).events) ≡ requests_among contents
 out_counts e told with_checksum tag [] = ap requests_in (told_alone told)
 out_counts e told with_checksum tag (c ∷ contents) =
     let emission : Emission = record { with_checksum = with_checksum; packet = record { tag = tag; contents = c ∷ contents } } in
@@ -84,7 +84,7 @@ asked_counts e draft answer =
     let one = request_counts answer.begun in
     omega (arith, counted, parts, parts', parts'', one)
 
-flush_counts : (e : Endpoint) (draft : Emission) (answers : List Answer) → begun_count (begun_by answers) ≤ requests_in (packets_in (flush_of e draft answers).events)
+flush_counts : (e : Endpoint) (draft : Emission) (answers : List Answer) → begun_count (reset_begun_by answers) ≤ requests_in (packets_in (flush_of e draft answers).events)
 flush_counts e draft [] = omega arith
 flush_counts e draft (answer ∷ answers) =
     let one = asked_counts e draft answer in
@@ -102,7 +102,7 @@ AreSent direction = length direction.asking.requests ≤ requests_in direction.s
 one_more : (old : Direction) (emission : Emission) → AreSent old → length old.asking.requests ≤ requests_in (old.sent ++ emission ∷ [])
 one_more old emission h = (let more = requests_more old.sent (emission ∷ []) in omega (arith, more, h))
 
-stepped : (old new : Direction) → AreSent old → Step old new → AreSent new
+stepped : (old new : Direction) → AreSent old → DirectionStep old new → AreSent new
 stepped old _ h (queues now sending fits some) = h
 stepped old _ h (sets setting) = h
 stepped old _ h (prepares ids) = h
@@ -111,7 +111,7 @@ stepped old _ h rolls_back = h
 stepped old _ h (flushes e draft answers same no_data allowed) =
     let more = requests_more old.sent (packets_in (flush_of e draft answers).events) in
     let begun = flush_counts e draft answers in
-    let asks = asking_counts (begun_by answers) old.asking in
+    let asks = asking_counts (reset_begun_by answers) old.asking in
     omega (arith, more, begun, asks, h)
 stepped old _ h (resends now room transfer left tsns chunks emission known sends are contents) = one_more old emission h
 stepped old _ h (resends_nothing now room transfer left tsns known sends) = h
@@ -134,7 +134,7 @@ stepped old _ h (performs newest earlier new asks reached own leaves) = h
 stepped old _ h (resets streams new leaves) = h
 stepped old _ h (takes message messages is) = h
 
-pub requests_are_sent : (options : Options) (first size : ℕ) (direction : Direction) → Run options first size direction → length direction.asking.requests ≤ requests_in direction.sent
+pub requests_are_sent : (options : Options) (first size : ℕ) (direction : Direction) → DirectionRun options first size direction → length direction.asking.requests ≤ requests_in direction.sent
 requests_are_sent options first size _ (begins direction b) =
     (let asked : length direction.asking.requests ≡ 0 = ap (λ (a : Asking). length a.requests) b.asking in omega (arith, asked))
 requests_are_sent options first size _ (goes_on old direction run step) = stepped old direction (requests_are_sent options first size old run) step

@@ -9,11 +9,11 @@ use Rattle.dcsctp_spec.specs.Packet.{Plain, plain, Content, init, init_ack, cook
 use Rattle.dcsctp_spec.specs.Reconfiguration.{ResetParameter}
 use Rattle.dcsctp_spec.specs.association.Choices.{plain_contents}
 use Rattle.dcsctp_spec.specs.endpoint.BegunResets.{BegunReset, request_contents}
-use Rattle.dcsctp_spec.specs.endpoint.FlushOutcomes.{Told, amount_is_low, total_amount_is_low, message_is_sent, message_may_have_expired, message_has_expired, message_ends, told_event, Answer, answer_contents, filled, goes_out, asked, next_draft, flush_of, Ask, first_ask, later_ask, Answers, at_limit, at_empty, after_packet, packets_allowed}
-use Rattle.dcsctp_delivery_sending.specs.Places.{Has}
-use Rattle.dcsctp_delivery_sending.specs.Flushes.{NoContent, NoData, begun_by}
+use Rattle.dcsctp_spec.specs.endpoint.FlushOutcomes.{FillingEvent, amount_is_low, total_amount_is_low, message_is_sent, message_may_have_expired, message_has_expired, message_ends, filling_event, Answer, answer_contents, filled, goes_out, asked, next_draft, flush_of, Ask, first_ask, later_ask, AreFlushAnswers, at_limit, at_empty, after_packet, packets_allowed}
+use Rattle.dcsctp_delivery_sending.specs.Places.{HasEntry}
+use Rattle.dcsctp_delivery_sending.specs.Flushes.{NoContent, NoData, reset_begun_by}
 use Rattle.dcsctp_delivery_sending.proofs.PausedFlushes.{later_begun}
-use Rattle.dcsctp_delivery_directions.specs.Directions.{Asking, asking_with, Direction, Step, queues, sets, prepares, commits, rolls_back, resends, resends_nothing, speaks, asks_again, renews, turns_aside, tracks, defers, flushes, acknowledges, loses, receives, forwards, receives_interleaved, forwards_interleaved, performs, resets, takes, Run, begins, goes_on, starts}
+use Rattle.dcsctp_delivery_directions.specs.Directions.{Asking, asking_with, Direction, DirectionStep, queues, sets, prepares, commits, rolls_back, resends, resends_nothing, speaks, asks_again, renews, turns_aside, tracks, defers, flushes, acknowledges, loses, receives, forwards, receives_interleaved, forwards_interleaved, performs, resets, takes, DirectionRun, begins, goes_on, starts}
 use Rattle.dcsctp_delivery_directions.specs.Requests.{IsOfBegun}
 
 -- ---- the packets among events
@@ -24,7 +24,7 @@ packets_apart (sent emission ∷ events) others = ap (λ (l : List Emission). em
 packets_apart (event ∷ events) others = packets_apart events others
 
 -- What is told is none.
-pub told_then : (told : List Told) (others : List (Event Emission)) → packets_in (map told_event told ++ others) ≡ packets_in others
+pub told_then : (told : List FillingEvent) (others : List (Event Emission)) → packets_in (map filling_event told ++ others) ≡ packets_in others
 told_then [] others = refl
 told_then (amount_is_low stream ∷ told) others = told_then told others
 told_then (total_amount_is_low ∷ told) others = told_then told others
@@ -33,8 +33,8 @@ told_then (message_may_have_expired id ∷ told) others = told_then told others
 told_then (message_has_expired id ∷ told) others = told_then told others
 told_then (message_ends id ∷ told) others = told_then told others
 
-pub told_alone : (told : List Told) → packets_in (map told_event told) ≡ []
-told_alone told = ap packets_in (sym (append-nil (map told_event told))) ∙ told_then told []
+pub told_alone : (told : List FillingEvent) → packets_in (map filling_event told) ≡ []
+told_alone told = ap packets_in (sym (append-nil (map filling_event told))) ∙ told_then told []
 
 -- ---- what packets hold
 
@@ -51,7 +51,7 @@ SentOfBegun requests (emission ∷ emissions) = AreOfBegun requests emission.pac
 -- The request that was begun, if one was, is one of these.
 abbrev IsAmong : Option BegunReset → List BegunReset → Type 0
 IsAmong None requests = Unit {0}
-IsAmong (Some begun) requests = Has begun requests
+IsAmong (Some begun) requests = HasEntry begun requests
 
 module _ (requests : List BegunReset) where
   of_both : (contents others : List Content) → AreOfBegun requests contents → AreOfBegun requests others → AreOfBegun requests (contents ++ others)
@@ -93,8 +93,8 @@ module _ (requests : List BegunReset) where
       of_both (plain_contents answer.acknowledgements) (request_contents answer.begun ++ plain_contents answer.data_chunks) (of_plain answer.acknowledgements)
       (of_both (request_contents answer.begun) (plain_contents answer.data_chunks) (of_request answer.begun among) (of_plain answer.data_chunks))
 
-  out_of_begun : (e : Endpoint) (told : List Told) (with_checksum : Bool) (tag : ℕ) (contents : List Content) → AreOfBegun requests contents
-      → SentOfBegun requests (packets_in (goes_out e (map told_event told) with_checksum tag contents).events)
+  out_of_begun : (e : Endpoint) (told : List FillingEvent) (with_checksum : Bool) (tag : ℕ) (contents : List Content) → AreOfBegun requests contents
+      → SentOfBegun requests (packets_in (goes_out e (map filling_event told) with_checksum tag contents).events)
   out_of_begun e told with_checksum tag [] are = subst (SentOfBegun requests) (sym (told_alone told)) tt
   out_of_begun e told with_checksum tag (c ∷ contents) are =
       subst (SentOfBegun requests) (sym (told_then told (sent (record { with_checksum = with_checksum; packet = record { tag = tag; contents = c ∷ contents } }) ∷ []))) (are, tt)
@@ -110,7 +110,7 @@ module _ (requests : List BegunReset) where
   next_of_begun (cookie_echoed my held cookie) draft = tt
   next_of_begun (open_in phase my held) draft = tt
 
-  flush_of_begun : (ask : Ask) (n : ℕ) (e : Endpoint) (draft : Emission) (answers : List Answer) → Answers ask n e draft answers → IsAmong (begun_by answers) requests → AreOfBegun requests draft.packet.contents
+  flush_of_begun : (ask : Ask) (n : ℕ) (e : Endpoint) (draft : Emission) (answers : List Answer) → AreFlushAnswers ask n e draft answers → IsAmong (reset_begun_by answers) requests → AreOfBegun requests draft.packet.contents
       → SentOfBegun requests (packets_in (flush_of e draft answers).events)
   flush_of_begun _ _ _ _ _ (at_limit ask e draft) among are = tt
   flush_of_begun _ _ _ _ _ (at_empty ask more e draft answer is empty) among are =
@@ -119,7 +119,7 @@ module _ (requests : List BegunReset) where
   flush_of_begun _ _ _ _ _ (after_packet ask more e draft answer answers is some rest) among are =
       let between : Endpoint = (asked e draft answer).after in
       let next : Emission = next_draft e.core draft in
-      let later : IsAmong (begun_by answers) requests = subst (λ (b : Option BegunReset). IsAmong b requests) (sym (later_begun more between next answers rest)) tt in
+      let later : IsAmong (reset_begun_by answers) requests = subst (λ (b : Option BegunReset). IsAmong b requests) (sym (later_begun more between next answers rest)) tt in
       subst (SentOfBegun requests) (sym (packets_apart (asked e draft answer).events (flush_of between next answers).events))
       (sent_both (packets_in (asked e draft answer).events) (packets_in (flush_of between next answers).events) (asked_of_begun e draft answer among are)
       (flush_of_begun later_ask more between next answers rest later (next_of_begun e.core draft)))
@@ -163,16 +163,16 @@ OfBegun direction = SentOfBegun direction.asking.requests direction.sent
 one_more : (requests : List BegunReset) (emissions : List Emission) (emission : Emission) → SentOfBegun requests emissions → AreOfBegun requests emission.packet.contents → SentOfBegun requests (emissions ++ emission ∷ [])
 one_more requests emissions emission are one = sent_both requests emissions (emission ∷ []) are (one, tt)
 
-stepped : (old new : Direction) → OfBegun old → Step old new → OfBegun new
+stepped : (old new : Direction) → OfBegun old → DirectionStep old new → OfBegun new
 stepped old _ h (queues now sending fits some) = h
 stepped old _ h (sets setting) = h
 stepped old _ h (prepares ids) = h
 stepped old _ h (commits go_on) = h
 stepped old _ h rolls_back = h
 stepped old _ h (flushes e draft answers same no_data allowed) =
-    let asking : Asking = asking_with (begun_by answers) old.asking in
-    sent_both asking.requests old.sent (packets_in (flush_of e draft answers).events) (asked_later (begun_by answers) old.asking old.sent h)
-    (flush_of_begun asking.requests first_ask (packets_allowed e.options.max_burst e.core) e draft answers allowed (asked_among (begun_by answers) old.asking) (of_none asking.requests draft.packet.contents no_data))
+    let asking : Asking = asking_with (reset_begun_by answers) old.asking in
+    sent_both asking.requests old.sent (packets_in (flush_of e draft answers).events) (asked_later (reset_begun_by answers) old.asking old.sent h)
+    (flush_of_begun asking.requests first_ask (packets_allowed e.options.max_burst e.core) e draft answers allowed (asked_among (reset_begun_by answers) old.asking) (of_none asking.requests draft.packet.contents no_data))
 stepped old _ h (resends now room transfer left tsns chunks emission known sends are contents) =
     one_more old.asking.requests old.sent emission h (subst (AreOfBegun old.asking.requests) (sym contents) (of_plain old.asking.requests chunks))
 stepped old _ h (resends_nothing now room transfer left tsns known sends) = h
@@ -196,25 +196,25 @@ stepped old _ h (performs newest earlier new asks reached own leaves) = h
 stepped old _ h (resets streams new leaves) = h
 stepped old _ h (takes message messages is) = h
 
-pub all_of_begun : (options : Options) (first size : ℕ) (direction : Direction) → Run options first size direction → SentOfBegun direction.asking.requests direction.sent
+pub all_of_begun : (options : Options) (first size : ℕ) (direction : Direction) → DirectionRun options first size direction → SentOfBegun direction.asking.requests direction.sent
 all_of_begun options first size _ (begins direction b) = subst (SentOfBegun direction.asking.requests) (sym b.sent) tt
 all_of_begun options first size _ (goes_on old direction run step) = stepped old direction (all_of_begun options first size old run) step
 all_of_begun options first size _ (starts old queued below run awaited fit waits none) = all_of_begun options first size old run
 
 -- ---- one of them
 
-among_contents : (requests : List BegunReset) (content : Content) (contents : List Content) → AreOfBegun requests contents → Has content contents → IsOfBegun requests content
+among_contents : (requests : List BegunReset) (content : Content) (contents : List Content) → AreOfBegun requests contents → HasEntry content contents → IsOfBegun requests content
 among_contents requests content [] are has = absurd has
 among_contents requests content (c ∷ contents) are (inl is) = subst (IsOfBegun requests) (sym is) are.0
 among_contents requests content (c ∷ contents) are (inr has) = among_contents requests content contents are.1 has
 
-among_packets : (requests : List BegunReset) (emission : Emission) (emissions : List Emission) → SentOfBegun requests emissions → Has emission emissions → AreOfBegun requests emission.packet.contents
+among_packets : (requests : List BegunReset) (emission : Emission) (emissions : List Emission) → SentOfBegun requests emissions → HasEntry emission emissions → AreOfBegun requests emission.packet.contents
 among_packets requests emission [] are has = absurd has
 among_packets requests emission (p ∷ emissions) are (inl is) = subst (λ (q : Emission). AreOfBegun requests q.packet.contents) (sym is) are.0
 among_packets requests emission (p ∷ emissions) are (inr has) = among_packets requests emission emissions are.1 has
 
-pub requests_were_begun : (options : Options) (first size : ℕ) (direction : Direction) → Run options first size direction
-    → (emission : Emission) (parameters : List ResetParameter) → Has emission direction.sent → Has (re_config parameters) emission.packet.contents
+pub requests_were_begun : (options : Options) (first size : ℕ) (direction : Direction) → DirectionRun options first size direction
+    → (emission : Emission) (parameters : List ResetParameter) → HasEntry emission direction.sent → HasEntry (re_config parameters) emission.packet.contents
     → IsOfBegun direction.asking.requests (re_config parameters)
 requests_were_begun options first size direction run emission parameters was has =
     among_contents direction.asking.requests (re_config parameters) emission.packet.contents

@@ -7,16 +7,16 @@ use Rattle.dcsctp_spec.specs.queues.Reassembly.{ReassemblyState}
 use Rattle.dcsctp_spec.specs.types.queues.SendStreams.{Stream}
 use Rattle.dcsctp_spec.specs.queues.Transfer.{Transfer}
 use Rattle.dcsctp_spec.specs.endpoint.TransferMoves.{timed_by}
-use Rattle.dcsctp_delivery_sending.specs.Places.{Has, at_place}
+use Rattle.dcsctp_delivery_sending.specs.Places.{HasEntry, at_place}
 use Rattle.dcsctp_delivery_sending.specs.Log.{Fits, Message, Piece, Cut, Mark, History, Resets}
 use Rattle.dcsctp_delivery_sending.specs.Numbers.{is_handed_out, stream_named}
-use Rattle.dcsctp_delivery_sending.specs.Flushes.{SaysContent, SayAll, PacketsSay, InFlight, StandsBelow}
+use Rattle.dcsctp_delivery_sending.specs.Flushes.{SaysContent, SayAll, PacketsSay, InFlight, QueuesFollowLog}
 use Rattle.dcsctp_delivery_sending.specs.Stages.{Bears}
 use Rattle.dcsctp_delivery_receiving.specs.Ready.{AreDistinct, WereQueued}
-use Rattle.dcsctp_delivery_receiving.specs.Received.{Received, Few}
+use Rattle.dcsctp_delivery_receiving.specs.Received.{HasReceived, Few}
 use Rattle.dcsctp_delivery_receiving.specs.Clear.{IsClear, Unsent}
 use Rattle.dcsctp_delivery_receiving.specs.Tracked.{tracked}
-use Rattle.dcsctp_delivery_directions.specs.Directions.{Direction, in_flight, assigned}
+use Rattle.dcsctp_delivery_directions.specs.Directions.{Direction, tsns_in_flight, assigned}
 use Rattle.dcsctp_delivery_sending.proofs.Places.{at_stays}
 
 -- ---- streams that are handed out to be reset
@@ -24,7 +24,7 @@ use Rattle.dcsctp_delivery_sending.proofs.Places.{at_stays}
 -- All pieces of the stream were sent before a reset that names it, and that has no end yet.
 pub record IsBehind (history : History) (out id : ℕ) : Type 0 where
   pub mark : Mark
-  pub has : Has mark (take out history.marks)
+  pub has : HasEntry mark (take out history.marks)
   pub names : Resets mark id
   pub below : (n : ℕ) (f : Piece) → at_place n history.log ≡ Some (Some f) → f.message.stream ≡ id → n < mark.bound
 
@@ -49,24 +49,24 @@ pub record Arrived (first : ℕ) (history : History) (direction : Direction) : T
   pub places : List ℕ
   pub were : WereQueued direction.queued places direction.read
   pub once : AreDistinct places
-  pub received : Received direction.queued history first places direction.tracker direction.reassembly
-  pub cleared : direction.below.queue.is_interleaved ≡ true → direction.asking.is_performed ≡ true
-      → IsCleared history first direction.tracker.cumulative direction.below.queue.streams direction.reassembly
+  pub received : HasReceived direction.queued history first places direction.tracker direction.reassembly
+  pub cleared : direction.queues.queue.is_interleaved ≡ true → direction.asking.is_performed ≡ true
+      → IsCleared history first direction.tracker.cumulative direction.queues.queue.streams direction.reassembly
 
 pub record Stands (first : ℕ) (direction : Direction) : Type 0 where
   pub history : History
   pub fit : AllByRecursion Fits direction.queued
-  pub next : direction.below.queue.next_message_id ≡ length direction.queued
-  pub below : StandsBelow direction.queued history first direction.acknowledged direction.below
+  pub next : direction.queues.queue.next_message_id ≡ length direction.queued
+  pub queues : QueuesFollowLog direction.queued history first direction.acknowledged direction.queues
   pub packets : PacketsSay history first direction.sent
   pub count : length history.log ≡ assigned direction
   pub asked : direction.asking.requests ≡ map (λ mark. mark.begun) history.marks
-  pub quiet : AreQuiet history direction.asking.out direction.below.queue.streams
+  pub quiet : AreQuiet history direction.asking.out direction.queues.queue.streams
   pub arrived : length history.log < 2 ^ 31 → Arrived first history direction
 
 -- ---- what was sent
 
-pub content_said : (history : History) (first : ℕ) (content : Content) (contents : List Content) → SayAll history first contents → Has content contents → SaysContent history first content
+pub content_said : (history : History) (first : ℕ) (content : Content) (contents : List Content) → SayAll history first contents → HasEntry content contents → SaysContent history first content
 content_said history first content [] say h = absurd h
 content_said history first content (c ∷ contents) say h =
     elim h [
@@ -74,7 +74,7 @@ content_said history first content (c ∷ contents) say h =
       | inr t ↦ content_said history first content contents say.1 t
     ]
 
-pub packet_said : (history : History) (first : ℕ) (emission : Emission) (emissions : List Emission) → PacketsSay history first emissions → Has emission emissions → SayAll history first emission.packet.contents
+pub packet_said : (history : History) (first : ℕ) (emission : Emission) (emissions : List Emission) → PacketsSay history first emissions → HasEntry emission emissions → SayAll history first emission.packet.contents
 packet_said history first emission [] say h = absurd h
 packet_said history first emission (e ∷ emissions) say h =
     elim h [
@@ -110,6 +110,6 @@ cut_queued queued m history cut =
       ascends = cut.ascends;
     }
 
-pub counted_flight : (history : History) (first acknowledged : ℕ) (transfer : Option Transfer) → InFlight history first acknowledged transfer → length history.log ≡ acknowledged + in_flight transfer
+pub counted_flight : (history : History) (first acknowledged : ℕ) (transfer : Option Transfer) → InFlight history first acknowledged transfer → length history.log ≡ acknowledged + tsns_in_flight transfer
 counted_flight history first acknowledged None flight = omega (arith, flight)
 counted_flight history first acknowledged (Some transfer) flight = flight.count

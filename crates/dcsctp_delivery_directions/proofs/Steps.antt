@@ -1,6 +1,6 @@
 -- Each step of a direction keeps what holds.
 use Rattle.std.proofs.Common.{ℕ, ◌<◌, ◌≤◌, ◌^◌, length, arith}
-use Rattle.dcsctp_delivery_directions.specs.Directions.{Direction, Step, queues, sets, prepares, commits, rolls_back, flushes, resends, resends_nothing, speaks, asks_again, renews, turns_aside, acknowledges, loses, receives, forwards, receives_interleaved, forwards_interleaved, tracks, defers, performs, resets, takes}
+use Rattle.dcsctp_delivery_directions.specs.Directions.{Direction, DirectionStep, queues, sets, prepares, commits, rolls_back, flushes, resends, resends_nothing, speaks, asks_again, renews, turns_aside, acknowledges, loses, receives, forwards, receives_interleaved, forwards_interleaved, tracks, defers, performs, resets, takes}
 use Rattle.dcsctp_delivery_directions.proofs.Flushing.{stepped_flushes}
 use Rattle.dcsctp_delivery_directions.proofs.Performing.{stepped_performs}
 use Rattle.dcsctp_delivery_directions.proofs.Queued.{stepped_queues, stepped_sets, stepped_prepares, stepped_commits, stepped_rolls_back}
@@ -9,7 +9,7 @@ use Rattle.dcsctp_delivery_directions.proofs.Renewing.{stepped_renews}
 use Rattle.dcsctp_delivery_directions.proofs.Sending.{stepped_resends, stepped_resends_nothing, stepped_speaks, stepped_asks_again, stepped_turns_aside, stepped_acknowledges, stepped_loses}
 use Rattle.dcsctp_delivery_directions.proofs.Standing.{Stands}
 
-pub more_queued : (old direction : Direction) → Step old direction → length old.queued ≤ length direction.queued
+pub more_queued : (old direction : Direction) → DirectionStep old direction → length old.queued ≤ length direction.queued
 more_queued old _ (queues now sending fits some) = omega arith
 more_queued old _ (sets setting) = omega arith
 more_queued old _ (prepares ids) = omega arith
@@ -34,7 +34,7 @@ more_queued old _ (performs newest earlier new asks reached own leaves) = omega 
 more_queued old _ (resets streams new leaves) = omega arith
 more_queued old _ (takes message messages is) = omega arith
 
-pub stepped : (first : ℕ) (old : Direction) → first < 2 ^ 32 → Stands first old → (direction : Direction) → length direction.queued < 2 ^ 64 → Step old direction → Stands first direction
+pub stepped : (first : ℕ) (old : Direction) → first < 2 ^ 32 → Stands first old → (direction : Direction) → length direction.queued < 2 ^ 64 → DirectionStep old direction → Stands first direction
 stepped first old small s _ few (queues now sending fits some) = stepped_queues first old s now sending fits some (omega (arith, few))
 stepped first old small s _ few (sets setting) = stepped_sets first old s setting
 stepped first old small s _ few (prepares ids) = stepped_prepares first old s ids

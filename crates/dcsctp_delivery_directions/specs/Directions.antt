@@ -8,7 +8,7 @@ use Rattle.dcsctp_spec.specs.endpoint.Event.{packets_in}
 use Rattle.dcsctp_spec.specs.Packet.{Plain, unworked, plain, Emission}
 use Rattle.dcsctp_spec.specs.association.Choices.{plain_contents}
 use Rattle.dcsctp_spec.specs.queues.AtOnce.{SendsAtOnce}
-use Rattle.dcsctp_spec.specs.queues.Chunks.{AreChunks}
+use Rattle.dcsctp_spec.specs.queues.Chunks.{AreChunksOfTsns}
 use Rattle.dcsctp_spec.specs.queues.OwnResets.{prepared_all, queue_committed, queue_rolled_back}
 use Rattle.dcsctp_spec.specs.queues.Retransmission.{RetransmissionState}
 use Rattle.dcsctp_spec.specs.types.Setting.{Setting}
@@ -16,20 +16,20 @@ use Rattle.dcsctp_spec.specs.endpoint.SettingOutcomes.{set_in_queue}
 use Rattle.dcsctp_spec.specs.queues.Acknowledging.{is_sack_valid}
 use Rattle.dcsctp_spec.specs.queues.Arrivals.{data_arrival, i_data_arrival, skipped_in, messages_skipped_in}
 use Rattle.dcsctp_spec.specs.types.queues.Messages.{MessageContent}
-use Rattle.dcsctp_spec.specs.queues.Outstanding.{acknowledged_by}
-use Rattle.dcsctp_spec.specs.queues.Reassembly.{ReassemblyState, new_reassembly, with_ready, deferring, Leaves}
+use Rattle.dcsctp_spec.specs.queues.Outstanding.{acknowledged_count}
+use Rattle.dcsctp_spec.specs.queues.Reassembly.{ReassemblyState, new_reassembly, with_ready, deferring, EndsDeferral}
 use Rattle.dcsctp_spec.specs.queues.Tracker.{TrackerState, new_tracker, cumulative_tsn}
-use Rattle.dcsctp_spec.specs.queues.Transfer.{Transfer, Below}
+use Rattle.dcsctp_spec.specs.queues.Transfer.{Transfer, EndpointQueues}
 use Rattle.dcsctp_spec.specs.endpoint.FlushOutcomes.{Answer, FlushAnswers, flush_of}
 use Rattle.dcsctp_spec.specs.endpoint.MessageOutcomes.{Sending, sending_queued}
 use Rattle.dcsctp_spec.specs.endpoint.TransferMoves.{ReceivesData, MovesForward, TakesSack, lost_all}
-use Rattle.dcsctp_delivery_sending.specs.Places.{Has}
+use Rattle.dcsctp_delivery_sending.specs.Places.{HasEntry}
 use Rattle.dcsctp_delivery_sending.specs.Log.{Fits, Message}
 use Rattle.dcsctp_spec.specs.Reconfiguration.{RequestedReset}
 use Rattle.dcsctp_spec.specs.association.FlushChanges.{reset_request}
 use Rattle.dcsctp_spec.specs.queues.Numbers.{is_tsn_beyond}
 use Rattle.dcsctp_spec.specs.endpoint.BegunResets.{BegunReset}
-use Rattle.dcsctp_delivery_sending.specs.Flushes.{NoData, begun_by}
+use Rattle.dcsctp_delivery_sending.specs.Flushes.{NoData, reset_begun_by}
 use Rattle.dcsctp_delivery_sending.specs.Queueing.{message_of, QueueWaits}
 use Rattle.dcsctp_delivery_receiving.specs.Clear.{IsOwn}
 use Rattle.dcsctp_delivery_receiving.specs.Ready.{AreDistinct, WereQueued}
@@ -52,7 +52,7 @@ pub record Direction : Type 0 where
   -- what was queued since the sending socket was made, newest first
   pub queued : List Message
   -- the queues of the sender
-  pub below : Below
+  pub queues : EndpointQueues
   -- how many TSNs were acknowledged cumulatively
   pub acknowledged : ℕ
   -- all packets that it sent in this association, oldest first
@@ -78,85 +78,85 @@ abbrev pub all_ended : Asking → Asking
 all_ended asking = record asking { out = 0 }
 
 -- Was everything received that was sent before the reset was begun (RFC 6525, section 5.2.2, E2)?
-abbrev pub is_reached : RequestedReset → TrackerState → Bool
-is_reached reset tracker = not (is_tsn_beyond reset.last_tsn (cumulative_tsn tracker))
+abbrev pub is_reset_reached : RequestedReset → TrackerState → Bool
+is_reset_reached reset tracker = not (is_tsn_beyond reset.last_tsn (cumulative_tsn tracker))
 
 -- how many TSNs wait to be acknowledged, and how many were assigned
-abbrev pub in_flight : Option Transfer → ℕ
-in_flight None = 0
-in_flight (Some transfer) = length transfer.retransmission.outstanding.items
+abbrev pub tsns_in_flight : Option Transfer → ℕ
+tsns_in_flight None = 0
+tsns_in_flight (Some transfer) = length transfer.retransmission.outstanding.items
 
 abbrev pub assigned : Direction → ℕ
-assigned direction = direction.acknowledged + in_flight direction.below.transfer
+assigned direction = direction.acknowledged + tsns_in_flight direction.queues.transfer
 
 -- One step of a direction.
-pub data Step (old : Direction) : Direction → Type 0 where
+pub data DirectionStep (old : Direction) : Direction → Type 0 where
   -- The user queues a message.
   queues : (now : ℕ) (sending : Sending) → Fits (message_of sending) → 0 < length sending.message.payload
-      → Step old (record old { queued = message_of sending ∷ old.queued; below = record old.below { queue = sending_queued now sending old.below.queue } })
+      → DirectionStep old (record old { queued = message_of sending ∷ old.queued; queues = record old.queues { queue = sending_queued now sending old.queues.queue } })
   -- The user sets something, or streams are prepared to be reset; or a reset was performed, or was not. With interleaving it is the only one
   -- that has no end, and the receiver has performed it.
-  sets : (setting : Setting) → Step old (record old { below = record old.below { queue = set_in_queue setting old.below.queue } })
-  prepares : (ids : List ℕ) → Step old (record old { below = record old.below { queue = prepared_all ids old.below.queue } })
-  commits : (old.below.queue.is_interleaved ≡ true → (old.asking.out ≤ 1) × (old.asking.is_performed ≡ true))
-      → Step old (record old { below = record old.below { queue = queue_committed old.below.queue }; asking = all_ended old.asking })
-  rolls_back : Step old (record old { below = record old.below { queue = queue_rolled_back old.below.queue }; asking = all_ended old.asking })
+  sets : (setting : Setting) → DirectionStep old (record old { queues = record old.queues { queue = set_in_queue setting old.queues.queue } })
+  prepares : (ids : List ℕ) → DirectionStep old (record old { queues = record old.queues { queue = prepared_all ids old.queues.queue } })
+  commits : (old.queues.queue.is_interleaved ≡ true → (old.asking.out ≤ 1) × (old.asking.is_performed ≡ true))
+      → DirectionStep old (record old { queues = record old.queues { queue = queue_committed old.queues.queue }; asking = all_ended old.asking })
+  rolls_back : DirectionStep old (record old { queues = record old.queues { queue = queue_rolled_back old.queues.queue }; asking = all_ended old.asking })
   -- A flush, whose first packet holds no data. It may begin a reset of streams.
-  flushes : (e : Endpoint) (draft : Emission) (answers : List Answer) → e.below ≡ old.below → NoData draft.packet.contents → FlushAnswers e draft answers
-      → Step old (record old {
-        below = (flush_of e draft answers).after.below;
+  flushes : (e : Endpoint) (draft : Emission) (answers : List Answer) → e.queues ≡ old.queues → NoData draft.packet.contents → FlushAnswers e draft answers
+      → DirectionStep old (record old {
+        queues = (flush_of e draft answers).after.queues;
         sent = old.sent ++ packets_in (flush_of e draft answers).events;
-        asking = asking_with (begun_by answers) old.asking;
+        asking = asking_with (reset_begun_by answers) old.asking;
       })
   -- A fast retransmission.
-  resends : (now room : ℕ) (transfer : Transfer) (left : RetransmissionState) (tsns : List ℕ) (chunks : List Plain) (emission : Emission) → old.below.transfer ≡ Some transfer
-      → SendsAtOnce now room old.below.queue transfer.retransmission left tsns → AreChunks left.outstanding tsns chunks → emission.packet.contents ≡ plain_contents chunks
-      → Step old (record old { below = record old.below { transfer = Some (record transfer { retransmission = left }) }; sent = old.sent ++ emission ∷ [] })
+  resends : (now room : ℕ) (transfer : Transfer) (left : RetransmissionState) (tsns : List ℕ) (chunks : List Plain) (emission : Emission) → old.queues.transfer ≡ Some transfer
+      → SendsAtOnce now room old.queues.queue transfer.retransmission left tsns → AreChunksOfTsns left.outstanding tsns chunks → emission.packet.contents ≡ plain_contents chunks
+      → DirectionStep old (record old { queues = record old.queues { transfer = Some (record transfer { retransmission = left }) }; sent = old.sent ++ emission ∷ [] })
   -- A fast retransmission in which nothing fits.
-  resends_nothing : (now room : ℕ) (transfer : Transfer) (left : RetransmissionState) (tsns : List ℕ) → old.below.transfer ≡ Some transfer
-      → SendsAtOnce now room old.below.queue transfer.retransmission left tsns
-      → Step old (record old { below = record old.below { transfer = Some (record transfer { retransmission = left }) } })
+  resends_nothing : (now room : ℕ) (transfer : Transfer) (left : RetransmissionState) (tsns : List ℕ) → old.queues.transfer ≡ Some transfer
+      → SendsAtOnce now room old.queues.queue transfer.retransmission left tsns
+      → DirectionStep old (record old { queues = record old.queues { transfer = Some (record transfer { retransmission = left }) } })
   -- A packet without data, and without a request to reset streams.
-  speaks : (emission : Emission) → NoData emission.packet.contents → Step old (record old { sent = old.sent ++ emission ∷ [] })
+  speaks : (emission : Emission) → NoData emission.packet.contents → DirectionStep old (record old { sent = old.sent ++ emission ∷ [] })
   -- A request that was begun is sent again.
-  asks_again : (emission : Emission) (begun : BegunReset) → Has begun old.asking.requests → emission.packet.contents ≡ reset_request begun.number begun.reset ∷ []
-      → Step old (record old { sent = old.sent ++ emission ∷ [] })
+  asks_again : (emission : Emission) (begun : BegunReset) → HasEntry begun old.asking.requests → emission.packet.contents ≡ reset_request begun.number begun.reset ∷ []
+      → DirectionStep old (record old { sent = old.sent ++ emission ∷ [] })
   -- The newest request, which has no end, is sent again under another number, and takes its place.
   renews : (emission : Emission) (newest : BegunReset) (earlier : List BegunReset) (number : ℕ) → old.asking.requests ≡ newest ∷ earlier → old.asking.out ≡ 1
-      → emission.packet.contents ≡ reset_request number newest.reset ∷ [] → Step old (record old { sent = old.sent ++ emission ∷ []; asking = asking_renewed number newest old.asking })
+      → emission.packet.contents ≡ reset_request number newest.reset ∷ [] → DirectionStep old (record old { sent = old.sent ++ emission ∷ []; asking = asking_renewed number newest old.asking })
   -- The sender receives something itself.
-  turns_aside : (transfer new : Transfer) → old.below.transfer ≡ Some transfer → new.retransmission ≡ transfer.retransmission
-      → Step old (record old { below = record old.below { transfer = Some new } })
+  turns_aside : (transfer new : Transfer) → old.queues.transfer ≡ Some transfer → new.retransmission ≡ transfer.retransmission
+      → DirectionStep old (record old { queues = record old.queues { transfer = Some new } })
   -- A SACK, whatever it says.
-  acknowledges : (now : ℕ) (sack : SackContent) (transfer new : Transfer) → old.below.transfer ≡ Some transfer → is_sack_valid transfer.retransmission sack.cumulative_tsn_ack ≡ true → TakesSack now sack transfer new
-      → Step old (record old { below = record old.below { transfer = Some new }; acknowledged = old.acknowledged + acknowledged_by transfer.retransmission.outstanding sack.cumulative_tsn_ack })
-  loses : (now : ℕ) (transfer : Transfer) → old.below.transfer ≡ Some transfer → Step old (record old { below = record old.below { transfer = Some (lost_all now transfer) } })
+  acknowledges : (now : ℕ) (sack : SackContent) (transfer new : Transfer) → old.queues.transfer ≡ Some transfer → is_sack_valid transfer.retransmission sack.cumulative_tsn_ack ≡ true → TakesSack now sack transfer new
+      → DirectionStep old (record old { queues = record old.queues { transfer = Some new }; acknowledged = old.acknowledged + acknowledged_count transfer.retransmission.outstanding sack.cumulative_tsn_ack })
+  loses : (now : ℕ) (transfer : Transfer) → old.queues.transfer ≡ Some transfer → DirectionStep old (record old { queues = record old.queues { transfer = Some (lost_all now transfer) } })
   -- A DATA chunk of a packet that was sent is received, and so is a FORWARD-TSN. A chunk without a payload ends the association.
-  receives : (emission : Emission) (chunk : DataContent) (theirs new : Transfer) → Has emission old.sent → Has (plain (unworked (data_chunk chunk))) emission.packet.contents → chunk.payload ≢ []
+  receives : (emission : Emission) (chunk : DataContent) (theirs new : Transfer) → HasEntry emission old.sent → HasEntry (plain (unworked (data_chunk chunk))) emission.packet.contents → chunk.payload ≢ []
       → theirs.tracker ≡ old.tracker → theirs.reassembly ≡ old.reassembly → ReceivesData (data_arrival chunk) theirs new
-      → Step old (record old { tracker = new.tracker; reassembly = new.reassembly })
-  forwards : (emission : Emission) (tsn : ℕ) (streams : List ℕ) (theirs new : Transfer) → Has emission old.sent → Has (plain (unworked (forward_tsn_chunk tsn streams))) emission.packet.contents
+      → DirectionStep old (record old { tracker = new.tracker; reassembly = new.reassembly })
+  forwards : (emission : Emission) (tsn : ℕ) (streams : List ℕ) (theirs new : Transfer) → HasEntry emission old.sent → HasEntry (plain (unworked (forward_tsn_chunk tsn streams))) emission.packet.contents
       → theirs.tracker ≡ old.tracker → theirs.reassembly ≡ old.reassembly → MovesForward tsn (skipped_in streams) theirs new
-      → Step old (record old { tracker = new.tracker; reassembly = new.reassembly })
+      → DirectionStep old (record old { tracker = new.tracker; reassembly = new.reassembly })
   -- So is an I-DATA chunk, and an I-FORWARD-TSN.
-  receives_interleaved : (emission : Emission) (chunk : IDataContent) (theirs new : Transfer) → Has emission old.sent → Has (plain (unworked (i_data_chunk chunk))) emission.packet.contents → chunk.payload ≢ []
+  receives_interleaved : (emission : Emission) (chunk : IDataContent) (theirs new : Transfer) → HasEntry emission old.sent → HasEntry (plain (unworked (i_data_chunk chunk))) emission.packet.contents → chunk.payload ≢ []
       → theirs.tracker ≡ old.tracker → theirs.reassembly ≡ old.reassembly → ReceivesData (i_data_arrival chunk) theirs new
-      → Step old (record old { tracker = new.tracker; reassembly = new.reassembly })
-  forwards_interleaved : (emission : Emission) (tsn : ℕ) (streams : List ℕ) (theirs new : Transfer) → Has emission old.sent → Has (plain (unworked (i_forward_tsn_chunk tsn streams))) emission.packet.contents
+      → DirectionStep old (record old { tracker = new.tracker; reassembly = new.reassembly })
+  forwards_interleaved : (emission : Emission) (tsn : ℕ) (streams : List ℕ) (theirs new : Transfer) → HasEntry emission old.sent → HasEntry (plain (unworked (i_forward_tsn_chunk tsn streams))) emission.packet.contents
       → theirs.tracker ≡ old.tracker → theirs.reassembly ≡ old.reassembly → MovesForward tsn (messages_skipped_in streams) theirs new
-      → Step old (record old { tracker = new.tracker; reassembly = new.reassembly })
+      → DirectionStep old (record old { tracker = new.tracker; reassembly = new.reassembly })
   -- The receiver acknowledges, now or later.
-  tracks : (new : TrackerState) → new.cumulative ≡ old.tracker.cumulative → new.ranges ≡ old.tracker.ranges → Step old (record old { tracker = new })
+  tracks : (new : TrackerState) → new.cumulative ≡ old.tracker.cumulative → new.ranges ≡ old.tracker.ranges → DirectionStep old (record old { tracker = new })
   -- Streams are to be reset once all up to a TSN was received, whichever they are, and whatever it is.
-  defers : (last_tsn : ℕ) (streams : List ℕ) → Step old (record old { reassembly = deferring last_tsn streams old.reassembly })
+  defers : (last_tsn : ℕ) (streams : List ℕ) → DirectionStep old (record old { reassembly = deferring last_tsn streams old.reassembly })
   -- The newest reset is performed: all that was sent before it was received, and what waits, waits for it.
-  performs : (newest : BegunReset) (earlier : List BegunReset) (new : ReassemblyState) → old.asking.requests ≡ newest ∷ earlier → is_reached newest.reset old.tracker ≡ true → IsOwn newest.reset old.reassembly.deferral
-      → Leaves newest.reset.streams old.reassembly new → Step old (record old { reassembly = new; asking = record old.asking { is_performed = true } })
+  performs : (newest : BegunReset) (earlier : List BegunReset) (new : ReassemblyState) → old.asking.requests ≡ newest ∷ earlier → is_reset_reached newest.reset old.tracker ≡ true → IsOwn newest.reset old.reassembly.deferral
+      → EndsDeferral newest.reset.streams old.reassembly new → DirectionStep old (record old { reassembly = new; asking = record old.asking { is_performed = true } })
   -- Streams are reset, whichever.
-  resets : (streams : List ℕ) (new : ReassemblyState) → Leaves streams old.reassembly new → Step old (record old { reassembly = new })
+  resets : (streams : List ℕ) (new : ReassemblyState) → EndsDeferral streams old.reassembly new → DirectionStep old (record old { reassembly = new })
   -- Its user reads a message.
   takes : (message : MessageContent) (messages : List MessageContent) → old.reassembly.incoming.ready ≡ message ∷ messages
-      → Step old (record old { reassembly = with_ready messages old.reassembly; read = old.read ++ message ∷ [] })
+      → DirectionStep old (record old { reassembly = with_ready messages old.reassembly; read = old.read ++ message ∷ [] })
 
 -- No TSN was assigned yet, or there is no peer. What is in flight will be sent as the queue numbers messages.
 abbrev pub NoneInFlight : ℕ → Bool → Option Transfer → Type 0
@@ -165,10 +165,10 @@ NoneInFlight first is_interleaved (Some transfer) =
     (transfer.retransmission.outstanding.first_tsn ≡ first) × (transfer.retransmission.outstanding.items ≡ []) × (transfer.retransmission.outstanding.is_interleaved ≡ is_interleaved)
 
 -- An association begins; what was queued before may wait.
-pub record Begins (options : Options) (first size : ℕ) (direction : Direction) : Type 0 where
+pub record BeginsDirection (options : Options) (first size : ℕ) (direction : Direction) : Type 0 where
   pub fit : AllByRecursion Fits direction.queued
-  pub queues : QueueWaits direction.queued direction.below.queue
-  pub flight : NoneInFlight first direction.below.queue.is_interleaved direction.below.transfer
+  pub queues : QueueWaits direction.queued direction.queues.queue
+  pub flight : NoneInFlight first direction.queues.queue.is_interleaved direction.queues.transfer
   pub acknowledged : direction.acknowledged ≡ 0
   pub sent : direction.sent ≡ []
   pub tracker : direction.tracker ≡ new_tracker options first
@@ -181,16 +181,16 @@ pub record IsAwaited (direction : Direction) : Type 0 where
   pub queued : direction.queued ≡ []
   pub sent : direction.sent ≡ []
   pub acknowledged : direction.acknowledged ≡ 0
-  pub transfer : direction.below.transfer ≡ None
+  pub transfer : direction.queues.transfer ≡ None
   pub asking : direction.asking ≡ nothing_asked
 
 -- Every schedule: whatever is received was sent before, once or more often, recently or long ago.
-pub data Run (options : Options) (first size : ℕ) : Direction → Type 0 where
-  begins : (direction : Direction) → Begins options first size direction → Run options first size direction
-  goes_on : (old direction : Direction) → Run options first size old → Step old direction → Run options first size direction
+pub data DirectionRun (options : Options) (first size : ℕ) : Direction → Type 0 where
+  begins : (direction : Direction) → BeginsDirection options first size direction → DirectionRun options first size direction
+  goes_on : (old direction : Direction) → DirectionRun options first size old → DirectionStep old direction → DirectionRun options first size direction
   -- The sender begins after the receiver.
-  starts : (old : Direction) (queued : List Message) (below : Below) → Run options first size old → IsAwaited old → AllByRecursion Fits queued → QueueWaits queued below.queue → NoneInFlight first below.queue.is_interleaved below.transfer
-      → Run options first size (record old { queued = queued; below = below })
+  starts : (old : Direction) (queued : List Message) (sender_queues : EndpointQueues) → DirectionRun options first size old → IsAwaited old → AllByRecursion Fits queued → QueueWaits queued sender_queues.queue → NoneInFlight first sender_queues.queue.is_interleaved sender_queues.transfer
+      → DirectionRun options first size (record old { queued = queued; queues = sender_queues })
 
 -- Each message that was read was queued, and none twice.
 pub record Delivered (queued : List Message) (read : List MessageContent) : Type 0 where
@@ -201,5 +201,5 @@ pub record Delivered (queued : List Message) (read : List MessageContent) : Type
 -- So it is of every run in which fewer than 2^31 TSNs were assigned.
 abbrev pub DirectionsDeliver : Type 0
 DirectionsDeliver =
-    (options : Options) (first size : ℕ) (direction : Direction) → Run options first size direction → first < 2 ^ 32 → assigned direction < 2 ^ 31 → length direction.queued < 2 ^ 64
+    (options : Options) (first size : ℕ) (direction : Direction) → DirectionRun options first size direction → first < 2 ^ 32 → assigned direction < 2 ^ 31 → length direction.queued < 2 ^ 64
     → Delivered direction.queued direction.read

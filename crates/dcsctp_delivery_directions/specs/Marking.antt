@@ -1,13 +1,13 @@
 -- What was read in an association no longer waits to be sent, so that no later association sends it again.
 use Rattle.std.specs.Prelude.{◌≡◌, ◌<◌, ◌^◌, ℕ, false, Some, List, length}
 use Rattle.dcsctp_spec.specs.types.declared.options.Options.{Options}
-use Rattle.dcsctp_delivery_sending.specs.Places.{Has, at_place}
+use Rattle.dcsctp_delivery_sending.specs.Places.{HasEntry, at_place}
 use Rattle.dcsctp_delivery_sending.specs.Log.{Message}
-use Rattle.dcsctp_delivery_directions.specs.Directions.{Direction, Run, assigned, Delivered}
+use Rattle.dcsctp_delivery_directions.specs.Directions.{Direction, DirectionRun, assigned, Delivered}
 use Rattle.dcsctp_delivery_sending.specs.Marking.{WaitsNoLonger}
 
 -- The message of this place isn't marked as spent.
-pub record IsFresh (queued : List Message) (place : ℕ) : Type 0 where
+pub record IsUnspent (queued : List Message) (place : ℕ) : Type 0 where
   pub message : Message
   pub at : at_place place queued ≡ Some message
   pub fresh : message.is_spent ≡ false
@@ -15,10 +15,10 @@ pub record IsFresh (queued : List Message) (place : ℕ) : Type 0 where
 -- Each message that was read was queued, none was read twice, none waits to be sent again, and none was marked as spent.
 pub record DeliveredForGood (direction : Direction) : Type 0 where
   pub delivered : Delivered direction.queued direction.read
-  pub waits_no_longer : (place : ℕ) → Has place delivered.places → WaitsNoLonger place direction.below.queue.streams
-  pub fresh : (place : ℕ) → Has place delivered.places → IsFresh direction.queued place
+  pub waits_no_longer : (place : ℕ) → HasEntry place delivered.places → WaitsNoLonger place direction.queues.queue.streams
+  pub fresh : (place : ℕ) → HasEntry place delivered.places → IsUnspent direction.queued place
 
 -- So it is of every run in which fewer than 2^31 TSNs were assigned.
 abbrev pub DirectionsDeliverForGood : Type 0
 DirectionsDeliverForGood =
-    (options : Options) (first size : ℕ) (direction : Direction) → Run options first size direction → first < 2 ^ 32 → assigned direction < 2 ^ 31 → length direction.queued < 2 ^ 64 → DeliveredForGood direction
+    (options : Options) (first size : ℕ) (direction : Direction) → DirectionRun options first size direction → first < 2 ^ 32 → assigned direction < 2 ^ 31 → length direction.queued < 2 ^ 64 → DeliveredForGood direction

@@ -7,21 +7,21 @@ use Rattle.dcsctp_spec.specs.Reconfiguration.{ResetParameter, outgoing_reset_req
 use Rattle.dcsctp_spec.specs.association.FlushChanges.{reset_request}
 use Rattle.dcsctp_spec.specs.endpoint.BegunResets.{BegunReset}
 use Rattle.dcsctp_delivery_sending.specs.Flushes.{NoRequests}
-use Rattle.dcsctp_delivery_sending.specs.Places.{Has}
-use Rattle.dcsctp_delivery_directions.specs.Directions.{Direction, Run}
+use Rattle.dcsctp_delivery_sending.specs.Places.{HasEntry}
+use Rattle.dcsctp_delivery_directions.specs.Directions.{Direction, DirectionRun}
 
 -- ---- what is sent was begun
 
 -- A RE-CONFIG has no request to reset streams, or it is one that was begun.
 abbrev pub IsOfBegun : List BegunReset → Content → Type 0
-IsOfBegun requests (re_config parameters) = NoRequests parameters ⊎ ((begun : BegunReset) × Has begun requests × (re_config parameters ≡ reset_request begun.number begun.reset))
+IsOfBegun requests (re_config parameters) = NoRequests parameters ⊎ ((begun : BegunReset) × HasEntry begun requests × (re_config parameters ≡ reset_request begun.number begun.reset))
 IsOfBegun requests content = Unit {0}
 
 -- So it is of each that was sent.
 abbrev pub RequestsWereBegun : Type 0
 RequestsWereBegun =
-    (options : Options) (first size : ℕ) (direction : Direction) → Run options first size direction
-    → (emission : Emission) (parameters : List ResetParameter) → Has emission direction.sent → Has (re_config parameters) emission.packet.contents
+    (options : Options) (first size : ℕ) (direction : Direction) → DirectionRun options first size direction
+    → (emission : Emission) (parameters : List ResetParameter) → HasEntry emission direction.sent → HasEntry (re_config parameters) emission.packet.contents
     → IsOfBegun direction.asking.requests (re_config parameters)
 
 -- ---- how many are sent
@@ -54,4 +54,4 @@ requests_to tag (emission ∷ emissions) = (if emission.packet.tag == tag then r
 
 -- As many chunks with a request were sent as requests were begun, or more.
 abbrev pub RequestsAreSent : Type 0
-RequestsAreSent = (options : Options) (first size : ℕ) (direction : Direction) → Run options first size direction → length direction.asking.requests ≤ requests_in direction.sent
+RequestsAreSent = (options : Options) (first size : ℕ) (direction : Direction) → DirectionRun options first size direction → length direction.asking.requests ≤ requests_in direction.sent

@@ -7,7 +7,7 @@ use Rattle.dcsctp_spec_lemmas.specs.wire.Content.{DataContent, IDataContent}
 use Rattle.dcsctp_spec_lemmas.specs.spec.queues.Arrivals.{numbering_of, data_arrival, interleaved_numbering, fsn_of, ppid_of, i_data_arrival}
 use Rattle.dcsctp_spec_lemmas.specs.spec.queues.Chunks.{byte_field, data_said, ppid_or_fsn, i_data_said}
 use Rattle.dcsctp_delivery_sending.specs.Places.{at_place}
-use Rattle.dcsctp_delivery_sending.specs.Log.{Message, Piece, Slot, is_beginning, bytes_of, Cut, Fits}
+use Rattle.dcsctp_delivery_sending.specs.Log.{Message, Piece, Slot, is_beginning, piece_bytes, Cut, Fits}
 use Rattle.dcsctp_delivery_sending.specs.Stages.{SaysSlot}
 use Rattle.dcsctp_delivery_sending.specs.Flushes.{IsData, IsInterleaved}
 use Rattle.dcsctp_delivery_receiving.specs.Ready.{IsNumbered}
@@ -85,7 +85,7 @@ carries_piece queued log first chunk cut fit is some =
           stream = ap (λ (k : ℕ). k % 2 ^ 16) says.stream ∙ (let small = fits.stream in omega (arith, small));
           numbered = numbered_plain piece is.part.is_unordered (is.part.ssn % 2 ^ 16) (is.kind piece at) (sym says.unordered);
           ppid = λ begins. ap (λ (k : ℕ). k % 2 ^ 32) says.ppid ∙ (let small = fits.ppid in omega (arith, small));
-          payload = ap (map byte_field) says.payload ∙ same_bytes (bytes_of piece) (bytes_take piece.size (drop piece.start piece.message.payload) (bytes_drop piece.start piece.message.payload fits.payload));
+          payload = ap (map byte_field) says.payload ∙ same_bytes (piece_bytes piece) (bytes_take piece.size (drop piece.start piece.message.payload) (bytes_drop piece.start piece.message.payload fits.payload));
           beginning = says.beginning;
           end = says.end;
         }
@@ -114,7 +114,7 @@ carries_interleaved queued log first chunk cut fit is some =
           numbered = numbered_interleaved piece is.part.is_unordered (is.part.mid % 2 ^ 32) (fsn_of is.part.is_beginning (ppid_or_fsn is.part % 2 ^ 32)) (is.kind piece at) (sym says.unordered) says.mid
               (fsn_read is.part.is_beginning is.part.ppid is.part.fsn piece says.beginning says.fsn of.first);
           ppid = λ begins. ppid_read is.part.is_beginning is.part.ppid is.part.fsn piece.message.ppid (says.beginning ∙ begins) says.ppid fits.ppid;
-          payload = ap (map byte_field) says.payload ∙ same_bytes (bytes_of piece) (bytes_take piece.size (drop piece.start piece.message.payload) (bytes_drop piece.start piece.message.payload fits.payload));
+          payload = ap (map byte_field) says.payload ∙ same_bytes (piece_bytes piece) (bytes_take piece.size (drop piece.start piece.message.payload) (bytes_drop piece.start piece.message.payload fits.payload));
           beginning = says.beginning;
           end = says.end;
         }

@@ -6,8 +6,8 @@ use Rattle.dcsctp_spec_lemmas.specs.spec.queues.Numbers.{fragment_place}
 use Rattle.dcsctp_spec_lemmas.specs.spec.queues.Runs.{RunModel}
 use Rattle.dcsctp_delivery_sending.specs.Places.{at_place}
 use Rattle.dcsctp_delivery_sending.specs.Log.{Message, Piece, Slot, History, Cut}
-use Rattle.dcsctp_delivery_sending.specs.Numbers.{AreOfKind, Told, plain, interleaved}
-use Rattle.dcsctp_delivery_receiving.specs.Rows.{IsPlaced, PlacedBy, IsRow}
+use Rattle.dcsctp_delivery_sending.specs.Numbers.{AreOfKind, IsUnambiguous, plain, interleaved}
+use Rattle.dcsctp_delivery_receiving.specs.Rows.{IsPiecePlaced, PlacedBy, IsPieceRow}
 use Rattle.dcsctp_delivery_sending.proofs.Places.{at_below}
 
 -- All is DATA; or all is I-DATA, and fewer than 2^31 TSNs were assigned.
@@ -15,15 +15,15 @@ pub data OneKind (log : List Slot) : Type 0 where
   data_alone : AreOfKind false log → OneKind log
   interleaved_alone : AreOfKind true log → length log < 2 ^ 31 → OneKind log
 
-pub one_kind : (history : History) → Told history → OneKind history.log
+pub one_kind : (history : History) → IsUnambiguous history → OneKind history.log
 one_kind history (plain kinds) = data_alone kinds
 one_kind history (interleaved kinds few below apart) = interleaved_alone kinds few
 
 -- where a part lies, by whether it is of I-DATA
-pub placed_plain : (base : ℕ → ℕ) (offset : ℕ) (piece : Piece) (number place : ℕ) → piece.is_interleaved ≡ false → IsPlaced base offset piece number place → place ≡ base number + offset
+pub placed_plain : (base : ℕ → ℕ) (offset : ℕ) (piece : Piece) (number place : ℕ) → piece.is_interleaved ≡ false → IsPiecePlaced base offset piece number place → place ≡ base number + offset
 placed_plain base offset piece number place kind placed = subst (λ (b : Bool). PlacedBy b base offset piece.fsn number place) kind placed
 
-pub placed_interleaved : (base : ℕ → ℕ) (offset : ℕ) (piece : Piece) (number place : ℕ) → piece.is_interleaved ≡ true → IsPlaced base offset piece number place → place ≡ fragment_place number (piece.fsn % 2 ^ 32)
+pub placed_interleaved : (base : ℕ → ℕ) (offset : ℕ) (piece : Piece) (number place : ℕ) → piece.is_interleaved ≡ true → IsPiecePlaced base offset piece number place → place ≡ fragment_place number (piece.fsn % 2 ^ 32)
 placed_interleaved base offset piece number place kind placed = subst (λ (b : Bool). PlacedBy b base offset piece.fsn number place) kind placed
 
 module _ (queued : List Message) (log : List Slot) (cut : Cut queued log) where
@@ -59,7 +59,7 @@ module _ (queued : List Message) (log : List Slot) (cut : Cut queued log) (told 
   numbers_follow : (fsn other length' front back number : ℕ) → front ≡ fragment_place number (fsn % 2 ^ 32) → back ≡ fragment_place number (other % 2 ^ 32) → back ≡ front + length' → other % 2 ^ 32 ≡ fsn % 2 ^ 32 + length'
   numbers_follow fsn other length' front back number is is' follows = omega (arith, is, is', follows)
 
-  pub offsets_follow : (front back : RunModel) → (f : IsRow log got base Named front) → (b : IsRow log got base Named back) → back.first ≡ front.first + length front.payloads → front.number ≡ back.number → b.offset ≡ f.offset + length front.payloads
+  pub offsets_follow : (front back : RunModel) → (f : IsPieceRow log got base Named front) → (b : IsPieceRow log got base Named back) → back.first ≡ front.first + length front.payloads → front.number ≡ back.number → b.offset ≡ f.offset + length front.payloads
   offsets_follow front back f b follows same = go told
     where
       below : f.last_offset < length log

@@ -7,20 +7,20 @@ use Rattle.dcsctp_spec_lemmas.specs.types.declared.arrivals.Numbering.TheVariant
 use Rattle.dcsctp_spec_lemmas.specs.types.declared.arrivals.SkippedTo.{SkippedTo}
 use Rattle.dcsctp_spec_lemmas.specs.types.declared.arrivals.SkippedTo.TheVariants.{Ssn, Mid}
 use Rattle.dcsctp_spec_lemmas.specs.spec.queues.Arrivals.{Arrival}
-use Rattle.dcsctp_spec_lemmas.specs.spec.queues.Incoming.{IncomingModel, stream_on, TakesChunk, TakesData, skipped_on, skipped_by, MovesOn, is_named, ResetsStreams}
+use Rattle.dcsctp_spec_lemmas.specs.spec.queues.Incoming.{IncomingModel, stream_on, TakesChunk, TakesIncomingChunk, skipped_on, skipped_by, MovesOn, is_named, ResetsStreams}
 use Rattle.dcsctp_spec_lemmas.specs.spec.queues.IncomingStreams.{ChunkModel, StreamModel, new_stream, skipped_stream, skipped}
 use Rattle.dcsctp_spec_lemmas.specs.types.queues.Messages.{MessageContent}
-use Rattle.dcsctp_spec_lemmas.specs.spec.queues.Reassembly.{WaitingModel, WaitingSkips, DeferralModel, ReassemblyState, can_count, entries_within, entries_beside, names_stream, is_deferred, is_forward_deferred, with_waiting, entered, deferring, with_ready, AddsData, SkipsData, SkipsThen, HandlesAll, waiting_of, skips_of, Leaves}
-use Rattle.dcsctp_spec_lemmas.specs.spec.queues.Tracker.{TrackerState, has_received, number_of, is_new_tsn, is_forward, is_valid_tsn}
+use Rattle.dcsctp_spec_lemmas.specs.spec.queues.Reassembly.{WaitingModel, WaitingSkips, DeferralModel, ReassemblyState, can_count, entries_within, entries_beside, names_stream, is_data_deferred, is_forward_deferred, with_waiting, entered, deferring, with_ready, AddsData, SkipsData, SkipsThen, HandlesAll, waiting_of, skips_of, EndsDeferral}
+use Rattle.dcsctp_spec_lemmas.specs.spec.queues.Tracker.{TrackerState, has_received, nearest_number, is_new_tsn, is_forward, is_valid_tsn}
 use Rattle.dcsctp_spec_lemmas.specs.spec.queues.Transfer.{Transfer}
 use Rattle.dcsctp_spec_lemmas.specs.spec.endpoint.TransferMoves.{AddsWhere, has_room, dropping, ReceivesWhere, SkipsWhere, MovesWhere, ReceivesData, MovesForward}
-use Rattle.dcsctp_delivery_sending.specs.Places.{Has, at_place}
+use Rattle.dcsctp_delivery_sending.specs.Places.{HasEntry, at_place}
 use Rattle.dcsctp_delivery_sending.specs.Log.{Message, Piece, Mark, History, Resets}
 use Rattle.dcsctp_delivery_sending.specs.Numbers.{AreOfKind}
 use Rattle.dcsctp_delivery_sending.proofs.Places.{at_below}
 use Rattle.dcsctp_delivery_receiving.specs.Clear.{NoneSkips, NoneWaits, IsClear, IsOver}
-use Rattle.dcsctp_delivery_receiving.specs.Ready.{Skips, SkipAll}
-use Rattle.dcsctp_delivery_receiving.specs.Received.{Carries, IsTsn, kept_entries, Few, Received}
+use Rattle.dcsctp_delivery_receiving.specs.Ready.{SkipsEntry, SkipAll}
+use Rattle.dcsctp_delivery_receiving.specs.Received.{Carries, IsTsn, kept_entries, Few, HasReceived}
 use Rattle.dcsctp_delivery_receiving.specs.Tracked.{tracked, Tracks}
 use Rattle.dcsctp_delivery_receiving.proofs.Kept.{all_left, all_kept, deferred_by}
 use Rattle.dcsctp_delivery_receiving.proofs.Tracked.{number_is, up_to}
@@ -33,7 +33,7 @@ old_tsn : (first count offset bound : ℕ) (taken : List ℕ) (tracker : Tracker
 old_tsn first count offset bound taken tracker small few below tracks before passed new =
     let here = number_is first count offset tracker.cumulative small few below tracks.reached tracks.started in
     let up : tracked first offset ≤ tracker.cumulative = omega (arith, before, passed) in
-    let known : has_received tracker (number_of tracker.cumulative ((first + offset) % 2 ^ 32)) ≡ true = ap (has_received tracker) here ∙ up_to tracker.cumulative (tracked first offset) tracker.ranges up in
+    let known : has_received tracker (nearest_number tracker.cumulative ((first + offset) % 2 ^ 32)) ≡ true = ap (has_received tracker) here ∙ up_to tracker.cumulative (tracked first offset) tracker.ranges up in
     let clash : false ≡ true = sym (ap not known) ∙ new in
     absurd (cc)
 
@@ -42,16 +42,16 @@ forward_behind : (first count offset bound : ℕ) (taken : List ℕ) (tracker : 
     → tracked first bound ≤ tracker.cumulative + 1 → is_forward tracker.cumulative ((first + offset) % 2 ^ 32) ≡ true → bound < offset + 1
 forward_behind first count offset bound taken tracker small few below tracks passed forward =
     let here = number_is first count offset tracker.cumulative small few below tracks.reached tracks.started in
-    let ahead : tracker.cumulative < number_of tracker.cumulative ((first + offset) % 2 ^ 32) = grind (arith, nat_tests, forward) in
+    let ahead : tracker.cumulative < nearest_number tracker.cumulative ((first + offset) % 2 ^ 32) = grind (arith, nat_tests, forward) in
     let ahead' : tracker.cumulative < tracked first offset = subst (λ (n : ℕ). tracker.cumulative < n) here ahead in
     omega (arith, ahead', passed)
 
 -- ---- entries of other streams
 
 -- An entry skips no message of the stream if more TSNs are passed than came before the mark.
-pub skips_others : (history : History) (passed id : ℕ) (mark : Mark) → AreOfKind true history.log → Has mark history.marks → Resets mark id
+pub skips_others : (history : History) (passed id : ℕ) (mark : Mark) → AreOfKind true history.log → HasEntry mark history.marks → Resets mark id
     → ((n : ℕ) (f : Piece) → at_place n history.log ≡ Some (Some f) → f.message.stream ≡ id → n < mark.bound) → mark.bound < passed
-    → (entry : SkippedTo) → Skips history passed entry → skipped_stream entry ≢ id
+    → (entry : SkippedTo) → SkipsEntry history passed entry → skipped_stream entry ≢ id
 skips_others history passed id mark kinds has names below beyond (Ssn stream ssn) skips = λ e. (
     let clash : true ≡ false = sym (kinds skips.number skips.piece skips.at) ∙ skips.kind in
     absurd (cc)
@@ -62,7 +62,7 @@ skips_others history passed id mark kinds has names below beyond (Mid stream is_
     absurd (omega (arith, few, beyond))
     )
 
-all_skip_others : (history : History) (passed id : ℕ) (mark : Mark) → AreOfKind true history.log → Has mark history.marks → Resets mark id
+all_skip_others : (history : History) (passed id : ℕ) (mark : Mark) → AreOfKind true history.log → HasEntry mark history.marks → Resets mark id
     → ((n : ℕ) (f : Piece) → at_place n history.log ≡ Some (Some f) → f.message.stream ≡ id → n < mark.bound) → mark.bound < passed
     → (entries : List SkippedTo) → SkipAll history passed entries → NoneSkips id entries
 all_skip_others history passed id mark kinds has names below beyond [] skips = tt
@@ -82,7 +82,7 @@ all_on_others (entry ∷ entries) id stream none = ap (skipped_by entries id) (o
 
 -- ---- the reassembly queue
 
-takes_others : (id tsn : ℕ) (chunk : ChunkModel) (old new : IncomingModel) → chunk.stream ≢ id → TakesData tsn chunk old new → stream_on id new.streams ≡ stream_on id old.streams
+takes_others : (id tsn : ℕ) (chunk : ChunkModel) (old new : IncomingModel) → chunk.stream ≢ id → TakesIncomingChunk tsn chunk old new → stream_on id new.streams ≡ stream_on id old.streams
 takes_others id tsn chunk old new ne takes = go chunk.numbering _ takes.takes
   where
     go : (numbering : Numbering) (number : ℕ) → TakesChunk number numbering chunk old new → stream_on id new.streams ≡ stream_on id old.streams
@@ -120,9 +120,9 @@ deferred_kept id last (Some d) kept = kept
 -- ---- data
 
 added_elsewhere : (id tsn : ℕ) (chunk : ChunkModel) (old new : ReassemblyState) → chunk.stream ≢ id → IsClear id old → AddsData tsn chunk old new → IsClear id new
-added_elsewhere id tsn chunk old new ne clear adds = go (can_count (length chunk.payload) old) refl (is_deferred tsn chunk.stream old.deferral) refl
+added_elsewhere id tsn chunk old new ne clear adds = go (can_count (length chunk.payload) old) refl (is_data_deferred tsn chunk.stream old.deferral) refl
   where
-    go : (counts : Bool) → can_count (length chunk.payload) old ≡ counts → (waits : Bool) → is_deferred tsn chunk.stream old.deferral ≡ waits → IsClear id new
+    go : (counts : Bool) → can_count (length chunk.payload) old ≡ counts → (waits : Bool) → is_data_deferred tsn chunk.stream old.deferral ≡ waits → IsClear id new
     go false counts waits deferred = subst (λ (s : ReassemblyState). IsClear id s) (sym (adds.too_much counts)) clear
     go true counts true deferred =
         subst (λ (s : ReassemblyState). IsClear id s) (sym (adds.deferred counts deferred))
@@ -136,7 +136,7 @@ added_elsewhere id tsn chunk old new ne clear adds = go (can_count (length chunk
         }
 
 pub clear_through_data : (queued : List Message) (history : History) (first id : ℕ) (read : List ℕ) (offset : ℕ) (arrival : Arrival) (old new : Transfer) → Few history first
-    → Received queued history first read old.tracker old.reassembly → IsOver history first old.tracker.cumulative id → Carries history.log first offset arrival.tsn arrival.chunk → IsClear id old.reassembly
+    → HasReceived queued history first read old.tracker old.reassembly → IsOver history first old.tracker.cumulative id → Carries history.log first offset arrival.tsn arrival.chunk → IsClear id old.reassembly
     → ReceivesData arrival old new → IsClear id new.reassembly
 clear_through_data queued history first id read offset arrival old new few r over c clear receives =
     go (has_room arrival.tsn old && is_valid_tsn old.tracker.cumulative arrival.tsn) receives
@@ -185,7 +185,7 @@ skipped_elsewhere id tsn entries old new none clear skips = go (is_forward_defer
         }
 
 pub clear_through_forward : (queued : List Message) (history : History) (first id : ℕ) (read : List ℕ) (tsn : ℕ) (entries : List SkippedTo) (old new : Transfer) → AreOfKind true history.log → Few history first
-    → Received queued history first read old.tracker old.reassembly → IsOver history first old.tracker.cumulative id → (is : IsTsn history.log first tsn) → SkipAll history (is.offset + 1) entries → IsClear id old.reassembly
+    → HasReceived queued history first read old.tracker old.reassembly → IsOver history first old.tracker.cumulative id → (is : IsTsn history.log first tsn) → SkipAll history (is.offset + 1) entries → IsClear id old.reassembly
     → MovesForward tsn entries old new → IsClear id new.reassembly
 clear_through_forward queued history first id read tsn entries old new kinds few r over is skips clear moves = go (is_valid_tsn old.tracker.cumulative tsn) moves
   where
@@ -209,7 +209,7 @@ clear_through_forward queued history first id read tsn entries old new kinds few
 -- The stream is new once the reset was performed: what was handled then is of others.
 pub left_clear : (id : ℕ) (streams : List ℕ) (old new : ReassemblyState) → NoneWaits id (waiting_of old.deferral) → NoneSkips id (kept_entries (skips_of old.deferral))
     → ((between : IncomingModel) → ResetsStreams streams old.incoming between → stream_on id between.streams ≡ new_stream id)
-    → Leaves streams old new → IsClear id new
+    → EndsDeferral streams old new → IsClear id new
 left_clear id streams old new none kept renewed leaves =
     record {
       stream = skips_then_others id (skips_of old.deferral) leaves.handled new.incoming kept leaves.skips
@@ -218,7 +218,7 @@ left_clear id streams old new none kept renewed leaves =
       kept = subst (λ (d : Option DeferralModel). NoneSkips id (kept_entries (skips_of d))) (sym leaves.deferral) tt;
     }
 
-pub clear_through_resets : (id : ℕ) (streams : List ℕ) (old new : ReassemblyState) → IsClear id old → Leaves streams old new → IsClear id new
+pub clear_through_resets : (id : ℕ) (streams : List ℕ) (old new : ReassemblyState) → IsClear id old → EndsDeferral streams old new → IsClear id new
 clear_through_resets id streams old new clear leaves = left_clear id streams old new clear.none clear.kept (renewed streams) leaves
   where
     either : (b : Bool) → (if b then new_stream id else stream_on id old.incoming.streams) ≡ new_stream id

@@ -7,14 +7,14 @@ use Rattle.dcsctp_spec_lemmas.specs.types.declared.arrivals.SkippedTo.{SkippedTo
 use Rattle.dcsctp_spec_lemmas.specs.spec.queues.Incoming.{IncomingModel, stream_on, is_named, ResetsStreams}
 use Rattle.dcsctp_spec_lemmas.specs.spec.queues.IncomingStreams.{ChunkModel, new_stream, skipped_stream}
 use Rattle.dcsctp_spec_lemmas.specs.spec.queues.Numbers.{is_tsn_beyond}
-use Rattle.dcsctp_spec_lemmas.specs.spec.queues.Reassembly.{WaitingModel, DeferralModel, ReassemblyState, waiting_of, skips_of, Leaves}
+use Rattle.dcsctp_spec_lemmas.specs.spec.queues.Reassembly.{WaitingModel, DeferralModel, ReassemblyState, waiting_of, skips_of, EndsDeferral}
 use Rattle.dcsctp_spec_lemmas.specs.spec.queues.Tracker.{TrackerState}
-use Rattle.dcsctp_delivery_sending.specs.Places.{Has, at_place}
+use Rattle.dcsctp_delivery_sending.specs.Places.{HasEntry, at_place}
 use Rattle.dcsctp_delivery_sending.specs.Log.{Message, Piece, Mark, History, Resets}
 use Rattle.dcsctp_delivery_sending.specs.Numbers.{AreOfKind}
 use Rattle.dcsctp_delivery_sending.proofs.Places.{at_below}
 use Rattle.dcsctp_delivery_receiving.specs.Clear.{NoneSkips, NoneWaits, IsClear, IsOwn}
-use Rattle.dcsctp_delivery_receiving.specs.Received.{AreBeyond, WaitBeyond, CarriesCurrent, kept_entries, SkipsLater, ForwardsWait, Defers, Few, Received}
+use Rattle.dcsctp_delivery_receiving.specs.Received.{AreBeyond, WaitBeyond, CarriesCurrent, kept_entries, SkipsLater, ForwardsWait, DefersData, Few, HasReceived}
 use Rattle.dcsctp_delivery_receiving.proofs.Clear.{skips_others, left_clear}
 use Rattle.dcsctp_delivery_receiving.proofs.Kept.{kept_later}
 
@@ -28,7 +28,7 @@ behind first offset bound tsn last_tsn small few near is last beyond =
     offset_behind first offset bound small few near
     (subst (λ (n : ℕ). is_tsn_beyond n ((first + bound + (2 ^ 32 - 1)) % 2 ^ 32) ≡ true) is (subst (λ (n : ℕ). is_tsn_beyond tsn n ≡ true) last beyond))
 
-module _ (history : History) (first id : ℕ) (mark : Mark) (kinds : AreOfKind true history.log) (few : Few history first) (has : Has mark history.marks) (up : mark.bound ≤ length history.log) (names : Resets mark id)
+module _ (history : History) (first id : ℕ) (mark : Mark) (kinds : AreOfKind true history.log) (few : Few history first) (has : HasEntry mark history.marks) (up : mark.bound ≤ length history.log) (names : Resets mark id)
     (below : (n : ℕ) (f : Piece) → at_place n history.log ≡ Some (Some f) → f.message.stream ≡ id → n < mark.bound) where
   near : mark.bound < 2 ^ 31
   near = omega (arith, up, few.few)
@@ -40,7 +40,7 @@ module _ (history : History) (first id : ℕ) (mark : Mark) (kinds : AreOfKind t
       let before = below offset c.carries.piece c.carries.at (sym c.carries.stream ∙ e) in
       absurd (omega (arith, far, before))
 
-  none_among : (last_tsn : ℕ) (offsets : List ℕ) (waiting : List WaitingModel) → last_tsn ≡ (first + mark.bound + (2 ^ 32 - 1)) % 2 ^ 32 → AreBeyond last_tsn waiting → Defers history first offsets waiting → NoneWaits id waiting
+  none_among : (last_tsn : ℕ) (offsets : List ℕ) (waiting : List WaitingModel) → last_tsn ≡ (first + mark.bound + (2 ^ 32 - 1)) % 2 ^ 32 → AreBeyond last_tsn waiting → DefersData history first offsets waiting → NoneWaits id waiting
   none_among last_tsn [] [] last beyond defers = tt
   none_among last_tsn (offset ∷ offsets) [] last beyond defers = absurd defers
   none_among last_tsn [] (one ∷ waiting) last beyond defers = absurd defers
@@ -48,7 +48,7 @@ module _ (history : History) (first id : ℕ) (mark : Mark) (kinds : AreOfKind t
       (none_arrived offset one.tsn last_tsn one.chunk defers.0 last beyond.0, none_among last_tsn offsets waiting last beyond.1 defers.1)
 
   none_waits : (offsets : List ℕ) (deferral : Option DeferralModel) → mark.begun.reset.last_tsn ≡ (first + mark.bound + (2 ^ 32 - 1)) % 2 ^ 32 → IsOwn mark.begun.reset deferral → WaitBeyond deferral
-      → Defers history first offsets (waiting_of deferral) → NoneWaits id (waiting_of deferral)
+      → DefersData history first offsets (waiting_of deferral) → NoneWaits id (waiting_of deferral)
   none_waits offsets None last own beyond defers = tt
   none_waits offsets (Some d) last own beyond defers = none_among d.last_tsn offsets d.waiting (own ∙ last) beyond defers
 
@@ -77,9 +77,9 @@ renewed id (one ∷ others) old between named resets = resets.streams id ∙ go 
     go false e = absurd (cc)
 
 pub performing_clears : (queued : List Message) (history : History) (first id : ℕ) (read : List ℕ) (mark : Mark) (tracker : TrackerState) (old new : ReassemblyState) → AreOfKind true history.log → Few history first
-    → Received queued history first read tracker old → Has mark history.marks → mark.bound ≤ length history.log → mark.begun.reset.last_tsn ≡ (first + mark.bound + (2 ^ 32 - 1)) % 2 ^ 32 → Resets mark id → is_named mark.begun.reset.streams id ≡ true
+    → HasReceived queued history first read tracker old → HasEntry mark history.marks → mark.bound ≤ length history.log → mark.begun.reset.last_tsn ≡ (first + mark.bound + (2 ^ 32 - 1)) % 2 ^ 32 → Resets mark id → is_named mark.begun.reset.streams id ≡ true
     → ((n : ℕ) (f : Piece) → at_place n history.log ≡ Some (Some f) → f.message.stream ≡ id → n < mark.bound)
-    → IsOwn mark.begun.reset old.deferral → Leaves mark.begun.reset.streams old new → IsClear id new
+    → IsOwn mark.begun.reset old.deferral → EndsDeferral mark.begun.reset.streams old new → IsClear id new
 performing_clears queued history first id read mark tracker old new kinds few r has up last names named below own leaves =
     left_clear id mark.begun.reset.streams old new (none_waits history first id mark kinds few has up names below r.later old.deferral last own r.beyond r.defers)
     (none_kept history first id mark kinds few has up names below old.deferral last own r.forwards)

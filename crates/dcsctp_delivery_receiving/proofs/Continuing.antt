@@ -8,13 +8,13 @@ use Rattle.dcsctp_spec_lemmas.specs.spec.queues.Incoming.{is_named}
 use Rattle.dcsctp_spec_lemmas.specs.spec.queues.Runs.{RunModel}
 use Rattle.dcsctp_spec_lemmas.specs.spec.queues.IncomingStreams.{ChunkModel}
 use Rattle.dcsctp_spec_lemmas.specs.spec.queues.Reassembly.{WaitingModel, WaitingSkips, DeferralModel}
-use Rattle.dcsctp_delivery_sending.specs.Places.{Has, at_place}
+use Rattle.dcsctp_delivery_sending.specs.Places.{HasEntry, at_place}
 use Rattle.dcsctp_delivery_sending.specs.Log.{Piece, Slot, Mark, History}
 use Rattle.dcsctp_delivery_sending.specs.Numbers.{IsCurrent}
 use Rattle.dcsctp_delivery_sending.proofs.Extended.{IsAsOne}
-use Rattle.dcsctp_delivery_receiving.specs.Rows.{IsRow, AreRows, Spent}
-use Rattle.dcsctp_delivery_receiving.specs.Ready.{IsNumberedAs, IsOn, IsApart, Reads, Names}
-use Rattle.dcsctp_delivery_receiving.specs.Received.{Carries, CarriesCurrent, IsTsn, kept_entries, SkipsLater, SkipsWait, ForwardsWait, Defers}
+use Rattle.dcsctp_delivery_receiving.specs.Rows.{IsPieceRow, AreRows, Spent}
+use Rattle.dcsctp_delivery_receiving.specs.Ready.{IsNumberedAs, IsOn, IsApart, ReadsMids, NamesCurrent}
+use Rattle.dcsctp_delivery_receiving.specs.Received.{Carries, CarriesCurrent, IsTsn, kept_entries, SkipsLater, SkipsWait, ForwardsWait, DefersData}
 
 -- All pieces of a history are in a later one, each current one still is current, and the other marks are of resets that began later, or of
 -- known ones under another number.
@@ -22,7 +22,7 @@ pub record GoesOn (history wider : History) : Type 0 where
   pub stays : (n : ℕ) (slot : Slot) → at_place n history.log ≡ Some slot → at_place n wider.log ≡ Some slot
   pub current : (n : ℕ) (f : Piece) → at_place n history.log ≡ Some (Some f) → IsCurrent history f → IsCurrent wider f
   pub longer : length history.log ≤ length wider.log
-  pub marks : (mark : Mark) → Has mark wider.marks → IsAsOne history mark ⊎ (length history.log ≤ mark.bound)
+  pub marks : (mark : Mark) → HasEntry mark wider.marks → IsAsOne history mark ⊎ (length history.log ≤ mark.bound)
 
 module _ (history wider : History) (goes : GoesOn history wider) where
   numbered_more : (is_unordered : Bool) (n : ℕ) (f : Piece) (number : ℕ) → at_place n history.log ≡ Some (Some f) → IsNumberedAs history is_unordered f number → IsNumberedAs wider is_unordered f number
@@ -34,7 +34,7 @@ module _ (history wider : History) (goes : GoesOn history wider) where
   pub apart_more : (id n : ℕ) (f : Piece) (number : ℕ) → at_place n history.log ≡ Some (Some f) → IsApart history id f number → IsApart wider id f number
   apart_more id n f number at named = (named.0, numbered_more true n f number at named.1)
 
-  pub reads_more : (id : ℕ) (is_unordered : Bool) (number : ℕ) → Reads history id is_unordered number → Reads wider id is_unordered number
+  pub reads_more : (id : ℕ) (is_unordered : Bool) (number : ℕ) → ReadsMids history id is_unordered number → ReadsMids wider id is_unordered number
   reads_more id is_unordered number reads start w =
       reads start
       (record {
@@ -44,7 +44,7 @@ module _ (history wider : History) (goes : GoesOn history wider) where
       })
 
   module _ (got : List ℕ) (base : ℕ → ℕ) (Named Other : Piece → ℕ → Type 0) (less : (n : ℕ) (f : Piece) (number : ℕ) → at_place n history.log ≡ Some (Some f) → Named f number → Other f number) where
-    row_more : (run : RunModel) → IsRow history.log got base Named run → IsRow wider.log got base Other run
+    row_more : (run : RunModel) → IsPieceRow history.log got base Named run → IsPieceRow wider.log got base Other run
     row_more run row =
         record {
           offset = row.offset;
@@ -110,7 +110,7 @@ module _ (history wider : History) (goes : GoesOn history wider) where
   tsn_more first tsn t = record { offset = t.offset; below = omega (arith, t.below, goes.longer); is = t.is }
 
   -- TSNs were assigned before a reset that began later
-  name_more : (passed : ℕ) → passed ≤ length history.log → (entry : SkippedTo) → Names history passed entry → Names wider passed entry
+  name_more : (passed : ℕ) → passed ≤ length history.log → (entry : SkippedTo) → NamesCurrent history passed entry → NamesCurrent wider passed entry
   name_more passed assigned (Ssn id ssn) (s, is) = (record { number = s.number; piece = s.piece; at = goes.stays s.number (Some s.piece) s.at; kind = s.kind }, tt)
   name_more passed assigned (Mid id is_unordered mid) (s, is) = (
     record {
@@ -154,7 +154,7 @@ module _ (history wider : History) (goes : GoesOn history wider) where
   forwards_more first None wait = tt
   forwards_more first (Some d) wait = skips_more first d.last_tsn d.skips wait
 
-  pub defers_more : (first : ℕ) (numbers : List ℕ) (waiting : List WaitingModel) → Defers history first numbers waiting → Defers wider first numbers waiting
+  pub defers_more : (first : ℕ) (numbers : List ℕ) (waiting : List WaitingModel) → DefersData history first numbers waiting → DefersData wider first numbers waiting
   defers_more first [] [] defers = tt
   defers_more first (n ∷ numbers) [] defers = absurd defers
   defers_more first [] (one ∷ waiting) defers = absurd defers

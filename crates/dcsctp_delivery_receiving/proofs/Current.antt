@@ -8,7 +8,7 @@ use Rattle.dcsctp_spec_lemmas.specs.spec.queues.IncomingStreams.{ChunkModel}
 use Rattle.dcsctp_delivery_sending.specs.Places.{at_place}
 use Rattle.dcsctp_delivery_sending.specs.Log.{Piece, History}
 use Rattle.dcsctp_delivery_sending.specs.Numbers.{IsCurrent}
-use Rattle.dcsctp_delivery_receiving.specs.Ready.{Skips, SkipAll, Names, NameAll}
+use Rattle.dcsctp_delivery_receiving.specs.Ready.{SkipsEntry, SkipAll, NamesCurrent, NameAll}
 use Rattle.dcsctp_delivery_receiving.specs.Received.{Carries, CarriesCurrent, IsTsn, SkipsTo, IsPast}
 use Rattle.dcsctp_delivery_receiving.specs.Tracked.{tracked}
 
@@ -39,7 +39,7 @@ module _ (history : History) (first cumulative : ℕ) (old : OthersArePast histo
   carries_current offset tsn chunk beyond c = record { carries = c; current = λ kind. is_current offset c.piece c.at kind beyond }
 
   -- and so is one of a message that may be skipped together with a TSN that wasn't received yet.
-  named_current : (offset : ℕ) → cumulative < tracked first offset → (entry : SkippedTo) → Skips history (offset + 1) entry → Names history (offset + 1) entry
+  named_current : (offset : ℕ) → cumulative < tracked first offset → (entry : SkippedTo) → SkipsEntry history (offset + 1) entry → NamesCurrent history (offset + 1) entry
   named_current offset beyond (Ssn id ssn) skips = (skips, tt)
   named_current offset beyond (Mid id is_unordered mid) skips = (
     skips,

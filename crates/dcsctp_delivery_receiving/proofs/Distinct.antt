@@ -2,20 +2,20 @@
 use Rattle.std.proofs.Common.{◌≡◌, ℕ, List, [], ◌∷◌, ◌++◌, refl, sym, ap, subst, inl, inr}
 use Rattle.std.specs.Prelude.{◌⊎◌}
 use Rattle.std.proofs.lemmas.List.{append-nil}
-use Rattle.dcsctp_delivery_sending.specs.Places.{Has}
+use Rattle.dcsctp_delivery_sending.specs.Places.{HasEntry}
 use Rattle.dcsctp_delivery_receiving.specs.Ready.{AreDistinct}
 
 -- ---- lists of places
 
-pub has_left : (p : ℕ) (xs ys : List ℕ) → Has p xs → Has p (xs ++ ys)
+pub has_left : (p : ℕ) (xs ys : List ℕ) → HasEntry p xs → HasEntry p (xs ++ ys)
 has_left p [] ys h = absurd h
 has_left p (x ∷ xs) ys h = elim h [ inl e ↦ inl e | inr t ↦ inr (has_left p xs ys t) ]
 
-pub has_right : (p : ℕ) (xs ys : List ℕ) → Has p ys → Has p (xs ++ ys)
+pub has_right : (p : ℕ) (xs ys : List ℕ) → HasEntry p ys → HasEntry p (xs ++ ys)
 has_right p [] ys h = h
 has_right p (x ∷ xs) ys h = inr (has_right p xs ys h)
 
-pub has_either : (p : ℕ) (xs ys : List ℕ) → Has p (xs ++ ys) → Has p xs ⊎ Has p ys
+pub has_either : (p : ℕ) (xs ys : List ℕ) → HasEntry p (xs ++ ys) → HasEntry p xs ⊎ HasEntry p ys
 has_either p [] ys h = inr h
 has_either p (x ∷ xs) ys h =
     elim h [
@@ -28,7 +28,7 @@ appended [] ys zs = refl
 appended (x ∷ xs) ys zs = ap (λ (l : List ℕ). x ∷ l) (appended xs ys zs)
 
 -- one more, anywhere
-pub distinct_with : (p : ℕ) (xs ys : List ℕ) → AreDistinct (xs ++ ys) → (Has p (xs ++ ys) → ⊥) → AreDistinct (xs ++ (p ∷ ys))
+pub distinct_with : (p : ℕ) (xs ys : List ℕ) → AreDistinct (xs ++ ys) → (HasEntry p (xs ++ ys) → ⊥) → AreDistinct (xs ++ (p ∷ ys))
 distinct_with p [] ys distinct fresh = (fresh, distinct)
 distinct_with p (x ∷ xs) ys distinct fresh = (
   λ h. elim (has_either x xs (p ∷ ys) h) [
@@ -45,7 +45,7 @@ pub distinct_left : (xs ys : List ℕ) → AreDistinct (xs ++ ys) → AreDistinc
 distinct_left [] ys distinct = tt
 distinct_left (x ∷ xs) ys distinct = (λ h. distinct.0 (has_left x xs ys h), distinct_left xs ys distinct.1)
 
-distinct_both : (xs ys : List ℕ) → AreDistinct xs → AreDistinct ys → ((p : ℕ) → Has p xs → Has p ys → ⊥) → AreDistinct (xs ++ ys)
+distinct_both : (xs ys : List ℕ) → AreDistinct xs → AreDistinct ys → ((p : ℕ) → HasEntry p xs → HasEntry p ys → ⊥) → AreDistinct (xs ++ ys)
 distinct_both [] ys left right apart = right
 distinct_both (x ∷ xs) ys left right apart = (
   λ h. elim (has_either x xs ys h) [ inl l ↦ left.0 l | inr r ↦ apart x (inl refl) r ],
@@ -53,7 +53,7 @@ distinct_both (x ∷ xs) ys left right apart = (
 )
 
 -- two lists that are each apart from a third
-pub distinct_apart : (xs es ys : List ℕ) → AreDistinct (xs ++ es) → AreDistinct (xs ++ ys) → ((p : ℕ) → Has p es → Has p ys → ⊥) → AreDistinct ((xs ++ es) ++ ys)
+pub distinct_apart : (xs es ys : List ℕ) → AreDistinct (xs ++ es) → AreDistinct (xs ++ ys) → ((p : ℕ) → HasEntry p es → HasEntry p ys → ⊥) → AreDistinct ((xs ++ es) ++ ys)
 distinct_apart [] es ys one two apart = distinct_both es ys one two apart
 distinct_apart (x ∷ xs) es ys one two apart = (
   λ h. elim (has_either x (xs ++ es) ys h) [

@@ -12,8 +12,8 @@ use Rattle.dcsctp_spec_lemmas.specs.spec.queues.Arrivals.{skipped_to, messages_s
 use Rattle.dcsctp_spec_lemmas.specs.spec.queues.Skipping.{entry_bytes}
 use Rattle.dcsctp_delivery_sending.specs.Places.{at_place}
 use Rattle.dcsctp_delivery_sending.specs.Log.{Message, Piece, History, Cut, Fits}
-use Rattle.dcsctp_delivery_sending.specs.Flushes.{IsEntry, AreEntries, IsForward}
-use Rattle.dcsctp_delivery_receiving.specs.Ready.{Skips, SkipAll}
+use Rattle.dcsctp_delivery_sending.specs.Flushes.{IsEntry, AreForwardEntries, IsForward}
+use Rattle.dcsctp_delivery_receiving.specs.Ready.{SkipsEntry, SkipAll}
 use Rattle.dcsctp_delivery_receiving.proofs.Arriving.{fits_at}
 
 skips_append : (history : History) (passed : ℕ) (entries others : List SkippedTo) → SkipAll history passed entries → SkipAll history passed others → SkipAll history passed (entries ++ others)
@@ -30,7 +30,7 @@ plain_skipped history passed number piece at kind (suc count) streams =
 pub forward_skips : (history : History) (first tsn : ℕ) (streams : List ℕ) → (is : IsForward false history first tsn streams) → SkipAll history is.passed.passed (skipped_in streams)
 forward_skips history first tsn streams f = go f.entries f.is f.names
   where
-    go : (entries : List ((ℕ × Bool) × ℕ)) → streams ≡ flat_map (entry_bytes false) entries → AreEntries false history f.passed.passed entries → SkipAll history f.passed.passed (skipped_in streams)
+    go : (entries : List ((ℕ × Bool) × ℕ)) → streams ≡ flat_map (entry_bytes false) entries → AreForwardEntries false history f.passed.passed entries → SkipAll history f.passed.passed (skipped_in streams)
     go [] is names = subst (λ (l : List ℕ). SkipAll history f.passed.passed (skipped_in l)) (sym is) tt
     go (entry ∷ entries) is names = plain_skipped history f.passed.passed names.0.number names.0.piece names.0.at names.0.kind (length streams / 4) streams
 
@@ -49,8 +49,8 @@ eight_on n k j entry rest is =
     ap (λ (m : ℕ). drop m (entry_bytes true entry ++ rest)) same
 
 -- an entry is read where it stands
-entry_read : (history : History) (passed : ℕ) (queued : List Message) → Cut queued history.log → AllByRecursion Fits queued → (entries : List ((ℕ × Bool) × ℕ)) → AreEntries true history passed entries → (k : ℕ) → k < length entries
-    → Skips history passed (messages_skipped_to (skipped_messages_at k (flat_map (entry_bytes true) entries)))
+entry_read : (history : History) (passed : ℕ) (queued : List Message) → Cut queued history.log → AllByRecursion Fits queued → (entries : List ((ℕ × Bool) × ℕ)) → AreForwardEntries true history passed entries → (k : ℕ) → k < length entries
+    → SkipsEntry history passed (messages_skipped_to (skipped_messages_at k (flat_map (entry_bytes true) entries)))
 entry_read history passed queued cut fit [] names k below = absurd (omega arith)
 entry_read history passed queued cut fit (entry ∷ entries) names zero below =
     let e : IsEntry true history passed entry = names.0 in
@@ -68,16 +68,16 @@ entry_read history passed queued cut fit (entry ∷ entries) names zero below =
     }
 entry_read history passed queued cut fit (entry ∷ entries) names (suc k) below =
     let rest : List ℕ = flat_map (entry_bytes true) entries in
-    subst (λ (l : List ℕ). Skips history passed (messages_skipped_to (record { stream_id = from_be_bytes w16 (take 2 l); is_unordered = lowest_bit (u16_at (8 * suc k + 2) (entry_bytes true entry ++ rest)); mid = u32_at (8 * suc k + 4) (entry_bytes true entry ++ rest) }))) (sym (eight_on (8 * suc k) k 0 entry rest (omega arith) ∙ ap (λ (m : ℕ). drop m rest) (omega arith)))
-    (subst (λ (l : List ℕ). Skips history passed (messages_skipped_to (record { stream_id = u16_at (8 * k) rest; is_unordered = lowest_bit (from_be_bytes w16 (take 2 l)); mid = u32_at (8 * suc k + 4) (entry_bytes true entry ++ rest) }))) (sym (eight_on (8 * suc k + 2) k 2 entry rest refl))
-    (subst (λ (l : List ℕ). Skips history passed (messages_skipped_to (record { stream_id = u16_at (8 * k) rest; is_unordered = lowest_bit (u16_at (8 * k + 2) rest); mid = from_be_bytes w32 (take 4 l) }))) (sym (eight_on (8 * suc k + 4) k 4 entry rest refl))
+    subst (λ (l : List ℕ). SkipsEntry history passed (messages_skipped_to (record { stream_id = from_be_bytes w16 (take 2 l); is_unordered = lowest_bit (u16_at (8 * suc k + 2) (entry_bytes true entry ++ rest)); mid = u32_at (8 * suc k + 4) (entry_bytes true entry ++ rest) }))) (sym (eight_on (8 * suc k) k 0 entry rest (omega arith) ∙ ap (λ (m : ℕ). drop m rest) (omega arith)))
+    (subst (λ (l : List ℕ). SkipsEntry history passed (messages_skipped_to (record { stream_id = u16_at (8 * k) rest; is_unordered = lowest_bit (from_be_bytes w16 (take 2 l)); mid = u32_at (8 * suc k + 4) (entry_bytes true entry ++ rest) }))) (sym (eight_on (8 * suc k + 2) k 2 entry rest refl))
+    (subst (λ (l : List ℕ). SkipsEntry history passed (messages_skipped_to (record { stream_id = u16_at (8 * k) rest; is_unordered = lowest_bit (u16_at (8 * k + 2) rest); mid = from_be_bytes w32 (take 4 l) }))) (sym (eight_on (8 * suc k + 4) k 4 entry rest refl))
     (entry_read history passed queued cut fit entries names.1 k (omega arith))))
 
 entries_long : (entries : List ((ℕ × Bool) × ℕ)) → length (flat_map (entry_bytes true) entries) ≡ 8 * length entries
 entries_long [] = refl
 entries_long (entry ∷ entries) = omega (arith, length-append (entry_bytes true entry) (flat_map (entry_bytes true) entries), entries_long entries)
 
-firsts_read : (history : History) (passed : ℕ) (queued : List Message) → Cut queued history.log → AllByRecursion Fits queued → (entries : List ((ℕ × Bool) × ℕ)) → AreEntries true history passed entries → (count : ℕ) → count ≤ length entries
+firsts_read : (history : History) (passed : ℕ) (queued : List Message) → Cut queued history.log → AllByRecursion Fits queued → (entries : List ((ℕ × Bool) × ℕ)) → AreForwardEntries true history passed entries → (count : ℕ) → count ≤ length entries
     → SkipAll history passed (first_messages_skipped count (flat_map (entry_bytes true) entries))
 firsts_read history passed queued cut fit entries names zero within = tt
 firsts_read history passed queued cut fit entries names (suc count) within =

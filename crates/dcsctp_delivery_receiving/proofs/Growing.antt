@@ -8,12 +8,12 @@ use Rattle.dcsctp_spec_lemmas.specs.spec.queues.Incoming.{IncomingModel, stream_
 use Rattle.dcsctp_spec_lemmas.specs.spec.queues.Reassembly.{ReassemblyState, waiting_of}
 use Rattle.dcsctp_spec_lemmas.specs.spec.queues.Tracker.{TrackerState}
 use Rattle.dcsctp_spec_lemmas.specs.spec.endpoint.BegunResets.{BegunReset}
-use Rattle.dcsctp_delivery_sending.specs.Places.{Has, at_place}
-use Rattle.dcsctp_delivery_sending.specs.Log.{Message, Slot, Mark, History, grown, with_mark, with_renewed, new_history}
+use Rattle.dcsctp_delivery_sending.specs.Places.{HasEntry, at_place}
+use Rattle.dcsctp_delivery_sending.specs.Log.{Message, Slot, Mark, History, log_extended, with_mark, with_renewed, new_history}
 use Rattle.dcsctp_delivery_sending.specs.Numbers.{AreCurrent}
 use Rattle.dcsctp_delivery_receiving.specs.Rows.{IsQueued}
-use Rattle.dcsctp_delivery_receiving.specs.Ready.{IsOn, IsApart, IsOfStream, ordered_base, unordered_base, WereQueued, WaitQueued, Holds}
-use Rattle.dcsctp_delivery_receiving.specs.Received.{Reassembles, untouched, placed, Received}
+use Rattle.dcsctp_delivery_receiving.specs.Ready.{IsOn, IsApart, IsOfStream, ordered_base, unordered_base, WereQueued, WaitQueued, HoldsIncoming}
+use Rattle.dcsctp_delivery_receiving.specs.Received.{Reassembles, untouched, placed, HasReceived}
 use Rattle.dcsctp_delivery_sending.proofs.Extended.{as_itself, as_renewed}
 use Rattle.dcsctp_delivery_sending.proofs.Packets.{at_more}
 use Rattle.dcsctp_delivery_sending.proofs.Places.{at_new, at_cases, at_stays}
@@ -53,7 +53,7 @@ module _ (queued more : List Message) (history wider : History) (goes : GoesOn h
             spent = spent_more history wider goes got p is.spent;
           }
 
-  holds_more : (got : List ℕ) (base : ℕ) (read : List ℕ) (incoming : IncomingModel) → Holds queued history got base read incoming → Holds (more ++ queued) wider got base read incoming
+  holds_more : (got : List ℕ) (base : ℕ) (read : List ℕ) (incoming : IncomingModel) → HoldsIncoming queued history got base read incoming → HoldsIncoming (more ++ queued) wider got base read incoming
   holds_more got base read incoming holds =
       record {
         waits = holds.waits;
@@ -81,8 +81,8 @@ module _ (queued more : List Message) (history wider : History) (goes : GoesOn h
   reassembles_more first got read incoming (untouched none last empty) = untouched none last (λ base. holds_more [] base read incoming (empty base))
   reassembles_more first got read incoming (placed base is holds) = placed base is (holds_more got base read incoming holds)
 
-  received_wider : (first : ℕ) (read : List ℕ) (tracker : TrackerState) (reassembly : ReassemblyState) → OthersArePast wider first tracker.cumulative → Received queued history first read tracker reassembly
-      → Received (more ++ queued) wider first read tracker reassembly
+  received_wider : (first : ℕ) (read : List ℕ) (tracker : TrackerState) (reassembly : ReassemblyState) → OthersArePast wider first tracker.cumulative → HasReceived queued history first read tracker reassembly
+      → HasReceived (more ++ queued) wider first read tracker reassembly
   received_wider first read tracker reassembly old r =
       record {
         taken = r.taken;
@@ -115,12 +115,12 @@ at_either (newest ∷ later) log n x at =
     ]
 
 pub received_more : (queued more : List Message) (history : History) (later : List Slot) (first : ℕ) (read : List ℕ) (tracker : TrackerState) (reassembly : ReassemblyState) → AreCurrent history later
-    → Received queued history first read tracker reassembly → Received (more ++ queued) (grown later history) first read tracker reassembly
+    → HasReceived queued history first read tracker reassembly → HasReceived (more ++ queued) (log_extended later history) first read tracker reassembly
 received_more queued more history later first read tracker reassembly are r =
-    received_wider queued more history (grown later history)
+    received_wider queued more history (log_extended later history)
     (record { stays = λ n slot at. at_more later history.log n slot at; current = λ n f at is. is; longer = omega (arith, length-append later history.log); marks = λ mark has. inl (as_itself history mark has) }) first read tracker reassembly old r
   where
-    old : OthersArePast (grown later history) first tracker.cumulative
+    old : OthersArePast (log_extended later history) first tracker.cumulative
     old n f at kind aged =
         elim (at_either later history.log n (Some f) at) [
           | inl here ↦ (let past = r.old n f here kind aged in record { mark = past.mark; has = past.has; names = past.names; below = past.below; passed = past.passed })
@@ -130,7 +130,7 @@ received_more queued more history later first read tracker reassembly are r =
 -- ---- a reset begins
 
 pub received_asked : (queued : List Message) (history : History) (begun : Option BegunReset) (ids : List ℕ) (bound first : ℕ) (read : List ℕ) (tracker : TrackerState) (reassembly : ReassemblyState) → length history.log ≤ bound
-    → Received queued history first read tracker reassembly → Received queued (with_mark begun ids bound history) first read tracker reassembly
+    → HasReceived queued history first read tracker reassembly → HasReceived queued (with_mark begun ids bound history) first read tracker reassembly
 received_asked queued history None ids bound first read tracker reassembly assigned r = r
 received_asked queued history (Some begun) ids bound first read tracker reassembly assigned r =
     received_wider queued [] history (with_mark (Some begun) ids bound history)
@@ -147,8 +147,8 @@ received_asked queued history (Some begun) ids bound first read tracker reassemb
 
 -- ---- a reset goes on under another number
 
-pub received_renewed : (queued : List Message) (history : History) (number : ℕ) (renewed : Mark) (first : ℕ) (read : List ℕ) (tracker : TrackerState) (reassembly : ReassemblyState) → Has renewed history.marks
-    → Received queued history first read tracker reassembly → Received queued (with_renewed number renewed history) first read tracker reassembly
+pub received_renewed : (queued : List Message) (history : History) (number : ℕ) (renewed : Mark) (first : ℕ) (read : List ℕ) (tracker : TrackerState) (reassembly : ReassemblyState) → HasEntry renewed history.marks
+    → HasReceived queued history first read tracker reassembly → HasReceived queued (with_renewed number renewed history) first read tracker reassembly
 received_renewed queued history number renewed first read tracker reassembly known r =
     received_wider queued [] history (with_renewed number renewed history)
     (record { stays = λ n slot at. at; current = λ n f at is. is; longer = omega arith; marks = λ mark has. inl (as_renewed history number renewed mark known has) }) first read tracker reassembly
@@ -157,7 +157,7 @@ received_renewed queued history number renewed first read tracker reassembly kno
 -- ---- nothing was assigned yet
 
 pub received_awaited : (queued : List Message) (history : History) (floors : ℕ → Bool → ℕ) (first : ℕ) (read : List ℕ) (tracker : TrackerState) (reassembly : ReassemblyState) → history.log ≡ []
-    → Received queued history first read tracker reassembly → Received queued (new_history floors) first read tracker reassembly
+    → HasReceived queued history first read tracker reassembly → HasReceived queued (new_history floors) first read tracker reassembly
 received_awaited queued history floors first read tracker reassembly empty r =
     received_wider queued [] history (new_history floors)
     (record {

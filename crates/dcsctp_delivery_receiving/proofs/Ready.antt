@@ -6,26 +6,26 @@ use Rattle.dcsctp_spec_lemmas.specs.types.declared.arrivals.Numbering.TheVariant
 use Rattle.dcsctp_spec_lemmas.specs.types.declared.arrivals.Taken.{Taken}
 use Rattle.dcsctp_spec_lemmas.specs.spec.queues.Numbers.{number_near, short_number_from, fragment_place}
 use Rattle.dcsctp_spec_lemmas.specs.spec.queues.Runs.{RunModel, WholeModel, Assembled, part_dropped, part_kept, message_whole}
-use Rattle.dcsctp_spec_lemmas.specs.spec.queues.IncomingStreams.{StreamModel, ChunkModel, data_part, delivered_as, UnorderedOutcome, TakesAhead, TakesInOrder, TakesOutOfOrder, is_waiting, TakesNumbered}
-use Rattle.dcsctp_spec_lemmas.specs.spec.queues.Incoming.{IncomingModel, stream_on, TakesChunk, TakesData}
-use Rattle.dcsctp_delivery_sending.specs.Places.{Has, set_at}
+use Rattle.dcsctp_spec_lemmas.specs.spec.queues.IncomingStreams.{StreamModel, ChunkModel, data_part, delivered_as, UnorderedOutcome, TakesAhead, TakesInOrder, TakesOutOfOrder, is_number_waiting, TakesNumbered}
+use Rattle.dcsctp_spec_lemmas.specs.spec.queues.Incoming.{IncomingModel, stream_on, TakesChunk, TakesIncomingChunk}
+use Rattle.dcsctp_delivery_sending.specs.Places.{HasEntry, set_at}
 use Rattle.dcsctp_delivery_sending.specs.Log.{Message, History, Cut}
-use Rattle.dcsctp_delivery_receiving.specs.Rows.{IsPlaced, IsPart, AreRows, Spent, MakesQueued}
-use Rattle.dcsctp_delivery_receiving.specs.Ready.{IsOn, IsApart, IsOfStream, Reads, ordered_base, unordered_base, StreamRows, AreDistinct, WaitQueued, StreamHolds, HoldsAll, Holds, IsNumbered, BearsPiece}
+use Rattle.dcsctp_delivery_receiving.specs.Rows.{IsPiecePlaced, IsPart, AreRows, Spent, MakesQueued}
+use Rattle.dcsctp_delivery_receiving.specs.Ready.{IsOn, IsApart, IsOfStream, ReadsMids, ordered_base, unordered_base, StreamRows, AreDistinct, WaitQueued, StreamHolds, HoldsAll, HoldsIncoming, IsNumbered, BearsPiece}
 use Rattle.dcsctp_delivery_sending.proofs.Places.{decide, set_same, set_other}
 use Rattle.dcsctp_delivery_receiving.proofs.Chaining.{one_kind}
 use Rattle.dcsctp_delivery_receiving.proofs.SpentRows.{stay_rows, rows_got, spent_got, was_handled, of_message, IsOfMessage}
 use Rattle.dcsctp_delivery_receiving.proofs.Distinct.{distinct_left, distinct_apart, appended, has_either}
 use Rattle.dcsctp_delivery_receiving.proofs.Waiting.{OfStream, renamed, wait_on_stream, wait_spent, leaves_none, leaves_ordered, wait_got, leaves_repeated, other_streams, Leaves, stream_rows_got, stream_got}
 use Rattle.dcsctp_delivery_receiving.proofs.Reading.{tells_as, tells_plain, ordered_reads}
-use Rattle.dcsctp_delivery_sending.specs.Numbers.{Told}
+use Rattle.dcsctp_delivery_sending.specs.Numbers.{IsUnambiguous}
 use Rattle.std.proofs.lemmas.Bool.Decides.{leb_tells}
 use Rattle.dcsctp_delivery_receiving.proofs.Parts.{part_of, ordered_placed, unordered_placed, apart_placed, named_so}
 
 -- ---- a chunk
 
-module _ (queued : List Message) (history : History) (cut : Cut queued history.log) (told : Told history) (got : List ℕ) (base : ℕ) (read : List ℕ) where
-  module _ (tsn_number : ℕ) (chunk : ChunkModel) (bears : BearsPiece history base tsn_number chunk) (is_new : Has bears.offset got → ⊥) (streams : ℕ → StreamModel) (unordered : List RunModel) (ready : List MessageContent)
+module _ (queued : List Message) (history : History) (cut : Cut queued history.log) (told : IsUnambiguous history) (got : List ℕ) (base : ℕ) (read : List ℕ) where
+  module _ (tsn_number : ℕ) (chunk : ChunkModel) (bears : BearsPiece history base tsn_number chunk) (is_new : HasEntry bears.offset got → ⊥) (streams : ℕ → StreamModel) (unordered : List RunModel) (ready : List MessageContent)
       (holds : HoldsAll queued history got base read streams unordered ready) where
     all : List ℕ
     all = read ++ holds.places
@@ -34,7 +34,7 @@ module _ (queued : List Message) (history : History) (cut : Cut queued history.l
     now = bears.offset ∷ got
 
     -- its message is neither ready nor read, and doesn't wait
-    fresh : (id : ℕ) → Has bears.piece.place (all ++ holds.waits id) → ⊥
+    fresh : (id : ℕ) → HasEntry bears.piece.place (all ++ holds.waits id) → ⊥
     unfolding all
     fresh id h =
         let spent : Spent history.log got bears.piece.place = elim (has_either bears.piece.place (read ++ holds.places) (holds.waits id) h) [
@@ -63,7 +63,7 @@ module _ (queued : List Message) (history : History) (cut : Cut queued history.l
           rows = apart;
           places = holds.places ++ leaves.more;
           were_queued = leaves.were;
-          spent = λ q h. elim (has_either q (read ++ holds.places) leaves.more (subst (λ (l : List ℕ). Has q l) (sym (appended read holds.places leaves.more)) h)) [
+          spent = λ q h. elim (has_either q (read ++ holds.places) leaves.more (subst (λ (l : List ℕ). HasEntry q l) (sym (appended read holds.places leaves.more)) h)) [
             | inl l ↦ spent_got history.log got bears.offset q (holds.spent q l)
             | inr r ↦ leaves.spent q r
           ];
@@ -106,16 +106,16 @@ module _ (queued : List Message) (history : History) (cut : Cut queued history.l
         (subst (λ (s : StreamModel). WaitQueued queued history now chunk.stream (holds.waits chunk.stream) s.waiting) (sym same) here_wait) (holds.once chunk.stream) same')
 
     -- an ordered chunk
-    ahead : (place number : ℕ) (later : ℕ → StreamModel) (runs : List RunModel) (after : List MessageContent) (taken : Taken) → IsPlaced (ordered_base base) bears.offset bears.piece number place → IsOn history chunk.stream bears.piece number
+    ahead : (place number : ℕ) (later : ℕ → StreamModel) (runs : List RunModel) (after : List MessageContent) (taken : Taken) → IsPiecePlaced (ordered_base base) bears.offset bears.piece number place → IsOn history chunk.stream bears.piece number
         → runs ≡ unordered → ((other : ℕ) → other ≢ chunk.stream → later other ≡ streams other)
         → TakesAhead (data_part chunk place number) (streams chunk.stream) ready taken (later chunk.stream) after → HoldsAll queued history now base read later runs after
     unfolding all here
-    ahead place number later runs after taken placed named kept others takes = go (is_waiting number (streams chunk.stream).waiting) refl
+    ahead place number later runs after taken placed named kept others takes = go (is_number_waiting number (streams chunk.stream).waiting) refl
       where
         part : IsPart history.log (ordered_base base) (IsOn history chunk.stream) (data_part chunk place number)
         part = part_of history base (ordered_base base) (IsOn history chunk.stream) tsn_number place number chunk bears placed named
 
-        go : (b : Bool) → is_waiting number (streams chunk.stream).waiting ≡ b → HoldsAll queued history now base read later runs after
+        go : (b : Bool) → is_number_waiting number (streams chunk.stream).waiting ≡ b → HoldsAll queued history now base read later runs after
         go false e =
             let does = takes.fresh e in
             let rows = stay_rows queued history.log cut (one_kind history told) got (ordered_base base) (IsOn history chunk.stream) (λ m n f g k. tells_as history told false chunk.stream m n f g k) (data_part chunk place number) (streams chunk.stream).ordered (later chunk.stream).ordered does.outcome part here.rows.ordered does.parts in
@@ -125,7 +125,7 @@ module _ (queued : List Message) (history : History) (cut : Cut queued history.l
               ordered = rows.0;
               unordered = subst (λ (l : List RunModel). AreRows history.log now (ordered_base base) (IsApart history chunk.stream) l) (sym does.unordered.1) here_rows.unordered;
               next = ordered_reads queued history now chunk.stream bears.piece.place (holds.waits chunk.stream) (data_part chunk place number) (streams chunk.stream) (later chunk.stream) ready after does.outcome taken here_wait rows.1 does.does here.rows.next;
-              last = subst (λ (k : ℕ). Reads history chunk.stream true k) (sym does.unordered.0) here.rows.last;
+              last = subst (λ (k : ℕ). ReadsMids history chunk.stream true k) (sym does.unordered.0) here.rows.last;
             }) (rows_kept runs kept) others
             (leaves_ordered queued history now all holds.places (holds.waits chunk.stream) chunk.stream bears.piece.place (data_part chunk place number) (streams chunk.stream) (later chunk.stream) ready after does.outcome taken
             (sym here.rows.is) holds.were_queued here_wait rows.1 (holds.once chunk.stream) (fresh chunk.stream) does.does)
@@ -137,15 +137,15 @@ module _ (queued : List Message) (history : History) (cut : Cut queued history.l
               is = does.others.0 ∙ here.rows.is;
               ordered = rows.0;
               unordered = subst (λ (l : List RunModel). AreRows history.log now (ordered_base base) (IsApart history chunk.stream) l) (sym does.others.3) here_rows.unordered;
-              next = subst (λ (k : ℕ). Reads history chunk.stream false k) (sym does.others.1) here.rows.next;
-              last = subst (λ (k : ℕ). Reads history chunk.stream true k) (sym does.last) here.rows.last;
+              next = subst (λ (k : ℕ). ReadsMids history chunk.stream false k) (sym does.others.1) here.rows.next;
+              last = subst (λ (k : ℕ). ReadsMids history chunk.stream true k) (sym does.last) here.rows.last;
             }) (rows_kept runs kept) others
             (leaves_repeated queued history now all holds.places (holds.waits chunk.stream) (streams chunk.stream).id chunk.stream bears.piece.place (data_part chunk place number) (later chunk.stream).waiting ready after does.ordered.outcome taken
             (sym here.rows.is) holds.were_queued (subst (λ (l : List WholeModel). WaitQueued queued history now chunk.stream (holds.waits chunk.stream) l) (sym does.others.2) here_wait)
             (renamed queued history now (IsOn history chunk.stream) (OfStream chunk.stream) (λ f k named'. named'.0) bears.piece.place does.ordered.outcome rows.1) (holds.once chunk.stream) (fresh chunk.stream) does.ordered.does)
 
     -- one of I-DATA
-    in_order : (place number : ℕ) (later : ℕ → StreamModel) (runs : List RunModel) (after : List MessageContent) (taken : Taken) → IsPlaced (ordered_base base) bears.offset bears.piece number place → IsOn history chunk.stream bears.piece number
+    in_order : (place number : ℕ) (later : ℕ → StreamModel) (runs : List RunModel) (after : List MessageContent) (taken : Taken) → IsPiecePlaced (ordered_base base) bears.offset bears.piece number place → IsOn history chunk.stream bears.piece number
         → runs ≡ unordered → ((other : ℕ) → other ≢ chunk.stream → later other ≡ streams other)
         → TakesInOrder (data_part chunk place number) (streams chunk.stream) ready taken (later chunk.stream) after → HoldsAll queued history now base read later runs after
     in_order place number later runs after taken placed named kept others takes =
@@ -155,8 +155,8 @@ module _ (queued : List Message) (history : History) (cut : Cut queued history.l
         ]
 
     -- an unordered one of I-DATA
-    out_of_order : (place number : ℕ) (later : ℕ → StreamModel) (runs : List RunModel) (after : List MessageContent) (taken : Taken) → IsPlaced (ordered_base base) bears.offset bears.piece number place → IsApart history chunk.stream bears.piece number
-        → Reads history chunk.stream true number → runs ≡ unordered → ((other : ℕ) → other ≢ chunk.stream → later other ≡ streams other)
+    out_of_order : (place number : ℕ) (later : ℕ → StreamModel) (runs : List RunModel) (after : List MessageContent) (taken : Taken) → IsPiecePlaced (ordered_base base) bears.offset bears.piece number place → IsApart history chunk.stream bears.piece number
+        → ReadsMids history chunk.stream true number → runs ≡ unordered → ((other : ℕ) → other ≢ chunk.stream → later other ≡ streams other)
         → TakesOutOfOrder (data_part chunk place number) (streams chunk.stream) ready taken (later chunk.stream) after → HoldsAll queued history now base read later runs after
     unfolding all here
     out_of_order place number later runs after taken placed named reads kept others takes =
@@ -167,8 +167,8 @@ module _ (queued : List Message) (history : History) (cut : Cut queued history.l
           is = takes.others.0 ∙ here.rows.is;
           ordered = subst (λ (l : List RunModel). AreRows history.log now (ordered_base base) (IsOn history chunk.stream) l) (sym takes.others.3) here_rows.ordered;
           unordered = rows.0;
-          next = subst (λ (k : ℕ). Reads history chunk.stream false k) (sym takes.others.1) here.rows.next;
-          last = subst (λ (k : ℕ). Reads history chunk.stream true k) (sym takes.last) reads;
+          next = subst (λ (k : ℕ). ReadsMids history chunk.stream false k) (sym takes.others.1) here.rows.next;
+          last = subst (λ (k : ℕ). ReadsMids history chunk.stream true k) (sym takes.last) reads;
         }) (rows_kept runs kept) others
         (leaves_repeated queued history now all holds.places (holds.waits chunk.stream) (streams chunk.stream).id chunk.stream bears.piece.place (data_part chunk place number) (later chunk.stream).waiting ready after takes.unordered.outcome taken
         (sym here.rows.is) holds.were_queued (subst (λ (l : List WholeModel). WaitQueued queued history now chunk.stream (holds.waits chunk.stream) l) (sym takes.others.2) here_wait)
@@ -191,7 +191,7 @@ module _ (queued : List Message) (history : History) (cut : Cut queued history.l
         refl holds.were_queued here_wait makes (holds.once chunk.stream) (fresh chunk.stream) does))
 
   by_numbering : (tsn_number : ℕ) (numbering : Numbering) (chunk : ChunkModel) (old new : IncomingModel) → chunk.numbering ≡ numbering
-      → (bears : BearsPiece history base tsn_number chunk) → IsNumbered bears.piece numbering → (Has bears.offset got → ⊥) → Holds queued history got base read old → TakesChunk tsn_number numbering chunk old new → Holds queued history (bears.offset ∷ got) base read new
+      → (bears : BearsPiece history base tsn_number chunk) → IsNumbered bears.piece numbering → (HasEntry bears.offset got → ⊥) → HoldsIncoming queued history got base read old → TakesChunk tsn_number numbering chunk old new → HoldsIncoming queued history (bears.offset ∷ got) base read new
   by_numbering tsn_number (Ordered ssn) chunk old new is bears numbered is_new holds takes =
       let number : ℕ = short_number_from (stream_on chunk.stream old.streams).next ssn in
       let does : TakesAhead (data_part chunk (fragment_place number tsn_number) number) (stream_on chunk.stream old.streams) old.ready takes.taken (stream_on chunk.stream new.streams) new.ready =
@@ -220,10 +220,10 @@ module _ (queued : List Message) (history : History) (cut : Cut queued history.l
       out_of_order tsn_number chunk bears is_new (λ id. stream_on id old.streams) old.unordered old.ready holds (fragment_place (number_near last mid) fsn) (number_near last mid) (λ id. stream_on id new.streams) new.unordered new.ready takes.taken
       (apart_placed history base tsn_number (number_near last mid) fsn chunk bears numbered.0 numbered.3) (sym bears.stream, named.0) named.1 takes.unordered takes.others does
 
-pub holds_on : (queued : List Message) (history : History) → Cut queued history.log → Told history
+pub holds_on : (queued : List Message) (history : History) → Cut queued history.log → IsUnambiguous history
     → (got : List ℕ) (base tsn : ℕ) (read : List ℕ) (chunk : ChunkModel) (old new : IncomingModel)
-    → (bears : BearsPiece history base (number_near old.last_tsn_number tsn) chunk) → (Has bears.offset got → ⊥)
-    → Holds queued history got base read old → TakesData tsn chunk old new
-    → Holds queued history (bears.offset ∷ got) base read new
+    → (bears : BearsPiece history base (number_near old.last_tsn_number tsn) chunk) → (HasEntry bears.offset got → ⊥)
+    → HoldsIncoming queued history got base read old → TakesIncomingChunk tsn chunk old new
+    → HoldsIncoming queued history (bears.offset ∷ got) base read new
 holds_on queued history cut told got base tsn read chunk old new bears is_new holds takes =
     by_numbering queued history cut told got base read (number_near old.last_tsn_number tsn) chunk.numbering chunk old new refl bears bears.numbered is_new holds takes.takes

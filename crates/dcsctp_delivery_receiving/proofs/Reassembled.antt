@@ -5,14 +5,14 @@ use Rattle.std.proofs.lemmas.Bool.Decides.{nat_tests}
 use Rattle.dcsctp_spec_lemmas.specs.types.declared.arrivals.SkippedTo.{SkippedTo}
 use Rattle.dcsctp_spec_lemmas.specs.spec.queues.Numbers.{number_near, is_tsn_beyond}
 use Rattle.dcsctp_spec_lemmas.specs.spec.queues.IncomingStreams.{ChunkModel}
-use Rattle.dcsctp_spec_lemmas.specs.spec.queues.Incoming.{IncomingModel, TakesData, MovesOn, ResetsStreams}
-use Rattle.dcsctp_spec_lemmas.specs.spec.queues.Reassembly.{WaitingModel, WaitingSkips, DeferralModel, ReassemblyState, names_stream, is_deferred, with_waiting, HandlesAll, SkipsThen, waiting_of, skips_of, Leaves}
+use Rattle.dcsctp_spec_lemmas.specs.spec.queues.Incoming.{IncomingModel, TakesIncomingChunk, MovesOn, ResetsStreams}
+use Rattle.dcsctp_spec_lemmas.specs.spec.queues.Reassembly.{WaitingModel, WaitingSkips, DeferralModel, ReassemblyState, names_stream, is_data_deferred, with_waiting, HandlesAll, SkipsThen, waiting_of, skips_of, EndsDeferral}
 use Rattle.dcsctp_spec_lemmas.specs.spec.queues.Tracker.{TrackerState}
-use Rattle.dcsctp_delivery_sending.specs.Places.{Has}
+use Rattle.dcsctp_delivery_sending.specs.Places.{HasEntry}
 use Rattle.dcsctp_delivery_sending.specs.Log.{Message, History, Cut}
-use Rattle.dcsctp_delivery_receiving.specs.Ready.{AreDistinct, AreNamed, BearsPiece, Holds}
-use Rattle.dcsctp_delivery_sending.specs.Numbers.{Told}
-use Rattle.dcsctp_delivery_receiving.specs.Received.{CarriesCurrent, IsTsn, AreBeyond, WaitBeyond, kept_entries, SkipsWait, ForwardsWait, Placed, Reassembles, untouched, placed, Defers, Received, Few}
+use Rattle.dcsctp_delivery_receiving.specs.Ready.{AreDistinct, AreNamed, BearsPiece, HoldsIncoming}
+use Rattle.dcsctp_delivery_sending.specs.Numbers.{IsUnambiguous}
+use Rattle.dcsctp_delivery_receiving.specs.Received.{CarriesCurrent, IsTsn, AreBeyond, WaitBeyond, kept_entries, SkipsWait, ForwardsWait, Placed, Reassembles, untouched, placed, DefersData, HasReceived, Few}
 use Rattle.dcsctp_delivery_sending.proofs.Places.{at_below}
 use Rattle.dcsctp_delivery_receiving.proofs.Joining.{both}
 use Rattle.dcsctp_delivery_receiving.proofs.Ready.{holds_on}
@@ -59,8 +59,8 @@ bears_of history first base offset tsn number chunk c is =
 few_behind : (history : History) (first offset tsn : ℕ) (chunk : ChunkModel) → Few history first → CarriesCurrent history first offset tsn chunk → offset < 2 ^ 31
 few_behind history first offset tsn chunk f c = omega (arith, f.few, at_below offset (Some c.carries.piece) history.log c.carries.at)
 
-module _ (queued : List Message) (history : History) (first : ℕ) (cut : Cut queued history.log) (told : Told history) (f : Few history first) (read : List ℕ) where
-  pub data_handled : (got : List ℕ) (offset tsn : ℕ) (chunk : ChunkModel) (old new : IncomingModel) → CarriesCurrent history first offset tsn chunk → (Has offset got → ⊥) → Reassembles queued history first got read old → TakesData tsn chunk old new
+module _ (queued : List Message) (history : History) (first : ℕ) (cut : Cut queued history.log) (told : IsUnambiguous history) (f : Few history first) (read : List ℕ) where
+  pub data_handled : (got : List ℕ) (offset tsn : ℕ) (chunk : ChunkModel) (old new : IncomingModel) → CarriesCurrent history first offset tsn chunk → (HasEntry offset got → ⊥) → Reassembles queued history first got read old → TakesIncomingChunk tsn chunk old new
       → Reassembles queued history first (offset ∷ got) read new
   unfolding bears_of
   data_handled got offset tsn chunk old new c fresh (placed base is holds) takes =
@@ -75,7 +75,7 @@ module _ (queued : List Message) (history : History) (first : ℕ) (cut : Cut qu
       let number : number_near old.last_tsn_number tsn ≡ base + offset = ap (λ (l : ℕ). number_near l tsn) last ∙ ap (number_near (2 ^ 32)) c.carries.is ∙ omega (arith, up) in
       placed base (record { same = first_base first offset f.small few; near = first_near first offset f.small few; worked = offset; few = few; is = takes.last ∙ number })
       (holds_on queued history cut told got base tsn read chunk old new (bears_of history first base offset tsn (number_near old.last_tsn_number tsn) chunk c number) fresh
-      (subst (λ (l : List ℕ). Holds queued history l base read old) (sym none) (empty base)) takes)
+      (subst (λ (l : List ℕ). HoldsIncoming queued history l base read old) (sym none) (empty base)) takes)
 
   pub forward_handled : (got : List ℕ) (tsn : ℕ) (entries : List SkippedTo) (old new : IncomingModel) → IsTsn history.log first tsn → AreNamed history entries → Reassembles queued history first got read old → MovesOn tsn entries old new
       → Reassembles queued history first got read new
@@ -89,7 +89,7 @@ module _ (queued : List Message) (history : History) (first : ℕ) (cut : Cut qu
       let up = first_number first t.offset f.small few in
       let number : number_near old.last_tsn_number tsn ≡ base + t.offset = ap (λ (l : ℕ). number_near l tsn) last ∙ ap (number_near (2 ^ 32)) t.is ∙ omega (arith, up) in
       placed base (record { same = first_base first t.offset f.small few; near = first_near first t.offset f.small few; worked = t.offset; few = few; is = moves.last ∙ number })
-      (skips_on queued history got base read tsn entries old new names (subst (λ (l : List ℕ). Holds queued history l base read old) (sym none) (empty base)) moves)
+      (skips_on queued history got base read tsn entries old new names (subst (λ (l : List ℕ). HoldsIncoming queued history l base read old) (sym none) (empty base)) moves)
 
   kept_last : (streams : List ℕ) (old new : IncomingModel) → ResetsStreams streams old new → new.last_tsn_number ≡ old.last_tsn_number
   kept_last [] old new resets = resets.kept.last
@@ -107,9 +107,9 @@ module _ (queued : List Message) (history : History) (first : ℕ) (cut : Cut qu
   record Handled (got later : List ℕ) (new : IncomingModel) : Type 0 where
     now : List ℕ
     holds : Reassembles queued history first now read new
-    among : (k : ℕ) → Has k now → Has k later ⊎ Has k got
+    among : (k : ℕ) → HasEntry k now → HasEntry k later ⊎ HasEntry k got
 
-  all_handled : (got later : List ℕ) (waiting : List WaitingModel) (old new : IncomingModel) → Reassembles queued history first got read old → Defers history first later waiting → AreDistinct later → ((k : ℕ) → Has k later → Has k got → ⊥)
+  all_handled : (got later : List ℕ) (waiting : List WaitingModel) (old new : IncomingModel) → Reassembles queued history first got read old → DefersData history first later waiting → AreDistinct later → ((k : ℕ) → HasEntry k later → HasEntry k got → ⊥)
       → HandlesAll waiting old new → Handled got later new
   all_handled got [] [] old new holds defers distinct apart works = record { now = got; holds = subst (λ (m : IncomingModel). Reassembles queued history first got read m) (sym works) holds; among = λ k h. inr h }
   all_handled got (n ∷ later) [] old new holds defers distinct apart works = absurd defers
@@ -117,7 +117,7 @@ module _ (queued : List Message) (history : History) (first : ℕ) (cut : Cut qu
   all_handled got (n ∷ later) (one ∷ waiting) old new holds defers distinct apart (between, takes, rest) =
       let handled = data_handled got n one.tsn one.chunk old between defers.0 (apart n (inl refl)) holds takes in
       let others = all_handled (n ∷ got) later waiting between new handled defers.1 distinct.1
-      (λ k h h'. elim h' [ inl e ↦ distinct.0 (subst (λ (j : ℕ). Has j later) e h) | inr t ↦ apart k (inr h) t ]) rest in
+      (λ k h h'. elim h' [ inl e ↦ distinct.0 (subst (λ (j : ℕ). HasEntry j later) e h) | inr t ↦ apart k (inr h) t ]) rest in
       record {
         now = others.now;
         holds = others.holds;
@@ -138,7 +138,7 @@ module _ (queued : List Message) (history : History) (first : ℕ) (cut : Cut qu
   forwards_handled got None old new wait holds same = subst (λ (m : IncomingModel). Reassembles queued history first got read m) (sym same) holds
   forwards_handled got (Some d) old new wait holds skips = skips_handled got d.last_tsn d.skips old new wait holds skips
 
-  pub left_keeps : (streams : List ℕ) (tracker : TrackerState) (old new : ReassemblyState) → Received queued history first read tracker old → Leaves streams old new → Received queued history first read tracker new
+  pub left_keeps : (streams : List ℕ) (tracker : TrackerState) (old new : ReassemblyState) → HasReceived queued history first read tracker old → EndsDeferral streams old new → HasReceived queued history first read tracker new
   left_keeps streams tracker old new r leaves =
       let done = all_handled r.got r.later (waiting_of old.deferral) leaves.between leaves.handled (reset_handled r.got streams old.incoming leaves.between r.holds leaves.resets) r.defers r.distinct r.apart leaves.works in
       record {
@@ -151,7 +151,7 @@ module _ (queued : List Message) (history : History) (first : ℕ) (cut : Cut qu
         apart = λ k h g. absurd h;
         distinct = tt;
         holds = forwards_handled done.now old.deferral leaves.handled new.incoming r.forwards done.holds leaves.skips;
-        defers = subst (λ (d : Option DeferralModel). Defers history first [] (waiting_of d)) (sym leaves.deferral) tt;
+        defers = subst (λ (d : Option DeferralModel). DefersData history first [] (waiting_of d)) (sym leaves.deferral) tt;
         beyond = subst (λ (d : Option DeferralModel). WaitBeyond d) (sym leaves.deferral) tt;
         forwards = subst (λ (d : Option DeferralModel). ForwardsWait history first d) (sym leaves.deferral) tt;
         old = r.old;
@@ -159,16 +159,16 @@ module _ (queued : List Message) (history : History) (first : ℕ) (cut : Cut qu
 
 -- ---- more data that waits
 
-defers_data : (history : History) (first offset : ℕ) (last : WaitingModel) (later : List ℕ) (waiting : List WaitingModel) → CarriesCurrent history first offset last.tsn last.chunk → Defers history first later waiting
-    → Defers history first (later ++ offset ∷ []) (waiting ++ last ∷ [])
+defers_data : (history : History) (first offset : ℕ) (last : WaitingModel) (later : List ℕ) (waiting : List WaitingModel) → CarriesCurrent history first offset last.tsn last.chunk → DefersData history first later waiting
+    → DefersData history first (later ++ offset ∷ []) (waiting ++ last ∷ [])
 defers_data history first offset last [] [] c defers = (c, tt)
 defers_data history first offset last (n ∷ later) [] c defers = absurd defers
 defers_data history first offset last [] (one ∷ waiting) c defers = absurd defers
 defers_data history first offset last (n ∷ later) (one ∷ waiting) c defers = (defers.0, defers_data history first offset last later waiting c defers.1)
 
 -- what is deferred waits after the others
-pub waiting_data : (history : History) (first offset tsn : ℕ) (chunk : ChunkModel) (later : List ℕ) (deferral : Option DeferralModel) → is_deferred tsn chunk.stream deferral ≡ true → CarriesCurrent history first offset tsn chunk
-    → Defers history first later (waiting_of deferral) → Defers history first (later ++ offset ∷ []) (waiting_of (with_waiting (record { tsn = tsn; chunk = chunk }) deferral))
+pub waiting_data : (history : History) (first offset tsn : ℕ) (chunk : ChunkModel) (later : List ℕ) (deferral : Option DeferralModel) → is_data_deferred tsn chunk.stream deferral ≡ true → CarriesCurrent history first offset tsn chunk
+    → DefersData history first later (waiting_of deferral) → DefersData history first (later ++ offset ∷ []) (waiting_of (with_waiting (record { tsn = tsn; chunk = chunk }) deferral))
 waiting_data history first offset tsn chunk later None is c defers = absurd (cc)
 waiting_data history first offset tsn chunk later (Some d) is c defers = defers_data history first offset (record { tsn = tsn; chunk = chunk }) later d.waiting c defers
 
@@ -177,7 +177,7 @@ beyond_data : (last_tsn : ℕ) (last : WaitingModel) (waiting : List WaitingMode
 beyond_data last_tsn last [] is beyond = (is, tt)
 beyond_data last_tsn last (one ∷ waiting) is beyond = (beyond.0, beyond_data last_tsn last waiting is beyond.1)
 
-pub waiting_beyond : (tsn : ℕ) (chunk : ChunkModel) (deferral : Option DeferralModel) → is_deferred tsn chunk.stream deferral ≡ true → WaitBeyond deferral → WaitBeyond (with_waiting (record { tsn = tsn; chunk = chunk }) deferral)
+pub waiting_beyond : (tsn : ℕ) (chunk : ChunkModel) (deferral : Option DeferralModel) → is_data_deferred tsn chunk.stream deferral ≡ true → WaitBeyond deferral → WaitBeyond (with_waiting (record { tsn = tsn; chunk = chunk }) deferral)
 waiting_beyond tsn chunk None is beyond = tt
 waiting_beyond tsn chunk (Some d) is beyond =
     beyond_data d.last_tsn (record { tsn = tsn; chunk = chunk }) d.waiting (both (is_tsn_beyond tsn d.last_tsn) (names_stream d.streams chunk.stream) is).0 beyond

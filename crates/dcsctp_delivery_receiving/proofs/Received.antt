@@ -5,16 +5,16 @@ use Rattle.std.proofs.lemmas.List.{append-nil}
 use Rattle.dcsctp_spec_lemmas.specs.types.declared.arrivals.SkippedTo.{SkippedTo}
 use Rattle.dcsctp_spec_lemmas.specs.spec.queues.Arrivals.{Arrival}
 use Rattle.dcsctp_spec_lemmas.specs.spec.queues.IncomingStreams.{ChunkModel, skipped_stream}
-use Rattle.dcsctp_spec_lemmas.specs.spec.queues.Reassembly.{DeferralModel, ReassemblyState, can_count, entries_beside, is_deferred, is_forward_deferred, names_stream, AddsData, SkipsData, waiting_of}
+use Rattle.dcsctp_spec_lemmas.specs.spec.queues.Reassembly.{DeferralModel, ReassemblyState, can_count, entries_beside, is_data_deferred, is_forward_deferred, names_stream, AddsData, SkipsData, waiting_of}
 use Rattle.dcsctp_spec_lemmas.specs.spec.queues.Tracker.{TrackerState, is_new_tsn, observed, is_forward, is_valid_tsn, after_forward, delay_over, moved_forward}
 use Rattle.dcsctp_spec_lemmas.specs.spec.queues.Transfer.{Transfer}
 use Rattle.dcsctp_spec_lemmas.specs.spec.endpoint.TransferMoves.{AddsWhere, has_room, dropping, ReceivesWhere, SkipsWhere, GoesForward, MovesWhere, ReceivesData, MovesForward, TakesData as TakesArrival}
-use Rattle.dcsctp_delivery_sending.specs.Places.{Has}
+use Rattle.dcsctp_delivery_sending.specs.Places.{HasEntry}
 use Rattle.dcsctp_delivery_sending.specs.Log.{Message, History, Cut}
-use Rattle.dcsctp_delivery_receiving.specs.Ready.{AreDistinct, AreNamed, IsNamed, SkipAll}
-use Rattle.dcsctp_delivery_sending.specs.Numbers.{Told}
+use Rattle.dcsctp_delivery_receiving.specs.Ready.{AreDistinct, AreNamed, IsNamedEntry, SkipAll}
+use Rattle.dcsctp_delivery_sending.specs.Numbers.{IsUnambiguous}
 use Rattle.dcsctp_delivery_receiving.specs.Tracked.{Tracks}
-use Rattle.dcsctp_delivery_receiving.specs.Received.{Carries, CarriesCurrent, IsTsn, SkipsTo, WaitBeyond, ForwardsWait, Defers, Received, Few}
+use Rattle.dcsctp_delivery_receiving.specs.Received.{Carries, CarriesCurrent, IsTsn, SkipsTo, WaitBeyond, ForwardsWait, DefersData, HasReceived, Few}
 use Rattle.dcsctp_delivery_sending.proofs.Places.{at_below}
 use Rattle.dcsctp_delivery_receiving.proofs.Distinct.{has_either, distinct_with}
 use Rattle.dcsctp_delivery_receiving.proofs.Tracked.{new_is_new, passing_keeps, delayed_tracks, observed_up, forward_up, new_beyond, forward_beyond}
@@ -22,18 +22,18 @@ use Rattle.dcsctp_delivery_receiving.proofs.Current.{past_kept, carries_current,
 use Rattle.dcsctp_delivery_receiving.proofs.Kept.{all_left, deferred_by, each_named, forward_waits}
 use Rattle.dcsctp_delivery_receiving.proofs.Reassembled.{forward_handled, waiting_data, data_handled, waiting_beyond, data_forwards}
 
-module _ (queued : List Message) (history : History) (first : ℕ) (cut : Cut queued history.log) (told : Told history) (f : Few history first) (read : List ℕ) where
+module _ (queued : List Message) (history : History) (first : ℕ) (cut : Cut queued history.log) (told : IsUnambiguous history) (f : Few history first) (read : List ℕ) where
   -- a chunk whose TSN is new
-  added : (offset tsn : ℕ) (chunk : ChunkModel) (tracker now : TrackerState) (old new : ReassemblyState) → CarriesCurrent history first offset tsn chunk → (r : Received queued history first read tracker old)
-      → tracker.cumulative ≤ now.cumulative → Tracks first (length history.log) (offset ∷ r.taken) now → (Has offset r.taken → ⊥) → AddsData tsn chunk old new → Received queued history first read now new
-  added offset tsn chunk tracker now old new c r up tracks fresh adds = go (can_count (length chunk.payload) old) refl (is_deferred tsn chunk.stream old.deferral) refl
+  added : (offset tsn : ℕ) (chunk : ChunkModel) (tracker now : TrackerState) (old new : ReassemblyState) → CarriesCurrent history first offset tsn chunk → (r : HasReceived queued history first read tracker old)
+      → tracker.cumulative ≤ now.cumulative → Tracks first (length history.log) (offset ∷ r.taken) now → (HasEntry offset r.taken → ⊥) → AddsData tsn chunk old new → HasReceived queued history first read now new
+  added offset tsn chunk tracker now old new c r up tracks fresh adds = go (can_count (length chunk.payload) old) refl (is_data_deferred tsn chunk.stream old.deferral) refl
     where
-      unhandled : Has offset r.got → ⊥
+      unhandled : HasEntry offset r.got → ⊥
       unhandled h = fresh (r.got_taken offset h)
 
-      go : (counts : Bool) → can_count (length chunk.payload) old ≡ counts → (waits : Bool) → is_deferred tsn chunk.stream old.deferral ≡ waits → Received queued history first read now new
+      go : (counts : Bool) → can_count (length chunk.payload) old ≡ counts → (waits : Bool) → is_data_deferred tsn chunk.stream old.deferral ≡ waits → HasReceived queued history first read now new
       go false counts waits deferred =
-          subst (λ (s : ReassemblyState). Received queued history first read now s) (sym (adds.too_much counts))
+          subst (λ (s : ReassemblyState). HasReceived queued history first read now s) (sym (adds.too_much counts))
           (record {
             taken = offset ∷ r.taken;
             got = r.got;
@@ -50,7 +50,7 @@ module _ (queued : List Message) (history : History) (first : ℕ) (cut : Cut qu
             old = past_kept history first tracker.cumulative now.cumulative up r.old;
           })
       go true counts true deferred =
-          subst (λ (s : ReassemblyState). Received queued history first read now s) (sym (adds.deferred counts deferred))
+          subst (λ (s : ReassemblyState). HasReceived queued history first read now s) (sym (adds.deferred counts deferred))
           (record {
             taken = offset ∷ r.taken;
             got = r.got;
@@ -63,10 +63,10 @@ module _ (queued : List Message) (history : History) (first : ℕ) (cut : Cut qu
             ];
             apart = λ k h g. elim (has_either k r.later (offset ∷ []) h) [
               | inl l ↦ r.apart k l g
-              | inr e ↦ elim e [ inl e' ↦ unhandled (subst (λ (j : ℕ). Has j r.got) e' g) | inr t ↦ absurd t ]
+              | inr e ↦ elim e [ inl e' ↦ unhandled (subst (λ (j : ℕ). HasEntry j r.got) e' g) | inr t ↦ absurd t ]
             ];
             distinct = distinct_with offset r.later [] (subst (λ (l : List ℕ). AreDistinct l) (sym (append-nil r.later)) r.distinct)
-                (λ h. fresh (r.later_taken offset (subst (λ (l : List ℕ). Has offset l) (append-nil r.later) h)));
+                (λ h. fresh (r.later_taken offset (subst (λ (l : List ℕ). HasEntry offset l) (append-nil r.later) h)));
             holds = r.holds;
             defers = waiting_data history first offset tsn chunk r.later old.deferral deferred c r.defers;
             beyond = waiting_beyond tsn chunk old.deferral deferred r.beyond;
@@ -82,18 +82,18 @@ module _ (queued : List Message) (history : History) (first : ℕ) (cut : Cut qu
             tracks = tracks;
             got_taken = λ k h. elim h [ inl e ↦ inl e | inr t ↦ inr (r.got_taken k t) ];
             later_taken = λ k h. inr (r.later_taken k h);
-            apart = λ k h g. elim g [ inl e ↦ fresh (r.later_taken offset (subst (λ (j : ℕ). Has j r.later) e h)) | inr t ↦ r.apart k h t ];
+            apart = λ k h g. elim g [ inl e ↦ fresh (r.later_taken offset (subst (λ (j : ℕ). HasEntry j r.later) e h)) | inr t ↦ r.apart k h t ];
             distinct = r.distinct;
             holds = data_handled queued history first cut told f read r.got offset tsn chunk old.incoming new.incoming c unhandled r.holds takes.incoming;
-            defers = subst (λ (d : Option DeferralModel). Defers history first r.later (waiting_of d)) (sym takes.deferral) r.defers;
+            defers = subst (λ (d : Option DeferralModel). DefersData history first r.later (waiting_of d)) (sym takes.deferral) r.defers;
             beyond = subst (λ (d : Option DeferralModel). WaitBeyond d) (sym takes.deferral) r.beyond;
             forwards = subst (λ (d : Option DeferralModel). ForwardsWait history first d) (sym takes.deferral) r.forwards;
             old = past_kept history first tracker.cumulative now.cumulative up r.old;
           }
 
   -- the tracker moves alone
-  tracked_on : (tracker now : TrackerState) (reassembly : ReassemblyState) (r : Received queued history first read tracker reassembly) (taken : List ℕ) → ((k : ℕ) → Has k r.taken → Has k taken) → tracker.cumulative ≤ now.cumulative
-      → Tracks first (length history.log) taken now → Received queued history first read now reassembly
+  tracked_on : (tracker now : TrackerState) (reassembly : ReassemblyState) (r : HasReceived queued history first read tracker reassembly) (taken : List ℕ) → ((k : ℕ) → HasEntry k r.taken → HasEntry k taken) → tracker.cumulative ≤ now.cumulative
+      → Tracks first (length history.log) taken now → HasReceived queued history first read now reassembly
   tracked_on tracker now reassembly r taken among up tracks =
       record {
         taken = taken;
@@ -111,10 +111,10 @@ module _ (queued : List Message) (history : History) (first : ℕ) (cut : Cut qu
         old = past_kept history first tracker.cumulative now.cumulative up r.old;
       }
 
-  taken_keeps : (offset : ℕ) (arrival : Arrival) (old new : Transfer) → Carries history.log first offset arrival.tsn arrival.chunk → Received queued history first read old.tracker old.reassembly → TakesArrival arrival old new
-      → Received queued history first read new.tracker new.reassembly
+  taken_keeps : (offset : ℕ) (arrival : Arrival) (old new : Transfer) → Carries history.log first offset arrival.tsn arrival.chunk → HasReceived queued history first read old.tracker old.reassembly → TakesArrival arrival old new
+      → HasReceived queued history first read new.tracker new.reassembly
   taken_keeps offset arrival old new c r takes =
-      subst (λ (t : TrackerState). Received queued history first read t new.reassembly) (sym (ap (λ (t : Transfer). t.tracker) takes.rest)) (go (is_new_tsn arrival.tsn old.tracker) refl takes.reassembly)
+      subst (λ (t : TrackerState). HasReceived queued history first read t new.reassembly) (sym (ap (λ (t : Transfer). t.tracker) takes.rest)) (go (is_new_tsn arrival.tsn old.tracker) refl takes.reassembly)
     where
       now : TrackerState
       now = observed arrival.tsn arrival.immediate_ack old.tracker
@@ -133,7 +133,7 @@ module _ (queued : List Message) (history : History) (first : ℕ) (cut : Cut qu
       by_offset : is_new_tsn arrival.tsn old.tracker ≡ true → is_new_tsn ((first + offset) % 2 ^ 32) old.tracker ≡ true
       by_offset is = subst (λ (t : ℕ). is_new_tsn t old.tracker ≡ true) c.is is
 
-      fresh : is_new_tsn arrival.tsn old.tracker ≡ true → Has offset r.taken → ⊥
+      fresh : is_new_tsn arrival.tsn old.tracker ≡ true → HasEntry offset r.taken → ⊥
       fresh is = (new_is_new first (length history.log) offset arrival.immediate_ack r.taken old.tracker f.small f.few below r.tracks).1 (by_offset is)
 
       -- a piece whose TSN is new was sent since the last reset of its stream
@@ -143,38 +143,38 @@ module _ (queued : List Message) (history : History) (first : ℕ) (cut : Cut qu
           (new_beyond first (length history.log) offset r.taken old.tracker f.small f.few below r.tracks (by_offset is)) c
 
       go : (b : Bool) → is_new_tsn arrival.tsn old.tracker ≡ b → AddsWhere b arrival.tsn arrival.chunk old.reassembly new.reassembly
-          → Received queued history first read (observed arrival.tsn arrival.immediate_ack old.tracker) new.reassembly
+          → HasReceived queued history first read (observed arrival.tsn arrival.immediate_ack old.tracker) new.reassembly
       go true is adds = added offset arrival.tsn arrival.chunk old.tracker now old.reassembly new.reassembly (current is) r up tracks (fresh is) adds
-      go false is adds = subst (λ (s : ReassemblyState). Received queued history first read now s) (sym adds) (tracked_on old.tracker now old.reassembly r (offset ∷ r.taken) (λ k h. inr h) up tracks)
+      go false is adds = subst (λ (s : ReassemblyState). HasReceived queued history first read now s) (sym adds) (tracked_on old.tracker now old.reassembly r (offset ∷ r.taken) (λ k h. inr h) up tracks)
 
-  same_transfer : (old new : Transfer) → new ≡ old → Received queued history first read old.tracker old.reassembly → Received queued history first read new.tracker new.reassembly
-  same_transfer old new same r = subst (λ (t : Transfer). Received queued history first read t.tracker t.reassembly) (sym same) r
+  same_transfer : (old new : Transfer) → new ≡ old → HasReceived queued history first read old.tracker old.reassembly → HasReceived queued history first read new.tracker new.reassembly
+  same_transfer old new same r = subst (λ (t : Transfer). HasReceived queued history first read t.tracker t.reassembly) (sym same) r
 
   -- Data that is dropped leaves what was received.
-  dropped_keeps : (b : Bool) (old new : Transfer) → new ≡ dropping b old → Received queued history first read old.tracker old.reassembly → Received queued history first read new.tracker new.reassembly
+  dropped_keeps : (b : Bool) (old new : Transfer) → new ≡ dropping b old → HasReceived queued history first read old.tracker old.reassembly → HasReceived queued history first read new.tracker new.reassembly
   dropped_keeps true old new same r =
       same_transfer (dropping true old) new same
       (tracked_on old.tracker (delay_over old.tracker) old.reassembly r r.taken (λ k h. h) (omega arith) (delayed_tracks first (length history.log) r.taken old.tracker r.tracks))
   dropped_keeps false old new same r = same_transfer old new same r
 
-  pub receiving_keeps : (offset : ℕ) (arrival : Arrival) (old new : Transfer) → Carries history.log first offset arrival.tsn arrival.chunk → Received queued history first read old.tracker old.reassembly → ReceivesData arrival old new
-      → Received queued history first read new.tracker new.reassembly
+  pub receiving_keeps : (offset : ℕ) (arrival : Arrival) (old new : Transfer) → Carries history.log first offset arrival.tsn arrival.chunk → HasReceived queued history first read old.tracker old.reassembly → ReceivesData arrival old new
+      → HasReceived queued history first read new.tracker new.reassembly
   receiving_keeps offset arrival old new c r receives = go (has_room arrival.tsn old && is_valid_tsn old.tracker.cumulative arrival.tsn) receives
     where
-      go : (b : Bool) → ReceivesWhere b arrival old new → Received queued history first read new.tracker new.reassembly
+      go : (b : Bool) → ReceivesWhere b arrival old new → HasReceived queued history first read new.tracker new.reassembly
       go true takes = taken_keeps offset arrival old new c r takes
       go false same = dropped_keeps (old.tracker.follows_rfc && is_valid_tsn old.tracker.cumulative arrival.tsn) old new same r
 
   -- ---- a FORWARD-TSN
 
-  skipped_keeps : (tsn : ℕ) (entries : List SkippedTo) (tracker now : TrackerState) (old new : ReassemblyState) → SkipsTo history first tsn entries → (r : Received queued history first read tracker old) → tracker.cumulative ≤ now.cumulative
-      → Tracks first (length history.log) r.taken now → SkipsData tsn entries old new → Received queued history first read now new
+  skipped_keeps : (tsn : ℕ) (entries : List SkippedTo) (tracker now : TrackerState) (old new : ReassemblyState) → SkipsTo history first tsn entries → (r : HasReceived queued history first read tracker old) → tracker.cumulative ≤ now.cumulative
+      → Tracks first (length history.log) r.taken now → SkipsData tsn entries old new → HasReceived queued history first read now new
   skipped_keeps tsn entries tracker now old new skips_to' r up tracks skips = go (is_forward_deferred tsn old.deferral) refl
     where
       named : AreNamed history entries
       named = each_named history first (skips_to'.tsn_is.offset + 1) entries skips_to'.names
 
-      go : (b : Bool) → is_forward_deferred tsn old.deferral ≡ b → Received queued history first read now new
+      go : (b : Bool) → is_forward_deferred tsn old.deferral ≡ b → HasReceived queued history first read now new
       go true is =
           let (waits, same, far) = deferred_by tsn old.deferral is in
           let beside = skips.deferred is waits same in
@@ -188,9 +188,9 @@ module _ (queued : List Message) (history : History) (first : ℕ) (cut : Cut qu
             apart = r.apart;
             distinct = r.distinct;
             holds = forward_handled queued history first cut told f read r.got tsn (entries_beside waits.streams entries) old.incoming new.incoming skips_to'.tsn_is
-                (all_left (IsNamed history) (λ entry. not (names_stream waits.streams (skipped_stream entry))) entries named) r.holds beside.incoming;
-            defers = subst (λ (d : Option DeferralModel). Defers history first r.later (waiting_of d)) (sym beside.deferral)
-                (subst (λ (d : Option DeferralModel). Defers history first r.later (waiting_of d)) same r.defers);
+                (all_left (IsNamedEntry history) (λ entry. not (names_stream waits.streams (skipped_stream entry))) entries named) r.holds beside.incoming;
+            defers = subst (λ (d : Option DeferralModel). DefersData history first r.later (waiting_of d)) (sym beside.deferral)
+                (subst (λ (d : Option DeferralModel). DefersData history first r.later (waiting_of d)) same r.defers);
             beyond = subst (λ (d : Option DeferralModel). WaitBeyond d) (sym beside.deferral) (subst (λ (d : Option DeferralModel). WaitBeyond d) same r.beyond);
             forwards = subst (λ (d : Option DeferralModel). ForwardsWait history first d) (sym beside.deferral)
                 (forward_waits history first tsn entries (λ entry. names_stream waits.streams (skipped_stream entry)) waits skips_to' far
@@ -209,16 +209,16 @@ module _ (queued : List Message) (history : History) (first : ℕ) (cut : Cut qu
             apart = r.apart;
             distinct = r.distinct;
             holds = forward_handled queued history first cut told f read r.got tsn entries old.incoming new.incoming skips_to'.tsn_is named r.holds moved.incoming;
-            defers = subst (λ (d : Option DeferralModel). Defers history first r.later (waiting_of d)) (sym moved.deferral) r.defers;
+            defers = subst (λ (d : Option DeferralModel). DefersData history first r.later (waiting_of d)) (sym moved.deferral) r.defers;
             beyond = subst (λ (d : Option DeferralModel). WaitBeyond d) (sym moved.deferral) r.beyond;
             forwards = subst (λ (d : Option DeferralModel). ForwardsWait history first d) (sym moved.deferral) r.forwards;
             old = past_kept history first tracker.cumulative now.cumulative up r.old;
           }
 
-  gone_forward : (tsn : ℕ) (entries : List SkippedTo) (old new : Transfer) → (t : IsTsn history.log first tsn) → SkipAll history (t.offset + 1) entries → Received queued history first read old.tracker old.reassembly → GoesForward tsn entries old new
-      → Received queued history first read new.tracker new.reassembly
+  gone_forward : (tsn : ℕ) (entries : List SkippedTo) (old new : Transfer) → (t : IsTsn history.log first tsn) → SkipAll history (t.offset + 1) entries → HasReceived queued history first read old.tracker old.reassembly → GoesForward tsn entries old new
+      → HasReceived queued history first read new.tracker new.reassembly
   gone_forward tsn entries old new t skip r goes =
-      subst (λ (k : TrackerState). Received queued history first read k new.reassembly) (sym (ap (λ (k : Transfer). k.tracker) goes.rest)) (go (is_forward old.tracker.cumulative tsn) refl goes.reassembly)
+      subst (λ (k : TrackerState). HasReceived queued history first read k new.reassembly) (sym (ap (λ (k : Transfer). k.tracker) goes.rest)) (go (is_forward old.tracker.cumulative tsn) refl goes.reassembly)
     where
       by_offset : is_forward old.tracker.cumulative tsn ≡ true → is_forward old.tracker.cumulative ((first + t.offset) % 2 ^ 32) ≡ true
       by_offset is = subst (λ (n : ℕ). is_forward old.tracker.cumulative n ≡ true) t.is is
@@ -240,17 +240,17 @@ module _ (queued : List Message) (history : History) (first : ℕ) (cut : Cut qu
       not_passed : (b : Bool) → is_forward old.tracker.cumulative tsn ≡ b → b ≡ false → after_forward tsn old.tracker ≡ delay_over old.tracker
       not_passed b is clear = subst (λ (c : Bool). (if c then moved_forward tsn old.tracker else delay_over old.tracker) ≡ delay_over old.tracker) (sym (is ∙ clear)) refl
 
-      go : (b : Bool) → is_forward old.tracker.cumulative tsn ≡ b → SkipsWhere b tsn entries old.reassembly new.reassembly → Received queued history first read (after_forward tsn old.tracker) new.reassembly
+      go : (b : Bool) → is_forward old.tracker.cumulative tsn ≡ b → SkipsWhere b tsn entries old.reassembly new.reassembly → HasReceived queued history first read (after_forward tsn old.tracker) new.reassembly
       go true is skips = skipped_keeps tsn entries old.tracker (after_forward tsn old.tracker) old.reassembly new.reassembly (current is) r up (passed is) skips
       go false is same =
-          subst (λ (s : ReassemblyState). Received queued history first read (after_forward tsn old.tracker) s) (sym same)
+          subst (λ (s : ReassemblyState). HasReceived queued history first read (after_forward tsn old.tracker) s) (sym same)
           (tracked_on old.tracker (after_forward tsn old.tracker) old.reassembly r r.taken (λ k h. h) up
           (subst (λ (k : TrackerState). Tracks first (length history.log) r.taken k) (sym (not_passed false is refl)) (delayed_tracks first (length history.log) r.taken old.tracker r.tracks)))
 
-  pub forwarding_keeps : (tsn : ℕ) (entries : List SkippedTo) (old new : Transfer) → (t : IsTsn history.log first tsn) → SkipAll history (t.offset + 1) entries → Received queued history first read old.tracker old.reassembly
-      → MovesForward tsn entries old new → Received queued history first read new.tracker new.reassembly
+  pub forwarding_keeps : (tsn : ℕ) (entries : List SkippedTo) (old new : Transfer) → (t : IsTsn history.log first tsn) → SkipAll history (t.offset + 1) entries → HasReceived queued history first read old.tracker old.reassembly
+      → MovesForward tsn entries old new → HasReceived queued history first read new.tracker new.reassembly
   forwarding_keeps tsn entries old new t skip r moves = go (is_valid_tsn old.tracker.cumulative tsn) moves
     where
-      go : (b : Bool) → MovesWhere b tsn entries old new → Received queued history first read new.tracker new.reassembly
+      go : (b : Bool) → MovesWhere b tsn entries old new → HasReceived queued history first read new.tracker new.reassembly
       go true goes = gone_forward tsn entries old new t skip r goes
       go false same = same_transfer old new same r

@@ -4,17 +4,17 @@ use Rattle.std.specs.Prelude.{◌&&◌, not, Option, None, Some, is_some, slice_
 use Rattle.std.proofs.lemmas.Bool.{eqb-true}
 use Rattle.std.proofs.lemmas.Bool.Decides.{leb_tells}
 use Rattle.std.proofs.lemmas.List.{take_all, length-append, append-nil}
-use Rattle.dcsctp_spec_lemmas.specs.spec.queues.Runs.{RunModel, PartModel, WholeModel, Assembled, part_dropped, part_kept, message_whole, joined_bytes, whole_run, AddsAt, IsPlace, entry_before, StartsUpTo, StartsBehind, follows, precedes, following, preceding, run_before, run_behind, single_run, chained, merged, merged_at, front_end, back_start, is_whole}
-use Rattle.dcsctp_delivery_sending.specs.Places.{Has, at_place}
+use Rattle.dcsctp_spec_lemmas.specs.spec.queues.Runs.{RunModel, PartModel, WholeModel, Assembled, part_dropped, part_kept, message_whole, joined_bytes, whole_run, AddsAt, IsRunPlace, entry_before, StartsUpTo, StartsBehind, follows, precedes, following, preceding, run_before, run_behind, single_run, chained, merged, merged_at, front_end, back_start, is_whole}
+use Rattle.dcsctp_delivery_sending.specs.Places.{HasEntry, at_place}
 use Rattle.dcsctp_delivery_sending.specs.Log.{Message, Piece, Slot, Cut}
-use Rattle.dcsctp_delivery_receiving.specs.Rows.{IsPart, IsRow, AreRows, IsQueued, MakesQueued}
+use Rattle.dcsctp_delivery_receiving.specs.Rows.{IsPart, IsPieceRow, AreRows, IsQueued, MakesQueued}
 use Rattle.dcsctp_delivery_receiving.proofs.Chaining.{OneKind, offsets_follow}
 use Rattle.dcsctp_delivery_receiving.proofs.Joining.{same_merged, stretched, started, both, joined_two, denied}
 
 module _ (queued : List Message) (log : List Slot) (cut : Cut queued log) (told : OneKind log) (got : List ℕ) (base : ℕ → ℕ) (Named : Piece → ℕ → Type 0)
     (tells : (m n : ℕ) (f g : Piece) (number : ℕ) → at_place m log ≡ Some (Some f) → at_place n log ≡ Some (Some g) → f.is_interleaved ≡ true → g.is_interleaved ≡ true → Named f number → Named g number → f.place ≡ g.place) where
   -- a part alone
-  single_row : (part : PartModel) (is : IsPart log base Named part) → Has is.offset got → IsRow log got base Named (single_run part)
+  single_row : (part : PartModel) (is : IsPart log base Named part) → HasEntry is.offset got → IsPieceRow log got base Named (single_run part)
   single_row part is has =
       record {
         offset = is.offset;
@@ -26,7 +26,7 @@ module _ (queued : List Message) (log : List Slot) (cut : Cut queued log) (told 
         first = is.place;
         ends = omega arith;
         some = omega arith;
-        covered = λ k from to. (let same : k ≡ is.offset = omega arith in subst (λ (n : ℕ). Has n got) (sym same) has);
+        covered = λ k from to. (let same : k ≡ is.offset = omega arith in subst (λ (n : ℕ). HasEntry n got) (sym same) has);
         place = refl;
         message = refl;
         order = omega arith;
@@ -38,8 +38,8 @@ module _ (queued : List Message) (log : List Slot) (cut : Cut queued log) (told 
       }
 
   -- two runs in one
-  chained_row : (front back : RunModel) → IsRow log got base Named front → IsRow log got base Named back → back.first ≡ front.first + length front.payloads → front.number ≡ back.number → back.has_beginning ≡ false
-      → IsRow log got base Named (chained front back)
+  chained_row : (front back : RunModel) → IsPieceRow log got base Named front → IsPieceRow log got base Named back → back.first ≡ front.first + length front.payloads → front.number ≡ back.number → back.has_beginning ≡ false
+      → IsPieceRow log got base Named (chained front back)
   chained_row front back f b follows same_number goes_on =
       let next = offsets_follow queued log cut told got base Named tells front back f b follows same_number in
       let before = cut.rows b.offset b.head (omega (arith, next, f.ends, f.some)) b.at_head (started b.head (sym b.beginning ∙ goes_on)) in
@@ -77,12 +77,12 @@ module _ (queued : List Message) (log : List Slot) (cut : Cut queued log) (told 
 
   -- ---- lists
 
-  row_at : (runs : List RunModel) (k : ℕ) (run : RunModel) → AreRows log got base Named runs → slice_get runs k ≡ Some run → IsRow log got base Named run
+  row_at : (runs : List RunModel) (k : ℕ) (run : RunModel) → AreRows log got base Named runs → slice_get runs k ≡ Some run → IsPieceRow log got base Named run
   row_at [] k run are at = absurd (cc)
-  row_at (r ∷ runs) zero run are at = let same : r ≡ run = cc in subst (λ (x : RunModel). IsRow log got base Named x) same are.0
+  row_at (r ∷ runs) zero run are at = let same : r ≡ run = cc in subst (λ (x : RunModel). IsPieceRow log got base Named x) same are.0
   row_at (r ∷ runs) (suc k) run are at = row_at runs k run are.1 at
 
-  row_before : (at : ℕ) (runs : List RunModel) (run : RunModel) → AreRows log got base Named runs → entry_before at runs ≡ Some run → IsRow log got base Named run
+  row_before : (at : ℕ) (runs : List RunModel) (run : RunModel) → AreRows log got base Named runs → entry_before at runs ≡ Some run → IsPieceRow log got base Named run
   row_before zero runs run are e = absurd (cc)
   row_before (suc at) runs run are e = row_at runs at run are e
 
@@ -104,17 +104,17 @@ module _ (queued : List Message) (log : List Slot) (cut : Cut queued log) (told 
 
   Joins : PartModel → Option RunModel → Type 0
   Joins part None = Unit {0}
-  Joins part (Some run) = IsRow log got base Named run × (run.first + length run.payloads ≡ part.place) × (part.is_beginning ≡ false) × (run.number ≡ part.number)
+  Joins part (Some run) = IsPieceRow log got base Named run × (run.first + length run.payloads ≡ part.place) × (part.is_beginning ≡ false) × (run.number ≡ part.number)
 
   IsJoined : PartModel → Option RunModel → Type 0
   IsJoined part None = Unit {0}
-  IsJoined part (Some run) = IsRow log got base Named run × (run.first ≡ part.place + 1) × (run.has_beginning ≡ false) × (run.number ≡ part.number)
+  IsJoined part (Some run) = IsPieceRow log got base Named run × (run.first ≡ part.place + 1) × (run.has_beginning ≡ false) × (run.number ≡ part.number)
 
-  joins_before : (at : ℕ) (runs : List RunModel) (part : PartModel) → AreRows log got base Named runs → IsPlace at part.place runs → Joins part (run_before at runs part)
+  joins_before : (at : ℕ) (runs : List RunModel) (part : PartModel) → AreRows log got base Named runs → IsRunPlace at part.place runs → Joins part (run_before at runs part)
   unfolding Joins
   joins_before at runs part are place = go (entry_before at runs) refl place.before
     where
-      joined : (run : RunModel) (b : Bool) → follows run part ≡ b → IsRow log got base Named run → run.first ≤ part.place → Joins part (if b then Some run else None)
+      joined : (run : RunModel) (b : Bool) → follows run part ≡ b → IsPieceRow log got base Named run → run.first ≤ part.place → Joins part (if b then Some run else None)
       joined run true e row up =
           let (rest, inside) = both (((part.place - run.first) == length run.payloads) && (run.number == part.number) && not run.has_end) (not part.is_beginning) e in
           let (rest', open_end) = both (((part.place - run.first) == length run.payloads) && (run.number == part.number)) (not run.has_end) rest in
@@ -127,11 +127,11 @@ module _ (queued : List Message) (log : List Slot) (cut : Cut queued log) (told 
       go None e up = tt
       go (Some run) e up = joined run (follows run part) refl (row_before at runs run are e) up
 
-  joined_behind : (at : ℕ) (runs : List RunModel) (part : PartModel) → AreRows log got base Named runs → IsPlace at part.place runs → IsJoined part (run_behind part at runs)
+  joined_behind : (at : ℕ) (runs : List RunModel) (part : PartModel) → AreRows log got base Named runs → IsRunPlace at part.place runs → IsJoined part (run_behind part at runs)
   unfolding IsJoined
   joined_behind at runs part are place = go (slice_get runs at) refl place.behind
     where
-      joined : (run : RunModel) (b : Bool) → precedes part run ≡ b → IsRow log got base Named run → part.place < run.first → IsJoined part (if b then Some run else None)
+      joined : (run : RunModel) (b : Bool) → precedes part run ≡ b → IsPieceRow log got base Named run → part.place < run.first → IsJoined part (if b then Some run else None)
       joined run true e row offset =
           let (rest, inside) = both (((run.first - part.place) == 1) && (run.number == part.number) && not part.is_end) (not run.has_beginning) e in
           let (rest', open_end) = both (((run.first - part.place) == 1) && (run.number == part.number)) (not part.is_end) rest in
@@ -145,7 +145,7 @@ module _ (queued : List Message) (log : List Slot) (cut : Cut queued log) (told 
       go (Some run) e offset = joined run (precedes part run) refl (row_at runs at run are e) offset
 
   -- a piece that follows is of the same message
-  follows_on : (front : RunModel) (f : IsRow log got base Named front) (n : ℕ) (piece : Piece) → at_place n log ≡ Some (Some piece) → n ≡ f.last_offset + 1 → 0 < piece.start → piece.place ≡ f.head.place
+  follows_on : (front : RunModel) (f : IsPieceRow log got base Named front) (n : ℕ) (piece : Piece) → at_place n log ≡ Some (Some piece) → n ≡ f.last_offset + 1 → 0 < piece.start → piece.place ≡ f.head.place
   follows_on front f n piece at next inside =
       let before = cut.rows n piece (omega arith) at inside in
       let place_is : before.earlier ≡ f.last_offset = omega (arith, before.is) in
@@ -156,9 +156,9 @@ module _ (queued : List Message) (log : List Slot) (cut : Cut queued log) (told 
 
   -- a row, whose message this is
   MergedRow : ℕ → RunModel → Type 0
-  MergedRow place run = (row : IsRow log got base Named run) × (row.head.place ≡ place)
+  MergedRow place run = (row : IsPieceRow log got base Named run) × (row.head.place ≡ place)
 
-  merged_row : (front : Option RunModel) (part : PartModel) (back : Option RunModel) (is : IsPart log base Named part) → Has is.offset got → Joins part front → IsJoined part back
+  merged_row : (front : Option RunModel) (part : PartModel) (back : Option RunModel) (is : IsPart log base Named part) → HasEntry is.offset got → Joins part front → IsJoined part back
       → MergedRow is.piece.place (merged front part back)
   unfolding Joins IsJoined MergedRow single_row chained_row
   merged_row None part None is has f b = (single_row part is has, refl)
@@ -209,13 +209,13 @@ module _ (queued : List Message) (log : List Slot) (cut : Cut queued log) (told 
         };
       }
 
-  pub outcome_rows : (part : PartModel) (old new : List RunModel) (outcome : Assembled) (at : ℕ) (is : IsPart log base Named part) → Has is.offset got → AreRows log got base Named old → IsPlace at part.place old → AddsAt at part old outcome new
+  pub outcome_rows : (part : PartModel) (old new : List RunModel) (outcome : Assembled) (at : ℕ) (is : IsPart log base Named part) → HasEntry is.offset got → AreRows log got base Named old → IsRunPlace at part.place old → AddsAt at part old outcome new
       → AreRows log got base Named new × MakesQueued queued log got Named is.piece.place outcome
   unfolding MergedRow
   outcome_rows part old new part_dropped at is has are place adds = (subst (λ (l : List RunModel). AreRows log got base Named l) (sym adds.1) are, tt)
   outcome_rows part old new part_kept at is has are place adds =
       let row = merged_row (run_before at old part) part (run_behind part at old) is has (joins_before at old part are place) (joined_behind at old part are place) in
-      let row' = subst (λ (r : RunModel). IsRow log got base Named r) (sym (same_merged at old part)) row.0 in (
+      let row' = subst (λ (r : RunModel). IsPieceRow log got base Named r) (sym (same_merged at old part)) row.0 in (
         subst (λ (l : List RunModel). AreRows log got base Named l) (sym adds.2)
             (rows_both (take (front_end (is_some (run_before at old part)) at) old) _ (rows_take (front_end (is_some (run_before at old part)) at) old are)
             (row', rows_drop (back_start (is_some (run_behind part at old)) at) old are)),

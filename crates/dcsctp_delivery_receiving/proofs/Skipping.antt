@@ -11,10 +11,10 @@ use Rattle.dcsctp_spec_lemmas.specs.spec.queues.Numbers.{number_near, short_numb
 use Rattle.dcsctp_spec_lemmas.specs.spec.queues.Runs.{RunModel, WholeModel, behind_place}
 use Rattle.dcsctp_spec_lemmas.specs.spec.queues.IncomingStreams.{StreamModel, new_stream, delivered_as, due, next_past, skipped_stream, skipped, skip_deliveries}
 use Rattle.dcsctp_spec_lemmas.specs.spec.queues.Incoming.{IncomingModel, stream_on, skipped_on, skipped_by, deliveries_by, MovesOn, is_named, ResetsStreams}
-use Rattle.dcsctp_delivery_sending.specs.Places.{Has, set_at}
+use Rattle.dcsctp_delivery_sending.specs.Places.{HasEntry, set_at}
 use Rattle.dcsctp_delivery_sending.specs.Log.{Message, Piece, History}
 use Rattle.dcsctp_delivery_receiving.specs.Rows.{AreRows}
-use Rattle.dcsctp_delivery_receiving.specs.Ready.{IsOn, IsApart, IsOfStream, fresh, Reads, ordered_base, unordered_base, Names, AreNamed, StreamRows, AreDistinct, WereQueued, StreamHolds, HoldsAll, Holds}
+use Rattle.dcsctp_delivery_receiving.specs.Ready.{IsOn, IsApart, IsOfStream, fresh, ReadsMids, ordered_base, unordered_base, NamesCurrent, AreNamed, StreamRows, AreDistinct, WereQueued, StreamHolds, HoldsAll, HoldsIncoming}
 use Rattle.dcsctp_delivery_sending.proofs.Places.{decide, set_same, set_other}
 use Rattle.dcsctp_delivery_receiving.proofs.Distinct.{has_left, has_either, appended, distinct_left, distinct_apart, distinct_front}
 use Rattle.dcsctp_delivery_receiving.proofs.Reading.{reads_moved, reads_past, reads_due}
@@ -73,7 +73,7 @@ module _ (queued : List Message) (history : History) (got : List ℕ) (base : �
         rows = holds.rows;
         places = holds.places ++ leaves.more;
         were_queued = leaves.were;
-        spent = λ q h. elim (has_either q (read ++ holds.places) leaves.more (subst (λ (l : List ℕ). Has q l) (sym (appended read holds.places leaves.more)) h)) [
+        spent = λ q h. elim (has_either q (read ++ holds.places) leaves.more (subst (λ (l : List ℕ). HasEntry q l) (sym (appended read holds.places leaves.more)) h)) [
           | inl l ↦ holds.spent q l
           | inr r ↦ leaves.spent q r
         ];
@@ -99,8 +99,8 @@ module _ (queued : List Message) (history : History) (got : List ℕ) (base : �
             (subst (λ (k : ℕ). WereQueued queued split.front (map (delivered_as k) (due next stream.waiting))) (sym holds.rows.is) split.due_queued);
         wait = split.left_queued;
         once = subst (λ (l : List ℕ). AreDistinct l) (sym (appended all split.front split.back)) (subst (λ (l : List ℕ). AreDistinct (all ++ l)) split.parts once);
-        on = λ q h. wait_on_stream queued history got id q waits stream.waiting holds.wait (subst (λ (l : List ℕ). Has q l) (sym split.parts) (has_left q split.front split.back h));
-        spent = λ q h. wait_spent queued history got id q waits stream.waiting holds.wait (subst (λ (l : List ℕ). Has q l) (sym split.parts) (has_left q split.front split.back h));
+        on = λ q h. wait_on_stream queued history got id q waits stream.waiting holds.wait (subst (λ (l : List ℕ). HasEntry q l) (sym split.parts) (has_left q split.front split.back h));
+        spent = λ q h. wait_spent queued history got id q waits stream.waiting holds.wait (subst (λ (l : List ℕ). HasEntry q l) (sym split.parts) (has_left q split.front split.back h));
       }
 
   skipped_leaves : (all places waits : List ℕ) (id : ℕ) (entry : SkippedTo) (stream : StreamModel) (before : List MessageContent) → StreamHolds queued history got base id waits stream → WereQueued queued places before → AreDistinct (all ++ waits)
@@ -114,7 +114,7 @@ module _ (queued : List Message) (history : History) (got : List ℕ) (base : �
   skipped_leaves all places waits id (Mid on true mid) stream before holds were once =
       leaves_none queued history got all places waits id stream.waiting before (before ++ []) were holds.wait once (append-nil before)
 
-  skipped_rows : (passed : ℕ) (entry : SkippedTo) (waits : List ℕ) (stream : StreamModel) → Names history passed entry → StreamHolds queued history got base (skipped_stream entry) waits stream → StreamRows history got base (skipped_stream entry) (skipped entry stream)
+  skipped_rows : (passed : ℕ) (entry : SkippedTo) (waits : List ℕ) (stream : StreamModel) → NamesCurrent history passed entry → StreamHolds queued history got base (skipped_stream entry) waits stream → StreamRows history got base (skipped_stream entry) (skipped entry stream)
   skipped_rows passed (Ssn id ssn) waits stream (skips, current) holds =
       record {
         is = holds.rows.is;
@@ -129,7 +129,7 @@ module _ (queued : List Message) (history : History) (got : List ℕ) (base : �
         ordered = rows_filter (ordered_base base) (IsOn history id.0) (λ run. not (nat_le run.number (number_near stream.next mid))) stream.ordered holds.rows.ordered;
         unordered = holds.rows.unordered;
         next = reads_due queued history got id.0 (next_past (number_near stream.next mid) stream.next) waits stream.waiting holds.wait
-            (subst (λ (k : ℕ). Reads history id.0 false (next_past (number_near stream.next k) stream.next)) (sym skips.is) (reads_past history id.0 false skips.number skips.piece skips.at (sym skips.stream) (sym skips.unordered) current stream.next holds.rows.next));
+            (subst (λ (k : ℕ). ReadsMids history id.0 false (next_past (number_near stream.next k) stream.next)) (sym skips.is) (reads_past history id.0 false skips.number skips.piece skips.at (sym skips.stream) (sym skips.unordered) current stream.next holds.rows.next));
         last = holds.rows.last;
       }
   skipped_rows passed (Mid id true mid) waits stream (skips, current) holds =
@@ -138,7 +138,7 @@ module _ (queued : List Message) (history : History) (got : List ℕ) (base : �
         ordered = holds.rows.ordered;
         unordered = rows_filter (ordered_base base) (IsApart history id.0) (λ run. not (nat_le run.number (number_near stream.last_unordered mid))) stream.unordered holds.rows.unordered;
         next = holds.rows.next;
-        last = subst (λ (k : ℕ). Reads history id.0 true (number_near stream.last_unordered k)) (sym skips.is) (reads_moved history id.0 true skips.number skips.piece skips.at (sym skips.stream) (sym skips.unordered) current stream.last_unordered holds.rows.last);
+        last = subst (λ (k : ℕ). ReadsMids history id.0 true (number_near stream.last_unordered k)) (sym skips.is) (reads_moved history id.0 true skips.number skips.piece skips.at (sym skips.stream) (sym skips.unordered) current stream.last_unordered holds.rows.last);
       }
 
   on_itself : (entry : SkippedTo) (stream : StreamModel) → skipped_on entry (skipped_stream entry) stream ≡ skipped entry stream
@@ -156,7 +156,7 @@ module _ (queued : List Message) (history : History) (got : List ℕ) (base : �
       go false e = refl
 
   one_skipped : (passed : ℕ) (entry : SkippedTo) (streams : ℕ → StreamModel) (unordered : List RunModel) (ready : List MessageContent) → HoldsAll queued history got base read streams unordered ready
-      → Names history passed entry → HoldsAll queued history got base read (λ id. skipped_on entry id (streams id)) unordered (ready ++ skip_deliveries entry (streams (skipped_stream entry)))
+      → NamesCurrent history passed entry → HoldsAll queued history got base read (λ id. skipped_on entry id (streams id)) unordered (ready ++ skip_deliveries entry (streams (skipped_stream entry)))
   one_skipped passed entry streams unordered ready holds names =
       let id : ℕ = skipped_stream entry in
       let here : StreamHolds queued history got base id (holds.waits id) (streams id) = holds.streams_hold id in
@@ -185,7 +185,7 @@ module _ (queued : List Message) (history : History) (got : List ℕ) (base : �
   apart_rows streams unordered others ready holds rows =
       record { waits = holds.waits; streams_hold = holds.streams_hold; rows = rows; places = holds.places; were_queued = holds.were_queued; spent = holds.spent; once = holds.once }
 
-  pub skips_on : (tsn : ℕ) (entries : List SkippedTo) (old new : IncomingModel) → AreNamed history entries → Holds queued history got base read old → MovesOn tsn entries old new → Holds queued history got base read new
+  pub skips_on : (tsn : ℕ) (entries : List SkippedTo) (old new : IncomingModel) → AreNamed history entries → HoldsIncoming queued history got base read old → MovesOn tsn entries old new → HoldsIncoming queued history got base read new
   skips_on tsn entries old new names holds moves =
       let skipped_all = all_skipped entries (λ id. stream_on id old.streams) old.unordered old.ready holds names in
       let rows : AreRows history.log got (unordered_base base) IsOfStream new.unordered = subst (λ (l : List RunModel). AreRows history.log got (unordered_base base) IsOfStream l) (sym moves.unordered) (rows_behind (unordered_base base) IsOfStream (number_near old.last_tsn_number tsn) old.unordered holds.rows) in
@@ -217,7 +217,7 @@ module _ (queued : List Message) (history : History) (got : List ℕ) (base : �
       left_once id true = distinct_front (read ++ holds.places) (holds.waits id) (holds.once id)
       left_once id false = holds.once id
 
-  pub resets_on : (streams : List ℕ) (old new : IncomingModel) → Holds queued history got base read old → ResetsStreams streams old new → Holds queued history got base read new
+  pub resets_on : (streams : List ℕ) (old new : IncomingModel) → HoldsIncoming queued history got base read old → ResetsStreams streams old new → HoldsIncoming queued history got base read new
   resets_on [] old new holds resets =
       subst (λ (l : List MessageContent). HoldsAll queued history got base read (λ id. stream_on id new.streams) new.unordered l) (sym resets.kept.ready)
       (renewed (λ id. true) (λ id. stream_on id old.streams) (λ id. stream_on id new.streams) old.unordered new.unordered old.ready resets.streams

@@ -4,16 +4,16 @@ use Rattle.std.specs.Prelude.{◌&&◌, not, Option, None, Some, if◌then◌els
 use Rattle.std.proofs.lemmas.Bool.{eqb-true}
 use Rattle.std.proofs.lemmas.Bool.Decides.{eqb_tells, leb_tells}
 use Rattle.dcsctp_spec_lemmas.specs.spec.queues.Runs.{RunModel, PartModel, WholeModel, Assembled, part_dropped, part_kept, message_whole, AddsPart, AddsAt, entry_before, follows, following, run_before, run_behind, merged}
-use Rattle.dcsctp_delivery_sending.specs.Places.{Has, at_place}
+use Rattle.dcsctp_delivery_sending.specs.Places.{HasEntry, at_place}
 use Rattle.dcsctp_delivery_sending.specs.Log.{Message, Piece, Slot, Cut}
-use Rattle.dcsctp_delivery_receiving.specs.Rows.{IsPart, IsRow, AreRows, Spent, MakesQueued}
+use Rattle.dcsctp_delivery_receiving.specs.Rows.{IsPart, IsPieceRow, AreRows, Spent, MakesQueued}
 use Rattle.dcsctp_delivery_receiving.proofs.Chaining.{OneKind}
 use Rattle.dcsctp_delivery_receiving.proofs.Joining.{both}
 use Rattle.dcsctp_delivery_receiving.proofs.Rows.{outcome_rows}
 
 -- ---- what was handled stays so
 
-pub row_got : (log : List Slot) (got : List ℕ) (n : ℕ) (base : ℕ → ℕ) (Named : Piece → ℕ → Type 0) (run : RunModel) → IsRow log got base Named run → IsRow log (n ∷ got) base Named run
+pub row_got : (log : List Slot) (got : List ℕ) (n : ℕ) (base : ℕ → ℕ) (Named : Piece → ℕ → Type 0) (run : RunModel) → IsPieceRow log got base Named run → IsPieceRow log (n ∷ got) base Named run
 row_got log got n base Named run row =
     record {
       offset = row.offset;
@@ -126,7 +126,7 @@ module _ (queued : List Message) (log : List Slot) (cut : Cut queued log) (got :
           ]
 
   -- so it was handled
-  pub was_handled : (n : ℕ) (f : Piece) → at_place n log ≡ Some (Some f) → f.place ≡ place → Has n got
+  pub was_handled : (n : ℕ) (f : Piece) → at_place n log ≡ Some (Some f) → f.place ≡ place → HasEntry n got
   was_handled n f at is = spent.covered n (not_before n f at is) (between n f at is)
 
 pub stay_rows : (queued : List Message) (log : List Slot) → Cut queued log → OneKind log

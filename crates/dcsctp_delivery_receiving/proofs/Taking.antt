@@ -12,12 +12,12 @@ use Rattle.dcsctp_spec_lemmas.specs.spec.queues.Ranges.{IsBeyond, is_received}
 use Rattle.dcsctp_spec_lemmas.specs.spec.queues.Tracker.{has_received, TrackerState, new_tracker, is_forward, is_valid_tsn, after_forward, delay_over, moved_forward}
 use Rattle.dcsctp_spec_lemmas.specs.spec.queues.Transfer.{Transfer}
 use Rattle.dcsctp_spec_lemmas.specs.spec.endpoint.TransferMoves.{SkipsWhere, MovesWhere, MovesForward}
-use Rattle.dcsctp_delivery_sending.specs.Places.{Has}
+use Rattle.dcsctp_delivery_sending.specs.Places.{HasEntry}
 use Rattle.dcsctp_delivery_sending.specs.Log.{Message, History}
 use Rattle.dcsctp_delivery_sending.specs.Numbers.{AreCurrent}
-use Rattle.dcsctp_delivery_receiving.specs.Ready.{AreDistinct, WereQueued, WasQueued, Holds}
+use Rattle.dcsctp_delivery_receiving.specs.Ready.{AreDistinct, WereQueued, WasQueued, HoldsIncoming}
 use Rattle.dcsctp_delivery_receiving.specs.Tracked.{tracked, Tracks}
-use Rattle.dcsctp_delivery_receiving.specs.Received.{Reassembles, untouched, placed, Defers, WaitBeyond, ForwardsWait, Received, Few, Reads}
+use Rattle.dcsctp_delivery_receiving.specs.Received.{Reassembles, untouched, placed, DefersData, WaitBeyond, ForwardsWait, HasReceived, Few, ReadsQueued}
 use Rattle.dcsctp_delivery_receiving.proofs.Tracked.{delayed_tracks}
 use Rattle.dcsctp_delivery_receiving.proofs.Current.{past_kept}
 use Rattle.dcsctp_delivery_receiving.proofs.Skipping.{new_rows}
@@ -27,7 +27,7 @@ pub nothing_passed : (first count cumulative tsn : ℕ) → first < 2 ^ 32 → c
 nothing_passed first count cumulative tsn small few reached started is = grind (arith, nat_tests, is)
 
 pub passing_nothing : (queued : List Message) (history : History) (first : ℕ) (f : Few history first) (read : List ℕ) (tsn : ℕ) (entries : List SkippedTo) (old new : Transfer) → tsn ≡ (first + 0 + (2 ^ 32 - 1)) % 2 ^ 32
-    → Received queued history first read old.tracker old.reassembly → MovesForward tsn entries old new → Received queued history first read new.tracker new.reassembly
+    → HasReceived queued history first read old.tracker old.reassembly → MovesForward tsn entries old new → HasReceived queued history first read new.tracker new.reassembly
 passing_nothing queued history first f read tsn entries old new is r moves = go (is_valid_tsn old.tracker.cumulative tsn) moves
   where
     none : is_forward old.tracker.cumulative tsn ≡ false
@@ -39,7 +39,7 @@ passing_nothing queued history first f read tsn entries old new is r moves = go 
     delayed : Tracks first (length history.log) r.taken (delay_over old.tracker)
     delayed = delayed_tracks first (length history.log) r.taken old.tracker r.tracks
 
-    kept : Received queued history first read (delay_over old.tracker) old.reassembly
+    kept : HasReceived queued history first read (delay_over old.tracker) old.reassembly
     kept =
         record {
           taken = r.taken;
@@ -57,12 +57,12 @@ passing_nothing queued history first f read tsn entries old new is r moves = go 
           old = r.old;
         }
 
-    go : (b : Bool) → MovesWhere b tsn entries old new → Received queued history first read new.tracker new.reassembly
-    go false same = subst (λ (t : Transfer). Received queued history first read t.tracker t.reassembly) (sym same) r
+    go : (b : Bool) → MovesWhere b tsn entries old new → HasReceived queued history first read new.tracker new.reassembly
+    go false same = subst (λ (t : Transfer). HasReceived queued history first read t.tracker t.reassembly) (sym same) r
     go true goes =
         let same : new.reassembly ≡ old.reassembly = subst (λ (c : Bool). SkipsWhere c tsn entries old.reassembly new.reassembly) none goes.reassembly in
-        subst (λ (k : TrackerState). Received queued history first read k new.reassembly) (sym (ap (λ (k : Transfer). k.tracker) goes.rest ∙ now))
-        (subst (λ (s : ReassemblyState). Received queued history first read (delay_over old.tracker) s) (sym same) kept)
+        subst (λ (k : TrackerState). HasReceived queued history first read k new.reassembly) (sym (ap (λ (k : Transfer). k.tracker) goes.rest ∙ now))
+        (subst (λ (s : ReassemblyState). HasReceived queued history first read (delay_over old.tracker) s) (sym same) kept)
 
 -- ---- what the user takes
 
@@ -70,15 +70,15 @@ passing_nothing queued history first f read tsn entries old new is r moves = go 
 record Taken' (queued : List Message) (history : History) (got : List ℕ) (base : ℕ) (read : List ℕ) (incoming : IncomingModel) (message : MessageContent) (messages : List MessageContent) : Type 0 where
   place : ℕ
   was : WasQueued queued place message
-  fresh : Has place read → ⊥
-  holds : Holds queued history got base (read ++ place ∷ []) (record incoming { ready = messages })
+  fresh : HasEntry place read → ⊥
+  holds : HoldsIncoming queued history got base (read ++ place ∷ []) (record incoming { ready = messages })
 
 taken_first : (queued : List Message) (history : History) (got : List ℕ) (base : ℕ) (read : List ℕ) (incoming : IncomingModel) (message : MessageContent) (messages : List MessageContent) → incoming.ready ≡ message ∷ messages
-    → Holds queued history got base read incoming → Taken' queued history got base read incoming message messages
+    → HoldsIncoming queued history got base read incoming → Taken' queued history got base read incoming message messages
 taken_first queued history got base read incoming message messages is holds =
     go holds.places refl (subst (λ (l : List MessageContent). WereQueued queued holds.places l) is holds.were_queued)
   where
-    not_twice : (p : ℕ) (xs ys : List ℕ) → AreDistinct (xs ++ (p ∷ ys)) → Has p xs → ⊥
+    not_twice : (p : ℕ) (xs ys : List ℕ) → AreDistinct (xs ++ (p ∷ ys)) → HasEntry p xs → ⊥
     not_twice p [] ys distinct h = h
     not_twice p (x ∷ xs) ys distinct h =
         elim h [
@@ -100,16 +100,16 @@ taken_first queued history got base read incoming message messages is holds =
             rows = holds.rows;
             places = places;
             were_queued = were.1;
-            spent = λ q h. holds.spent q (subst (λ (l : List ℕ). Has q l) (sym all) h);
+            spent = λ q h. holds.spent q (subst (λ (l : List ℕ). HasEntry q l) (sym all) h);
             once = λ id. subst (λ (l : List ℕ). AreDistinct (l ++ holds.waits id)) all (holds.once id);
           };
         }
 
 pub reads_on : (queued : List Message) (history : History) (first : ℕ) (read : List ℕ) (tracker : TrackerState) (reassembly : ReassemblyState) (message : MessageContent) (messages : List MessageContent)
-    → reassembly.incoming.ready ≡ message ∷ messages → Received queued history first read tracker reassembly → Reads queued history first read tracker reassembly message messages
+    → reassembly.incoming.ready ≡ message ∷ messages → HasReceived queued history first read tracker reassembly → ReadsQueued queued history first read tracker reassembly message messages
 reads_on queued history first read tracker reassembly message messages is r = go r.holds
   where
-    go : Reassembles queued history first r.got read reassembly.incoming → Reads queued history first read tracker reassembly message messages
+    go : Reassembles queued history first r.got read reassembly.incoming → ReadsQueued queued history first read tracker reassembly message messages
     go (placed base at holds) =
         let t = taken_first queued history r.got base read reassembly.incoming message messages is holds in
         record {
@@ -144,7 +144,7 @@ reads_on queued history first read tracker reassembly message messages is r = go
 -- ---- a new association
 
 pub nothing_received : (options : Options) (queued : List Message) (history : History) (first size : ℕ) → first < 2 ^ 32 → AreCurrent history history.log
-    → Received queued history first [] (new_tracker options first) (new_reassembly size)
+    → HasReceived queued history first [] (new_tracker options first) (new_reassembly size)
 nothing_received options queued history first size small are =
     record {
       taken = [];
@@ -181,7 +181,7 @@ nothing_received options queued history first size small are =
 
 -- when an acknowledgement is due is another matter
 pub tracked_so : (queued : List Message) (history : History) (first : ℕ) (read : List ℕ) (tracker now : TrackerState) (reassembly : ReassemblyState) → now.cumulative ≡ tracker.cumulative → now.ranges ≡ tracker.ranges
-    → Received queued history first read tracker reassembly → Received queued history first read now reassembly
+    → HasReceived queued history first read tracker reassembly → HasReceived queued history first read now reassembly
 tracked_so queued history first read tracker now reassembly same same' r =
     record {
       taken = r.taken;
@@ -208,8 +208,8 @@ tracked_so queued history first read tracker now reassembly same same' r =
     alike : (number : ℕ) → has_received now number ≡ has_received tracker number
     alike number = ap (λ (c : ℕ). is_received c number now.ranges) same ∙ ap (λ (l : List TsnRange). is_received tracker.cumulative number l) same'
 
-pub deferring_keeps : (queued : List Message) (history : History) (first : ℕ) (read : List ℕ) (last_tsn : ℕ) (streams : List ℕ) (tracker : TrackerState) (reassembly : ReassemblyState) → Received queued history first read tracker reassembly
-    → Received queued history first read tracker (deferring last_tsn streams reassembly)
+pub deferring_keeps : (queued : List Message) (history : History) (first : ℕ) (read : List ℕ) (last_tsn : ℕ) (streams : List ℕ) (tracker : TrackerState) (reassembly : ReassemblyState) → HasReceived queued history first read tracker reassembly
+    → HasReceived queued history first read tracker (deferring last_tsn streams reassembly)
 deferring_keeps queued history first read last_tsn streams tracker reassembly r =
     record {
       taken = r.taken;
@@ -235,6 +235,6 @@ deferring_keeps queued history first read last_tsn streams tracker reassembly r 
     still_kept None wait = tt
     still_kept (Some d) wait = wait
 
-    go : (d : Option DeferralModel) (later : List ℕ) → Defers history first later (waiting_of d) → Defers history first later (waiting_of (entered last_tsn streams d))
+    go : (d : Option DeferralModel) (later : List ℕ) → DefersData history first later (waiting_of d) → DefersData history first later (waiting_of (entered last_tsn streams d))
     go None later defers = defers
     go (Some d) later defers = defers

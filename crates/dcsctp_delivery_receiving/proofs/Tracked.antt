@@ -5,13 +5,13 @@ use Rattle.std.proofs.lemmas.Bool.Decides.{nat_tests, leb_tells}
 use Rattle.dcsctp_spec_lemmas.specs.types.declared.tracking.TsnRange.{TsnRange}
 use Rattle.dcsctp_spec_lemmas.specs.spec.queues.Numbers.{number_near}
 use Rattle.dcsctp_spec_lemmas.specs.spec.queues.Ranges.{IsBeyond, is_in, is_received, received}
-use Rattle.dcsctp_spec_lemmas.specs.spec.queues.Tracker.{TrackerState, has_received, number_of, is_new_tsn, observed, is_forward, moved_forward, delay_over, after_forward}
+use Rattle.dcsctp_spec_lemmas.specs.spec.queues.Tracker.{TrackerState, has_received, nearest_number, is_new_tsn, observed, is_forward, moved_forward, delay_over, after_forward}
 use Rattle.dcsctp_spec_lemmas.proofs.RangesLemmas.{received_beyond, received_members, forwarded_beyond, forwarded_members}
-use Rattle.dcsctp_delivery_sending.specs.Places.{Has}
+use Rattle.dcsctp_delivery_sending.specs.Places.{HasEntry}
 use Rattle.dcsctp_delivery_receiving.specs.Tracked.{tracked, Tracks}
 
 pub number_is : (first count offset cumulative : ℕ) → first < 2 ^ 32 → count < 2 ^ 31 → offset < count → cumulative + 1 ≤ tracked first count → tracked first 0 ≤ cumulative + 1
-    → number_of cumulative ((first + offset) % 2 ^ 32) ≡ tracked first offset
+    → nearest_number cumulative ((first + offset) % 2 ^ 32) ≡ tracked first offset
 number_is first count offset cumulative small few below reached started = grind (arith, nat_tests)
 
 -- the number after those before the ranges is missing
@@ -55,7 +55,7 @@ not_lower old new Fresh beyond members =
 -- a set of received numbers that grew by such as were sent
 grown : (first count : ℕ) (taken now : List ℕ) (old new : TrackerState) (Fresh : ℕ → Bool) → Tracks first count taken old → IsBeyond new.cumulative new.ranges
     → ((other : ℕ) → has_received new other ≡ (has_received old other || Fresh other)) → ((other : ℕ) → Fresh other ≡ true → other + 1 ≤ tracked first count)
-    → ((offset : ℕ) → Has offset now → has_received new (tracked first offset) ≡ true) → Tracks first count now new
+    → ((offset : ℕ) → HasEntry offset now → has_received new (tracked first offset) ≡ true) → Tracks first count now new
 grown first count taken now old new Fresh tracks beyond members fresh received =
     let sent : (number : ℕ) → has_received new number ≡ true → number + 1 ≤ tracked first count = λ number is. go number (has_received old number) refl (sym (members number) ∙ is) in
     record {
@@ -84,12 +84,12 @@ equals n = grind (arith, nat_tests)
 is_equal : (m n : ℕ) → (m == n) ≡ true → m ≡ n
 is_equal m n e = grind (arith, nat_tests, e)
 
-is_ahead : (cumulative tsn : ℕ) → is_forward cumulative tsn ≡ true → cumulative < number_of cumulative tsn
+is_ahead : (cumulative tsn : ℕ) → is_forward cumulative tsn ≡ true → cumulative < nearest_number cumulative tsn
 is_ahead cumulative tsn forward = grind (arith, nat_tests, forward)
 
 pub new_is_new : (first count offset : ℕ) (immediate : Bool) (taken : List ℕ) (tracker : TrackerState) → first < 2 ^ 32 → count < 2 ^ 31 → offset < count → Tracks first count taken tracker
     → Tracks first count (offset ∷ taken) (observed ((first + offset) % 2 ^ 32) immediate tracker)
-    × (is_new_tsn ((first + offset) % 2 ^ 32) tracker ≡ true → Has offset taken → ⊥)
+    × (is_new_tsn ((first + offset) % 2 ^ 32) tracker ≡ true → HasEntry offset taken → ⊥)
 new_is_new first count offset immediate taken tracker small few below tracks = (
   grown first count taken (offset ∷ taken) tracker (observed tsn immediate tracker) (λ other. other == number) tracks (received_beyond number tracker.cumulative tracker.ranges tracks.beyond) members
       (λ other e. (let same : other ≡ number = is_equal other number e in omega (arith, here)))
@@ -108,7 +108,7 @@ new_is_new first count offset immediate taken tracker small few below tracks = (
     tsn = (first + offset) % 2 ^ 32
 
     number : ℕ
-    number = number_of tracker.cumulative ((first + offset) % 2 ^ 32)
+    number = nearest_number tracker.cumulative ((first + offset) % 2 ^ 32)
 
     here : number ≡ tracked first offset
     here = number_is first count offset tracker.cumulative small few below tracks.reached tracks.started
@@ -126,7 +126,7 @@ passing_keeps first count offset taken tracker small few below tracks forward =
     (λ k h. forwarded_members number tracker.cumulative tracker.ranges ahead tracks.beyond (tracked first k) ∙ still_received (has_received tracker (tracked first k)) (nat_le (tracked first k) number) (tracks.received k h)))
   where
     number : ℕ
-    number = number_of tracker.cumulative ((first + offset) % 2 ^ 32)
+    number = nearest_number tracker.cumulative ((first + offset) % 2 ^ 32)
 
     here : number ≡ tracked first offset
     here = number_is first count offset tracker.cumulative small few below tracks.reached tracks.started
@@ -145,17 +145,17 @@ passing_keeps first count offset taken tracker small few below tracks forward =
 
 pub observed_up : (tsn : ℕ) (immediate : Bool) (tracker : TrackerState) → IsBeyond tracker.cumulative tracker.ranges → tracker.cumulative ≤ (observed tsn immediate tracker).cumulative
 observed_up tsn immediate tracker beyond =
-    not_lower tracker (observed tsn immediate tracker) (λ other. other == number_of tracker.cumulative tsn) (received_beyond (number_of tracker.cumulative tsn) tracker.cumulative tracker.ranges beyond)
-    (received_members (number_of tracker.cumulative tsn) tracker.cumulative tracker.ranges beyond)
+    not_lower tracker (observed tsn immediate tracker) (λ other. other == nearest_number tracker.cumulative tsn) (received_beyond (nearest_number tracker.cumulative tsn) tracker.cumulative tracker.ranges beyond)
+    (received_members (nearest_number tracker.cumulative tsn) tracker.cumulative tracker.ranges beyond)
 
 pub forward_up : (tsn : ℕ) (tracker : TrackerState) → IsBeyond tracker.cumulative tracker.ranges → tracker.cumulative ≤ (after_forward tsn tracker).cumulative
 forward_up tsn tracker beyond = go (is_forward tracker.cumulative tsn) refl
   where
     moved : is_forward tracker.cumulative tsn ≡ true → tracker.cumulative ≤ (moved_forward tsn tracker).cumulative
     moved is =
-        let ahead : tracker.cumulative < number_of tracker.cumulative tsn = is_ahead tracker.cumulative tsn is in
-        not_lower tracker (moved_forward tsn tracker) (λ other. nat_le other (number_of tracker.cumulative tsn)) (forwarded_beyond (number_of tracker.cumulative tsn) tracker.cumulative tracker.ranges beyond)
-        (forwarded_members (number_of tracker.cumulative tsn) tracker.cumulative tracker.ranges ahead beyond)
+        let ahead : tracker.cumulative < nearest_number tracker.cumulative tsn = is_ahead tracker.cumulative tsn is in
+        not_lower tracker (moved_forward tsn tracker) (λ other. nat_le other (nearest_number tracker.cumulative tsn)) (forwarded_beyond (nearest_number tracker.cumulative tsn) tracker.cumulative tracker.ranges beyond)
+        (forwarded_members (nearest_number tracker.cumulative tsn) tracker.cumulative tracker.ranges ahead beyond)
 
     go : (b : Bool) → is_forward tracker.cumulative tsn ≡ b → tracker.cumulative ≤ (if b then moved_forward tsn tracker else delay_over tracker).cumulative
     go true is = moved is
@@ -165,7 +165,7 @@ forward_up tsn tracker beyond = go (is_forward tracker.cumulative tsn) refl
 pub new_beyond : (first count offset : ℕ) (taken : List ℕ) (tracker : TrackerState) → first < 2 ^ 32 → count < 2 ^ 31 → offset < count → Tracks first count taken tracker
     → is_new_tsn ((first + offset) % 2 ^ 32) tracker ≡ true → tracker.cumulative < tracked first offset
 new_beyond first count offset taken tracker small few below tracks new =
-    let number : ℕ = number_of tracker.cumulative ((first + offset) % 2 ^ 32) in
+    let number : ℕ = nearest_number tracker.cumulative ((first + offset) % 2 ^ 32) in
     let here : number ≡ tracked first offset = number_is first count offset tracker.cumulative small few below tracks.reached tracks.started in
     elim (leb_tells number tracker.cumulative) [
       | inl e ↦
@@ -179,7 +179,7 @@ new_beyond first count offset taken tracker small few below tracks new =
 pub forward_beyond : (first count offset : ℕ) (taken : List ℕ) (tracker : TrackerState) → first < 2 ^ 32 → count < 2 ^ 31 → offset < count → Tracks first count taken tracker
     → is_forward tracker.cumulative ((first + offset) % 2 ^ 32) ≡ true → tracker.cumulative < tracked first offset
 forward_beyond first count offset taken tracker small few below tracks forward =
-    let here : number_of tracker.cumulative ((first + offset) % 2 ^ 32) ≡ tracked first offset = number_is first count offset tracker.cumulative small few below tracks.reached tracks.started in
+    let here : nearest_number tracker.cumulative ((first + offset) % 2 ^ 32) ≡ tracked first offset = number_is first count offset tracker.cumulative small few below tracks.reached tracks.started in
     let ahead = is_ahead tracker.cumulative ((first + offset) % 2 ^ 32) forward in
     omega (arith, here, ahead)
 

@@ -7,7 +7,7 @@ use Rattle.dcsctp_spec_lemmas.specs.spec.queues.Tracker.{TrackerState, is_forwar
 use Rattle.dcsctp_spec_lemmas.specs.spec.queues.Transfer.{Transfer}
 use Rattle.dcsctp_spec_lemmas.specs.spec.endpoint.TransferMoves.{has_room, dropping, ReceivesWhere, SkipsWhere, MovesWhere, ReceivesData, MovesForward}
 use Rattle.dcsctp_delivery_sending.specs.Log.{Message, History}
-use Rattle.dcsctp_delivery_receiving.specs.Received.{Received, Few}
+use Rattle.dcsctp_delivery_receiving.specs.Received.{HasReceived, Few}
 use Rattle.dcsctp_delivery_receiving.proofs.Taking.{nothing_passed}
 use Rattle.dcsctp_delivery_receiving.proofs.Tracked.{observed_up, forward_up}
 
@@ -18,7 +18,7 @@ dropped_up : (b : Bool) (old new : Transfer) → new ≡ dropping b old → old.
 dropped_up true old new same = same_up (dropping true old) new same
 dropped_up false old new same = same_up old new same
 
-pub received_up : (queued : List Message) (history : History) (first : ℕ) (read : List ℕ) (arrival : Arrival) (old new : Transfer) → Received queued history first read old.tracker old.reassembly → ReceivesData arrival old new
+pub received_up : (queued : List Message) (history : History) (first : ℕ) (read : List ℕ) (arrival : Arrival) (old new : Transfer) → HasReceived queued history first read old.tracker old.reassembly → ReceivesData arrival old new
     → old.tracker.cumulative ≤ new.tracker.cumulative
 received_up queued history first read arrival old new r receives = go (has_room arrival.tsn old && is_valid_tsn old.tracker.cumulative arrival.tsn) receives
   where
@@ -26,7 +26,7 @@ received_up queued history first read arrival old new r receives = go (has_room 
     go true takes = subst (λ (t : TrackerState). old.tracker.cumulative ≤ t.cumulative) (sym (ap (λ (t : Transfer). t.tracker) takes.rest)) (observed_up arrival.tsn arrival.immediate_ack old.tracker r.tracks.beyond)
     go false same = dropped_up (old.tracker.follows_rfc && is_valid_tsn old.tracker.cumulative arrival.tsn) old new same
 
-pub forwarded_up : (queued : List Message) (history : History) (first : ℕ) (read : List ℕ) (tsn : ℕ) (entries : List SkippedTo) (old new : Transfer) → Received queued history first read old.tracker old.reassembly
+pub forwarded_up : (queued : List Message) (history : History) (first : ℕ) (read : List ℕ) (tsn : ℕ) (entries : List SkippedTo) (old new : Transfer) → HasReceived queued history first read old.tracker old.reassembly
     → MovesForward tsn entries old new → old.tracker.cumulative ≤ new.tracker.cumulative
 forwarded_up queued history first read tsn entries old new r moves = go (is_valid_tsn old.tracker.cumulative tsn) moves
   where
@@ -35,7 +35,7 @@ forwarded_up queued history first read tsn entries old new r moves = go (is_vali
     go false same = same_up old new same
 
 pub passing_nothing_leaves : (queued : List Message) (history : History) (first : ℕ) → Few history first → (read : List ℕ) (tsn : ℕ) (entries : List SkippedTo) (old new : Transfer) → tsn ≡ (first + 0 + (2 ^ 32 - 1)) % 2 ^ 32
-    → Received queued history first read old.tracker old.reassembly → MovesForward tsn entries old new → new.reassembly ≡ old.reassembly
+    → HasReceived queued history first read old.tracker old.reassembly → MovesForward tsn entries old new → new.reassembly ≡ old.reassembly
 passing_nothing_leaves queued history first f read tsn entries old new is r moves = go (is_valid_tsn old.tracker.cumulative tsn) moves
   where
     none : is_forward old.tracker.cumulative tsn ≡ false

@@ -6,7 +6,7 @@ use Rattle.dcsctp_spec_lemmas.specs.types.queues.Messages.{MessageContent}
 use Rattle.dcsctp_spec_lemmas.specs.types.declared.arrivals.Taken.{Taken}
 use Rattle.dcsctp_spec_lemmas.specs.spec.queues.Runs.{PartModel, WholeModel, Assembled, part_dropped, part_kept, message_whole}
 use Rattle.dcsctp_spec_lemmas.specs.spec.queues.IncomingStreams.{StreamModel, delivered_as, next_after, due, not_due, ready_with, WaitsAmong, TakesWhole, OrderedOutcome, UnorderedOutcome}
-use Rattle.dcsctp_delivery_sending.specs.Places.{Has, at_place}
+use Rattle.dcsctp_delivery_sending.specs.Places.{HasEntry, at_place}
 use Rattle.dcsctp_delivery_sending.specs.Log.{Message, Piece, Slot, History}
 use Rattle.dcsctp_delivery_receiving.specs.Rows.{Spent, IsQueued, MakesQueued}
 use Rattle.dcsctp_delivery_receiving.specs.Ready.{IsOn, IsApart, ordered_base, AreDistinct, WasQueued, WereQueued, WaitQueued, StreamRows, StreamHolds}
@@ -66,7 +66,7 @@ module _ (queued : List Message) (history : History) (got : List ℕ) where
   unfolding OnStream
   on_stream id place whole is = (is.head.message, is.queued_at, is.number)
 
-  pub wait_on_stream : (id p : ℕ) (places : List ℕ) (wholes : List WholeModel) → WaitQueued queued history got id places wholes → Has p places → OnStream queued id p
+  pub wait_on_stream : (id p : ℕ) (places : List ℕ) (wholes : List WholeModel) → WaitQueued queued history got id places wholes → HasEntry p places → OnStream queued id p
   wait_on_stream id p [] [] wait h = absurd h
   wait_on_stream id p [] (w ∷ wholes) wait h = absurd h
   wait_on_stream id p (q ∷ places) [] wait h = absurd wait
@@ -76,7 +76,7 @@ module _ (queued : List Message) (history : History) (got : List ℕ) where
         | inr t ↦ wait_on_stream id p places wholes wait.1 t
       ]
 
-  pub wait_spent : (id p : ℕ) (places : List ℕ) (wholes : List WholeModel) → WaitQueued queued history got id places wholes → Has p places → Spent history.log got p
+  pub wait_spent : (id p : ℕ) (places : List ℕ) (wholes : List WholeModel) → WaitQueued queued history got id places wholes → HasEntry p places → Spent history.log got p
   wait_spent id p [] [] wait h = absurd h
   wait_spent id p [] (w ∷ wholes) wait h = absurd h
   wait_spent id p (q ∷ places) [] wait h = absurd wait
@@ -135,8 +135,8 @@ module _ (queued : List Message) (history : History) (got : List ℕ) where
     pub were : WereQueued queued (places ++ more) after
     pub wait : WaitQueued queued history got id waits waiting
     pub once : AreDistinct ((all ++ more) ++ waits)
-    pub on : (q : ℕ) → Has q more → OnStream queued id q
-    pub spent : (q : ℕ) → Has q more → Spent history.log got q
+    pub on : (q : ℕ) → HasEntry q more → OnStream queued id q
+    pub spent : (q : ℕ) → HasEntry q more → Spent history.log got q
 
   pub leaves_none : (all places waits : List ℕ) (id : ℕ) (waiting : List WholeModel) (before after : List MessageContent) → WereQueued queued places before → WaitQueued queued history got id waits waiting → AreDistinct (all ++ waits)
       → after ≡ before → Leaves all places id waiting after
@@ -152,7 +152,7 @@ module _ (queued : List Message) (history : History) (got : List ℕ) where
       }
 
   leaves_one : (all places waits : List ℕ) (on id p : ℕ) (whole : WholeModel) (waiting : List WholeModel) (before after : List MessageContent) → id ≡ on → WereQueued queued places before → WaitQueued queued history got id waits waiting
-      → IsQueued queued history.log got (OfStream id) p whole → AreDistinct (all ++ waits) → (Has p (all ++ waits) → ⊥) → after ≡ before ++ delivered_as on whole ∷ [] → Leaves all places id waiting after
+      → IsQueued queued history.log got (OfStream id) p whole → AreDistinct (all ++ waits) → (HasEntry p (all ++ waits) → ⊥) → after ≡ before ++ delivered_as on whole ∷ [] → Leaves all places id waiting after
   leaves_one all places waits on id p whole waiting before after same were wait is once fresh e =
       record {
         more = p ∷ [];
@@ -166,7 +166,7 @@ module _ (queued : List Message) (history : History) (got : List ℕ) where
       }
 
   leaves_whole : (all places waits : List ℕ) (id p size : ℕ) (whole : WholeModel) (old new : StreamModel) (before after : List MessageContent) (taken : Taken) → id ≡ old.id → WereQueued queued places before
-      → WaitQueued queued history got id waits old.waiting → IsQueued queued history.log got (IsOn history id) p whole → AreDistinct (all ++ waits) → (Has p (all ++ waits) → ⊥) → TakesWhole whole old before size taken new after
+      → WaitQueued queued history got id waits old.waiting → IsQueued queued history.log got (IsOn history id) p whole → AreDistinct (all ++ waits) → (HasEntry p (all ++ waits) → ⊥) → TakesWhole whole old before size taken new after
       → Leaves all places id new.waiting after
   leaves_whole all places waits id p size whole old new before after taken same were wait is once fresh takes = go (whole.number == old.next) takes.ready takes.waiting
     where
@@ -185,11 +185,11 @@ module _ (queued : List Message) (history : History) (got : List ℕ) where
                 (subst (λ (l : List ℕ). AreDistinct (all ++ (p ∷ l))) split.parts (distinct_with p all waits once fresh));
             on = λ q h. elim h [
               | inl e' ↦ subst (λ (k : ℕ). OnStream queued id k) (sym e') (on_stream id p whole (only_on id p whole is))
-              | inr t ↦ wait_on_stream id q waits old.waiting wait (subst (λ (l : List ℕ). Has q l) (sym split.parts) (has_left q split.front split.back t))
+              | inr t ↦ wait_on_stream id q waits old.waiting wait (subst (λ (l : List ℕ). HasEntry q l) (sym split.parts) (has_left q split.front split.back t))
             ];
             spent = λ q h. elim h [
               | inl e' ↦ subst (λ (k : ℕ). Spent history.log got k) (sym e') is.spent
-              | inr t ↦ wait_spent id q waits old.waiting wait (subst (λ (l : List ℕ). Has q l) (sym split.parts) (has_left q split.front split.back t))
+              | inr t ↦ wait_spent id q waits old.waiting wait (subst (λ (l : List ℕ). HasEntry q l) (sym split.parts) (has_left q split.front split.back t))
             ];
           }
       go false e among =
@@ -198,12 +198,12 @@ module _ (queued : List Message) (history : History) (got : List ℕ) where
           leaves_none all places (take among.at waits ++ p ∷ drop among.at waits) id new.waiting before after were
           (subst (λ (l : List WholeModel). WaitQueued queued history got id (take among.at waits ++ p ∷ drop among.at waits) l) (sym among.waiting) (wait_among id p among.at whole waits old.waiting is wait))
           (subst (λ (l : List ℕ). AreDistinct l) (appended all (take among.at waits) (p ∷ drop among.at waits))
-          (distinct_with p (all ++ take among.at waits) (drop among.at waits) (subst (λ (l : List ℕ). AreDistinct l) (sym split_all) once) (λ h. fresh (subst (λ (l : List ℕ). Has p l) split_all h))))
+          (distinct_with p (all ++ take among.at waits) (drop among.at waits) (subst (λ (l : List ℕ). AreDistinct l) (sym split_all) once) (λ h. fresh (subst (λ (l : List ℕ). HasEntry p l) split_all h))))
           e
 
   -- an ordered part
   pub leaves_ordered : (all places waits : List ℕ) (id p : ℕ) (part : PartModel) (old new : StreamModel) (before after : List MessageContent) (outcome : Assembled) (taken : Taken) → id ≡ old.id
-      → WereQueued queued places before → WaitQueued queued history got id waits old.waiting → MakesQueued queued history.log got (IsOn history id) p outcome → AreDistinct (all ++ waits) → (Has p (all ++ waits) → ⊥)
+      → WereQueued queued places before → WaitQueued queued history got id waits old.waiting → MakesQueued queued history.log got (IsOn history id) p outcome → AreDistinct (all ++ waits) → (HasEntry p (all ++ waits) → ⊥)
       → OrderedOutcome part old before outcome taken new after → Leaves all places id new.waiting after
   leaves_ordered all places waits id p part old new before after part_dropped taken same were wait makes once fresh does =
       leaves_none all places waits id new.waiting before after were (subst (λ (s : StreamModel). WaitQueued queued history got id waits s.waiting) (sym does.0) wait) once does.1
@@ -214,7 +214,7 @@ module _ (queued : List Message) (history : History) (got : List ℕ) where
 
   -- one under a number that another has
   pub leaves_repeated : (all places waits : List ℕ) (on id p : ℕ) (part : PartModel) (waiting : List WholeModel) (before after : List MessageContent) (outcome : Assembled) (taken : Taken) → id ≡ on
-      → WereQueued queued places before → WaitQueued queued history got id waits waiting → MakesQueued queued history.log got (OfStream id) p outcome → AreDistinct (all ++ waits) → (Has p (all ++ waits) → ⊥)
+      → WereQueued queued places before → WaitQueued queued history got id waits waiting → MakesQueued queued history.log got (OfStream id) p outcome → AreDistinct (all ++ waits) → (HasEntry p (all ++ waits) → ⊥)
       → UnorderedOutcome part (delivered_as on) before outcome taken after → Leaves all places id waiting after
   leaves_repeated all places waits on id p part waiting before after part_dropped taken same were wait makes once fresh does = leaves_none all places waits id waiting before after were wait once does.0
   leaves_repeated all places waits on id p part waiting before after part_kept taken same were wait makes once fresh does = leaves_none all places waits id waiting before after were wait once does.0

@@ -7,17 +7,17 @@ use Rattle.dcsctp_spec_lemmas.specs.spec.queues.Arrivals.{Arrival}
 use Rattle.dcsctp_spec_lemmas.specs.spec.queues.Incoming.{stream_on, is_named}
 use Rattle.dcsctp_spec_lemmas.specs.spec.queues.IncomingStreams.{new_stream, skipped_stream}
 use Rattle.dcsctp_spec_lemmas.specs.types.queues.Messages.{MessageContent}
-use Rattle.dcsctp_spec_lemmas.specs.spec.queues.Reassembly.{WaitingModel, DeferralModel, ReassemblyState, waiting_of, skips_of, deferring, with_ready, Leaves}
+use Rattle.dcsctp_spec_lemmas.specs.spec.queues.Reassembly.{WaitingModel, DeferralModel, ReassemblyState, waiting_of, skips_of, deferring, with_ready, EndsDeferral}
 use Rattle.dcsctp_spec_lemmas.specs.types.queues.SendStreams.{Stream}
 use Rattle.dcsctp_spec_lemmas.specs.spec.queues.Tracker.{TrackerState}
 use Rattle.dcsctp_spec_lemmas.specs.spec.queues.Transfer.{Transfer}
 use Rattle.dcsctp_spec_lemmas.specs.spec.endpoint.TransferMoves.{ReceivesData, MovesForward}
-use Rattle.dcsctp_delivery_sending.specs.Places.{Has, at_place}
+use Rattle.dcsctp_delivery_sending.specs.Places.{HasEntry, at_place}
 use Rattle.dcsctp_delivery_sending.specs.Log.{Message, Piece, Slot, Mark, History, Resets}
 use Rattle.dcsctp_delivery_sending.specs.Numbers.{AreOfKind, is_handed_out, stream_named}
-use Rattle.dcsctp_delivery_sending.specs.Queueing.{raised}
+use Rattle.dcsctp_delivery_sending.specs.Queueing.{floors_raised}
 use Rattle.dcsctp_delivery_receiving.specs.Ready.{SkipAll}
-use Rattle.dcsctp_delivery_receiving.specs.Received.{Carries, IsTsn, kept_entries, Few, Received}
+use Rattle.dcsctp_delivery_receiving.specs.Received.{Carries, IsTsn, kept_entries, Few, HasReceived}
 use Rattle.dcsctp_delivery_receiving.specs.Tracked.{tracked}
 
 -- None of these entries skips a message of the stream.
@@ -42,7 +42,7 @@ Unsent log id = (n : ℕ) (f : Piece) → at_place n log ≡ Some (Some f) → f
 -- All pieces of the stream came before a reset of it, up to which all was received.
 pub record IsOver (history : History) (first cumulative id : ℕ) : Type 0 where
   pub mark : Mark
-  pub has : Has mark history.marks
+  pub has : HasEntry mark history.marks
   pub names : Resets mark id
   pub below : (n : ℕ) (f : Piece) → at_place n history.log ≡ Some (Some f) → f.message.stream ≡ id → n < mark.bound
   pub passed : tracked first mark.bound ≤ cumulative + 1
@@ -52,18 +52,18 @@ pub record IsOver (history : History) (first cumulative id : ℕ) : Type 0 where
 -- whatever data comes,
 abbrev pub ClearThroughData : Type 0
 ClearThroughData =
-    (queued : List Message) (history : History) (first id : ℕ) (read : List ℕ) (offset : ℕ) (arrival : Arrival) (old new : Transfer) → Few history first → Received queued history first read old.tracker old.reassembly
+    (queued : List Message) (history : History) (first id : ℕ) (read : List ℕ) (offset : ℕ) (arrival : Arrival) (old new : Transfer) → Few history first → HasReceived queued history first read old.tracker old.reassembly
     → IsOver history first old.tracker.cumulative id → Carries history.log first offset arrival.tsn arrival.chunk → IsClear id old.reassembly → ReceivesData arrival old new → IsClear id new.reassembly
 
 -- whatever is skipped,
 abbrev pub ClearThroughForward : Type 0
 ClearThroughForward =
     (queued : List Message) (history : History) (first id : ℕ) (read : List ℕ) (tsn : ℕ) (entries : List SkippedTo) (old new : Transfer) → AreOfKind true history.log → Few history first
-    → Received queued history first read old.tracker old.reassembly → IsOver history first old.tracker.cumulative id → (is : IsTsn history.log first tsn) → SkipAll history (is.offset + 1) entries → IsClear id old.reassembly → MovesForward tsn entries old new → IsClear id new.reassembly
+    → HasReceived queued history first read old.tracker old.reassembly → IsOver history first old.tracker.cumulative id → (is : IsTsn history.log first tsn) → SkipAll history (is.offset + 1) entries → IsClear id old.reassembly → MovesForward tsn entries old new → IsClear id new.reassembly
 
 -- whatever else is reset,
 abbrev pub ClearThroughResets : Type 0
-ClearThroughResets = (id : ℕ) (streams : List ℕ) (old new : ReassemblyState) → IsClear id old → Leaves streams old new → IsClear id new
+ClearThroughResets = (id : ℕ) (streams : List ℕ) (old new : ReassemblyState) → IsClear id old → EndsDeferral streams old new → IsClear id new
 
 -- is to be reset, or is read.
 abbrev pub ClearThroughRest : Type 0
@@ -82,9 +82,9 @@ IsOwn reset (Some deferral) = deferral.last_tsn ≡ reset.last_tsn
 abbrev pub PerformingClears : Type 0
 PerformingClears =
     (queued : List Message) (history : History) (first id : ℕ) (read : List ℕ) (mark : Mark) (tracker : TrackerState) (old new : ReassemblyState) → AreOfKind true history.log → Few history first
-    → Received queued history first read tracker old → Has mark history.marks → mark.bound ≤ length history.log → mark.begun.reset.last_tsn ≡ (first + mark.bound + (2 ^ 32 - 1)) % 2 ^ 32 → Resets mark id → is_named mark.begun.reset.streams id ≡ true
+    → HasReceived queued history first read tracker old → HasEntry mark history.marks → mark.bound ≤ length history.log → mark.begun.reset.last_tsn ≡ (first + mark.bound + (2 ^ 32 - 1)) % 2 ^ 32 → Resets mark id → is_named mark.begun.reset.streams id ≡ true
     → ((n : ℕ) (f : Piece) → at_place n history.log ≡ Some (Some f) → f.message.stream ≡ id → n < mark.bound)
-    → IsOwn mark.begun.reset old.deferral → Leaves mark.begun.reset.streams old new → IsClear id new
+    → IsOwn mark.begun.reset old.deferral → EndsDeferral mark.begun.reset.streams old new → IsClear id new
 
 -- ---- its messages are numbered from 0 again
 
@@ -93,4 +93,4 @@ abbrev pub RaisingKeeps : Type 0
 RaisingKeeps =
     (queued : List Message) (history : History) (streams : List Stream) (first : ℕ) (read : List ℕ) (tracker : TrackerState) (reassembly : ReassemblyState)
     → ((id : ℕ) → is_handed_out (stream_named id streams).pause ≡ true → Unsent history.log id ⊎ (IsOver history first tracker.cumulative id × IsClear id reassembly))
-    → Received queued history first read tracker reassembly → Received queued (raised streams history) first read tracker reassembly
+    → HasReceived queued history first read tracker reassembly → HasReceived queued (floors_raised streams history) first read tracker reassembly

@@ -10,10 +10,10 @@ use Rattle.dcsctp_spec_lemmas.specs.spec.queues.Runs.{RunModel, WholeModel}
 use Rattle.dcsctp_spec_lemmas.specs.spec.queues.IncomingStreams.{StreamModel, ChunkModel}
 use Rattle.dcsctp_spec_lemmas.specs.types.declared.arrivals.SkippedTo.{SkippedTo}
 use Rattle.dcsctp_spec_lemmas.specs.types.declared.arrivals.SkippedTo.TheVariants.{Ssn, Mid}
-use Rattle.dcsctp_delivery_sending.specs.Numbers.{AreOfKind, Told, IsCurrent}
-use Rattle.dcsctp_spec_lemmas.specs.spec.queues.Incoming.{IncomingModel, stream_on, TakesData, MovesOn, ResetsStreams}
-use Rattle.dcsctp_delivery_sending.specs.Places.{Has, at_place}
-use Rattle.dcsctp_delivery_sending.specs.Log.{Message, Piece, Mark, History, Resets, is_beginning, is_end, bytes_of, Cut}
+use Rattle.dcsctp_delivery_sending.specs.Numbers.{AreOfKind, IsUnambiguous, IsCurrent}
+use Rattle.dcsctp_spec_lemmas.specs.spec.queues.Incoming.{IncomingModel, stream_on, TakesIncomingChunk, MovesOn, ResetsStreams}
+use Rattle.dcsctp_delivery_sending.specs.Places.{HasEntry, at_place}
+use Rattle.dcsctp_delivery_sending.specs.Log.{Message, Piece, Mark, History, Resets, is_beginning, is_end, piece_bytes, Cut}
 use Rattle.dcsctp_delivery_receiving.specs.Rows.{AreRows, Spent, IsQueued}
 
 -- With interleaving the piece is of an ordered or of an unordered message, sent since the last reset of its stream, and its part has the
@@ -47,13 +47,13 @@ pub data IsNear (start number : ℕ) : Type 0 where
   near : (base : ℕ) → base % 2 ^ 32 ≡ start % 2 ^ 32 → base + 2 ^ 33 < 2 ^ 64 → base ≤ number → number ≤ base + 2 ^ 31 → IsNear start number
 
 -- So MIDs of the stream are read right, next to this number.
-abbrev pub Reads : History → ℕ → Bool → ℕ → Type 0
-Reads history id is_unordered number = (start : ℕ) → IsWindow history id is_unordered start → IsNear start number
+abbrev pub ReadsMids : History → ℕ → Bool → ℕ → Type 0
+ReadsMids history id is_unordered number = (start : ℕ) → IsWindow history id is_unordered start → IsNear start number
 
 -- None of these comes twice.
 abbrev pub AreDistinct : List ℕ → Type 0
 AreDistinct [] = Unit {0}
-AreDistinct (place ∷ places) = (Has place places → ⊥) × AreDistinct places
+AreDistinct (place ∷ places) = (HasEntry place places → ⊥) × AreDistinct places
 
 -- The message was queued at this place.
 pub record WasQueued (queued : List Message) (place : ℕ) (content : MessageContent) : Type 0 where
@@ -92,8 +92,8 @@ pub record StreamRows (history : History) (got : List ℕ) (base id : ℕ) (stre
   pub is : stream.id ≡ id
   pub ordered : AreRows history.log got (ordered_base base) (IsOn history id) stream.ordered
   pub unordered : AreRows history.log got (ordered_base base) (IsApart history id) stream.unordered
-  pub next : Reads history id false stream.next
-  pub last : Reads history id true stream.last_unordered
+  pub next : ReadsMids history id false stream.next
+  pub last : ReadsMids history id true stream.last_unordered
 
 -- and whole messages that wait.
 pub record StreamHolds (queued : List Message) (history : History) (got : List ℕ) (base id : ℕ) (places : List ℕ) (stream : StreamModel) : Type 0 where
@@ -108,12 +108,12 @@ pub record HoldsAll (queued : List Message) (history : History) (got : List ℕ)
   pub rows : AreRows history.log got (unordered_base base) IsOfStream unordered
   pub places : List ℕ
   pub were_queued : WereQueued queued places ready
-  pub spent : (place : ℕ) → Has place (read ++ places) → Spent history.log got place
+  pub spent : (place : ℕ) → HasEntry place (read ++ places) → Spent history.log got place
   pub once : (id : ℕ) → AreDistinct ((read ++ places) ++ waits id)
 
 -- So it is of the received messages of an association.
-abbrev pub Holds : List Message → History → List ℕ → ℕ → List ℕ → IncomingModel → Type 0
-Holds queued history got base read incoming =
+abbrev pub HoldsIncoming : List Message → History → List ℕ → ℕ → List ℕ → IncomingModel → Type 0
+HoldsIncoming queued history got base read incoming =
     HoldsAll queued history got base read (λ id. stream_on id incoming.streams) incoming.unordered incoming.ready
 
 -- The chunk of a piece is numbered by whether its message is unordered; that of an interleaved one says two of the piece's numbers.
@@ -142,38 +142,38 @@ pub record SkipsMessage (history : History) (passed id : ℕ) (is_unordered : Bo
   pub stream : id ≡ piece.message.stream
   pub unordered : is_unordered ≡ piece.message.is_unordered
   pub is : mid ≡ piece.mid % 2 ^ 32
-  pub within : (mark : Mark) → Has mark history.marks → Resets mark piece.message.stream → number < mark.bound → passed ≤ mark.bound
+  pub within : (mark : Mark) → HasEntry mark history.marks → Resets mark piece.message.stream → number < mark.bound → passed ≤ mark.bound
 
 -- So it is of an entry,
-abbrev pub Skips : History → ℕ → SkippedTo → Type 0
-Skips history passed (Ssn id ssn) = SkipsPlain history
-Skips history passed (Mid id is_unordered mid) = SkipsMessage history passed id.0 is_unordered mid
+abbrev pub SkipsEntry : History → ℕ → SkippedTo → Type 0
+SkipsEntry history passed (Ssn id ssn) = SkipsPlain history
+SkipsEntry history passed (Mid id is_unordered mid) = SkipsMessage history passed id.0 is_unordered mid
 
 -- and of each.
 abbrev pub SkipAll : History → ℕ → List SkippedTo → Type 0
 SkipAll history passed [] = Unit {0}
-SkipAll history passed (entry ∷ entries) = Skips history passed entry × SkipAll history passed entries
+SkipAll history passed (entry ∷ entries) = SkipsEntry history passed entry × SkipAll history passed entries
 
 -- The message was sent since the last reset of its stream.
-abbrev pub SkipsCurrent : (history : History) (passed : ℕ) (entry : SkippedTo) → Skips history passed entry → Type 0
+abbrev pub SkipsCurrent : (history : History) (passed : ℕ) (entry : SkippedTo) → SkipsEntry history passed entry → Type 0
 SkipsCurrent history passed (Ssn id ssn) skips = Unit {0}
 SkipsCurrent history passed (Mid id is_unordered mid) skips = IsCurrent history skips.piece
 
 -- So it is of an entry,
-abbrev pub Names : History → ℕ → SkippedTo → Type 0
-Names history passed entry = (skips : Skips history passed entry) × SkipsCurrent history passed entry skips
+abbrev pub NamesCurrent : History → ℕ → SkippedTo → Type 0
+NamesCurrent history passed entry = (skips : SkipsEntry history passed entry) × SkipsCurrent history passed entry skips
 
 -- and of each.
 abbrev pub NameAll : History → ℕ → List SkippedTo → Type 0
 NameAll history passed [] = Unit {0}
-NameAll history passed (entry ∷ entries) = Names history passed entry × NameAll history passed entries
+NameAll history passed (entry ∷ entries) = NamesCurrent history passed entry × NameAll history passed entries
 
 -- Each names a message so, with a number of passed TSNs of its own.
-abbrev pub IsNamed : History → SkippedTo → Type 0
-IsNamed history entry = (passed : ℕ) × Names history passed entry
+abbrev pub IsNamedEntry : History → SkippedTo → Type 0
+IsNamedEntry history entry = (passed : ℕ) × NamesCurrent history passed entry
 
 abbrev pub AreNamed : History → List SkippedTo → Type 0
-AreNamed history entries = AllByRecursion (IsNamed history) entries
+AreNamed history entries = AllByRecursion (IsNamedEntry history) entries
 
 -- The chunk carries the piece of its TSN.
 pub record BearsPiece (history : History) (base tsn_number : ℕ) (chunk : ChunkModel) : Type 0 where
@@ -185,27 +185,27 @@ pub record BearsPiece (history : History) (base tsn_number : ℕ) (chunk : Chunk
   pub stream : chunk.stream ≡ piece.message.stream
   pub numbered : IsNumbered piece chunk.numbering
   pub ppid : is_beginning piece ≡ true → chunk.ppid ≡ piece.message.ppid
-  pub payload : chunk.payload ≡ bytes_of piece
+  pub payload : chunk.payload ≡ piece_bytes piece
   pub beginning : chunk.is_beginning ≡ is_beginning piece
   pub end : chunk.is_end ≡ is_end piece
 
 -- A chunk whose TSN is new, and that carries the piece of its TSN, leaves only what was queued, each message once.
 abbrev pub ReadyWasQueued : Type 0
 ReadyWasQueued =
-    (queued : List Message) (history : History) → Cut queued history.log → Told history
+    (queued : List Message) (history : History) → Cut queued history.log → IsUnambiguous history
     → (got : List ℕ) (base tsn : ℕ) (read : List ℕ) (chunk : ChunkModel) (old new : IncomingModel)
-    → (bears : BearsPiece history base (number_near old.last_tsn_number tsn) chunk) → (Has bears.offset got → ⊥)
-    → Holds queued history got base read old → TakesData tsn chunk old new
-    → Holds queued history (bears.offset ∷ got) base read new
+    → (bears : BearsPiece history base (number_near old.last_tsn_number tsn) chunk) → (HasEntry bears.offset got → ⊥)
+    → HoldsIncoming queued history got base read old → TakesIncomingChunk tsn chunk old new
+    → HoldsIncoming queued history (bears.offset ∷ got) base read new
 
 -- So does a FORWARD-TSN, whatever it skips, or an I-FORWARD-TSN,
 abbrev pub SkippingKeeps : Type 0
 SkippingKeeps =
     (queued : List Message) (history : History) (got : List ℕ) (base tsn : ℕ) (read : List ℕ) (entries : List SkippedTo) (old new : IncomingModel)
-    → AreNamed history entries → Holds queued history got base read old → MovesOn tsn entries old new → Holds queued history got base read new
+    → AreNamed history entries → HoldsIncoming queued history got base read old → MovesOn tsn entries old new → HoldsIncoming queued history got base read new
 
 -- and a reset of streams, whichever.
 abbrev pub ResettingKeeps : Type 0
 ResettingKeeps =
     (queued : List Message) (history : History) (got : List ℕ) (base : ℕ) (read : List ℕ) (streams : List ℕ) (old new : IncomingModel)
-    → Holds queued history got base read old → ResetsStreams streams old new → Holds queued history got base read new
+    → HoldsIncoming queued history got base read old → ResetsStreams streams old new → HoldsIncoming queued history got base read new

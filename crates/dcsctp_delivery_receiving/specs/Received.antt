@@ -8,16 +8,16 @@ use Rattle.dcsctp_spec_lemmas.specs.spec.queues.Arrivals.{Arrival}
 use Rattle.dcsctp_spec_lemmas.specs.types.queues.Messages.{MessageContent}
 use Rattle.dcsctp_spec_lemmas.specs.spec.queues.IncomingStreams.{ChunkModel}
 use Rattle.dcsctp_spec_lemmas.specs.spec.queues.Incoming.{IncomingModel}
-use Rattle.dcsctp_spec_lemmas.specs.spec.queues.Reassembly.{WaitingModel, WaitingSkips, DeferralModel, ReassemblyState, entries_of, waiting_of, with_ready, new_reassembly, Leaves}
+use Rattle.dcsctp_spec_lemmas.specs.spec.queues.Reassembly.{WaitingModel, WaitingSkips, DeferralModel, ReassemblyState, entries_of, waiting_of, with_ready, new_reassembly, EndsDeferral}
 use Rattle.dcsctp_spec_lemmas.specs.spec.queues.Tracker.{TrackerState, new_tracker}
 use Rattle.dcsctp_spec_lemmas.specs.spec.queues.Transfer.{Transfer}
 use Rattle.dcsctp_spec_lemmas.specs.spec.endpoint.TransferMoves.{ReceivesData, MovesForward}
-use Rattle.dcsctp_delivery_sending.specs.Places.{Has, at_place}
+use Rattle.dcsctp_delivery_sending.specs.Places.{HasEntry, at_place}
 use Rattle.dcsctp_spec_lemmas.specs.spec.queues.Numbers.{is_tsn_beyond}
 use Rattle.dcsctp_spec_lemmas.specs.spec.endpoint.BegunResets.{BegunReset}
-use Rattle.dcsctp_delivery_sending.specs.Log.{Message, Piece, Slot, Mark, History, Resets, grown, with_mark, new_history, is_beginning, is_end, bytes_of, Cut}
-use Rattle.dcsctp_delivery_receiving.specs.Ready.{AreDistinct, IsNumbered, SkipAll, Names, NameAll, Holds}
-use Rattle.dcsctp_delivery_sending.specs.Numbers.{Told, IsCurrent, AreCurrent}
+use Rattle.dcsctp_delivery_sending.specs.Log.{Message, Piece, Slot, Mark, History, Resets, log_extended, with_mark, new_history, is_beginning, is_end, piece_bytes, Cut}
+use Rattle.dcsctp_delivery_receiving.specs.Ready.{AreDistinct, IsNumbered, SkipAll, NamesCurrent, NameAll, HoldsIncoming}
+use Rattle.dcsctp_delivery_sending.specs.Numbers.{IsUnambiguous, IsCurrent, AreCurrent}
 use Rattle.dcsctp_delivery_receiving.specs.Tracked.{tracked, Tracks}
 
 -- The chunk carries the piece of the TSN of this offset from the first.
@@ -28,7 +28,7 @@ pub record Carries (log : List Slot) (first offset tsn : ℕ) (chunk : ChunkMode
   pub stream : chunk.stream ≡ piece.message.stream
   pub numbered : IsNumbered piece chunk.numbering
   pub ppid : is_beginning piece ≡ true → chunk.ppid ≡ piece.message.ppid
-  pub payload : chunk.payload ≡ bytes_of piece
+  pub payload : chunk.payload ≡ piece_bytes piece
   pub beginning : chunk.is_beginning ≡ is_beginning piece
   pub end : chunk.is_end ≡ is_end piece
 
@@ -48,8 +48,8 @@ pub record Placed (first base last : ℕ) : Type 0 where
 
 -- No TSN was handled yet; or the number of the first is known, and all that is held was queued.
 pub data Reassembles (queued : List Message) (history : History) (first : ℕ) (got read : List ℕ) (incoming : IncomingModel) : Type 0 where
-  untouched : got ≡ [] → incoming.last_tsn_number ≡ 2 ^ 32 → ((base : ℕ) → Holds queued history [] base read incoming) → Reassembles queued history first got read incoming
-  placed : (base : ℕ) → Placed first base incoming.last_tsn_number → Holds queued history got base read incoming → Reassembles queued history first got read incoming
+  untouched : got ≡ [] → incoming.last_tsn_number ≡ 2 ^ 32 → ((base : ℕ) → HoldsIncoming queued history [] base read incoming) → Reassembles queued history first got read incoming
+  placed : (base : ℕ) → Placed first base incoming.last_tsn_number → HoldsIncoming queued history got base read incoming → Reassembles queued history first got read incoming
 
 -- So does one that was sent since the last reset of its stream.
 pub record CarriesCurrent (history : History) (first offset tsn : ℕ) (chunk : ChunkModel) : Type 0 where
@@ -62,11 +62,11 @@ pub record SkipsTo (history : History) (first tsn : ℕ) (entries : List Skipped
   pub names : NameAll history (tsn_is.offset + 1) entries
 
 -- The data that waits for the end of a deferred reset, and the offsets of its TSNs.
-abbrev pub Defers : History → ℕ → List ℕ → List WaitingModel → Type 0
-Defers history first [] [] = Unit {0}
-Defers history first (offset ∷ others) [] = ⊥
-Defers history first [] (one ∷ waiting) = ⊥
-Defers history first (offset ∷ others) (one ∷ waiting) = CarriesCurrent history first offset one.tsn one.chunk × Defers history first others waiting
+abbrev pub DefersData : History → ℕ → List ℕ → List WaitingModel → Type 0
+DefersData history first [] [] = Unit {0}
+DefersData history first (offset ∷ others) [] = ⊥
+DefersData history first [] (one ∷ waiting) = ⊥
+DefersData history first (offset ∷ others) (one ∷ waiting) = CarriesCurrent history first offset one.tsn one.chunk × DefersData history first others waiting
 
 -- All of it lies beyond the last TSN before the deferred reset.
 abbrev pub AreBeyond : ℕ → List WaitingModel → Type 0
@@ -86,7 +86,7 @@ pub record SkipsLater (history : History) (first last_tsn : ℕ) (entry : Skippe
   pub tsn : ℕ
   pub tsn_is : IsTsn history.log first tsn
   pub beyond : is_tsn_beyond tsn last_tsn ≡ true
-  pub names : Names history (tsn_is.offset + 1) entry
+  pub names : NamesCurrent history (tsn_is.offset + 1) entry
 
 -- So did each, and the newest of these TSNs was assigned.
 abbrev pub SkipsWait : History → ℕ → ℕ → Option WaitingSkips → Type 0
@@ -100,24 +100,24 @@ ForwardsWait history first (Some deferral) = SkipsWait history first deferral.la
 -- The TSN of a stream came before a reset of that, up to which all was received.
 pub record IsPast (history : History) (first cumulative id number : ℕ) : Type 0 where
   pub mark : Mark
-  pub has : Has mark history.marks
+  pub has : HasEntry mark history.marks
   pub names : Resets mark id
   pub below : number < mark.bound
   pub passed : tracked first mark.bound ≤ cumulative + 1
 
 -- All that an association has received whose peer has this log. `taken` has the offsets that the tracker knows, `got` those that the
 -- reassembly queue has handled, and `later` those that wait for the end of a deferred reset.
-pub record Received (queued : List Message) (history : History) (first : ℕ) (read : List ℕ) (tracker : TrackerState) (reassembly : ReassemblyState) : Type 0 where
+pub record HasReceived (queued : List Message) (history : History) (first : ℕ) (read : List ℕ) (tracker : TrackerState) (reassembly : ReassemblyState) : Type 0 where
   pub taken : List ℕ
   pub got : List ℕ
   pub later : List ℕ
   pub tracks : Tracks first (length history.log) taken tracker
-  pub got_taken : (k : ℕ) → Has k got → Has k taken
-  pub later_taken : (k : ℕ) → Has k later → Has k taken
-  pub apart : (k : ℕ) → Has k later → Has k got → ⊥
+  pub got_taken : (k : ℕ) → HasEntry k got → HasEntry k taken
+  pub later_taken : (k : ℕ) → HasEntry k later → HasEntry k taken
+  pub apart : (k : ℕ) → HasEntry k later → HasEntry k got → ⊥
   pub distinct : AreDistinct later
   pub holds : Reassembles queued history first got read reassembly.incoming
-  pub defers : Defers history first later (waiting_of reassembly.deferral)
+  pub defers : DefersData history first later (waiting_of reassembly.deferral)
   pub beyond : WaitBeyond reassembly.deferral
   pub forwards : ForwardsWait history first reassembly.deferral
   pub old : (n : ℕ) (f : Piece) → at_place n history.log ≡ Some (Some f) → f.is_interleaved ≡ true → (IsCurrent history f → ⊥) → IsPast history first tracker.cumulative f.message.stream n
@@ -130,60 +130,60 @@ pub record Few (history : History) (first : ℕ) : Type 0 where
 -- A chunk that carries the piece of its TSN leaves only what was queued, each message once, whether its TSN is new or not.
 abbrev pub ReceivingKeeps : Type 0
 ReceivingKeeps =
-    (queued : List Message) (history : History) (first : ℕ) (read : List ℕ) (offset : ℕ) (arrival : Arrival) (old new : Transfer) → Cut queued history.log → Told history → Few history first
-    → Carries history.log first offset arrival.tsn arrival.chunk → Received queued history first read old.tracker old.reassembly → ReceivesData arrival old new
-    → Received queued history first read new.tracker new.reassembly
+    (queued : List Message) (history : History) (first : ℕ) (read : List ℕ) (offset : ℕ) (arrival : Arrival) (old new : Transfer) → Cut queued history.log → IsUnambiguous history → Few history first
+    → Carries history.log first offset arrival.tsn arrival.chunk → HasReceived queued history first read old.tracker old.reassembly → ReceivesData arrival old new
+    → HasReceived queued history first read new.tracker new.reassembly
 
 -- So does a FORWARD-TSN.
 abbrev pub ForwardingKeeps : Type 0
 ForwardingKeeps =
-    (queued : List Message) (history : History) (first : ℕ) (read : List ℕ) (tsn : ℕ) (entries : List SkippedTo) (old new : Transfer) → Cut queued history.log → Told history → Few history first
-    → (is : IsTsn history.log first tsn) → SkipAll history (is.offset + 1) entries → Received queued history first read old.tracker old.reassembly → MovesForward tsn entries old new
-    → Received queued history first read new.tracker new.reassembly
+    (queued : List Message) (history : History) (first : ℕ) (read : List ℕ) (tsn : ℕ) (entries : List SkippedTo) (old new : Transfer) → Cut queued history.log → IsUnambiguous history → Few history first
+    → (is : IsTsn history.log first tsn) → SkipAll history (is.offset + 1) entries → HasReceived queued history first read old.tracker old.reassembly → MovesForward tsn entries old new
+    → HasReceived queued history first read new.tracker new.reassembly
 
 -- So does a reset of streams, with all that waited for it, or some.
 abbrev pub LeavingKeeps : Type 0
 LeavingKeeps =
-    (queued : List Message) (history : History) (first : ℕ) (read : List ℕ) (streams : List ℕ) (tracker : TrackerState) (old new : ReassemblyState) → Cut queued history.log → Told history → Few history first
-    → Received queued history first read tracker old → Leaves streams old new → Received queued history first read tracker new
+    (queued : List Message) (history : History) (first : ℕ) (read : List ℕ) (streams : List ℕ) (tracker : TrackerState) (old new : ReassemblyState) → Cut queued history.log → IsUnambiguous history → Few history first
+    → HasReceived queued history first read tracker old → EndsDeferral streams old new → HasReceived queued history first read tracker new
 
 -- The peer may queue more and assign more TSNs,
 abbrev pub GrowingKeeps : Type 0
 GrowingKeeps =
     (queued more : List Message) (history : History) (later : List Slot) (first : ℕ) (read : List ℕ) (tracker : TrackerState) (reassembly : ReassemblyState) → AreCurrent history later
-    → Received queued history first read tracker reassembly → Received (more ++ queued) (grown later history) first read tracker reassembly
+    → HasReceived queued history first read tracker reassembly → HasReceived (more ++ queued) (log_extended later history) first read tracker reassembly
 
 -- and may begin a reset of its streams, when so many TSNs were assigned.
 abbrev pub AskingKeeps : Type 0
 AskingKeeps =
     (queued : List Message) (history : History) (begun : Option BegunReset) (ids : List ℕ) (bound first : ℕ) (read : List ℕ) (tracker : TrackerState) (reassembly : ReassemblyState) → length history.log ≤ bound
-    → Received queued history first read tracker reassembly → Received queued (with_mark begun ids bound history) first read tracker reassembly
+    → HasReceived queued history first read tracker reassembly → HasReceived queued (with_mark begun ids bound history) first read tracker reassembly
 
 -- An association that was just begun has received nothing.
 abbrev pub BeginningReceives : Type 0
 BeginningReceives =
     (options : Options) (queued : List Message) (history : History) (first size : ℕ) → first < 2 ^ 32 → AreCurrent history history.log
-    → Received queued history first [] (new_tracker options first) (new_reassembly size)
+    → HasReceived queued history first [] (new_tracker options first) (new_reassembly size)
 
 -- What was received of a peer that has assigned no TSN yet may begin with any floors.
 abbrev pub AwaitingReceives : Type 0
 AwaitingReceives =
     (queued : List Message) (history : History) (floors : ℕ → Bool → ℕ) (first : ℕ) (read : List ℕ) (tracker : TrackerState) (reassembly : ReassemblyState) → history.log ≡ []
-    → Received queued history first read tracker reassembly → Received queued (new_history floors) first read tracker reassembly
+    → HasReceived queued history first read tracker reassembly → HasReceived queued (new_history floors) first read tracker reassembly
 
 -- The message that the user reads was queued, and wasn't read before.
-pub record Reads (queued : List Message) (history : History) (first : ℕ) (read : List ℕ) (tracker : TrackerState) (reassembly : ReassemblyState) (message : MessageContent) (messages : List MessageContent) : Type 0 where
+pub record ReadsQueued (queued : List Message) (history : History) (first : ℕ) (read : List ℕ) (tracker : TrackerState) (reassembly : ReassemblyState) (message : MessageContent) (messages : List MessageContent) : Type 0 where
   pub place : ℕ
   pub sent : Message
   pub at : at_place place queued ≡ Some sent
   pub stream : message.stream ≡ sent.stream
   pub ppid : message.ppid ≡ sent.ppid
   pub payload : message.payload ≡ sent.payload
-  pub fresh : Has place read → ⊥
-  pub received : Received queued history first (read ++ place ∷ []) tracker (with_ready messages reassembly)
+  pub fresh : HasEntry place read → ⊥
+  pub received : HasReceived queued history first (read ++ place ∷ []) tracker (with_ready messages reassembly)
 
 -- So it is of the first message that is ready.
 abbrev pub TakingReads : Type 0
 TakingReads =
     (queued : List Message) (history : History) (first : ℕ) (read : List ℕ) (tracker : TrackerState) (reassembly : ReassemblyState) (message : MessageContent) (messages : List MessageContent)
-    → reassembly.incoming.ready ≡ message ∷ messages → Received queued history first read tracker reassembly → Reads queued history first read tracker reassembly message messages
+    → reassembly.incoming.ready ≡ message ∷ messages → HasReceived queued history first read tracker reassembly → ReadsQueued queued history first read tracker reassembly message messages

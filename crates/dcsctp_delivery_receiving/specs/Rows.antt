@@ -2,8 +2,8 @@
 use Rattle.std.specs.Prelude.{◌≡◌, ◌<◌, ◌≤◌, ◌+◌, ◌-◌, ◌%◌, ◌^◌, ℕ, Bool, true, false, Some, List, [], ◌∷◌, length, take, drop}
 use Rattle.dcsctp_spec_lemmas.specs.spec.queues.Runs.{RunModel, PartModel, WholeModel, Assembled, part_dropped, part_kept, message_whole, joined_bytes}
 use Rattle.dcsctp_spec_lemmas.specs.spec.queues.Numbers.{fragment_place}
-use Rattle.dcsctp_delivery_sending.specs.Places.{Has, at_place}
-use Rattle.dcsctp_delivery_sending.specs.Log.{Message, Piece, Slot, is_beginning, is_end, bytes_of}
+use Rattle.dcsctp_delivery_sending.specs.Places.{HasEntry, at_place}
+use Rattle.dcsctp_delivery_sending.specs.Log.{Message, Piece, Slot, is_beginning, is_end, piece_bytes}
 
 -- Where the part of a piece lies: by its TSN, or with interleaving by the number of its message and by how many parts come before it
 -- (RFC 8260, section 2.1). `base` gives the place of the first TSN for each number of a message.
@@ -11,33 +11,33 @@ abbrev pub PlacedBy : Bool → (ℕ → ℕ) → ℕ → ℕ → ℕ → ℕ →
 PlacedBy false base offset fsn number place = place ≡ base number + offset
 PlacedBy true base offset fsn number place = place ≡ fragment_place number (fsn % 2 ^ 32)
 
-abbrev pub IsPlaced : (ℕ → ℕ) → ℕ → Piece → ℕ → ℕ → Type 0
-IsPlaced base offset piece number place = PlacedBy piece.is_interleaved base offset piece.fsn number place
+abbrev pub IsPiecePlaced : (ℕ → ℕ) → ℕ → Piece → ℕ → ℕ → Type 0
+IsPiecePlaced base offset piece number place = PlacedBy piece.is_interleaved base offset piece.fsn number place
 
 -- The part that is held is the piece of its TSN. `Named` is what the reassembly queue knows of a piece by the number of its part.
 pub record IsPart (log : List Slot) (base : ℕ → ℕ) (Named : Piece → ℕ → Type 0) (part : PartModel) : Type 0 where
   pub offset : ℕ
   pub piece : Piece
   pub at : at_place offset log ≡ Some (Some piece)
-  pub place : IsPlaced base offset piece part.number part.place
+  pub place : IsPiecePlaced base offset piece part.number part.place
   pub number : Named piece part.number
   pub ppid : is_beginning piece ≡ true → part.ppid ≡ piece.message.ppid
-  pub payload : part.payload ≡ bytes_of piece
+  pub payload : part.payload ≡ piece_bytes piece
   pub beginning : part.is_beginning ≡ is_beginning piece
   pub end : part.is_end ≡ is_end piece
 
 -- The run that is held is a row of pieces of one message. `got` has the offsets from the first TSN of all that were handled.
-pub record IsRow (log : List Slot) (got : List ℕ) (base : ℕ → ℕ) (Named : Piece → ℕ → Type 0) (run : RunModel) : Type 0 where
+pub record IsPieceRow (log : List Slot) (got : List ℕ) (base : ℕ → ℕ) (Named : Piece → ℕ → Type 0) (run : RunModel) : Type 0 where
   pub offset : ℕ
   pub head : Piece
   pub last_offset : ℕ
   pub last : Piece
   pub at_head : at_place offset log ≡ Some (Some head)
   pub at_last : at_place last_offset log ≡ Some (Some last)
-  pub first : IsPlaced base offset head run.number run.first
+  pub first : IsPiecePlaced base offset head run.number run.first
   pub ends : last_offset + 1 ≡ offset + length run.payloads
   pub some : 0 < length run.payloads
-  pub covered : (k : ℕ) → offset ≤ k → k ≤ last_offset → Has k got
+  pub covered : (k : ℕ) → offset ≤ k → k ≤ last_offset → HasEntry k got
   pub place : last.place ≡ head.place
   pub message : last.message ≡ head.message
   pub order : head.start ≤ last.start
@@ -50,7 +50,7 @@ pub record IsRow (log : List Slot) (got : List ℕ) (base : ℕ → ℕ) (Named 
 -- Each of these is one.
 abbrev pub AreRows : List Slot → List ℕ → (ℕ → ℕ) → (Piece → ℕ → Type 0) → List RunModel → Type 0
 AreRows log got base Named [] = Unit {0}
-AreRows log got base Named (run ∷ runs) = IsRow log got base Named run × AreRows log got base Named runs
+AreRows log got base Named (run ∷ runs) = IsPieceRow log got base Named run × AreRows log got base Named runs
 
 -- All pieces of the message of this place were handled.
 pub record Spent (log : List Slot) (got : List ℕ) (place : ℕ) : Type 0 where
@@ -65,7 +65,7 @@ pub record Spent (log : List Slot) (got : List ℕ) (place : ℕ) : Type 0 where
   pub same : last.place ≡ place
   pub ends : is_end last ≡ true
   pub order : offset ≤ last_offset
-  pub covered : (k : ℕ) → offset ≤ k → k ≤ last_offset → Has k got
+  pub covered : (k : ℕ) → offset ≤ k → k ≤ last_offset → HasEntry k got
 
 -- The whole is the message that was queued at this place, and all its pieces were handled.
 pub record IsQueued (queued : List Message) (log : List Slot) (got : List ℕ) (Named : Piece → ℕ → Type 0) (place : ℕ) (whole : WholeModel) : Type 0 where

@@ -3,7 +3,7 @@ use Rattle.std.specs.Prelude.{◌≡◌, ◌<◌, ◌≤◌, ◌+◌, ◌-◌, �
 use Rattle.dcsctp_spec_lemmas.specs.spec.queues.Numbers.{number_near}
 use Rattle.dcsctp_spec_lemmas.specs.spec.queues.Ranges.{IsBeyond}
 use Rattle.dcsctp_spec_lemmas.specs.spec.queues.Tracker.{TrackerState, has_received, is_new_tsn, observed, is_forward, after_forward}
-use Rattle.dcsctp_delivery_sending.specs.Places.{Has}
+use Rattle.dcsctp_delivery_sending.specs.Places.{HasEntry}
 
 -- the number that the tracker has for the TSN of this offset from the first
 abbrev pub tracked : ℕ → ℕ → ℕ
@@ -15,14 +15,14 @@ pub record Tracks (first count : ℕ) (taken : List ℕ) (tracker : TrackerState
   pub reached : tracker.cumulative + 1 ≤ tracked first count
   pub started : tracked first 0 ≤ tracker.cumulative + 1
   pub sent : (number : ℕ) → has_received tracker number ≡ true → number + 1 ≤ tracked first count
-  pub received : (offset : ℕ) → Has offset taken → has_received tracker (tracked first offset) ≡ true
+  pub received : (offset : ℕ) → HasEntry offset taken → has_received tracker (tracked first offset) ≡ true
 
 -- A TSN that is new wasn't taken before, and is taken from now on.
 abbrev pub NewTsnsAreNew : Type 0
 NewTsnsAreNew =
     (first count offset : ℕ) (immediate : Bool) (taken : List ℕ) (tracker : TrackerState) → first < 2 ^ 32 → count < 2 ^ 31 → offset < count → Tracks first count taken tracker
     → Tracks first count (offset ∷ taken) (observed ((first + offset) % 2 ^ 32) immediate tracker)
-    × (is_new_tsn ((first + offset) % 2 ^ 32) tracker ≡ true → Has offset taken → ⊥)
+    × (is_new_tsn ((first + offset) % 2 ^ 32) tracker ≡ true → HasEntry offset taken → ⊥)
 
 -- What a FORWARD-TSN passes counts as received.
 abbrev pub PassingKeeps : Type 0

@@ -6,12 +6,12 @@ use Rattle.std.proofs.lemmas.Bool.Decides.{nat_tests}
 use Rattle.std.proofs.lemmas.List.{length-drop}
 use Rattle.dcsctp_spec.specs.wire.declared.chunk.sack.GapAckBlock.{GapAckBlock}
 use Rattle.dcsctp_spec.specs.types.declared.progress.Change.TheVariants.{Miss, Mark, Acknowledge}
-use Rattle.dcsctp_spec.specs.queues.Acknowledging.{is_sack_valid, AcknowledgesItems, covered, lossy, missed_until, without_first, exiting}
+use Rattle.dcsctp_spec.specs.queues.Acknowledging.{is_sack_valid, AcknowledgesItems, covered, lossy, missed_until, without_first_items, exiting}
 use Rattle.dcsctp_spec.specs.queues.Items.{Item, marked_items, changed_between}
-use Rattle.dcsctp_spec.specs.queues.Outstanding.{OutstandingState, acknowledged_by, reported, tsn_at}
+use Rattle.dcsctp_spec.specs.queues.Outstanding.{OutstandingState, acknowledged_count, reported, tsn_at}
 use Rattle.dcsctp_spec.specs.queues.Retransmission.{RetransmissionState, with_items, outstanding_count, after_expiry}
 use Rattle.dcsctp_delivery_sending.specs.Log.{History}
-use Rattle.dcsctp_delivery_sending.specs.Stages.{SaysAt, IsNamed, Bears}
+use Rattle.dcsctp_delivery_sending.specs.Stages.{SaysAt, IsNamedFragment, Bears}
 use Rattle.dcsctp_delivery_sending.proofs.Stages.{changed_length, bears_changed}
 
 -- with these items
@@ -51,7 +51,7 @@ dropped_at (suc count) (suc k) (suc n) [] e = refl
 dropped_at (suc count) k zero (item ∷ items) e = absurd (omega arith)
 dropped_at (suc count) k (suc n) (item ∷ items) e = dropped_at count k n items (omega arith)
 
-first_bear : (history : History) (first acknowledged count : ℕ) (state : RetransmissionState) → count ≤ length state.outstanding.items → Bears history first acknowledged state.outstanding → Bears history first (acknowledged + count) (without_first count state).outstanding
+first_bear : (history : History) (first acknowledged count : ℕ) (state : RetransmissionState) → count ≤ length state.outstanding.items → Bears history first acknowledged state.outstanding → Bears history first (acknowledged + count) (without_first_items count state).outstanding
 first_bear history first acknowledged count state le b =
     record {
       tsn = (let at = b.tsn in grind (arith, at));
@@ -64,7 +64,7 @@ first_bear history first acknowledged count state le b =
       named = λ k item at. (
           let there = b.named (count + k) item (sym (dropped_at count k (count + k) state.outstanding.items refl) ∙ at) in
           let same : acknowledged + (count + k) ≡ acknowledged + count + k = omega arith in
-          subst (λ (n : ℕ). IsNamed history n item.fragment) same there
+          subst (λ (n : ℕ). IsNamedFragment history n item.fragment) same there
           );
       splits = λ mark has k item at is. (
           let same : acknowledged + (count + k) ≡ mark.bound = omega (arith, is) in
@@ -94,12 +94,12 @@ missed_items count limit newest state =
     go false = changed_length (Miss newest) count limit state.outstanding.items
 
 pub acknowledged_bear : (history : History) (first acknowledged now cumulative window : ℕ) (blocks : List GapAckBlock) (old new : RetransmissionState) → is_sack_valid old cumulative ≡ true → Bears history first acknowledged old.outstanding
-    → AcknowledgesItems now cumulative window blocks old new → Bears history first (acknowledged + acknowledged_by old.outstanding cumulative) new.outstanding
+    → AcknowledgesItems now cumulative window blocks old new → Bears history first (acknowledged + acknowledged_count old.outstanding cumulative) new.outstanding
 acknowledged_bear history first acknowledged now cumulative window blocks old new valid b acknowledges =
-    subst (λ (s : RetransmissionState). Bears history first (acknowledged + acknowledged_by old.outstanding cumulative) s.outstanding) (sym acknowledges.is) (first_bear history first acknowledged count missed (omega (arith, within, missed_length)) missed_b)
+    subst (λ (s : RetransmissionState). Bears history first (acknowledged + acknowledged_count old.outstanding cumulative) s.outstanding) (sym acknowledges.is) (first_bear history first acknowledged count missed (omega (arith, within, missed_length)) missed_b)
   where
     count : ℕ
-    count = acknowledged_by old.outstanding cumulative
+    count = acknowledged_count old.outstanding cumulative
 
     start : RetransmissionState
     start = with_items (covered count blocks old.outstanding.items) (exiting cumulative old)
@@ -124,8 +124,8 @@ pub acknowledged_kind : (now cumulative window : ℕ) (blocks : List GapAckBlock
     → new.outstanding.is_interleaved ≡ old.outstanding.is_interleaved
 acknowledged_kind now cumulative window blocks old new acknowledges =
     ap (λ (s : RetransmissionState). s.outstanding.is_interleaved) acknowledges.is
-    ∙ missed (acknowledged_by old.outstanding cumulative) acknowledges.limit (option_map (tsn_at old.outstanding) acknowledges.newest)
-    (with_items (covered (acknowledged_by old.outstanding cumulative) blocks old.outstanding.items) (exiting cumulative old))
+    ∙ missed (acknowledged_count old.outstanding cumulative) acknowledges.limit (option_map (tsn_at old.outstanding) acknowledges.newest)
+    (with_items (covered (acknowledged_count old.outstanding cumulative) blocks old.outstanding.items) (exiting cumulative old))
   where
     missed : (count limit : ℕ) (newest : Option ℕ) (state : RetransmissionState) → (missed_until count limit newest state).outstanding.is_interleaved ≡ state.outstanding.is_interleaved
     missed count limit newest state = go (nat_lt (marked_items state.outstanding.items) (marked_items (changed_between (Miss newest) count limit state.outstanding.items)))
@@ -138,8 +138,8 @@ acknowledged_kind now cumulative window blocks old new acknowledges =
 pub acknowledged_pends : (now cumulative window : ℕ) (blocks : List GapAckBlock) (old new : RetransmissionState) → AcknowledgesItems now cumulative window blocks old new → new.reset_begun ≡ old.reset_begun
 acknowledged_pends now cumulative window blocks old new acknowledges =
     ap (λ (s : RetransmissionState). s.reset_begun) acknowledges.is
-    ∙ missed (acknowledged_by old.outstanding cumulative) acknowledges.limit (option_map (tsn_at old.outstanding) acknowledges.newest)
-    (with_items (covered (acknowledged_by old.outstanding cumulative) blocks old.outstanding.items) (exiting cumulative old))
+    ∙ missed (acknowledged_count old.outstanding cumulative) acknowledges.limit (option_map (tsn_at old.outstanding) acknowledges.newest)
+    (with_items (covered (acknowledged_count old.outstanding cumulative) blocks old.outstanding.items) (exiting cumulative old))
   where
     missed : (count limit : ℕ) (newest : Option ℕ) (state : RetransmissionState) → (missed_until count limit newest state).reset_begun ≡ state.reset_begun
     missed count limit newest state = go (nat_lt (marked_items state.outstanding.items) (marked_items (changed_between (Miss newest) count limit state.outstanding.items)))

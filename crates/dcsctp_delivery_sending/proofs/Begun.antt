@@ -9,7 +9,7 @@ use Rattle.dcsctp_delivery_sending.specs.Places.{at_place}
 use Rattle.dcsctp_delivery_sending.specs.Log.{Message, Piece, History, with_slot}
 use Rattle.dcsctp_delivery_sending.specs.Pieces.{WaitingWasQueued, HoldsQueued, HandsOutPiece}
 use Rattle.dcsctp_delivery_sending.specs.Numbers.{stream_named, next_mid, CountsWhere, AreOfKind, IsCurrent, is_handed_out}
-use Rattle.dcsctp_delivery_sending.specs.Weights.{HasRoom}
+use Rattle.dcsctp_delivery_sending.specs.Weights.{HasRoomForLog}
 use Rattle.dcsctp_delivery_sending.proofs.Streams.{beyond_front, beyond_drop, front_queued}
 use Rattle.dcsctp_delivery_sending.proofs.Produced.{it_is_piece, it_says, within_streams, it_hold}
 use Rattle.dcsctp_delivery_sending.proofs.StreamsNamed.{found_at}
@@ -43,7 +43,7 @@ begins queued history max place queue message under_way room queue_holds kinds c
     let mid_is : under_way.mid % 2 ^ 32 ≡ mid % 2 ^ 32 = begun_mid_is queue.is_interleaved history queue (stream_at queue.streams place).id message.is_unordered under_way.mid counts named in
     let piece : Piece = record { place = message.message_id; message = w.message; start = 0; size = size_produced max message under_way; mid = mid; fsn = under_way.next_fsn; is_interleaved = queue.is_interleaved } in
     let unfinished : under_way.sent < length message.payload = omega (arith, sent_is, w.some) in
-    let roomy : HasRoom queued history.log queue.streams (Some under_way) = record { whole = queue_holds.room.whole; count = (let count = queue_holds.room.count in omega (arith, count)) } in
+    let roomy : HasRoomForLog queued history.log queue.streams (Some under_way) = record { whole = queue_holds.room.whole; count = (let count = queue_holds.room.count in omega (arith, count)) } in
     let old_here = λ (n : ℕ) (f : Piece) (at : at_place n history.log ≡ Some (Some f)) (of : f.message.stream ≡ (stream_at queue.streams place).id). beyond_drop f.place (stream_at queue.streams place).messages (queue_holds.beyond place n f at of) in
     let old_there = λ (q n : ℕ) (f : Piece) (at : at_place n history.log ≡ Some (Some f)) (of : f.message.stream ≡ (stream_at queue.streams q).id) (other : (stream_at queue.streams q).id ≢ (stream_at queue.streams place).id). queue_holds.beyond q n f at of in
     let kept : is_handed_out (stream_named (stream_at queue.streams place).id queue.streams).pause ≡ false =

@@ -12,7 +12,7 @@ use Rattle.dcsctp_spec.specs.queues.Sending.{Fragment}
 use Rattle.dcsctp_spec.specs.endpoint.BegunResets.{BegunReset, streams_within, last_assigned_tsn, stream_field, begun_where, queue_requesting, retransmission_begun}
 use Rattle.dcsctp_spec.specs.endpoint.FlushOutcomes.{Ask, first_ask, later_ask, begun_at}
 use Rattle.dcsctp_delivery_sending.specs.Log.{Mark, History, with_mark}
-use Rattle.dcsctp_delivery_sending.specs.Stages.{IsNamed, Bears, Pends, IsMark, AreMarks}
+use Rattle.dcsctp_delivery_sending.specs.Stages.{IsNamedFragment, Bears, Pends, IsMark, AreMarks}
 use Rattle.dcsctp_delivery_sending.proofs.Places.{at_below}
 use Rattle.dcsctp_delivery_sending.proofs.Handing.{NoneUnderWay, none_handed, none_named}
 
@@ -24,7 +24,7 @@ place_below [] (suc k) item at = absurd (cc)
 place_below (i ∷ items) zero item at = omega arith
 place_below (i ∷ items) (suc k) item at = omega (arith, place_below items k item at)
 
-named_marked : (history : History) (begun : BegunReset) (ids : List ℕ) (own : ℕ) (part : Fragment) → own < length history.log → IsNamed history own part → IsNamed (with_mark (Some begun) ids (length history.log) history) own part
+named_marked : (history : History) (begun : BegunReset) (ids : List ℕ) (own : ℕ) (part : Fragment) → own < length history.log → IsNamedFragment history own part → IsNamedFragment (with_mark (Some begun) ids (length history.log) history) own part
 named_marked history begun ids own part below n =
     record {
       number = n.number;

@@ -11,18 +11,18 @@ use Rattle.dcsctp_spec.specs.association.Choices.{plain_contents}
 use Rattle.dcsctp_spec.specs.types.declared.progress.Change.TheVariants.{SendAgain, Abandon}
 use Rattle.dcsctp_spec.specs.queues.Abandoning.{GivesUpFirst}
 use Rattle.dcsctp_spec.specs.queues.AtOnce.{empty_stage, SendsAtOnce}
-use Rattle.dcsctp_spec.specs.queues.Chunks.{AreChunks, chunk_said}
-use Rattle.dcsctp_spec.specs.queues.Filling.{Stage, Closes, GivesUpAt, SendsMarked, SendsNew, FindsNone, StepAgain, StepNew, Steps, none, more, counting, FillsPacket}
+use Rattle.dcsctp_spec.specs.queues.Chunks.{AreChunksOfTsns, chunk_said}
+use Rattle.dcsctp_spec.specs.queues.Filling.{Stage, ClosesMessage, GivesUpAt, SendsMarked, SendsNew, FindsNone, StepAgain, StepNew, StageSteps, none, more, resent_packet_counted, FillsPacket}
 use Rattle.dcsctp_spec.specs.queues.ItemMessages.{EndsDropped}
 use Rattle.dcsctp_spec.specs.queues.Items.{Item}
 use Rattle.dcsctp_spec.specs.queues.Outstanding.{OutstandingState, next_tsn, tsn_at}
 use Rattle.dcsctp_spec.specs.queues.Retransmission.{RetransmissionState}
 use Rattle.dcsctp_spec.specs.queues.SendQueue.{SendQueueState}
 use Rattle.dcsctp_spec.specs.queues.Sending.{DiscardsNamed}
-use Rattle.dcsctp_spec.specs.queues.Transfer.{Transfer, Below, may_give, is_idle}
+use Rattle.dcsctp_spec.specs.queues.Transfer.{Transfer, EndpointQueues, may_give, is_idle}
 use Rattle.dcsctp_spec.specs.endpoint.BegunResets.{BegunReset, streams_within, request_contents, queue_requesting, retransmission_begun}
-use Rattle.dcsctp_spec.specs.endpoint.FlushOutcomes.{told_event, Answer, answer_contents, filled, asked, next_draft, flush_of, Ask, first_ask, later_ask, room_in, GivesUpWhere, may_forward, FillsWhere, Gives, GivesWhere, AnsweredBelow, Answered, stage_of, nothing_waits, Answers, at_limit, at_empty, after_packet, FlushAnswers, goes_out, Told, amount_is_low, total_amount_is_low, message_is_sent, message_may_have_expired, message_has_expired, message_ends}
-use Rattle.dcsctp_delivery_sending.specs.ChunkCounts.{counts, chunks_among, chunks_in, going, tsns_of, tsns_where, tsns_below}
+use Rattle.dcsctp_spec.specs.endpoint.FlushOutcomes.{filling_event, Answer, answer_contents, filled, asked, next_draft, flush_of, Ask, first_ask, later_ask, room_in, GivesUpWhere, may_forward, FillsWhere, Gives, GivesWhere, IsAnswerOfQueues, IsFlushAnswer, stage_of, nothing_waits, AreFlushAnswers, at_limit, at_empty, after_packet, FlushAnswers, goes_out, FillingEvent, amount_is_low, total_amount_is_low, message_is_sent, message_may_have_expired, message_has_expired, message_ends}
+use Rattle.dcsctp_delivery_sending.specs.ChunkCounts.{counts, chunks_among, chunks_in, going, tsns_of, tsns_where, tsns_of_queues}
 use Rattle.dcsctp_delivery_sending.specs.Flushes.{NoPlain, NoContent, NoData}
 use Rattle.dcsctp_delivery_sending.proofs.Filling.{counted_outstanding}
 use Rattle.dcsctp_delivery_sending.proofs.Packets.{out_below}
@@ -72,7 +72,7 @@ dropped_few now begins last old new waiting left stream id told telling false di
     let way : going left.under_way ≡ going waiting.under_way = ap (λ (q : SendQueueState). going q.under_way) discards.1 in
     omega (arith, size, way)
 
-closes_few : (now : ℕ) (last : Item) (old new : Stage) (b : Bool) → Closes now last old new b → Fewer old new
+closes_few : (now : ℕ) (last : Item) (old new : Stage) (b : Bool) → ClosesMessage now last old new b → Fewer old new
 closes_few now last old new true is = subst (λ (s : Stage). Fewer old s) (sym is) (record { less = omega arith; tsns = refl })
 closes_few now last old new false (inl (few, drops)) =
     subst (λ (s : Stage). Fewer old s) (sym drops.is)
@@ -110,11 +110,11 @@ anew_few now old new (may, inr finds) = finds_few now old new finds
 
 -- ---- steps
 
-steps_few : (Step : Stage → Stage → Type 0) → ((old new : Stage) → Step old new → Few old new) → (old new : Stage) → Steps Step old new → Few old new
+steps_few : (Step : Stage → Stage → Type 0) → ((old new : Stage) → Step old new → Few old new) → (old new : Stage) → StageSteps Step old new → Few old new
 steps_few Step each old new none = omega arith
 steps_few Step each old new (more between _ steps step) = (let first = steps_few Step each old between steps in let last = each between new step in omega (arith, first, last))
 
-fewer_steps : (now : ℕ) (old new : Stage) → Steps (GivesUpFirst now) old new → Fewer old new
+fewer_steps : (now : ℕ) (old new : Stage) → StageSteps (GivesUpFirst now) old new → Fewer old new
 fewer_steps now old new none = fewer_same old
 fewer_steps now old new (more between _ steps step) =
     let first = fewer_steps now old between steps in
@@ -126,8 +126,8 @@ fewer_steps now old new (more between _ steps step) =
 fills_few : (now : ℕ) (old new : Stage) → FillsPacket now old new → Few old new
 fills_few now old new fills =
     let again = steps_few (StepAgain now) (again_few now) old fills.fills.resent fills.fills.again in
-    let anew = steps_few (StepNew now) (anew_few now) (counting old.room fills.fills.resent) fills.sent fills.fills.anew in
-    let same : length (counting old.room fills.fills.resent).queue.outstanding.items ≡ length fills.fills.resent.queue.outstanding.items =
+    let anew = steps_few (StepNew now) (anew_few now) (resent_packet_counted old.room fills.fills.resent) fills.sent fills.fills.anew in
+    let same : length (resent_packet_counted old.room fills.fills.resent).queue.outstanding.items ≡ length fills.fills.resent.queue.outstanding.items =
     ap (λ (o : OutstandingState). length o.items) (counted_outstanding (old.room - fills.fills.resent.room) fills.fills.resent.queue) in
     subst (λ (s : Stage). Few old s) (sym fills.is) (omega (arith, again, anew, same))
 
@@ -141,7 +141,7 @@ said_counts : (is_interleaved : Bool) (tsn : ℕ) (part : _) → counts (plain (
 said_counts true tsn part = refl
 said_counts false tsn part = refl
 
-pub chunks_counted : (outstanding : OutstandingState) (tsns : List ℕ) (chunks : List Plain) → AreChunks outstanding tsns chunks → chunks_among (plain_contents chunks) ≡ length tsns
+pub chunks_counted : (outstanding : OutstandingState) (tsns : List ℕ) (chunks : List Plain) → AreChunksOfTsns outstanding tsns chunks → chunks_among (plain_contents chunks) ≡ length tsns
 chunks_counted outstanding [] [] are = refl
 chunks_counted outstanding [] (c ∷ chunks) are = absurd are
 chunks_counted outstanding (t ∷ tsns) [] are = absurd are
@@ -170,11 +170,11 @@ begun_items None state = refl
 begun_items (Some begun) state = refl
 
 abbrev AnswerIsFew : Endpoint → Answer → Type 0
-AnswerIsFew e answer = tsns_below answer.after.below ≤ tsns_below e.below + 2 * chunks_among (answer_contents answer)
+AnswerIsFew e answer = tsns_of_queues answer.after.queues ≤ tsns_of_queues e.queues + 2 * chunks_among (answer_contents answer)
 
-gives_few : (ask : Ask) (e : Endpoint) (draft : Emission) (transfer : Transfer) (answer : Answer) → e.below.transfer ≡ Some transfer → Gives ask e draft transfer answer → AnswerIsFew e answer
+gives_few : (ask : Ask) (e : Endpoint) (draft : Emission) (transfer : Transfer) (answer : Answer) → e.queues.transfer ≡ Some transfer → Gives ask e draft transfer answer → AnswerIsFew e answer
 gives_few ask e draft transfer answer known gives =
-    let gave = (given_up_few e.moment _ (may_forward ask e transfer.retransmission) transfer (stage_of e.below.queue transfer.retransmission [] 0) gives.gave_up gives.next gives.forwards gives.gives_up).less in
+    let gave = (given_up_few e.moment _ (may_forward ask e transfer.retransmission) transfer (stage_of e.queues.queue transfer.retransmission [] 0) gives.gave_up gives.next gives.forwards gives.gives_up).less in
     let room : ℕ = streams_within (room_in e (filled draft (plain_contents answer.acknowledgements))) in
     let way : going (queue_requesting room answer.begun gives.gave_up.waiting).under_way ≡ going gives.gave_up.waiting.under_way = ap going (requesting_way room answer.begun gives.gave_up.waiting) in
     let size : length (retransmission_begun answer.begun gives.gave_up.queue).outstanding.items ≡ length gives.gave_up.queue.outstanding.items =
@@ -183,24 +183,24 @@ gives_few ask e draft transfer answer known gives =
     let sent_chunks = chunks_counted gives.sent.queue.outstanding gives.sent.tsns answer.data_chunks gives.chunks in
     let parts = among_both (plain_contents answer.acknowledgements) (request_contents answer.begun ++ plain_contents answer.data_chunks) in
     let parts' = among_both (request_contents answer.begun) (plain_contents answer.data_chunks) in
-    let before : tsns_below e.below ≡ tsns_of e.below.queue transfer.retransmission.outstanding.items = ap (λ (t : Option Transfer). tsns_where e.below.queue t) known in
-    subst (λ (b : Below). tsns_below b ≤ tsns_below e.below + 2 * chunks_among (answer_contents answer)) (sym gives.below)
+    let before : tsns_of_queues e.queues ≡ tsns_of e.queues.queue transfer.retransmission.outstanding.items = ap (λ (t : Option Transfer). tsns_where e.queues.queue t) known in
+    subst (λ (b : EndpointQueues). tsns_of_queues b ≤ tsns_of_queues e.queues + 2 * chunks_among (answer_contents answer)) (sym gives.below)
     (omega (arith, gave, way, size, full, sent_chunks, parts, parts', before))
 
 nothing_few : (e : Endpoint) (answer : Answer) → answer ≡ nothing_waits e → AnswerIsFew e answer
 nothing_few e answer is = subst (AnswerIsFew e) (sym is) (omega arith)
 
-where_few : (ask : Ask) (b : Bool) (e : Endpoint) (draft : Emission) (transfer : Transfer) (answer : Answer) → e.below.transfer ≡ Some transfer → GivesWhere b ask e draft transfer answer → AnswerIsFew e answer
+where_few : (ask : Ask) (b : Bool) (e : Endpoint) (draft : Emission) (transfer : Transfer) (answer : Answer) → e.queues.transfer ≡ Some transfer → GivesWhere b ask e draft transfer answer → AnswerIsFew e answer
 where_few ask true e draft transfer answer known is = nothing_few e answer is
 where_few ask false e draft transfer answer known gives = gives_few ask e draft transfer answer known gives
 
-answered_few : (ask : Ask) (e : Endpoint) (draft : Emission) (transfer : Option Transfer) (answer : Answer) → e.below.transfer ≡ transfer → AnsweredBelow ask e draft answer transfer → AnswerIsFew e answer
+answered_few : (ask : Ask) (e : Endpoint) (draft : Emission) (transfer : Option Transfer) (answer : Answer) → e.queues.transfer ≡ transfer → IsAnswerOfQueues ask e draft answer transfer → AnswerIsFew e answer
 answered_few ask e draft None answer known is = nothing_few e answer is
-answered_few ask e draft (Some transfer) answer known gives = where_few ask (is_idle e.below.queue transfer) e draft transfer answer known gives
+answered_few ask e draft (Some transfer) answer known gives = where_few ask (is_idle e.queues.queue transfer) e draft transfer answer known gives
 
 -- ---- a flush
 
-told_packets : (told : List Told) (others : List (Event Emission)) → packets_in (map told_event told ++ others) ≡ packets_in others
+told_packets : (told : List FillingEvent) (others : List (Event Emission)) → packets_in (map filling_event told ++ others) ≡ packets_in others
 told_packets [] others = refl
 told_packets (amount_is_low stream ∷ told) others = told_packets told others
 told_packets (total_amount_is_low ∷ told) others = told_packets told others
@@ -209,8 +209,8 @@ told_packets (message_may_have_expired id ∷ told) others = told_packets told o
 told_packets (message_has_expired id ∷ told) others = told_packets told others
 told_packets (message_ends id ∷ told) others = told_packets told others
 
-out_counts : (e : Endpoint) (told : List Told) (with_checksum : Bool) (tag : ℕ) (contents : List Content) → chunks_in (packets_in (goes_out e (map told_event told) with_checksum tag contents).events) ≡ chunks_among contents
-out_counts e told with_checksum tag [] = ap chunks_in (ap packets_in (sym (append-nil (map told_event told))) ∙ told_packets told [])
+out_counts : (e : Endpoint) (told : List FillingEvent) (with_checksum : Bool) (tag : ℕ) (contents : List Content) → chunks_in (packets_in (goes_out e (map filling_event told) with_checksum tag contents).events) ≡ chunks_among contents
+out_counts e told with_checksum tag [] = ap chunks_in (ap packets_in (sym (append-nil (map filling_event told))) ∙ told_packets told [])
 out_counts e told with_checksum tag (c ∷ contents) =
     let emission : Emission = record { with_checksum = with_checksum; packet = record { tag = tag; contents = c ∷ contents } } in
     ap chunks_in (told_packets told (sent emission ∷ [])) ∙ omega arith
@@ -220,18 +220,18 @@ chunks_both [] others = omega arith
 chunks_both (sent emission ∷ events) others = (let rest = chunks_both events others in omega (arith, rest))
 chunks_both (event ∷ events) others = chunks_both events others
 
-asked_few : (ask : Ask) (e : Endpoint) (draft : Emission) (answer : Answer) → Answered ask e draft answer
-    → tsns_below (asked e draft answer).after.below ≤ tsns_below e.below + 2 * chunks_in (packets_in (asked e draft answer).events)
+asked_few : (ask : Ask) (e : Endpoint) (draft : Emission) (answer : Answer) → IsFlushAnswer ask e draft answer
+    → tsns_of_queues (asked e draft answer).after.queues ≤ tsns_of_queues e.queues + 2 * chunks_in (packets_in (asked e draft answer).events)
 asked_few ask e draft answer answered =
     let contents : List Content = (filled draft (answer_contents answer)).packet.contents in
-    let few = answered_few ask e draft e.below.transfer answer refl answered.by_transfer in
-    let left : tsns_below (asked e draft answer).after.below ≡ tsns_below answer.after.below = ap tsns_below (out_below answer.after (map told_event answer.told) draft.with_checksum draft.packet.tag contents) in
+    let few = answered_few ask e draft e.queues.transfer answer refl answered.by_transfer in
+    let left : tsns_of_queues (asked e draft answer).after.queues ≡ tsns_of_queues answer.after.queues = ap tsns_of_queues (out_below answer.after (map filling_event answer.told) draft.with_checksum draft.packet.tag contents) in
     let counted : chunks_in (packets_in (asked e draft answer).events) ≡ chunks_among contents = out_counts answer.after answer.told draft.with_checksum draft.packet.tag contents in
     let parts = among_both draft.packet.contents (answer_contents answer) in
     omega (arith, few, left, counted, parts)
 
-answers_few : (ask : Ask) (n : ℕ) (e : Endpoint) (draft : Emission) (answers : List Answer) → Answers ask n e draft answers
-    → tsns_below (flush_of e draft answers).after.below ≤ tsns_below e.below + 2 * chunks_in (packets_in (flush_of e draft answers).events)
+answers_few : (ask : Ask) (n : ℕ) (e : Endpoint) (draft : Emission) (answers : List Answer) → AreFlushAnswers ask n e draft answers
+    → tsns_of_queues (flush_of e draft answers).after.queues ≤ tsns_of_queues e.queues + 2 * chunks_in (packets_in (flush_of e draft answers).events)
 answers_few _ _ _ _ _ (at_limit ask e draft) = omega arith
 answers_few _ _ _ _ _ (at_empty ask others e draft answer is empty) =
     let one = asked_few ask e draft answer is in
@@ -244,7 +244,7 @@ answers_few _ _ _ _ _ (after_packet ask others e draft answer answers is some re
     omega (arith, one, later, both)
 
 pub flushes_assign_few : (e : Endpoint) (draft : Emission) (answers : List Answer) → FlushAnswers e draft answers
-    → tsns_below (flush_of e draft answers).after.below ≤ tsns_below e.below + 2 * chunks_in (packets_in (flush_of e draft answers).events)
+    → tsns_of_queues (flush_of e draft answers).after.queues ≤ tsns_of_queues e.queues + 2 * chunks_in (packets_in (flush_of e draft answers).events)
 flushes_assign_few e draft answers allowed = answers_few first_ask _ e draft answers allowed
 
 -- ---- a fast retransmission
@@ -253,7 +253,7 @@ marked_same : (now : ℕ) (old new : Stage) → SendsMarked now old new → leng
 marked_same now old new sends =
     ap (λ (s : Stage). length s.queue.outstanding.items) sends.is ∙ changed_length (SendAgain (next_tsn old.queue.outstanding)) sends.place (sends.place + 1) old.queue.outstanding.items
 
-marked_steps : (now : ℕ) (old new : Stage) → Steps (SendsMarked now) old new → length new.queue.outstanding.items ≡ length old.queue.outstanding.items
+marked_steps : (now : ℕ) (old new : Stage) → StageSteps (SendsMarked now) old new → length new.queue.outstanding.items ≡ length old.queue.outstanding.items
 marked_steps now old new none = refl
 marked_steps now old new (more between _ steps step) = marked_same now between new step ∙ marked_steps now old between steps
 

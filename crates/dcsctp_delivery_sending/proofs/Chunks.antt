@@ -1,11 +1,11 @@
 -- What a packet that is filled carries.
 use Rattle.std.proofs.Common.{◌≡◌, ℕ, Bool, ◌+◌, ◌%◌, ◌^◌, List, [], ◌∷◌, ◌++◌, sym, ◌∙◌, ap, arith}
 use Rattle.dcsctp_spec.specs.Packet.{Plain, unworked}
-use Rattle.dcsctp_spec.specs.queues.Chunks.{IsChunkOf, AreChunks, chunk_said}
+use Rattle.dcsctp_spec.specs.queues.Chunks.{IsChunkOfItem, AreChunksOfTsns, chunk_said}
 use Rattle.dcsctp_spec.specs.queues.Filling.{Stage, FillsPacket}
 use Rattle.dcsctp_spec.specs.queues.Outstanding.{OutstandingState}
 use Rattle.dcsctp_spec.specs.queues.SendQueue.{SendQueueState}
-use Rattle.dcsctp_delivery_sending.specs.Log.{Message, History, grown}
+use Rattle.dcsctp_delivery_sending.specs.Log.{Message, History, log_extended}
 use Rattle.dcsctp_delivery_sending.specs.Numbers.{Numbered, AreOfKind}
 use Rattle.dcsctp_delivery_sending.specs.Stages.{Bears, Stands, Stays, IsOfLog, AreOfLog}
 use Rattle.dcsctp_delivery_sending.proofs.Filling.{fills_stay}
@@ -14,7 +14,7 @@ use Rattle.dcsctp_delivery_sending.proofs.Filling.{fills_stay}
 pub kinds_of : {history : History} {queue : SendQueueState} {is_interleaved : Bool} → Numbered history queue → is_interleaved ≡ queue.is_interleaved → AreOfKind is_interleaved history.log
 kinds_of numbers same n f at = numbers.kinds n f at ∙ sym same
 
-chunk_of_log : (history : History) (first acknowledged : ℕ) (outstanding : OutstandingState) (tsn : ℕ) (chunk : Plain) → AreOfKind outstanding.is_interleaved history.log → Bears history first acknowledged outstanding → IsChunkOf outstanding tsn chunk → IsOfLog history.log first outstanding.is_interleaved chunk
+chunk_of_log : (history : History) (first acknowledged : ℕ) (outstanding : OutstandingState) (tsn : ℕ) (chunk : Plain) → AreOfKind outstanding.is_interleaved history.log → Bears history first acknowledged outstanding → IsChunkOfItem outstanding tsn chunk → IsOfLog history.log first outstanding.is_interleaved chunk
 chunk_of_log history first acknowledged outstanding tsn chunk kinds b is =
     let same : tsn ≡ (first + (acknowledged + is.place)) % 2 ^ 32 = is.is ∙ grind (arith, b.tsn) in
     record {
@@ -25,7 +25,7 @@ chunk_of_log history first acknowledged outstanding tsn chunk kinds b is =
       kind = kinds (acknowledged + is.place);
     }
 
-pub chunks_of_log : (history : History) (first acknowledged : ℕ) (outstanding : OutstandingState) (tsns : List ℕ) (chunks : List Plain) → AreOfKind outstanding.is_interleaved history.log → Bears history first acknowledged outstanding → AreChunks outstanding tsns chunks
+pub chunks_of_log : (history : History) (first acknowledged : ℕ) (outstanding : OutstandingState) (tsns : List ℕ) (chunks : List Plain) → AreOfKind outstanding.is_interleaved history.log → Bears history first acknowledged outstanding → AreChunksOfTsns outstanding tsns chunks
     → AreOfLog history.log first outstanding.is_interleaved chunks
 chunks_of_log history first acknowledged outstanding [] [] kinds b are = tt
 chunks_of_log history first acknowledged outstanding [] (c ∷ chunks) kinds b are = absurd are
@@ -33,8 +33,8 @@ chunks_of_log history first acknowledged outstanding (t ∷ tsns) [] kinds b are
 chunks_of_log history first acknowledged outstanding (t ∷ tsns) (c ∷ chunks) kinds b are = (chunk_of_log history first acknowledged outstanding t c kinds b are.0, chunks_of_log history first acknowledged outstanding tsns chunks kinds b are.1)
 
 pub packets_bear : (queued : List Message) (history : History) (first acknowledged now : ℕ) (old new : Stage) (chunks : List Plain) → Stands queued history first acknowledged old → FillsPacket now old new
-    → AreChunks new.queue.outstanding new.tsns chunks
+    → AreChunksOfTsns new.queue.outstanding new.tsns chunks
     → (stays : Stays queued history first acknowledged new) × AreOfLog (stays.more ++ history.log) first new.queue.outstanding.is_interleaved chunks
 packets_bear queued history first acknowledged now old new chunks stands fills are =
     let stays = fills_stay queued history first acknowledged now old new stands fills in
-    (stays, chunks_of_log (grown stays.more history) first acknowledged new.queue.outstanding new.tsns chunks (kinds_of stays.stands.numbers stays.stands.kind) stays.stands.bears are)
+    (stays, chunks_of_log (log_extended stays.more history) first acknowledged new.queue.outstanding new.tsns chunks (kinds_of stays.stands.numbers stays.stands.kind) stays.stands.bears are)

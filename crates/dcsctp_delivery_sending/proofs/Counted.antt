@@ -5,7 +5,7 @@ use Rattle.dcsctp_spec.specs.types.declared.sending.UnderWay.{UnderWay}
 use Rattle.dcsctp_spec.specs.types.queues.SendStreams.{Waiting, Stream, front_of}
 use Rattle.dcsctp_delivery_sending.specs.Places.{at_place}
 use Rattle.dcsctp_delivery_sending.specs.Log.{Piece, Slot, newest, HasBefore, History, with_slot}
-use Rattle.dcsctp_delivery_sending.specs.Numbers.{stream_named, next_mid, IsLast, LastIs, Counts}
+use Rattle.dcsctp_delivery_sending.specs.Numbers.{stream_named, next_mid, IsLastBegun, LastIs, CountsMessages}
 use Rattle.dcsctp_delivery_sending.proofs.Numbers.{NumbersStay, mid_stays}
 use Rattle.dcsctp_delivery_sending.proofs.Places.{at_cases}
 use Rattle.dcsctp_delivery_sending.proofs.Counting.{Other, set_both, set_here, set_elsewhere, is_or_other}
@@ -15,7 +15,7 @@ abbrev pub GoesOn : List Stream → ℕ → Bool → ℕ → UnderWay → Type 0
 GoesOn streams id kind mid v = (v.stream_id.0 ≡ id) × (v.mid % 2 ^ 32 ≡ mid % 2 ^ 32) × ((w : Waiting) × (front_of (stream_named id streams).messages ≡ Some w) × (w.is_unordered ≡ kind))
 
 last_of : (history : History) (streams : List Stream) (counts : ℕ → Bool → ℕ) (id : ℕ) (kind : Bool) (mid : ℕ) (v : UnderWay) → GoesOn streams id kind mid v → history.floors id kind ≤ mid → mid + 1 ≡ history.floors id kind + counts id kind
-    → ((f : Piece) → newest history.log ≡ Some (Some f) → f.mid ≡ mid) → IsLast history streams counts v
+    → ((f : Piece) → newest history.log ≡ Some (Some f) → f.mid ≡ mid) → IsLastBegun history streams counts v
 last_of history streams counts id kind mid v (same, is, (w, front, unordered)) low last came =
     record {
       waiting = w;
@@ -28,7 +28,7 @@ last_of history streams counts id kind mid v (same, is, (w, front, unordered)) l
     }
 
 -- the first one of a message
-module _ (history : History) (old new : List Stream) (u : Option UnderWay) (id : ℕ) (kind : Bool) (piece : Piece) (c : Counts history old None)
+module _ (history : History) (old new : List Stream) (u : Option UnderWay) (id : ℕ) (kind : Bool) (piece : Piece) (c : CountsMessages history old None)
     (stream_is : piece.message.stream ≡ id) (kind_is : piece.message.is_unordered ≡ kind) (mid_is : piece.mid ≡ history.floors id kind + c.counts id kind)
     (here : next_mid kind (stream_named id new) % 2 ^ 32 ≡ (next_mid kind (stream_named id old) + 1) % 2 ^ 32)
     (elsewhere : (other : ℕ) (b : Bool) → Other id kind other b → next_mid b (stream_named other new) ≡ next_mid b (stream_named other old))
@@ -73,7 +73,7 @@ module _ (history : History) (old new : List Stream) (u : Option UnderWay) (id :
       ap (λ (k : ℕ). history.floors k f.message.is_unordered + c.counts k f.message.is_unordered) (same ∙ stream_is) ∙ ap (λ (b : Bool). history.floors id b + c.counts id b) (same' ∙ kind_is) in
       omega (arith, below, all, mid_is)
 
-  pub counts_begun : Counts (with_slot (Some piece) history) new u
+  pub counts_begun : CountsMessages (with_slot (Some piece) history) new u
   counts_begun =
       record {
         counts = more;
@@ -120,7 +120,7 @@ module _ (history : History) (old new : List Stream) (u : Option UnderWay) (id :
           last_of (with_slot (Some piece) history) new more id kind piece.mid v (goes_on v is) (omega (arith, mid_is)) (omega (arith, mid_is, more_here)) (λ f e. (let one : piece ≡ f = cc in ap (λ (x : Piece). x.mid) (sym one)))
 
 -- one more of the message under way
-module _ (history : History) (old new : List Stream) (now : UnderWay) (u : Option UnderWay) (piece : Piece) (c : Counts history old (Some now))
+module _ (history : History) (old new : List Stream) (now : UnderWay) (u : Option UnderWay) (piece : Piece) (c : CountsMessages history old (Some now))
     (stream_is : piece.message.stream ≡ now.stream_id.0) (kind_is : piece.message.is_unordered ≡ c.going.waiting.is_unordered) (mid_is : piece.mid ≡ c.going.mid)
     (row : 0 < length history.log → HasBefore history.log (length history.log) piece)
     (stays : NumbersStay None old new)
@@ -141,7 +141,7 @@ module _ (history : History) (old new : List Stream) (now : UnderWay) (u : Optio
       some [] e = absurd (cc)
       some (s ∷ l) e = omega arith
 
-  pub counts_continued : Counts (with_slot (Some piece) history) new u
+  pub counts_continued : CountsMessages (with_slot (Some piece) history) new u
   counts_continued =
       record {
         counts = c.counts;

@@ -6,7 +6,7 @@ use Rattle.dcsctp_spec.specs.types.declared.sending.UnderWay.{UnderWay}
 use Rattle.dcsctp_spec.specs.types.queues.SendStreams.{Waiting, Stream, front_of}
 use Rattle.dcsctp_spec.specs.queues.SendQueue.{SendQueueState}
 use Rattle.dcsctp_delivery_sending.specs.Log.{History, new_history}
-use Rattle.dcsctp_delivery_sending.specs.Numbers.{stream_named, next_mid, LastIs, Counts, CountsWhere, AreOfKind, Numbered, Told, plain, interleaved}
+use Rattle.dcsctp_delivery_sending.specs.Numbers.{stream_named, next_mid, LastIs, CountsMessages, CountsWhere, AreOfKind, Numbered, IsUnambiguous, plain, interleaved}
 
 -- ---- tables
 
@@ -126,7 +126,7 @@ counts_rest streams u waiting mid front is next =
     counts_else id b other = set_elsewhere u.stream_id.0 waiting.is_unordered 1 (λ id b. 0) id b other
 
 -- so it is of what waits, and of what an earlier association left under way
-pub counts_anew : (history : History) (streams : List Stream) (u : Option UnderWay) → Counts history streams u → Begins true streams u
+pub counts_anew : (history : History) (streams : List Stream) (u : Option UnderWay) → CountsMessages history streams u → Begins true streams u
 counts_anew history streams u counts = go u counts.going
   where
     go : (v : Option UnderWay) → LastIs history streams counts.counts v → Begins true streams v
@@ -136,10 +136,10 @@ counts_anew history streams u counts = go u counts.going
         (counts.next v.stream_id.0 last.waiting.is_unordered ∙ ap (λ (k : ℕ). k % 2 ^ 32) (sym last.last))
 
 -- what a receiver knows of the log
-pub told : (history : History) (queue : SendQueueState) → Numbered history queue → length history.log < 2 ^ 31 → Told history
+pub told : (history : History) (queue : SendQueueState) → Numbered history queue → length history.log < 2 ^ 31 → IsUnambiguous history
 told history queue numbers small = go queue.is_interleaved numbers.kinds numbers.counts
   where
-    go : (b : Bool) → AreOfKind b history.log → CountsWhere b history queue.streams queue.under_way → Told history
+    go : (b : Bool) → AreOfKind b history.log → CountsWhere b history queue.streams queue.under_way → IsUnambiguous history
     go false kinds counts = plain kinds
     go true kinds c =
         interleaved kinds small

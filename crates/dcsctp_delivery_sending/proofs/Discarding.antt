@@ -6,12 +6,12 @@ use Rattle.dcsctp_spec.specs.endpoint.Event.{Event}
 use Rattle.dcsctp_spec.specs.types.declared.sending.UnderWay.{UnderWay}
 use Rattle.dcsctp_spec.specs.types.queues.SendStreams.{Waiting, Stream, front_of, without_front, unused, stream_at}
 use Rattle.dcsctp_spec.specs.queues.SendQueue.{SendQueueState}
-use Rattle.dcsctp_spec.specs.queues.Sending.{Fragment, Drops, none, more, reduced, without_rest, Takes, Discards, IsNamed}
+use Rattle.dcsctp_spec.specs.queues.Sending.{Fragment, Drops, none, more, reduced, without_rest, TakesFragment, Discards, IsMessageUnderWay}
 use Rattle.dcsctp_delivery_sending.specs.Places.{at_place}
 use Rattle.dcsctp_delivery_sending.specs.Log.{Message, Piece, Slot, History, with_slot}
 use Rattle.dcsctp_delivery_sending.specs.Pieces.{AllBeyond, IsGoing, HoldsQueued}
 use Rattle.dcsctp_delivery_sending.specs.Numbers.{Numbered}
-use Rattle.dcsctp_delivery_sending.specs.Weights.{HasRoom}
+use Rattle.dcsctp_delivery_sending.specs.Weights.{HasRoomForLog}
 use Rattle.dcsctp_delivery_sending.proofs.Places.{decide, at_cases}
 use Rattle.dcsctp_delivery_sending.proofs.Weights.{weight_same, weight_front}
 use Rattle.dcsctp_delivery_sending.proofs.Streams.{rest_shorter, distinct_on, wait_on, shorter_beyond, ascend_on, Shorter, reduced_alike, front_queued}
@@ -25,7 +25,7 @@ drops_keep_under_way now old events new none = refl
 drops_keep_under_way now old events new (more events' queue place message drops next front expired) = drops_keep_under_way now old events' queue drops
 
 -- what is left of the message under way is dropped, and a TSN may stand for its end
-module _ (queued : List Message) (log : List Slot) (old : SendQueueState) (stream message_id : ℕ) (named : IsNamed old stream message_id) (queue_holds : HoldsQueued queued log old.streams old.under_way) where
+module _ (queued : List Message) (log : List Slot) (old : SendQueueState) (stream message_id : ℕ) (named : IsMessageUnderWay old stream message_id) (queue_holds : HoldsQueued queued log old.streams old.under_way) where
   left : List Stream
   left = (without_rest named.place named.under_way.sent named.message old).streams
 
@@ -67,7 +67,7 @@ module _ (queued : List Message) (log : List Slot) (old : SendQueueState) (strea
             ]
       ]
 
-  left_room : HasRoom queued (None ∷ log) left None
+  left_room : HasRoomForLog queued (None ∷ log) left None
   unfolding left
   left_room =
       let g : IsGoing queued log old.streams named.under_way = going_on.going in
@@ -94,7 +94,7 @@ module _ (queued : List Message) (log : List Slot) (old : SendQueueState) (strea
         room = left_room;
       }
 
-pub takes_kind : {P : Type 0} (now max : ℕ) (old new : SendQueueState) (before after : List (Event P)) (part : Fragment) → Takes now max old before part new after → new.is_interleaved ≡ old.is_interleaved
+pub takes_kind : {P : Type 0} (now max : ℕ) (old new : SendQueueState) (before after : List (Event P)) (part : Fragment) → TakesFragment now max old before part new after → new.is_interleaved ≡ old.is_interleaved
 takes_kind now max old new before after part takes =
     ap (λ (q : SendQueueState). q.is_interleaved) takes.left ∙ produced_kind takes.place max takes.message takes.under_way takes.queue ∙ kind_dropped now old takes.drops.events takes.queue takes.drops.drops
 

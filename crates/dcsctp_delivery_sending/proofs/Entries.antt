@@ -7,12 +7,12 @@ use Rattle.std.proofs.lemmas.Bool.Decides.{eqb_tells, leb_tells}
 use Rattle.dcsctp_spec.specs.types.queues.Progress.{is_abandoned}
 use Rattle.dcsctp_spec.specs.queues.Outstanding.{OutstandingState}
 use Rattle.dcsctp_spec.specs.queues.Items.{Item}
-use Rattle.dcsctp_spec.specs.queues.Skipping.{goes_on, is_same, last_on, last_listed, entry_for, NoneTwice, number_of}
-use Rattle.dcsctp_delivery_sending.specs.Places.{Has}
+use Rattle.dcsctp_spec.specs.queues.Skipping.{is_row_continued, is_same_stream, last_on, last_listed, entry_for, NoneTwice, skipped_number}
+use Rattle.dcsctp_delivery_sending.specs.Places.{HasEntry}
 use Rattle.dcsctp_delivery_sending.specs.Log.{Mark, History}
 use Rattle.dcsctp_delivery_sending.specs.Numbers.{AreOfKind}
-use Rattle.dcsctp_delivery_sending.specs.Stages.{IsNamed, Bears}
-use Rattle.dcsctp_delivery_sending.specs.Flushes.{IsEntry, AreEntries}
+use Rattle.dcsctp_delivery_sending.specs.Stages.{IsNamedFragment, Bears}
+use Rattle.dcsctp_delivery_sending.specs.Flushes.{IsEntry, AreForwardEntries}
 
 same_kind : (a b : Bool) → (if a then b else not b) ≡ true → a ≡ b
 same_kind true b e = sym e
@@ -31,7 +31,7 @@ item_at zero (item ∷ items) below = (item, refl)
 item_at (suc place) (i ∷ items) below = item_at place items (omega arith)
 
 -- It doesn't begin after a reset unless it is the first.
-begins_none : (place : ℕ) (item : Item) → 0 < place → goes_on place item ≡ true → item.begins_after_reset ≡ true → ⊥
+begins_none : (place : ℕ) (item : Item) → 0 < place → is_row_continued place item ≡ true → item.begins_after_reset ≡ true → ⊥
 begins_none place item some on begins =
     let later : (place == 0) ≡ false = elim (eqb_tells place 0) [ inl e ↦ (let zero : place ≡ 0 = e.1 in absurd (omega arith)) | inr e ↦ e.0 ] in
     let one : ((place == 0) || not item.begins_after_reset) ≡ true = (both (is_abandoned item.progress.state) ((place == 0) || not item.begins_after_reset) on).1 in
@@ -47,11 +47,11 @@ module _ (history : History) (first : ℕ) where
     within : place < count
     stream : entry.0.0 ≡ item.fragment.stream
     unordered : entry.0.1 ≡ item.fragment.is_unordered
-    number : entry.1 ≡ number_of outstanding.is_interleaved item
+    number : entry.1 ≡ skipped_number outstanding.is_interleaved item
 
   -- No reset of the stream lies between an item of the row and its end, where the row would have ended.
-  not_split : (acknowledged count : ℕ) (outstanding : OutstandingState) → Bears history first acknowledged outstanding → count ≤ length outstanding.items → ((place : ℕ) (item : Item) → place < count → slice_get outstanding.items place ≡ Some item → goes_on place item ≡ true)
-      → (place : ℕ) → (mark : Mark) → Has mark history.marks → acknowledged + place < mark.bound → acknowledged + count ≤ mark.bound
+  not_split : (acknowledged count : ℕ) (outstanding : OutstandingState) → Bears history first acknowledged outstanding → count ≤ length outstanding.items → ((place : ℕ) (item : Item) → place < count → slice_get outstanding.items place ≡ Some item → is_row_continued place item ≡ true)
+      → (place : ℕ) → (mark : Mark) → HasEntry mark history.marks → acknowledged + place < mark.bound → acknowledged + count ≤ mark.bound
   not_split acknowledged count outstanding b within each place mark has less =
       elim (leb_tells (acknowledged + count) mark.bound) [
         | inl e ↦ e.1
@@ -64,9 +64,9 @@ module _ (history : History) (first : ℕ) where
       ]
 
   of_item : (acknowledged count : ℕ) (outstanding : OutstandingState) (entry : (ℕ × Bool) × ℕ) → AreOfKind outstanding.is_interleaved history.log → Bears history first acknowledged outstanding → count ≤ length outstanding.items
-      → ((place : ℕ) (item : Item) → place < count → slice_get outstanding.items place ≡ Some item → goes_on place item ≡ true) → OfItem count outstanding entry → IsEntry outstanding.is_interleaved history (acknowledged + count) entry
+      → ((place : ℕ) (item : Item) → place < count → slice_get outstanding.items place ≡ Some item → is_row_continued place item ≡ true) → OfItem count outstanding entry → IsEntry outstanding.is_interleaved history (acknowledged + count) entry
   of_item acknowledged count outstanding entry kinds b within each of =
-      let named : IsNamed history (acknowledged + of.place) of.item.fragment = b.named of.place of.item of.at in
+      let named : IsNamedFragment history (acknowledged + of.place) of.item.fragment = b.named of.place of.item of.at in
       record {
         number = named.number;
         piece = named.piece;
@@ -75,7 +75,7 @@ module _ (history : History) (first : ℕ) where
         kind = kinds named.number named.piece named.at;
         stream = of.stream ∙ named.stream;
         unordered = of.unordered ∙ named.unordered;
-        mid = λ interleaved. ap (λ (k : ℕ). k % 2 ^ 32) (of.number ∙ ap (λ (b' : Bool). number_of b' of.item) interleaved) ∙ named.mid;
+        mid = λ interleaved. ap (λ (k : ℕ). k % 2 ^ 32) (of.number ∙ ap (λ (b' : Bool). skipped_number b' of.item) interleaved) ∙ named.mid;
       }
 
   -- the last item of a stream is one of the row
@@ -83,7 +83,7 @@ module _ (history : History) (first : ℕ) where
   found_last stream unordered [] item is = absurd (cc)
   found_last stream unordered (first_item ∷ items) item is = go (last_on stream unordered items) refl (λ found. found_last stream unordered items item found) is
     where
-      here : (b : Bool) → is_same stream unordered first_item.fragment.stream first_item.fragment.is_unordered ≡ b → (if b then Some first_item else None) ≡ Some item
+      here : (b : Bool) → is_same_stream stream unordered first_item.fragment.stream first_item.fragment.is_unordered ≡ b → (if b then Some first_item else None) ≡ Some item
           → (place : ℕ) × (slice_get (first_item ∷ items) place ≡ Some item) × (stream ≡ item.fragment.stream) × (unordered ≡ item.fragment.is_unordered)
       here true same e =
           let one : first_item ≡ item = cc in
@@ -93,12 +93,12 @@ module _ (history : History) (first : ℕ) where
 
       go : (found : Option Item) → last_on stream unordered items ≡ found
           → (last_on stream unordered items ≡ Some item → (place : ℕ) × (slice_get items place ≡ Some item) × (stream ≡ item.fragment.stream) × (unordered ≡ item.fragment.is_unordered))
-          → option_or found (if is_same stream unordered first_item.fragment.stream first_item.fragment.is_unordered then Some first_item else None) ≡ Some item
+          → option_or found (if is_same_stream stream unordered first_item.fragment.stream first_item.fragment.is_unordered then Some first_item else None) ≡ Some item
           → (place : ℕ) × (slice_get (first_item ∷ items) place ≡ Some item) × (stream ≡ item.fragment.stream) × (unordered ≡ item.fragment.is_unordered)
-      go None is rest e = here (is_same stream unordered first_item.fragment.stream first_item.fragment.is_unordered) refl e
+      go None is rest e = here (is_same_stream stream unordered first_item.fragment.stream first_item.fragment.is_unordered) refl e
       go (Some last) is rest e = (let (place, at, same, kind) = rest (is ∙ e) in (suc place, at, same, kind))
 
-  listed_item : (outstanding : OutstandingState) (count : ℕ) (entry : (ℕ × Bool) × ℕ) → Some entry.1 ≡ option_map (number_of outstanding.is_interleaved) (last_listed outstanding.is_interleaved entry.0.0 entry.0.1 (take count outstanding.items))
+  listed_item : (outstanding : OutstandingState) (count : ℕ) (entry : (ℕ × Bool) × ℕ) → Some entry.1 ≡ option_map (skipped_number outstanding.is_interleaved) (last_listed outstanding.is_interleaved entry.0.0 entry.0.1 (take count outstanding.items))
       → OfItem count outstanding entry
   listed_item outstanding count entry is = go (outstanding.is_interleaved || not entry.0.1) is
     where
@@ -116,21 +116,21 @@ module _ (history : History) (first : ℕ) where
       before (suc k) zero (i ∷ items) item at = omega arith
       before (suc k) (suc place) (i ∷ items) item at = omega (arith, before k place items item at)
 
-      found : (o : Option Item) → last_on entry.0.0 entry.0.1 (take count outstanding.items) ≡ o → Some entry.1 ≡ option_map (number_of outstanding.is_interleaved) o → OfItem count outstanding entry
+      found : (o : Option Item) → last_on entry.0.0 entry.0.1 (take count outstanding.items) ≡ o → Some entry.1 ≡ option_map (skipped_number outstanding.is_interleaved) o → OfItem count outstanding entry
       found None e same = absurd (cc)
       found (Some item) e same =
           let (place, at, stream, unordered) = found_last entry.0.0 entry.0.1 (take count outstanding.items) item e in
           record { place = place; item = item; at = among count place outstanding.items item at; within = before count place outstanding.items item at; stream = stream; unordered = unordered; number = cc }
 
-      go : (b : Bool) → Some entry.1 ≡ option_map (number_of outstanding.is_interleaved) (if b then last_on entry.0.0 entry.0.1 (take count outstanding.items) else None) → OfItem count outstanding entry
+      go : (b : Bool) → Some entry.1 ≡ option_map (skipped_number outstanding.is_interleaved) (if b then last_on entry.0.0 entry.0.1 (take count outstanding.items) else None) → OfItem count outstanding entry
       go false same = absurd (cc)
       go true same = found (last_on entry.0.0 entry.0.1 (take count outstanding.items)) refl same
 
   -- so each entry does
   pub listed_entries : (acknowledged count : ℕ) (outstanding : OutstandingState) → AreOfKind outstanding.is_interleaved history.log → Bears history first acknowledged outstanding → count ≤ length outstanding.items
-      → ((place : ℕ) (item : Item) → place < count → slice_get outstanding.items place ≡ Some item → goes_on place item ≡ true) → (all entries : List ((ℕ × Bool) × ℕ))
-      → ((stream : ℕ) (unordered : Bool) → entry_for stream unordered all ≡ option_map (number_of outstanding.is_interleaved) (last_listed outstanding.is_interleaved stream unordered (take count outstanding.items)))
-      → ((entry : (ℕ × Bool) × ℕ) → Has entry entries → entry_for entry.0.0 entry.0.1 all ≡ Some entry.1) → AreEntries outstanding.is_interleaved history (acknowledged + count) entries
+      → ((place : ℕ) (item : Item) → place < count → slice_get outstanding.items place ≡ Some item → is_row_continued place item ≡ true) → (all entries : List ((ℕ × Bool) × ℕ))
+      → ((stream : ℕ) (unordered : Bool) → entry_for stream unordered all ≡ option_map (skipped_number outstanding.is_interleaved) (last_listed outstanding.is_interleaved stream unordered (take count outstanding.items)))
+      → ((entry : (ℕ × Bool) × ℕ) → HasEntry entry entries → entry_for entry.0.0 entry.0.1 all ≡ Some entry.1) → AreForwardEntries outstanding.is_interleaved history (acknowledged + count) entries
   listed_entries acknowledged count outstanding kinds b within each all [] lists found = tt
   listed_entries acknowledged count outstanding kinds b within each all (entry ∷ entries) lists found = (
     of_item acknowledged count outstanding entry kinds b within each (listed_item outstanding count entry (sym (found entry (inl refl)) ∙ lists entry.0.0 entry.0.1)),
@@ -138,11 +138,11 @@ module _ (history : History) (first : ℕ) where
   )
 
 -- an entry of a list in which no stream has two is the one that is found
-pub entry_found : (entries : List ((ℕ × Bool) × ℕ)) → NoneTwice entries → (entry : (ℕ × Bool) × ℕ) → Has entry entries → entry_for entry.0.0 entry.0.1 entries ≡ Some entry.1
+pub entry_found : (entries : List ((ℕ × Bool) × ℕ)) → NoneTwice entries → (entry : (ℕ × Bool) × ℕ) → HasEntry entry entries → entry_for entry.0.0 entry.0.1 entries ≡ Some entry.1
 entry_found [] once entry has = absurd has
-entry_found (e ∷ entries) once entry has = go (is_same entry.0.0 entry.0.1 e.0.0 e.0.1) refl has (λ later. entry_found entries once.1 entry later)
+entry_found (e ∷ entries) once entry has = go (is_same_stream entry.0.0 entry.0.1 e.0.0 e.0.1) refl has (λ later. entry_found entries once.1 entry later)
   where
-    itself : (stream : ℕ) (unordered : Bool) → is_same stream unordered stream unordered ≡ true
+    itself : (stream : ℕ) (unordered : Bool) → is_same_stream stream unordered stream unordered ≡ true
     itself stream true = rw (eq-eqb stream stream refl) refl
     itself stream false = rw (eq-eqb stream stream refl) refl
 
@@ -156,7 +156,7 @@ entry_found (e ∷ entries) once entry has = go (is_same entry.0.0 entry.0.1 e.0
     both true false e' = absurd (cc)
     both false y e' = absurd (cc)
 
-    go : (b : Bool) → is_same entry.0.0 entry.0.1 e.0.0 e.0.1 ≡ b → Has entry (e ∷ entries) → (Has entry entries → entry_for entry.0.0 entry.0.1 entries ≡ Some entry.1)
+    go : (b : Bool) → is_same_stream entry.0.0 entry.0.1 e.0.0 e.0.1 ≡ b → HasEntry entry (e ∷ entries) → (HasEntry entry entries → entry_for entry.0.0 entry.0.1 entries ≡ Some entry.1)
         → (if b then Some e.1 else entry_for entry.0.0 entry.0.1 entries) ≡ Some entry.1
     go true same has rest =
         elim has [
@@ -172,7 +172,7 @@ entry_found (e ∷ entries) once entry has = go (is_same entry.0.0 entry.0.1 e.0
     go false same has rest =
         elim has [
           | inl is ↦
-              (let own : is_same entry.0.0 entry.0.1 e.0.0 e.0.1 ≡ true = subst (λ (x : (ℕ × Bool) × ℕ). is_same entry.0.0 entry.0.1 x.0.0 x.0.1 ≡ true) is (itself entry.0.0 entry.0.1) in
+              (let own : is_same_stream entry.0.0 entry.0.1 e.0.0 e.0.1 ≡ true = subst (λ (x : (ℕ × Bool) × ℕ). is_same_stream entry.0.0 entry.0.1 x.0.0 x.0.1 ≡ true) is (itself entry.0.0 entry.0.1) in
               let clash : true ≡ false = sym own ∙ same in
               absurd (cc))
           | inr later ↦ rest later

@@ -8,11 +8,11 @@ use Rattle.dcsctp_spec.specs.Reconfiguration.{ResetParameter, outgoing_reset_req
 use Rattle.dcsctp_spec.specs.queues.Incoming.{is_named}
 use Rattle.dcsctp_spec.specs.queues.Sending.{Fragment}
 use Rattle.dcsctp_spec.specs.endpoint.BegunResets.{BegunReset}
-use Rattle.dcsctp_delivery_sending.specs.Places.{Has, at_place}
-use Rattle.dcsctp_delivery_sending.specs.Log.{Slot, Mark, History, grown, with_mark, with_renewed}
+use Rattle.dcsctp_delivery_sending.specs.Places.{HasEntry, at_place}
+use Rattle.dcsctp_delivery_sending.specs.Log.{Slot, Mark, History, log_extended, with_mark, with_renewed}
 use Rattle.dcsctp_delivery_sending.specs.Numbers.{KindAt}
 use Rattle.dcsctp_delivery_sending.specs.Stages.{SaysAt}
-use Rattle.dcsctp_delivery_sending.specs.Flushes.{IsPassed, AreEntries, IsForward, SaysPlain, AreBegun, SaysContent, SayAll, PacketsSay}
+use Rattle.dcsctp_delivery_sending.specs.Flushes.{IsPassed, AreForwardEntries, IsForward, SaysPlain, AreBegun, SaysContent, SayAll, PacketsSay}
 use Rattle.dcsctp_delivery_sending.proofs.Places.{at_stays}
 
 pub at_more : {A : Type 0} (more log : List A) (n : ℕ) (x : A) → at_place n log ≡ Some x → at_place n (more ++ log) ≡ Some x
@@ -22,15 +22,15 @@ at_more (slot ∷ more) log n x at = at_stays n slot x (more ++ log) (at_more mo
 -- It lies where a reset of this history does, and names the same streams.
 pub record IsAsOne (history : History) (mark : Mark) : Type 0 where
   pub one : Mark
-  pub has : Has one history.marks
+  pub has : HasEntry one history.marks
   pub bound : mark.bound ≡ one.bound
   pub ids : mark.ids ≡ one.ids
 
-pub as_itself : (history : History) (mark : Mark) → Has mark history.marks → IsAsOne history mark
+pub as_itself : (history : History) (mark : Mark) → HasEntry mark history.marks → IsAsOne history mark
 as_itself history mark has = record { one = mark; has = has; bound = refl; ids = refl }
 
 -- So does the request of another number.
-pub as_renewed : (history : History) (number : ℕ) (renewed mark : Mark) → Has renewed history.marks → Has mark (with_renewed number renewed history).marks → IsAsOne history mark
+pub as_renewed : (history : History) (number : ℕ) (renewed mark : Mark) → HasEntry renewed history.marks → HasEntry mark (with_renewed number renewed history).marks → IsAsOne history mark
 as_renewed history number renewed mark known has =
     elim has [
       | inl e ↦ record { one = renewed; has = known; bound = ap (λ (m : Mark). m.bound) e; ids = ap (λ (m : Mark). m.ids) e }
@@ -41,11 +41,11 @@ as_renewed history number renewed mark known has =
 pub record Extends (old new : History) : Type 0 where
   pub at : (n : ℕ) (slot : Slot) → at_place n old.log ≡ Some slot → at_place n new.log ≡ Some slot
   pub size : length old.log ≤ length new.log
-  pub marks : (mark : Mark) → Has mark old.marks → Has mark new.marks
+  pub marks : (mark : Mark) → HasEntry mark old.marks → HasEntry mark new.marks
   -- A later reset lies behind all TSNs of the earlier history, or is one of that under another number.
-  pub later : (mark : Mark) → Has mark new.marks → IsAsOne old mark ⊎ (length old.log ≤ mark.bound)
+  pub later : (mark : Mark) → HasEntry mark new.marks → IsAsOne old mark ⊎ (length old.log ≤ mark.bound)
 
-pub extends_grown : (more : List Slot) (history : History) → Extends history (grown more history)
+pub extends_grown : (more : List Slot) (history : History) → Extends history (log_extended more history)
 extends_grown more history = record { at = at_more more history.log; size = omega (arith, length-append more history.log); marks = λ mark has. has; later = λ mark has. inl (as_itself history mark has) }
 
 pub extends_marked : (begun : Option BegunReset) (ids : List ℕ) (bound : ℕ) (history : History) → length history.log ≤ bound → Extends history (with_mark begun ids bound history)
@@ -59,7 +59,7 @@ extends_marked (Some begun) ids bound history low =
     }
 
 -- a reset that was begun among more TSNs
-pub extends_noted : (begun : Option BegunReset) (ids : List ℕ) (bound : ℕ) (more : List Slot) (history : History) → length history.log ≤ bound → Extends history (with_mark begun ids bound (grown more history))
+pub extends_noted : (begun : Option BegunReset) (ids : List ℕ) (bound : ℕ) (more : List Slot) (history : History) → length history.log ≤ bound → Extends history (with_mark begun ids bound (log_extended more history))
 extends_noted None ids bound more history low = extends_grown more history
 extends_noted (Some begun) ids bound more history low =
     record {
@@ -70,7 +70,7 @@ extends_noted (Some begun) ids bound more history low =
     }
 
 -- a reset that goes on under another number
-pub extends_renewed : (number : ℕ) (renewed : Mark) (history : History) → Has renewed history.marks → Extends history (with_renewed number renewed history)
+pub extends_renewed : (number : ℕ) (renewed : Mark) (history : History) → HasEntry renewed history.marks → Extends history (with_renewed number renewed history)
 extends_renewed number renewed history known =
     record { at = λ n slot at. at; size = omega arith; marks = λ mark has. inr has; later = λ mark has. inl (as_renewed history number renewed mark known has) }
 
@@ -107,7 +107,7 @@ module _ (old new : History) (extends : Extends old new) (first : ℕ) where
       let both : Some slot ≡ Some (Some f) = sym (extends.at n slot at) ∙ at' in
       kind f (at ∙ both)
 
-  entries_later : (is_interleaved : Bool) (passed : ℕ) (entries : List ((ℕ × Bool) × ℕ)) → passed ≤ length old.log → AreEntries is_interleaved old passed entries → AreEntries is_interleaved new passed entries
+  entries_later : (is_interleaved : Bool) (passed : ℕ) (entries : List ((ℕ × Bool) × ℕ)) → passed ≤ length old.log → AreForwardEntries is_interleaved old passed entries → AreForwardEntries is_interleaved new passed entries
   entries_later is_interleaved passed [] below names = tt
   entries_later is_interleaved passed (entry ∷ entries) below names = (
     record {

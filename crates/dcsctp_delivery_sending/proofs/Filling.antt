@@ -5,11 +5,11 @@ use Rattle.std.proofs.lemmas.Bool.Decides.{nat_tests}
 use Rattle.dcsctp_spec.specs.types.declared.progress.Change.TheVariants.{SendAgain}
 use Rattle.dcsctp_spec.specs.types.declared.sending.UnderWay.{UnderWay}
 use Rattle.dcsctp_spec.specs.queues.AtOnce.{empty_stage, SendsAtOnce}
-use Rattle.dcsctp_spec.specs.queues.Filling.{Stage, SendsMarked, payload_room, SendsNew, FindsNone, StepAgain, MayAdd, StepNew, Steps, none, more, counting, FillsPacket}
+use Rattle.dcsctp_spec.specs.queues.Filling.{Stage, SendsMarked, payload_room, SendsNew, FindsNone, StepAgain, MayAdd, StepNew, StageSteps, none, more, resent_packet_counted, FillsPacket}
 use Rattle.dcsctp_spec.specs.queues.Outstanding.{OutstandingState, header, header_of, next_tsn}
 use Rattle.dcsctp_spec.specs.queues.Retransmission.{RetransmissionState, counted_again}
 use Rattle.dcsctp_spec.specs.queues.SendQueue.{SendQueueState}
-use Rattle.dcsctp_delivery_sending.specs.Log.{Message, Piece, Cut, History, grown, with_slot}
+use Rattle.dcsctp_delivery_sending.specs.Log.{Message, Piece, Cut, History, log_extended, with_slot}
 use Rattle.dcsctp_delivery_sending.specs.Places.{at_place}
 use Rattle.dcsctp_delivery_sending.specs.Pieces.{HoldsQueued}
 use Rattle.dcsctp_delivery_sending.specs.Numbers.{stream_named, is_handed_out, IsCurrent, AreKept, Numbered}
@@ -30,7 +30,7 @@ pub stay : (queued : List Message) (history : History) (first acknowledged : ℕ
 stay queued history first acknowledged new stands = record { more = []; stands = stands; current = λ n f at. absurd (cc); kept = λ n f at. absurd (cc) }
 
 pub stay_on : (queued : List Message) (history : History) (first acknowledged : ℕ) (between new : Stage) (stays : Stays queued history first acknowledged between) → StaysPaused between new
-    → Stays queued (grown stays.more history) first acknowledged new → Stays queued history first acknowledged new
+    → Stays queued (log_extended stays.more history) first acknowledged new → Stays queued history first acknowledged new
 stay_on queued history first acknowledged between new stays paused later =
     record {
       more = later.more ++ stays.more;
@@ -132,11 +132,11 @@ anew_stays queued history first acknowledged now old new stands step =
 
 module _ (queued : List Message) (first acknowledged : ℕ) (Step : Stage → Stage → Type 0) (keeps : (history : History) (old new : Stage) → Stands queued history first acknowledged old → Step old new → Stays queued history first acknowledged new)
     (paused : (old new : Stage) → Step old new → StaysPaused old new) where
-  steps_stay : (history : History) (old new : Stage) → Stands queued history first acknowledged old → Steps Step old new → Stays queued history first acknowledged new
+  steps_stay : (history : History) (old new : Stage) → Stands queued history first acknowledged old → StageSteps Step old new → Stays queued history first acknowledged new
   steps_stay history old new stands none = stay queued history first acknowledged old stands
   steps_stay history old new stands (more between _ steps step) =
       let earlier = steps_stay history old between stands steps in
-      stay_on queued history first acknowledged between new earlier (paused between new step) (keeps (grown earlier.more history) between new earlier.stands step)
+      stay_on queued history first acknowledged between new earlier (paused between new step) (keeps (log_extended earlier.more history) between new earlier.stands step)
 
 pub counted_outstanding : (size : ℕ) (state : RetransmissionState) → (counted_again size state).outstanding ≡ state.outstanding
 counted_outstanding size state = go (nat_lt 0 size)
@@ -151,22 +151,22 @@ counted_outstanding size state = go (nat_lt 0 size)
 pub fills_stay : (queued : List Message) (history : History) (first acknowledged now : ℕ) (old new : Stage) → Stands queued history first acknowledged old → FillsPacket now old new → Stays queued history first acknowledged new
 fills_stay queued history first acknowledged now old new stands fills =
     let again = steps_stay queued first acknowledged (StepAgain now) (λ l o n s step. again_stays queued l first acknowledged now o n s step) (again_paused now) history old fills.fills.resent stands fills.fills.again in
-    let counted : Stands queued (grown again.more history) first acknowledged (counting old.room fills.fills.resent) = (record {
+    let counted : Stands queued (log_extended again.more history) first acknowledged (resent_packet_counted old.room fills.fills.resent) = (record {
       queue_holds = again.stands.queue_holds;
       cut = again.stands.cut;
-      bears = subst (λ (o : OutstandingState). Bears (grown again.more history) first acknowledged o) (sym (counted_outstanding (old.room - fills.fills.resent.room) fills.fills.resent.queue)) again.stands.bears;
-      pends = subst (λ (b : Bool). Pends (grown again.more history) b) (sym (counted_pends (old.room - fills.fills.resent.room) fills.fills.resent.queue)) again.stands.pends;
+      bears = subst (λ (o : OutstandingState). Bears (log_extended again.more history) first acknowledged o) (sym (counted_outstanding (old.room - fills.fills.resent.room) fills.fills.resent.queue)) again.stands.bears;
+      pends = subst (λ (b : Bool). Pends (log_extended again.more history) b) (sym (counted_pends (old.room - fills.fills.resent.room) fills.fills.resent.queue)) again.stands.pends;
       marks = again.stands.marks;
       numbers = again.stands.numbers;
       kind = ap (λ (o : OutstandingState). o.is_interleaved) (counted_outstanding (old.room - fills.fills.resent.room) fills.fills.resent.queue) ∙ again.stands.kind;
     }) in
-    let anew = steps_stay queued first acknowledged (StepNew now) (λ l o n s step. anew_stays queued l first acknowledged now o n s step) (anew_paused now) (grown again.more history) (counting old.room fills.fills.resent) fills.sent counted fills.fills.anew in
-    let sent = stay_on queued history first acknowledged fills.fills.resent fills.sent again (steps_paused (StepNew now) (anew_paused now) (counting old.room fills.fills.resent) fills.sent fills.fills.anew) anew in
+    let anew = steps_stay queued first acknowledged (StepNew now) (λ l o n s step. anew_stays queued l first acknowledged now o n s step) (anew_paused now) (log_extended again.more history) (resent_packet_counted old.room fills.fills.resent) fills.sent counted fills.fills.anew in
+    let sent = stay_on queued history first acknowledged fills.fills.resent fills.sent again (steps_paused (StepNew now) (anew_paused now) (resent_packet_counted old.room fills.fills.resent) fills.sent fills.fills.anew) anew in
     record {
       more = sent.more;
       current = sent.current;
       kept = subst (λ (s : Stage). AreKept s.waiting.streams sent.more) (sym fills.is) sent.kept;
-      stands = subst (λ (s : Stage). Stands queued (grown sent.more history) first acknowledged s) (sym fills.is) (record { queue_holds = sent.stands.queue_holds; cut = sent.stands.cut; bears = sent.stands.bears; pends = sent.stands.pends; marks = sent.stands.marks; numbers = sent.stands.numbers; kind = sent.stands.kind });
+      stands = subst (λ (s : Stage). Stands queued (log_extended sent.more history) first acknowledged s) (sym fills.is) (record { queue_holds = sent.stands.queue_holds; cut = sent.stands.cut; bears = sent.stands.bears; pends = sent.stands.pends; marks = sent.stands.marks; numbers = sent.stands.numbers; kind = sent.stands.kind });
     }
 
 -- ---- a fast retransmission
@@ -186,8 +186,8 @@ at_once_stays queued history first acknowledged now bytes waiting old new tsns q
       stands = record {
         queue_holds = stays.stands.queue_holds;
         cut = stays.stands.cut;
-        bears = subst (λ (o : OutstandingState). Bears (grown stays.more history) first acknowledged o) (sym same) stays.stands.bears;
-        pends = subst (λ (b : Bool). Pends (grown stays.more history) b) (sym (ap (λ (r : RetransmissionState). r.reset_begun) sends.is ∙ counted_pends (bytes - sends.room) sends.resent)) stays.stands.pends;
+        bears = subst (λ (o : OutstandingState). Bears (log_extended stays.more history) first acknowledged o) (sym same) stays.stands.bears;
+        pends = subst (λ (b : Bool). Pends (log_extended stays.more history) b) (sym (ap (λ (r : RetransmissionState). r.reset_begun) sends.is ∙ counted_pends (bytes - sends.room) sends.resent)) stays.stands.pends;
         marks = stays.stands.marks;
         numbers = stays.stands.numbers;
         kind = ap (λ (o : OutstandingState). o.is_interleaved) same ∙ stays.stands.kind;

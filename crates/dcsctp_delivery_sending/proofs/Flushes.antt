@@ -6,11 +6,11 @@ use Rattle.dcsctp_spec.specs.Packet.{Emission}
 use Rattle.dcsctp_spec.specs.endpoint.Endpoint.{Endpoint, Core, closed as closed_core, cookie_wait, cookie_echoed, open_in}
 use Rattle.dcsctp_spec.specs.endpoint.Outcome.{still}
 use Rattle.dcsctp_spec.specs.queues.SendQueue.{SendQueueState}
-use Rattle.dcsctp_spec.specs.queues.Transfer.{Below}
+use Rattle.dcsctp_spec.specs.queues.Transfer.{EndpointQueues}
 use Rattle.dcsctp_spec.specs.endpoint.BegunResets.{BegunReset}
-use Rattle.dcsctp_spec.specs.endpoint.FlushOutcomes.{Answer, asked, next_draft, flush_of, Ask, first_ask, later_ask, Answers, at_limit, at_empty, after_packet, FlushAnswers, packets_allowed}
-use Rattle.dcsctp_delivery_sending.specs.Log.{Message, History, grown, with_mark}
-use Rattle.dcsctp_delivery_sending.specs.Flushes.{begun_by, SayAll, PacketsSay, StandsBelow, Sends}
+use Rattle.dcsctp_spec.specs.endpoint.FlushOutcomes.{Answer, asked, next_draft, flush_of, Ask, first_ask, later_ask, AreFlushAnswers, at_limit, at_empty, after_packet, FlushAnswers, packets_allowed}
+use Rattle.dcsctp_delivery_sending.specs.Log.{Message, History, log_extended, with_mark}
+use Rattle.dcsctp_delivery_sending.specs.Flushes.{reset_begun_by, SayAll, PacketsSay, QueuesFollowLog, SendsLogged}
 use Rattle.dcsctp_delivery_sending.proofs.Noted.{marked_twice, current_before}
 use Rattle.dcsctp_delivery_sending.proofs.Pauses.{PausesStay, kept_later, kept_both, current_both}
 use Rattle.dcsctp_delivery_sending.proofs.PausedFlushes.{later_begun, later_paused}
@@ -24,8 +24,8 @@ next_empty history first (cookie_wait my) draft = tt
 next_empty history first (cookie_echoed my held cookie) draft = tt
 next_empty history first (open_in phase my held) draft = tt
 
-still_sends : (queued : List Message) (history : History) (first acknowledged : ℕ) (e : Endpoint) → StandsBelow queued history first acknowledged e.below
-    → Sends queued history first acknowledged e.below.queue None (still e).after.below (still e).events
+still_sends : (queued : List Message) (history : History) (first acknowledged : ℕ) (e : Endpoint) → QueuesFollowLog queued history first acknowledged e.queues
+    → SendsLogged queued history first acknowledged e.queues.queue None (still e).after.queues (still e).events
 still_sends queued history first acknowledged e stands =
     record {
       more = [];
@@ -41,11 +41,11 @@ still_sends queued history first acknowledged e stands =
     }
 
 -- what begins no reset goes after what may
-sends_then : (queued : List Message) (history : History) (first acknowledged : ℕ) (old : SendQueueState) (begun : Option BegunReset) (between after : Below) (events others : List (Event Emission))
-    (one : Sends queued history first acknowledged old begun between events) → PausesStay between.queue.streams after.queue.streams
-    → Sends queued (with_mark begun one.ids one.bound (grown one.more history)) first acknowledged between.queue None after others → Sends queued history first acknowledged old begun after (events ++ others)
+sends_then : (queued : List Message) (history : History) (first acknowledged : ℕ) (old : SendQueueState) (begun : Option BegunReset) (between after : EndpointQueues) (events others : List (Event Emission))
+    (one : SendsLogged queued history first acknowledged old begun between events) → PausesStay between.queue.streams after.queue.streams
+    → SendsLogged queued (with_mark begun one.ids one.bound (log_extended one.more history)) first acknowledged between.queue None after others → SendsLogged queued history first acknowledged old begun after (events ++ others)
 sends_then queued history first acknowledged old begun between after events others one paused two =
-    let noted : History = with_mark begun one.ids one.bound (grown one.more history) in
+    let noted : History = with_mark begun one.ids one.bound (log_extended one.more history) in
     let same = marked_twice begun one.ids one.bound two.more one.more history in
     record {
       more = two.more ++ one.more;
@@ -53,35 +53,35 @@ sends_then queued history first acknowledged old begun between after events othe
       bound = one.bound;
       low = one.low;
       high = omega (arith, one.high, length-append two.more one.more);
-      stands = subst (λ (h : History). StandsBelow queued h first acknowledged after) (sym same) two.stands;
+      stands = subst (λ (h : History). QueuesFollowLog queued h first acknowledged after) (sym same) two.stands;
       packets = subst (λ (h : History). PacketsSay h first (packets_in (events ++ others))) (sym same)
-          (packets_both (grown two.more noted) first events others (packets_more two.more noted first (packets_in events) one.packets) two.packets);
+          (packets_both (log_extended two.more noted) first events others (packets_more two.more noted first (packets_in events) one.packets) two.packets);
       current = current_both history two.more one.more (current_before begun one.ids one.bound one.more history two.more two.current) one.current;
       kept = kept_both after.queue.streams two.more one.more two.kept (kept_later between.queue.streams after.queue.streams one.more paused one.kept);
       handed = λ id handed. elim (two.handed id handed) [ inl before ↦ one.handed id before | inr none ↦ absurd none ];
     }
 
-answers_send : (queued : List Message) (history : History) (first acknowledged : ℕ) (ask : Ask) (n : ℕ) (e : Endpoint) (draft : Emission) (answers : List Answer) → StandsBelow queued history first acknowledged e.below
-    → SayAll history first draft.packet.contents → Answers ask n e draft answers
-    → Sends queued history first acknowledged e.below.queue (begun_by answers) (flush_of e draft answers).after.below (flush_of e draft answers).events
+answers_send : (queued : List Message) (history : History) (first acknowledged : ℕ) (ask : Ask) (n : ℕ) (e : Endpoint) (draft : Emission) (answers : List Answer) → QueuesFollowLog queued history first acknowledged e.queues
+    → SayAll history first draft.packet.contents → AreFlushAnswers ask n e draft answers
+    → SendsLogged queued history first acknowledged e.queues.queue (reset_begun_by answers) (flush_of e draft answers).after.queues (flush_of e draft answers).events
 answers_send queued history first acknowledged _ _ _ _ _ stands say (at_limit ask e draft) = still_sends queued history first acknowledged e stands
 answers_send queued history first acknowledged _ _ _ _ _ stands say (at_empty ask more e draft answer is empty) =
     let one = asked_sends queued history first acknowledged ask e draft answer stands say is in
     let between : Endpoint = (asked e draft answer).after in
-    sends_then queued history first acknowledged e.below.queue answer.begun between.below between.below (asked e draft answer).events [] one (λ id. refl)
-    (still_sends queued (with_mark answer.begun one.ids one.bound (grown one.more history)) first acknowledged between one.stands)
+    sends_then queued history first acknowledged e.queues.queue answer.begun between.queues between.queues (asked e draft answer).events [] one (λ id. refl)
+    (still_sends queued (with_mark answer.begun one.ids one.bound (log_extended one.more history)) first acknowledged between one.stands)
 answers_send queued history first acknowledged _ _ _ _ _ stands say (after_packet ask more e draft answer answers is some rest) =
     let one = asked_sends queued history first acknowledged ask e draft answer stands say is in
     let between : Endpoint = (asked e draft answer).after in
-    let noted : History = with_mark answer.begun one.ids one.bound (grown one.more history) in
-    let after : Below = (flush_of between (next_draft e.core draft) answers).after.below in
+    let noted : History = with_mark answer.begun one.ids one.bound (log_extended one.more history) in
+    let after : EndpointQueues = (flush_of between (next_draft e.core draft) answers).after.queues in
     let events : List (Event Emission) = (flush_of between (next_draft e.core draft) answers).events in
     let two = answers_send queued noted first acknowledged later_ask more between (next_draft e.core draft) answers one.stands (next_empty noted first e.core draft) rest in
-    sends_then queued history first acknowledged e.below.queue answer.begun between.below after (asked e draft answer).events events one (later_paused more between (next_draft e.core draft) answers rest)
-    (subst (λ (begun : Option BegunReset). Sends queued noted first acknowledged between.below.queue begun after events) (later_begun more between (next_draft e.core draft) answers rest) two)
+    sends_then queued history first acknowledged e.queues.queue answer.begun between.queues after (asked e draft answer).events events one (later_paused more between (next_draft e.core draft) answers rest)
+    (subst (λ (begun : Option BegunReset). SendsLogged queued noted first acknowledged between.queues.queue begun after events) (later_begun more between (next_draft e.core draft) answers rest) two)
 
-pub flush_sends : (queued : List Message) (history : History) (first acknowledged : ℕ) (e : Endpoint) (draft : Emission) (answers : List Answer) → StandsBelow queued history first acknowledged e.below
+pub flush_sends : (queued : List Message) (history : History) (first acknowledged : ℕ) (e : Endpoint) (draft : Emission) (answers : List Answer) → QueuesFollowLog queued history first acknowledged e.queues
     → SayAll history first draft.packet.contents → FlushAnswers e draft answers
-    → Sends queued history first acknowledged e.below.queue (begun_by answers) (flush_of e draft answers).after.below (flush_of e draft answers).events
+    → SendsLogged queued history first acknowledged e.queues.queue (reset_begun_by answers) (flush_of e draft answers).after.queues (flush_of e draft answers).events
 flush_sends queued history first acknowledged e draft answers stands say allowed =
     answers_send queued history first acknowledged first_ask (packets_allowed e.options.max_burst e.core) e draft answers stands say allowed

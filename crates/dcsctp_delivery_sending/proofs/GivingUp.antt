@@ -4,17 +4,17 @@ use Rattle.std.specs.Prelude.{Option, None, Some}
 use Rattle.dcsctp_spec.specs.types.declared.progress.Change.TheVariants.{Abandon}
 use Rattle.dcsctp_spec.specs.types.declared.sending.UnderWay.{UnderWay}
 use Rattle.dcsctp_spec.specs.queues.Abandoning.{GivesUpFirst, GivesUpAll}
-use Rattle.dcsctp_spec.specs.queues.Filling.{Stage, Closes, DropsRestAt, GivesUpAt, Steps, none, more}
+use Rattle.dcsctp_spec.specs.queues.Filling.{Stage, ClosesMessage, DropsRestAt, GivesUpAt, StageSteps, none, more}
 use Rattle.dcsctp_spec.specs.queues.ItemMessages.{EndsDropped}
 use Rattle.dcsctp_spec.specs.queues.Items.{Item}
 use Rattle.dcsctp_spec.specs.queues.Outstanding.{OutstandingState}
 use Rattle.dcsctp_spec.specs.queues.SendQueue.{SendQueueState}
 use Rattle.dcsctp_spec.specs.queues.Sending.{Fragment, DiscardsNamed}
-use Rattle.dcsctp_delivery_sending.specs.Log.{Message, Piece, Slot, History, grown, with_slot}
+use Rattle.dcsctp_delivery_sending.specs.Log.{Message, Piece, Slot, History, log_extended, with_slot}
 use Rattle.dcsctp_delivery_sending.specs.Places.{at_place}
 use Rattle.dcsctp_delivery_sending.specs.Pieces.{HoldsQueued}
 use Rattle.dcsctp_delivery_sending.specs.Numbers.{Numbered}
-use Rattle.dcsctp_delivery_sending.specs.Stages.{IsNamed, Bears, Pends, AreMarks, Stands, Stays}
+use Rattle.dcsctp_delivery_sending.specs.Stages.{IsNamedFragment, Bears, Pends, AreMarks, Stands, Stays}
 use Rattle.dcsctp_delivery_sending.proofs.Marks.{pends_later, marks_none, named_end, end_whole}
 use Rattle.dcsctp_delivery_sending.proofs.Discarding.{discards_numbered, discards_hold}
 use Rattle.dcsctp_delivery_sending.proofs.Places.{at_either}
@@ -23,7 +23,7 @@ use Rattle.dcsctp_delivery_sending.proofs.Stages.{with_none, bears_grown, bears_
 -- More TSNs may have been assigned that bear no piece.
 pub record Ends (queued : List Message) (history : History) (first acknowledged : ℕ) (new : Stage) : Type 0 where
   pub more : List Slot
-  pub stands : Stands queued (grown more history) first acknowledged new
+  pub stands : Stands queued (log_extended more history) first acknowledged new
   pub none : (n : ℕ) (f : Piece) → at_place n more ≡ Some (Some f) → ⊥
 
 pub ended : (queued : List Message) (history : History) (first acknowledged : ℕ) (new : Stage) → Ends queued history first acknowledged new → Stays queued history first acknowledged new
@@ -36,11 +36,11 @@ pub append_twice : (newest newer : List Slot) (log : List Slot) → (newest ++ n
 append_twice [] newer log = refl
 append_twice (slot ∷ newest) newer log = ap (λ (l : List Slot). slot ∷ l) (append_twice newest newer log)
 
-pub grown_twice : (newest newer : List Slot) (history : History) → grown (newest ++ newer) history ≡ grown newest (grown newer history)
+pub grown_twice : (newest newer : List Slot) (history : History) → log_extended (newest ++ newer) history ≡ log_extended newest (log_extended newer history)
 grown_twice newest newer history = ap (λ (l : List Slot). record history { log = l }) (append_twice newest newer history.log)
 
 -- what waits of a message is dropped
-drops_rest_ends : (queued : List Message) (history : History) (first acknowledged own now : ℕ) (last : Item) (old new : Stage) → Stands queued history first acknowledged old → IsNamed history own last.fragment → DropsRestAt now last old new → Ends queued history first acknowledged new
+drops_rest_ends : (queued : List Message) (history : History) (first acknowledged own now : ℕ) (last : Item) (old new : Stage) → Stands queued history first acknowledged old → IsNamedFragment history own last.fragment → DropsRestAt now last old new → Ends queued history first acknowledged new
 drops_rest_ends queued history first acknowledged own now last old new stands named drops =
     subst (λ (s : Stage). Ends queued history first acknowledged s) (sym drops.is) (go drops.drops.is_dropped drops.drops.drops drops.drops.ends)
   where
@@ -55,7 +55,7 @@ drops_rest_ends queued history first acknowledged own now last old new stands na
             cut = cut_none queued history.log stands.cut;
             bears = subst (λ (o : OutstandingState). Bears (with_slot None history) first acknowledged o) (sym ends.grows)
                 (bears_grown history first acknowledged None ends.item old.queue.outstanding stands.bears (ap (λ (f : Fragment). f.payload) ends.is_end.is)
-                (subst (λ (f : Fragment). IsNamed (with_slot None history) (length history.log) f) (sym ends.is_end.is)
+                (subst (λ (f : Fragment). IsNamedFragment (with_slot None history) (length history.log) f) (sym ends.is_end.is)
                 (named_end history own last.fragment named (end_whole queued history first own old.waiting new.waiting last.fragment old.told new.told stands.queue_holds stands.marks discards named)))
                 (subst (λ (b : Bool). Pends history b) (sym ends.is_end.begins_after_reset) stands.pends));
             pends = pends_later None history first old.waiting.under_way old.queue.reset_begun stands.marks;
@@ -76,7 +76,7 @@ drops_rest_ends queued history first acknowledged own now last old new stands na
           kind = ap (λ (o : OutstandingState). o.is_interleaved) ends ∙ stands.kind ∙ sym (ap (λ (w : SendQueueState). w.is_interleaved) discards.1);
         })
 
-closes_end : (queued : List Message) (history : History) (first acknowledged own now : ℕ) (last : Item) (old new : Stage) (is_end : Bool) → Stands queued history first acknowledged old → IsNamed history own last.fragment → Closes now last old new is_end → Ends queued history first acknowledged new
+closes_end : (queued : List Message) (history : History) (first acknowledged own now : ℕ) (last : Item) (old new : Stage) (is_end : Bool) → Stands queued history first acknowledged old → IsNamedFragment history own last.fragment → ClosesMessage now last old new is_end → Ends queued history first acknowledged new
 closes_end queued history first acknowledged own now last old new true stands named closes =
     end queued history first acknowledged new (subst (λ (s : Stage). Stands queued history first acknowledged s) (sym closes) (record { queue_holds = stands.queue_holds; cut = stands.cut; bears = stands.bears; pends = stands.pends; marks = stands.marks; numbers = stands.numbers; kind = stands.kind }))
 closes_end queued history first acknowledged own now last old new false stands named closes =
@@ -91,11 +91,11 @@ gives_up_ends queued history first acknowledged now place old new stands gives =
     record {
       more = closed.more;
       none = closed.none;
-      stands = subst (λ (s : Stage). Stands queued (grown closed.more history) first acknowledged s) (sym gives.is)
+      stands = subst (λ (s : Stage). Stands queued (log_extended closed.more history) first acknowledged s) (sym gives.is)
           (record {
             queue_holds = closed.stands.queue_holds;
             cut = closed.stands.cut;
-            bears = bears_changed (grown closed.more history) first acknowledged Abandon gives.start (gives.last_place + 1) gives.closed.queue.outstanding closed.stands.bears;
+            bears = bears_changed (log_extended closed.more history) first acknowledged Abandon gives.start (gives.last_place + 1) gives.closed.queue.outstanding closed.stands.bears;
             pends = closed.stands.pends;
             marks = closed.stands.marks;
             numbers = closed.stands.numbers;
@@ -104,11 +104,11 @@ gives_up_ends queued history first acknowledged now place old new stands gives =
     }
 
 -- messages that are given up take TSNs that bear no piece
-give_up_steps : (queued : List Message) (history : History) (first acknowledged now : ℕ) (old new : Stage) → Stands queued history first acknowledged old → Steps (GivesUpFirst now) old new → Ends queued history first acknowledged new
+give_up_steps : (queued : List Message) (history : History) (first acknowledged now : ℕ) (old new : Stage) → Stands queued history first acknowledged old → StageSteps (GivesUpFirst now) old new → Ends queued history first acknowledged new
 give_up_steps queued history first acknowledged now old new stands none = end queued history first acknowledged old stands
 give_up_steps queued history first acknowledged now old new stands (more between _ steps step) =
     let earlier = give_up_steps queued history first acknowledged now old between stands steps in
-    let later = gives_up_ends queued (grown earlier.more history) first acknowledged now step.place between new earlier.stands step.gives_up in
+    let later = gives_up_ends queued (log_extended earlier.more history) first acknowledged now step.place between new earlier.stands step.gives_up in
     record {
       more = later.more ++ earlier.more;
       stands = subst (λ (h : History). Stands queued h first acknowledged new) (sym (grown_twice later.more earlier.more history)) later.stands;

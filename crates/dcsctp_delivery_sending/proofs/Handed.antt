@@ -3,8 +3,8 @@ use Rattle.std.proofs.Common.{◌≡◌, ◌==◌, ℕ, Bool, true, false, List,
 use Rattle.std.specs.Prelude.{nat_lt, if◌then◌else◌}
 use Rattle.dcsctp_spec.specs.types.declared.sending.Pause.{Pause}
 use Rattle.dcsctp_spec.specs.types.declared.sending.Pause.TheVariants.{Open, Pausing, HandedOut}
-use Rattle.dcsctp_spec.specs.queues.OwnResets.{is_open, count_under_way, dropped_size, prepared_stream, with_used, prepared_open, prepared, prepared_all, queue_committed, queue_rolled_back}
-use Rattle.dcsctp_spec.specs.queues.SendQueue.{SendQueueState, changed, is_used, stream_of, used, with_priority, with_stream, with_threshold, queued}
+use Rattle.dcsctp_spec.specs.queues.OwnResets.{is_open_pause, count_under_way, dropped_size, prepared_stream, with_used, prepared_open, prepared, prepared_all, queue_committed, queue_rolled_back}
+use Rattle.dcsctp_spec.specs.queues.SendQueue.{SendQueueState, stream_changed, is_used, queue_stream, used, with_priority, with_stream, with_threshold, queued}
 use Rattle.dcsctp_spec.specs.types.queues.SendStreams.{Stream, committed, rolled_back, unused, with_message}
 use Rattle.dcsctp_spec.specs.endpoint.MessageOutcomes.{Sending, sending_queued}
 use Rattle.dcsctp_spec.specs.types.Setting.{Setting, stream_priority, stream_low_threshold, longest_message}
@@ -29,7 +29,7 @@ module _ (f : Stream → Stream) (ids : (s : Stream) → (f s).id ≡ s.id) (few
       go true handed rest = fewer s handed
       go false handed rest = rest handed
 
-changed_fewer : (other : ℕ) (f : Stream → Stream) → ((s : Stream) → (f s).id ≡ s.id) → ((s : Stream) → IsHanded (f s) → IsHanded s) → (streams : List Stream) → Fewer (changed other f streams) streams
+changed_fewer : (other : ℕ) (f : Stream → Stream) → ((s : Stream) → (f s).id ≡ s.id) → ((s : Stream) → IsHanded (f s) → IsHanded s) → (streams : List Stream) → Fewer (stream_changed other f streams) streams
 changed_fewer other f ids fewer streams =
     mapped_fewer (λ s. if s.id == other then f s else s) (λ s. one_id (s.id == other) s) (λ s. one (s.id == other) s) streams
   where
@@ -83,7 +83,7 @@ setting_handed (stream_low_threshold other bytes) queue id handed = used_fewer q
 setting_handed (longest_message bytes) queue id handed = handed
 
 prepared_fewer : (other : ℕ) (queue : SendQueueState) → Fewer (prepared other queue).streams queue.streams
-prepared_fewer other queue id handed = go (is_open (stream_of start other).pause) handed
+prepared_fewer other queue id handed = go (is_open_pause (queue_stream start other).pause) handed
   where
     start : SendQueueState
     start = with_used other queue

@@ -5,7 +5,7 @@ use Rattle.std.proofs.lemmas.Bool.Decides.{eqb_tells}
 use Rattle.dcsctp_spec.specs.types.declared.sending.UnderWay.{UnderWay}
 use Rattle.dcsctp_spec.specs.queues.OwnResets.{handing_out, ready_streams, is_ready, is_under_way}
 use Rattle.dcsctp_spec.specs.queues.Retransmission.{RetransmissionState}
-use Rattle.dcsctp_spec.specs.queues.SendQueue.{SendQueueState, changed}
+use Rattle.dcsctp_spec.specs.queues.SendQueue.{SendQueueState, stream_changed}
 use Rattle.dcsctp_spec.specs.types.queues.SendStreams.{unused, Stream, stream_at, handed_out, is_pausing}
 use Rattle.dcsctp_spec.specs.endpoint.BegunResets.{BegunReset, queue_requesting, retransmission_begun}
 use Rattle.dcsctp_delivery_sending.specs.Log.{Message, Slot, History}
@@ -21,7 +21,7 @@ use Rattle.dcsctp_delivery_sending.proofs.Numbers.{NumbersStay, numbers_same, nu
 
 -- ---- what waits stays
 
-changed_alike : (id : ℕ) (streams : List Stream) → Alike streams (changed id handed_out streams)
+changed_alike : (id : ℕ) (streams : List Stream) → Alike streams (stream_changed id handed_out streams)
 changed_alike id streams = record { sizes = sizes streams; ids = ids streams; messages = messages streams }
   where
     one_id : (b : Bool) (s : Stream) → (if b then handed_out s else s).id ≡ s.id
@@ -32,17 +32,17 @@ changed_alike id streams = record { sizes = sizes streams; ids = ids streams; me
     one_messages true s = refl
     one_messages false s = refl
 
-    sizes : (l : List Stream) → length (changed id handed_out l) ≡ length l
+    sizes : (l : List Stream) → length (stream_changed id handed_out l) ≡ length l
     sizes [] = refl
     sizes (s ∷ l) = ap suc (sizes l)
 
-    ids : (l : List Stream) (q : ℕ) → (stream_at (changed id handed_out l) q).id ≡ (stream_at l q).id
+    ids : (l : List Stream) (q : ℕ) → (stream_at (stream_changed id handed_out l) q).id ≡ (stream_at l q).id
     ids [] zero = refl
     ids [] (suc q) = refl
     ids (s ∷ l) zero = one_id (s.id == id) s
     ids (s ∷ l) (suc q) = ids l q
 
-    messages : (l : List Stream) (q : ℕ) → (stream_at (changed id handed_out l) q).messages ≡ (stream_at l q).messages
+    messages : (l : List Stream) (q : ℕ) → (stream_at (stream_changed id handed_out l) q).messages ≡ (stream_at l q).messages
     messages [] zero = refl
     messages [] (suc q) = refl
     messages (s ∷ l) zero = one_messages (s.id == id) s
@@ -50,7 +50,7 @@ changed_alike id streams = record { sizes = sizes streams; ids = ids streams; me
 
 handing_hold : (queued : List Message) (log : List Slot) (u : Option UnderWay) (ids : List ℕ) (streams : List Stream) → HoldsQueued queued log streams u → HoldsQueued queued log (handing_out ids streams) u
 handing_hold queued log u [] streams queue_holds = queue_holds
-handing_hold queued log u (id ∷ ids) streams queue_holds = handing_hold queued log u ids (changed id handed_out streams) (alike_hold queued log u streams (changed id handed_out streams) (changed_alike id streams) queue_holds)
+handing_hold queued log u (id ∷ ids) streams queue_holds = handing_hold queued log u ids (stream_changed id handed_out streams) (alike_hold queued log u streams (stream_changed id handed_out streams) (changed_alike id streams) queue_holds)
 
 pub requesting_hold : (queued : List Message) (log : List Slot) (count : ℕ) (begun : Option BegunReset) (queue : SendQueueState) → HoldsQueued queued log queue.streams queue.under_way
     → HoldsQueued queued log (queue_requesting count begun queue).streams (queue_requesting count begun queue).under_way
@@ -100,9 +100,9 @@ handing_numbers : (u : Option UnderWay) (ids : List ℕ) (streams : List Stream)
 unfolding NoneUnderWay
 handing_numbers u [] streams none = numbers_same u streams
 handing_numbers u (id ∷ ids) streams none =
-    numbers_then u streams (changed id handed_out streams) (handing_out ids (changed id handed_out streams))
+    numbers_then u streams (stream_changed id handed_out streams) (handing_out ids (stream_changed id handed_out streams))
     (numbers_changed u id handed_out (λ s. refl) (λ s. record { ordered = refl; unordered = refl }) (λ v is s here same. absurd (goes_on v is (sym same ∙ here))) streams)
-    (handing_numbers u ids (changed id handed_out streams) none.1)
+    (handing_numbers u ids (stream_changed id handed_out streams) none.1)
   where
     goes_on : (v : UnderWay) → u ≡ Some v → id ≡ v.stream_id.0 → ⊥
     goes_on v is same =
@@ -137,13 +137,13 @@ handed_by (first ∷ ids) streams id handed =
     elim (eqb_tells first id) [
       | inl e ↦ inr (rw e.0 refl)
       | inr e ↦
-          elim (handed_by ids (changed first handed_out streams) id handed) [
+          elim (handed_by ids (stream_changed first handed_out streams) id handed) [
             | inl before ↦ inl (sym (other first streams id (λ same. e.1 (sym same))) ∙ before)
             | inr named ↦ inr (rw e.0 named)
           ]
     ]
   where
-    other : (first : ℕ) (streams : List Stream) (id : ℕ) → (id ≡ first → ⊥) → is_handed_out (stream_named id (changed first handed_out streams)).pause ≡ is_handed_out (stream_named id streams).pause
+    other : (first : ℕ) (streams : List Stream) (id : ℕ) → (id ≡ first → ⊥) → is_handed_out (stream_named id (stream_changed first handed_out streams)).pause ≡ is_handed_out (stream_named id streams).pause
     other first streams id ne = found_mapped SamePause id (unused 0 0 0) (λ s. if s.id == first then handed_out s else s) (λ s. one_id (s.id == first) s) refl (λ s here. one_pause s here) streams
       where
         one_id : (b : Bool) (s : Stream) → (if b then handed_out s else s).id ≡ s.id

@@ -2,8 +2,8 @@
 use Rattle.std.proofs.Common.{◌≡◌, ◌==◌, ℕ, zero, suc, Bool, true, false, List, [], ◌∷◌, length, map, refl, sym, ◌∙◌, ap, arith, subst, inl}
 use Rattle.std.specs.Prelude.{Option, None, Some, if◌then◌else◌}
 use Rattle.dcsctp_spec.specs.types.declared.sending.UnderWay.{UnderWay}
-use Rattle.dcsctp_spec.specs.types.queues.SendStreams.{Stream, stream_at, unused, begun_anew, raised}
-use Rattle.dcsctp_spec.specs.queues.SendQueue.{SendQueueState, changed, put_back, restarted}
+use Rattle.dcsctp_spec.specs.types.queues.SendStreams.{Stream, stream_at, unused, begun_anew, amount_raised}
+use Rattle.dcsctp_spec.specs.queues.SendQueue.{SendQueueState, stream_changed, put_back, queue_restarted}
 use Rattle.dcsctp_delivery_sending.specs.Log.{Message, Slot, History, new_history}
 use Rattle.dcsctp_delivery_sending.specs.Pieces.{Going, HoldsQueued}
 use Rattle.dcsctp_delivery_sending.specs.Queueing.{QueueHolds, QueueWaits}
@@ -87,14 +87,14 @@ idle_hold queued streams u queue_holds =
 back_streams : (queued : List Message) (u : Option UnderWay) (queue : SendQueueState) → HoldsQueued queued [] queue.streams None → HoldsQueued queued [] (put_back u queue).streams None
 back_streams queued None queue queue_holds = queue_holds
 back_streams queued (Some u) queue queue_holds =
-    alike_hold queued [] None queue.streams (changed u.stream_id.0 (raised u.sent) queue.streams)
-    (mapped_alike (λ s. if s.id == u.stream_id.0 then raised u.sent s else s) (λ s. one_id (s.id == u.stream_id.0) s) (λ s. one_messages (s.id == u.stream_id.0) s) (one_messages ((unused 0 0 0).id == u.stream_id.0) (unused 0 0 0)) queue.streams) queue_holds
+    alike_hold queued [] None queue.streams (stream_changed u.stream_id.0 (amount_raised u.sent) queue.streams)
+    (mapped_alike (λ s. if s.id == u.stream_id.0 then amount_raised u.sent s else s) (λ s. one_id (s.id == u.stream_id.0) s) (λ s. one_messages (s.id == u.stream_id.0) s) (one_messages ((unused 0 0 0).id == u.stream_id.0) (unused 0 0 0)) queue.streams) queue_holds
   where
-    one_id : (b : Bool) (s : Stream) → (if b then raised u.sent s else s).id ≡ s.id
+    one_id : (b : Bool) (s : Stream) → (if b then amount_raised u.sent s else s).id ≡ s.id
     one_id true s = refl
     one_id false s = refl
 
-    one_messages : (b : Bool) (s : Stream) → (if b then raised u.sent s else s).messages ≡ s.messages
+    one_messages : (b : Bool) (s : Stream) → (if b then amount_raised u.sent s else s).messages ≡ s.messages
     one_messages true s = refl
     one_messages false s = refl
 
@@ -106,12 +106,12 @@ back_next : (u : Option UnderWay) (queue : SendQueueState) → (put_back u queue
 back_next None queue = refl
 back_next (Some u) queue = refl
 
-pub restarted_hold : (queued : List Message) (history : History) (queue : SendQueueState) → QueueHolds queued history queue → QueueWaits queued (restarted queue)
+pub restarted_hold : (queued : List Message) (history : History) (queue : SendQueueState) → QueueHolds queued history queue → QueueWaits queued (queue_restarted queue)
 restarted_hold queued history queue queues =
     let kept = kept_queued queued history.log queue.streams queue.under_way queues.queue_holds in
     let back = back_streams queued queue.under_way queue (idle_hold queued queue.streams queue.under_way kept) in
     let idle = back_idle queue.under_way queue refl in
-    let begins = subst (λ (u : Option UnderWay). Begins (restarted queue).is_interleaved (restarted queue).streams u) (sym idle) (begins_idle (restarted queue).is_interleaved (restarted queue).streams) in
+    let begins = subst (λ (u : Option UnderWay). Begins (queue_restarted queue).is_interleaved (queue_restarted queue).streams u) (sym idle) (begins_idle (queue_restarted queue).is_interleaved (queue_restarted queue).streams) in
     record {
       floors = begins.floors;
       holds = record {
@@ -119,11 +119,11 @@ restarted_hold queued history queue queues =
             (alike_hold queued [] None (put_back queue.under_way queue).streams (map begun_anew (put_back queue.under_way queue).streams)
             (mapped_alike begun_anew (λ s. refl) (λ s. refl) refl (put_back queue.under_way queue).streams) back);
         next = back_next queue.under_way queue ∙ queues.next;
-        numbers = numbered_new (restarted queue) begins (subst (λ (u : Option UnderWay). KeptWhere (restarted queue).streams u) (sym idle) tt);
+        numbers = numbered_new (queue_restarted queue) begins (subst (λ (u : Option UnderWay). KeptWhere (queue_restarted queue).streams u) (sym idle) tt);
       };
     }
 
-pub one_set : (f : Stream → Stream) → ((s : Stream) → (f s).id ≡ s.id) → ((s : Stream) → (f s).messages ≡ s.messages) → (id : ℕ) (streams : List Stream) → Alike streams (changed id f streams)
+pub one_set : (f : Stream → Stream) → ((s : Stream) → (f s).id ≡ s.id) → ((s : Stream) → (f s).messages ≡ s.messages) → (id : ℕ) (streams : List Stream) → Alike streams (stream_changed id f streams)
 one_set f same_id same id streams =
     mapped_alike (λ s. if s.id == id then f s else s) (λ s. keeps_id (s.id == id) s) (λ s. keeps_messages (s.id == id) s) (keeps_messages ((unused 0 0 0).id == id) (unused 0 0 0)) streams
   where

@@ -8,30 +8,30 @@ use Rattle.dcsctp_spec.specs.queues.SendQueue.{SendQueueState}
 use Rattle.dcsctp_delivery_sending.specs.Places.{at_place}
 use Rattle.dcsctp_delivery_sending.specs.Log.{Message, Fits}
 use Rattle.dcsctp_delivery_sending.specs.Pieces.{AllQueued, Going}
-use Rattle.dcsctp_delivery_sending.specs.Marking.{NoneNamed, WaitsNoLonger, marked}
+use Rattle.dcsctp_delivery_sending.specs.Marking.{NoneNamed, WaitsNoLonger, message_marked_spent}
 use Rattle.dcsctp_delivery_sending.specs.Queueing.{QueueWaits}
 use Rattle.dcsctp_delivery_sending.specs.Weights.{total}
 use Rattle.std.specs.List.{AllByRecursion}
 
 -- ---- messages that are marked
 
-pub marked_length : (place : ℕ) (queued : List Message) → length (marked place queued) ≡ length queued
+pub marked_length : (place : ℕ) (queued : List Message) → length (message_marked_spent place queued) ≡ length queued
 marked_length place [] = refl
 marked_length place (m ∷ queued) = go (place == length queued) (marked_length place queued)
   where
-    go : (b : Bool) → length (marked place queued) ≡ length queued → length (if b then record m { is_spent = true } ∷ queued else m ∷ marked place queued) ≡ suc (length queued)
+    go : (b : Bool) → length (message_marked_spent place queued) ≡ length queued → length (if b then record m { is_spent = true } ∷ queued else m ∷ message_marked_spent place queued) ≡ suc (length queued)
     go true rest = refl
     go false rest = ap suc rest
 
-pub marked_total : (place : ℕ) (queued : List Message) → total (marked place queued) ≡ total queued
+pub marked_total : (place : ℕ) (queued : List Message) → total (message_marked_spent place queued) ≡ total queued
 marked_total place [] = refl
 marked_total place (m ∷ queued) = go (place == length queued) (marked_total place queued)
   where
-    go : (b : Bool) → total (marked place queued) ≡ total queued → total (if b then record m { is_spent = true } ∷ queued else m ∷ marked place queued) ≡ total (m ∷ queued)
+    go : (b : Bool) → total (message_marked_spent place queued) ≡ total queued → total (if b then record m { is_spent = true } ∷ queued else m ∷ message_marked_spent place queued) ≡ total (m ∷ queued)
     go true rest = refl
     go false rest = omega (arith, rest)
 
-marked_other : (place k : ℕ) (queued : List Message) → k ≢ place → at_place k (marked place queued) ≡ at_place k queued
+marked_other : (place k : ℕ) (queued : List Message) → k ≢ place → at_place k (message_marked_spent place queued) ≡ at_place k queued
 marked_other place k [] other = refl
 marked_other place k (m ∷ queued) other =
     elim (eqb_tells place (length queued)) [
@@ -39,17 +39,17 @@ marked_other place k (m ∷ queued) other =
       | inr e ↦ there (place == length queued) e.0 (marked_other place k queued other) (marked_length place queued)
     ]
   where
-    here : (b : Bool) → b ≡ true → (k == length queued) ≡ false → at_place k (if b then record m { is_spent = true } ∷ queued else m ∷ marked place queued) ≡ at_place k (m ∷ queued)
+    here : (b : Bool) → b ≡ true → (k == length queued) ≡ false → at_place k (if b then record m { is_spent = true } ∷ queued else m ∷ message_marked_spent place queued) ≡ at_place k (m ∷ queued)
     here true is none = rw none refl
     here false is none = absurd (cc)
 
-    there : (b : Bool) → b ≡ false → at_place k (marked place queued) ≡ at_place k queued → length (marked place queued) ≡ length queued
-        → at_place k (if b then record m { is_spent = true } ∷ queued else m ∷ marked place queued) ≡ at_place k (m ∷ queued)
+    there : (b : Bool) → b ≡ false → at_place k (message_marked_spent place queued) ≡ at_place k queued → length (message_marked_spent place queued) ≡ length queued
+        → at_place k (if b then record m { is_spent = true } ∷ queued else m ∷ message_marked_spent place queued) ≡ at_place k (m ∷ queued)
     there true is rest long = absurd (cc)
     there false is rest long =
-        ap (λ (n : ℕ). if k == n then Some m else at_place k (marked place queued)) long ∙ ap (λ (x : Option Message). if k == length queued then Some m else x) rest
+        ap (λ (n : ℕ). if k == n then Some m else at_place k (message_marked_spent place queued)) long ∙ ap (λ (x : Option Message). if k == length queued then Some m else x) rest
 
-pub marked_spent : (place : ℕ) (queued : List Message) (m : Message) → at_place place (marked place queued) ≡ Some m → m.is_spent ≡ true
+pub marked_spent : (place : ℕ) (queued : List Message) (m : Message) → at_place place (message_marked_spent place queued) ≡ Some m → m.is_spent ≡ true
 marked_spent place [] m at = absurd (cc)
 marked_spent place (first ∷ queued) m at =
     elim (eqb_tells place (length queued)) [
@@ -57,24 +57,24 @@ marked_spent place (first ∷ queued) m at =
       | inr e ↦ there (place == length queued) e.0 e.1 (marked_length place queued) (λ at'. marked_spent place queued m at') at
     ]
   where
-    here : (b : Bool) → b ≡ true → place ≡ length queued → at_place place (if b then record first { is_spent = true } ∷ queued else first ∷ marked place queued) ≡ Some m → m.is_spent ≡ true
+    here : (b : Bool) → b ≡ true → place ≡ length queued → at_place place (if b then record first { is_spent = true } ∷ queued else first ∷ message_marked_spent place queued) ≡ Some m → m.is_spent ≡ true
     here true is same at = elim (eqb_tells place (length queued)) [
       | inl e ↦ (let found : Some (record first { is_spent = true }) ≡ Some m = sym (rw e.0 refl) ∙ at in let one : record first { is_spent = true } ≡ m = cc in ap (λ (x : Message). x.is_spent) (sym one))
       | inr e ↦ absurd (e.1 same)
     ]
     here false is same at = absurd (cc)
 
-    there : (b : Bool) → b ≡ false → place ≢ length queued → length (marked place queued) ≡ length queued → (at_place place (marked place queued) ≡ Some m → m.is_spent ≡ true)
-        → at_place place (if b then record first { is_spent = true } ∷ queued else first ∷ marked place queued) ≡ Some m → m.is_spent ≡ true
+    there : (b : Bool) → b ≡ false → place ≢ length queued → length (message_marked_spent place queued) ≡ length queued → (at_place place (message_marked_spent place queued) ≡ Some m → m.is_spent ≡ true)
+        → at_place place (if b then record first { is_spent = true } ∷ queued else first ∷ message_marked_spent place queued) ≡ Some m → m.is_spent ≡ true
     there true is other long rest at = absurd (cc)
     there false is other long rest at =
-        elim (eqb_tells place (length (marked place queued))) [
+        elim (eqb_tells place (length (message_marked_spent place queued))) [
           | inl e ↦ absurd (other (e.1 ∙ long))
           | inr e ↦ rest (sym (rw e.0 refl) ∙ at)
         ]
 
 -- What doesn't wait may be marked.
-wait_marked : (queued : List Message) (place id : ℕ) (messages : List Waiting) → NoneNamed place messages → AllQueued queued id messages → AllQueued (marked place queued) id messages
+wait_marked : (queued : List Message) (place id : ℕ) (messages : List Waiting) → NoneNamed place messages → AllQueued queued id messages → AllQueued (message_marked_spent place queued) id messages
 wait_marked queued place id [] others are = tt
 wait_marked queued place id (w ∷ messages) others are = (
   record { message = are.0.message; at = marked_other place w.message_id queued others.0 ∙ are.0.at; is = are.0.is; fresh = are.0.fresh; some = are.0.some },
@@ -85,7 +85,7 @@ front_other : (place : ℕ) (messages : List Waiting) (w : Waiting) → NoneName
 front_other place [] w others is = absurd (cc)
 front_other place (v ∷ messages) w others is = let same : v ≡ w = cc in subst (λ (x : Waiting). x.message_id ≢ place) same others.0
 
-going_marked : (queued : List Message) (place : ℕ) (streams : List Stream) (u : Option UnderWay) → WaitsNoLonger place streams → Going queued [] streams u → Going (marked place queued) [] streams u
+going_marked : (queued : List Message) (place : ℕ) (streams : List Stream) (u : Option UnderWay) → WaitsNoLonger place streams → Going queued [] streams u → Going (message_marked_spent place queued) [] streams u
 going_marked queued place streams None others g = tt
 going_marked queued place streams (Some u) others g =
     let other = front_other place (stream_at streams g.there.q).messages g.there.waiting (others g.there.q) g.there.front in
@@ -101,7 +101,7 @@ going_marked queued place streams (Some u) others g =
       front = g.front;
     }
 
-pub marking_hold : (queued : List Message) (place : ℕ) (queue : SendQueueState) → WaitsNoLonger place queue.streams → QueueWaits queued queue → QueueWaits (marked place queued) queue
+pub marking_hold : (queued : List Message) (place : ℕ) (queue : SendQueueState) → WaitsNoLonger place queue.streams → QueueWaits queued queue → QueueWaits (message_marked_spent place queued) queue
 marking_hold queued place queue others waits =
     let queues = waits.holds in
     record {
@@ -120,10 +120,10 @@ marking_hold queued place queue others waits =
       };
     }
 
-pub marking_fits : (place : ℕ) (queued : List Message) → AllByRecursion Fits queued → AllByRecursion Fits (marked place queued)
+pub marking_fits : (place : ℕ) (queued : List Message) → AllByRecursion Fits queued → AllByRecursion Fits (message_marked_spent place queued)
 marking_fits place [] fit = tt
 marking_fits place (message ∷ queued) fit = go (place == length queued) (marking_fits place queued fit.1)
   where
-    go : (b : Bool) → AllByRecursion Fits (marked place queued) → AllByRecursion Fits (if b then record message { is_spent = true } ∷ queued else message ∷ marked place queued)
+    go : (b : Bool) → AllByRecursion Fits (message_marked_spent place queued) → AllByRecursion Fits (if b then record message { is_spent = true } ∷ queued else message ∷ message_marked_spent place queued)
     go true rest = (record { stream = fit.0.stream; ppid = fit.0.ppid; payload = fit.0.payload }, fit.1)
     go false rest = (fit.0, rest)

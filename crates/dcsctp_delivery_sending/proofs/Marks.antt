@@ -5,14 +5,14 @@ use Rattle.std.proofs.lemmas.Bool.Decides.{nat_tests}
 use Rattle.dcsctp_spec.specs.endpoint.Event.{Event}
 use Rattle.dcsctp_spec.specs.types.declared.sending.UnderWay.{UnderWay}
 use Rattle.dcsctp_spec.specs.queues.AtOnce.{empty_stage, SendsAtOnce}
-use Rattle.dcsctp_spec.specs.queues.Filling.{Stage, SendsMarked, Steps, none, more}
+use Rattle.dcsctp_spec.specs.queues.Filling.{Stage, SendsMarked, StageSteps, none, more}
 use Rattle.dcsctp_spec.specs.queues.Retransmission.{RetransmissionState, counted_again}
 use Rattle.dcsctp_spec.specs.queues.SendQueue.{SendQueueState}
-use Rattle.dcsctp_spec.specs.queues.Sending.{Fragment, Takes, Chooses, Discards}
-use Rattle.dcsctp_delivery_sending.specs.Places.{Has, at_place}
+use Rattle.dcsctp_spec.specs.queues.Sending.{Fragment, TakesFragment, Chooses, Discards}
+use Rattle.dcsctp_delivery_sending.specs.Places.{HasEntry, at_place}
 use Rattle.dcsctp_delivery_sending.specs.Log.{Message, Piece, Slot, Cut, Mark, History, Resets, with_slot}
 use Rattle.dcsctp_delivery_sending.specs.Pieces.{IsGoing, HoldsQueued, HandsOutPiece}
-use Rattle.dcsctp_delivery_sending.specs.Stages.{IsNamed, Pends, IsMark, AreMarks}
+use Rattle.dcsctp_delivery_sending.specs.Stages.{IsNamedFragment, Pends, IsMark, AreMarks}
 use Rattle.dcsctp_delivery_sending.proofs.Places.{decide, at_cases, at_stays}
 use Rattle.dcsctp_delivery_sending.proofs.Streams.{newest_at}
 use Rattle.dcsctp_delivery_sending.proofs.Stages.{with_none}
@@ -35,9 +35,9 @@ marks_none history first under_way marks mark has =
     }
 
 -- the end of a message is named as its last item
-pub named_end : (history : History) (own : ℕ) (part : Fragment) (n : IsNamed history own part)
-    → ((mark : Mark) → Has mark history.marks → Resets mark n.piece.message.stream → n.number < mark.bound → length history.log < mark.bound)
-    → IsNamed (with_slot None history) (length history.log) (record part { fsn = (part.fsn + 1) % 2 ^ 32; is_beginning = false; is_end = true; payload = []; lifecycle = None })
+pub named_end : (history : History) (own : ℕ) (part : Fragment) (n : IsNamedFragment history own part)
+    → ((mark : Mark) → HasEntry mark history.marks → Resets mark n.piece.message.stream → n.number < mark.bound → length history.log < mark.bound)
+    → IsNamedFragment (with_slot None history) (length history.log) (record part { fsn = (part.fsn + 1) % 2 ^ 32; is_beginning = false; is_end = true; payload = []; lifecycle = None })
 named_end history own part n whole =
     record {
       number = n.number;
@@ -52,8 +52,8 @@ named_end history own part n whole =
 
 -- No reset of its stream lies between a message under way and its end: the newest piece lies behind all of these.
 pub end_whole : {P : Type 0} (queued : List Message) (history : History) (first own : ℕ) (old new : SendQueueState) (part : Fragment) (before after : List (Event P)) → HoldsQueued queued history.log old.streams old.under_way
-    → AreMarks history first old.under_way → Discards old part.stream part.message_id before new after → (n : IsNamed history own part)
-    → (mark : Mark) → Has mark history.marks → Resets mark n.piece.message.stream → n.number < mark.bound → length history.log < mark.bound
+    → AreMarks history first old.under_way → Discards old part.stream part.message_id before new after → (n : IsNamedFragment history own part)
+    → (mark : Mark) → HasEntry mark history.marks → Resets mark n.piece.message.stream → n.number < mark.bound → length history.log < mark.bound
 end_whole queued history first own old new part before after queue_holds marks discards n mark has names less =
     let is = marks mark has in
     let named = discards.named in
@@ -78,7 +78,7 @@ pub record GoesOn (going : Option UnderWay) (piece : Piece) : Type 0 where
   pub stream : under_way.stream_id.0 ≡ piece.message.stream
 
 pub takes_on : {P : Type 0} (queued : List Message) (history : History) (now max : ℕ) (old new : SendQueueState) (before after : List (Event P)) (part : Fragment) (handed : HandsOutPiece queued history part new)
-    → Takes now max old before part new after → 0 < handed.piece.start → GoesOn old.under_way handed.piece
+    → TakesFragment now max old before part new after → 0 < handed.piece.start → GoesOn old.under_way handed.piece
 takes_on queued history now max old new before after part handed takes started = go old.under_way refl takes.chosen
   where
     begins : (takes.under_way.sent == 0) ≡ (handed.piece.start == 0)
@@ -149,6 +149,6 @@ at_once_pends now bytes waiting old new tsns sends =
     ap (λ (r : RetransmissionState). r.reset_begun) sends.is ∙ counted_pends (bytes - sends.room) sends.resent
     ∙ steps (empty_stage (record old { fast_retransmit_due = false }) waiting bytes) (record (empty_stage sends.resent waiting sends.room) { tsns = tsns }) sends.steps
   where
-    steps : (from to : Stage) → Steps (SendsMarked now) from to → to.queue.reset_begun ≡ from.queue.reset_begun
+    steps : (from to : Stage) → StageSteps (SendsMarked now) from to → to.queue.reset_begun ≡ from.queue.reset_begun
     steps from to none = refl
     steps from to (more between _ earlier step) = ap (λ (s : Stage). s.queue.reset_begun) step.is ∙ steps from between earlier

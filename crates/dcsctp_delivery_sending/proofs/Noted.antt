@@ -5,7 +5,7 @@ use Rattle.dcsctp_spec.specs.types.declared.sending.UnderWay.{UnderWay}
 use Rattle.dcsctp_spec.specs.queues.Filling.{Stage}
 use Rattle.dcsctp_spec.specs.types.queues.SendStreams.{Stream}
 use Rattle.dcsctp_spec.specs.endpoint.BegunResets.{BegunReset}
-use Rattle.dcsctp_delivery_sending.specs.Log.{Message, Slot, Cut, History, grown, with_mark}
+use Rattle.dcsctp_delivery_sending.specs.Log.{Message, Slot, Cut, History, log_extended, with_mark}
 use Rattle.dcsctp_delivery_sending.specs.Numbers.{AreCurrent, LastIs, CountsWhere, Numbered}
 use Rattle.dcsctp_delivery_sending.specs.Stages.{Bears, Pends, AreMarks, Stands}
 use Rattle.dcsctp_delivery_sending.specs.Pieces.{HoldsQueued}
@@ -13,7 +13,7 @@ use Rattle.dcsctp_spec.specs.queues.SendQueue.{SendQueueState}
 use Rattle.dcsctp_delivery_sending.proofs.GivingUp.{append_twice, grown_twice}
 
 -- what was noted between two parts of the log may be noted after them
-pub marked_twice : (begun : Option BegunReset) (ids : List ℕ) (bound : ℕ) (newer older : List Slot) (history : History) → with_mark begun ids bound (grown (newer ++ older) history) ≡ grown newer (with_mark begun ids bound (grown older history))
+pub marked_twice : (begun : Option BegunReset) (ids : List ℕ) (bound : ℕ) (newer older : List Slot) (history : History) → with_mark begun ids bound (log_extended (newer ++ older) history) ≡ log_extended newer (with_mark begun ids bound (log_extended older history))
 marked_twice None ids bound newer older history = grown_twice newer older history
 marked_twice (Some begun) ids bound newer older history = ap (λ (l : List Slot). with_mark (Some begun) ids bound (record history { log = l })) (append_twice newer older history.log)
 
@@ -39,6 +39,6 @@ stands_marked (Some begun) ids bound queued history first acknowledged stage que
     record { queue_holds = queue_holds; cut = cut; bears = bears; pends = pends; marks = marks; numbers = numbers_marked begun ids bound history stage.waiting numbers; kind = kind }
 
 -- the floors are the same
-pub current_before : (begun : Option BegunReset) (ids : List ℕ) (bound : ℕ) (older : List Slot) (history : History) (slots : List Slot) → AreCurrent (with_mark begun ids bound (grown older history)) slots → AreCurrent history slots
+pub current_before : (begun : Option BegunReset) (ids : List ℕ) (bound : ℕ) (older : List Slot) (history : History) (slots : List Slot) → AreCurrent (with_mark begun ids bound (log_extended older history)) slots → AreCurrent history slots
 current_before None ids bound older history slots current = current
 current_before (Some begun) ids bound older history slots current = current

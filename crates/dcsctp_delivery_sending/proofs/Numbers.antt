@@ -4,11 +4,11 @@ use Rattle.std.specs.Prelude.{Option, None, Some, slice_set, if◌then◌else◌
 use Rattle.std.proofs.lemmas.Bool.{eqb-true}
 use Rattle.dcsctp_spec.specs.types.declared.sending.UnderWay.{UnderWay}
 use Rattle.dcsctp_spec.specs.types.queues.SendStreams.{Waiting, Stream, front_of, without_front, stream_at, unused}
-use Rattle.dcsctp_spec.specs.queues.SendQueue.{SendQueueState, changed, used}
+use Rattle.dcsctp_spec.specs.queues.SendQueue.{SendQueueState, stream_changed, used}
 use Rattle.dcsctp_spec.specs.endpoint.Event.{Event}
 use Rattle.dcsctp_spec.specs.queues.Sending.{Drops, none as drops_none, more as drops_more, reduced, without_rest}
 use Rattle.dcsctp_delivery_sending.specs.Log.{History, with_slot}
-use Rattle.dcsctp_delivery_sending.specs.Numbers.{stream_named, next_mid, is_handed_out, KeptWhere, LastIs, Counts, CountsWhere, Numbered}
+use Rattle.dcsctp_delivery_sending.specs.Numbers.{stream_named, next_mid, is_handed_out, KeptWhere, LastIs, CountsMessages, CountsWhere, Numbered}
 use Rattle.dcsctp_delivery_sending.proofs.Stages.{with_none}
 use Rattle.dcsctp_delivery_sending.proofs.StreamsNamed.{found_mapped, found_set, found_used}
 
@@ -63,7 +63,7 @@ numbers_mapped u f same_id mids fronts streams =
 
 -- one stream is changed so
 pub numbers_changed : (u : Option UnderWay) (id : ℕ) (f : Stream → Stream) → ((s : Stream) → (f s).id ≡ s.id) → ((s : Stream) → SameMids s (f s))
-    → ((v : UnderWay) → u ≡ Some v → (s : Stream) → s.id ≡ v.stream_id.0 → s.id ≡ id → KeepsFront s (f s)) → (streams : List Stream) → NumbersStay u streams (changed id f streams)
+    → ((v : UnderWay) → u ≡ Some v → (s : Stream) → s.id ≡ v.stream_id.0 → s.id ≡ id → KeepsFront s (f s)) → (streams : List Stream) → NumbersStay u streams (stream_changed id f streams)
 numbers_changed u id f same_id mids fronts streams =
     numbers_mapped u (λ s. if s.id == id then f s else s) (λ s. one_id (s.id == id) s) (λ s. one_mids (s.id == id) s) (λ v is s here. one_front v is (s.id == id) s here refl) streams
   where
@@ -124,7 +124,7 @@ kind_dropped now old events new (drops_more events' queue place message drops ne
 
 -- ---- what is counted
 
-pub counts_stay : (history : History) (u : Option UnderWay) (old new : List Stream) → NumbersStay u old new → Counts history old u → Counts history new u
+pub counts_stay : (history : History) (u : Option UnderWay) (old new : List Stream) → NumbersStay u old new → CountsMessages history old u → CountsMessages history new u
 counts_stay history u old new stay counts =
     record {
       counts = counts.counts;
@@ -158,7 +158,7 @@ numbered_stay history old new kind going stay numbers =
     }
 
 -- the message under way ends, and a TSN may stand for that
-counts_ended : (history : History) (u : Option UnderWay) (streams : List Stream) → Counts history streams u → Counts (with_slot None history) streams None
+counts_ended : (history : History) (u : Option UnderWay) (streams : List Stream) → CountsMessages history streams u → CountsMessages (with_slot None history) streams None
 counts_ended history u streams counts =
     record {
       counts = counts.counts;

@@ -7,12 +7,12 @@ use Rattle.dcsctp_spec.specs.association.Choices.{plain_contents}
 use Rattle.dcsctp_spec.specs.queues.Filling.{Stage}
 use Rattle.dcsctp_spec.specs.queues.OwnResets.{ready_streams}
 use Rattle.dcsctp_spec.specs.queues.SendQueue.{SendQueueState}
-use Rattle.dcsctp_spec.specs.queues.Transfer.{Transfer, Below, may_give, is_idle}
+use Rattle.dcsctp_spec.specs.queues.Transfer.{Transfer, EndpointQueues, may_give, is_idle}
 use Rattle.dcsctp_spec.specs.endpoint.BegunResets.{streams_within, request_contents, queue_requesting, retransmission_begun}
-use Rattle.dcsctp_spec.specs.endpoint.FlushOutcomes.{told_event, Answer, answer_contents, filled, asked, Ask, room_in, GivesUpWhere, may_forward, FillsWhere, Gives, GivesWhere, AnsweredBelow, Answered, stage_of, nothing_waits}
-use Rattle.dcsctp_delivery_sending.specs.Log.{Message, Slot, History, grown, with_mark}
+use Rattle.dcsctp_spec.specs.endpoint.FlushOutcomes.{filling_event, Answer, answer_contents, filled, asked, Ask, room_in, GivesUpWhere, may_forward, FillsWhere, Gives, GivesWhere, IsAnswerOfQueues, IsFlushAnswer, stage_of, nothing_waits}
+use Rattle.dcsctp_delivery_sending.specs.Log.{Message, Slot, History, log_extended, with_mark}
 use Rattle.dcsctp_delivery_sending.specs.Stages.{Bears, Stands, Stays}
-use Rattle.dcsctp_delivery_sending.specs.Flushes.{NamedBy, SayAll, InFlight, PendsWhere, StandsBelow, Sends}
+use Rattle.dcsctp_delivery_sending.specs.Flushes.{NamedBy, SayAll, InFlight, PendsWhere, QueuesFollowLog, SendsLogged}
 use Rattle.dcsctp_delivery_sending.proofs.BegunMarks.{bears_marked, pends_marked, marks_marked}
 use Rattle.dcsctp_delivery_sending.proofs.Filling.{stay, fills_stay}
 use Rattle.dcsctp_delivery_sending.proofs.GivingUp.{Ends, end, give_up_all_ends}
@@ -51,11 +51,11 @@ record Answers' (queued : List Message) (history : History) (first acknowledged 
   pub bound : ℕ
   pub low : length history.log ≤ bound
   pub high : bound ≤ length more + length history.log
-  pub stands : StandsBelow queued (with_mark answer.begun ids bound (grown more history)) first acknowledged answer.after.below
-  pub says : SayAll (with_mark answer.begun ids bound (grown more history)) first (answer_contents answer)
+  pub stands : QueuesFollowLog queued (with_mark answer.begun ids bound (log_extended more history)) first acknowledged answer.after.queues
+  pub says : SayAll (with_mark answer.begun ids bound (log_extended more history)) first (answer_contents answer)
   pub current : AreCurrent history more
-  pub kept : AreKept answer.after.below.queue.streams more
-  pub handed : (id : ℕ) → is_handed_out (stream_named id answer.after.below.queue.streams).pause ≡ true → (is_handed_out (stream_named id old.streams).pause ≡ true) ⊎ NamedBy answer.begun ids id
+  pub kept : AreKept answer.after.queues.queue.streams more
+  pub handed : (id : ℕ) → is_handed_out (stream_named id answer.after.queues.queue.streams).pause ≡ true → (is_handed_out (stream_named id old.streams).pause ≡ true) ⊎ NamedBy answer.begun ids id
 
 plain_both : (chunks others : List Plain) → plain_contents (chunks ++ others) ≡ plain_contents chunks ++ plain_contents others
 plain_both [] others = refl
@@ -63,9 +63,9 @@ plain_both (c ∷ chunks) others = ap (λ (l : List Content). plain c ∷ l) (pl
 
 -- what an ask that isn't idle leaves
 module _ (queued : List Message) (history : History) (first acknowledged : ℕ) (ask : Ask) (e : Endpoint) (draft : Emission) (transfer : Transfer) (answer : Answer) (gives : Gives ask e draft transfer answer)
-    (start : Stands queued history first acknowledged (stage_of e.below.queue transfer.retransmission [] 0)) where
+    (start : Stands queued history first acknowledged (stage_of e.queues.queue transfer.retransmission [] 0)) where
   gave : Ends queued history first acknowledged gives.gave_up
-  gave = gives_up_where queued history first acknowledged e.moment _ (may_forward ask e transfer.retransmission) transfer (stage_of e.below.queue transfer.retransmission [] 0) gives.gave_up gives.next gives.forwards start gives.gives_up
+  gave = gives_up_where queued history first acknowledged e.moment _ (may_forward ask e transfer.retransmission) transfer (stage_of e.queues.queue transfer.retransmission [] 0) gives.gave_up gives.next gives.forwards start gives.gives_up
 
   -- so many TSNs were assigned then
   bound : ℕ
@@ -85,18 +85,18 @@ module _ (queued : List Message) (history : History) (first acknowledged : ℕ) 
       (room_in e (filled draft (plain_contents answer.acknowledgements ++ request_contents answer.begun)))
 
   noted : History
-  noted = with_mark answer.begun ids bound (grown gave.more history)
+  noted = with_mark answer.begun ids bound (log_extended gave.more history)
 
   between_stands : Stands queued noted first acknowledged between
   unfolding between noted room bound ids
   between_stands =
-      stands_marked answer.begun ids bound queued (grown gave.more history) first acknowledged between
+      stands_marked answer.begun ids bound queued (log_extended gave.more history) first acknowledged between
       (requesting_hold queued (gave.more ++ history.log) (streams_within room) answer.begun gives.gave_up.waiting gave.stands.queue_holds) gave.stands.cut
-      (bears_marked (grown gave.more history) first acknowledged answer.begun ids gives.gave_up.queue gave.stands.bears)
-      (pends_marked (grown gave.more history) answer.begun ids gives.gave_up.queue gave.stands.pends)
-      (marks_marked ask (held_in e.core) room (grown gave.more history) first acknowledged answer.begun gives.gave_up.waiting gives.gave_up.queue
+      (bears_marked (log_extended gave.more history) first acknowledged answer.begun ids gives.gave_up.queue gave.stands.bears)
+      (pends_marked (log_extended gave.more history) answer.begun ids gives.gave_up.queue gave.stands.pends)
+      (marks_marked ask (held_in e.core) room (log_extended gave.more history) first acknowledged answer.begun gives.gave_up.waiting gives.gave_up.queue
       gave.stands.bears gives.begins gave.stands.marks)
-      (requesting_numbered (grown gave.more history) (streams_within room) answer.begun gives.gave_up.waiting gave.stands.numbers)
+      (requesting_numbered (log_extended gave.more history) (streams_within room) answer.begun gives.gave_up.waiting gave.stands.numbers)
       (begun_kind answer.begun gives.gave_up.queue ∙ gave.stands.kind ∙ sym (requesting_kind (streams_within room) answer.begun gives.gave_up.waiting))
 
   full : Stays queued noted first acknowledged gives.sent
@@ -107,9 +107,9 @@ module _ (queued : List Message) (history : History) (first acknowledged : ℕ) 
   added = full.more ++ gave.more
 
   all : History
-  all = with_mark answer.begun ids bound (grown added history)
+  all = with_mark answer.begun ids bound (log_extended added history)
 
-  same : all ≡ grown full.more noted
+  same : all ≡ log_extended full.more noted
   unfolding all noted added
   same = marked_twice answer.begun ids bound full.more gave.more history
 
@@ -120,9 +120,9 @@ module _ (queued : List Message) (history : History) (first acknowledged : ℕ) 
   unfolding noted bound
   forwards_said =
       subst (λ (h : History). SayAll h first (plain_contents gives.forwards)) (sym same)
-      (all_later (grown gave.more history) (grown full.more noted)
-      (extends_then (grown gave.more history) noted (grown full.more noted) (extends_marked answer.begun ids bound (grown gave.more history) (omega arith)) (extends_grown full.more noted)) first (plain_contents gives.forwards)
-      (forwards_where (grown gave.more history) first acknowledged e.moment _ _ transfer _ gives.gave_up gives.next gives.forwards (kinds_of gave.stands.numbers gave.stands.kind) gave.stands.bears gives.gives_up))
+      (all_later (log_extended gave.more history) (log_extended full.more noted)
+      (extends_then (log_extended gave.more history) noted (log_extended full.more noted) (extends_marked answer.begun ids bound (log_extended gave.more history) (omega arith)) (extends_grown full.more noted)) first (plain_contents gives.forwards)
+      (forwards_where (log_extended gave.more history) first acknowledged e.moment _ _ transfer _ gives.gave_up gives.next gives.forwards (kinds_of gave.stands.numbers gave.stands.kind) gave.stands.bears gives.gives_up))
 
   all_said : SayAll all first (answer_contents answer)
   unfolding all
@@ -132,11 +132,11 @@ module _ (queued : List Message) (history : History) (first acknowledged : ℕ) 
       (subst (λ (l : List Content). SayAll all first l) (sym (plain_both gives.sacks gives.forwards))
       (say_both all first (plain_contents gives.sacks) (plain_contents gives.forwards)
       (said_sacks all first _ _ transfer gives.tracker gives.sacks gives.acknowledges) forwards_said)))
-      (say_both all first (request_contents answer.begun) (plain_contents answer.data_chunks) (said_request (grown added history) first answer.begun ids bound)
+      (say_both all first (request_contents answer.begun) (plain_contents answer.data_chunks) (said_request (log_extended added history) first answer.begun ids bound)
       (said_chunks all first gives.sent.queue.outstanding.is_interleaved answer.data_chunks
       (chunks_of_log all first acknowledged gives.sent.queue.outstanding gives.sent.tsns answer.data_chunks (kinds_of all_stand.numbers all_stand.kind) all_stand.bears gives.chunks)))
 
-  all_handed : (id : ℕ) → is_handed_out (stream_named id gives.sent.waiting.streams).pause ≡ true → (is_handed_out (stream_named id e.below.queue.streams).pause ≡ true) ⊎ NamedBy answer.begun ids id
+  all_handed : (id : ℕ) → is_handed_out (stream_named id gives.sent.waiting.streams).pause ≡ true → (is_handed_out (stream_named id e.queues.queue.streams).pause ≡ true) ⊎ NamedBy answer.begun ids id
   unfolding between room ids
   all_handed id handed =
       elim (requesting_handed (streams_within room) answer.begun gives.gave_up.waiting id
@@ -145,7 +145,7 @@ module _ (queued : List Message) (history : History) (first acknowledged : ℕ) 
         | inr named ↦ inr named
       ]
 
-  gives_stays : Answers' queued history first acknowledged e.below.queue answer
+  gives_stays : Answers' queued history first acknowledged e.queues.queue answer
   unfolding bound added all noted
   gives_stays =
       record {
@@ -154,18 +154,18 @@ module _ (queued : List Message) (history : History) (first acknowledged : ℕ) 
         bound = bound;
         low = omega (arith, length-append gave.more history.log);
         high = omega (arith, length-append gave.more history.log, length-append full.more gave.more);
-        stands = subst (λ (b : Below). StandsBelow queued all first acknowledged b) (sym gives.below)
+        stands = subst (λ (b : EndpointQueues). QueuesFollowLog queued all first acknowledged b) (sym gives.below)
             (record { queue_holds = all_stand.queue_holds; cut = all_stand.cut; flight = all_stand.bears; pends = all_stand.pends; marks = all_stand.marks; numbers = all_stand.numbers; kind = all_stand.kind });
         says = all_said;
         current = current_both history full.more gave.more (current_before answer.begun ids bound gave.more history full.more full.current) (λ n f at. absurd (gave.none n f at));
-        kept = subst (λ (b : Below). AreKept b.queue.streams added) (sym gives.below) (kept_both gives.sent.waiting.streams full.more gave.more full.kept (λ n f at. absurd (gave.none n f at)));
-        handed = λ id handed. all_handed id (ap (λ (b : Below). is_handed_out (stream_named id b.queue.streams).pause) (sym gives.below) ∙ handed);
+        kept = subst (λ (b : EndpointQueues). AreKept b.queue.streams added) (sym gives.below) (kept_both gives.sent.waiting.streams full.more gave.more full.kept (λ n f at. absurd (gave.none n f at)));
+        handed = λ id handed. all_handed id (ap (λ (b : EndpointQueues). is_handed_out (stream_named id b.queue.streams).pause) (sym gives.below) ∙ handed);
       }
 
-nothing_stays : (queued : List Message) (history : History) (first acknowledged : ℕ) (e : Endpoint) (answer : Answer) → StandsBelow queued history first acknowledged e.below → answer ≡ nothing_waits e
-    → Answers' queued history first acknowledged e.below.queue answer
+nothing_stays : (queued : List Message) (history : History) (first acknowledged : ℕ) (e : Endpoint) (answer : Answer) → QueuesFollowLog queued history first acknowledged e.queues → answer ≡ nothing_waits e
+    → Answers' queued history first acknowledged e.queues.queue answer
 nothing_stays queued history first acknowledged e answer stands is =
-    subst (λ (a : Answer). Answers' queued history first acknowledged e.below.queue a) (sym is)
+    subst (λ (a : Answer). Answers' queued history first acknowledged e.queues.queue a) (sym is)
     (record {
       more = [];
       ids = [];
@@ -179,8 +179,8 @@ nothing_stays queued history first acknowledged e answer stands is =
       handed = λ id handed. inl handed;
     })
 
-gives_where : (queued : List Message) (history : History) (first acknowledged : ℕ) (ask : Ask) (b : Bool) (e : Endpoint) (draft : Emission) (transfer : Transfer) (answer : Answer) → e.below.transfer ≡ Some transfer
-    → StandsBelow queued history first acknowledged e.below → GivesWhere b ask e draft transfer answer → Answers' queued history first acknowledged e.below.queue answer
+gives_where : (queued : List Message) (history : History) (first acknowledged : ℕ) (ask : Ask) (b : Bool) (e : Endpoint) (draft : Emission) (transfer : Transfer) (answer : Answer) → e.queues.transfer ≡ Some transfer
+    → QueuesFollowLog queued history first acknowledged e.queues → GivesWhere b ask e draft transfer answer → Answers' queued history first acknowledged e.queues.queue answer
 gives_where queued history first acknowledged ask true e draft transfer answer known stands gives = nothing_stays queued history first acknowledged e answer stands gives
 gives_where queued history first acknowledged ask false e draft transfer answer known stands gives =
     gives_stays queued history first acknowledged ask e draft transfer answer gives
@@ -191,22 +191,22 @@ gives_where queued history first acknowledged ask false e draft transfer answer 
       pends = subst (λ (t : Option Transfer). PendsWhere history t) known stands.pends;
       marks = stands.marks;
       numbers = stands.numbers;
-      kind = subst (λ (t : Option Transfer). IsOfKind e.below.queue.is_interleaved t) known stands.kind;
+      kind = subst (λ (t : Option Transfer). IsOfKind e.queues.queue.is_interleaved t) known stands.kind;
     })
 
-answered_below : (queued : List Message) (history : History) (first acknowledged : ℕ) (ask : Ask) (e : Endpoint) (draft : Emission) (transfer : Option Transfer) (answer : Answer) → e.below.transfer ≡ transfer
-    → StandsBelow queued history first acknowledged e.below → AnsweredBelow ask e draft answer transfer → Answers' queued history first acknowledged e.below.queue answer
+answered_below : (queued : List Message) (history : History) (first acknowledged : ℕ) (ask : Ask) (e : Endpoint) (draft : Emission) (transfer : Option Transfer) (answer : Answer) → e.queues.transfer ≡ transfer
+    → QueuesFollowLog queued history first acknowledged e.queues → IsAnswerOfQueues ask e draft answer transfer → Answers' queued history first acknowledged e.queues.queue answer
 answered_below queued history first acknowledged ask e draft None answer known stands answered = nothing_stays queued history first acknowledged e answer stands answered
 answered_below queued history first acknowledged ask e draft (Some transfer) answer known stands answered =
-    gives_where queued history first acknowledged ask (is_idle e.below.queue transfer) e draft transfer answer known stands answered
+    gives_where queued history first acknowledged ask (is_idle e.queues.queue transfer) e draft transfer answer known stands answered
 
-pub asked_sends : (queued : List Message) (history : History) (first acknowledged : ℕ) (ask : Ask) (e : Endpoint) (draft : Emission) (answer : Answer) → StandsBelow queued history first acknowledged e.below → SayAll history first draft.packet.contents
-    → Answered ask e draft answer → Sends queued history first acknowledged e.below.queue answer.begun (asked e draft answer).after.below (asked e draft answer).events
+pub asked_sends : (queued : List Message) (history : History) (first acknowledged : ℕ) (ask : Ask) (e : Endpoint) (draft : Emission) (answer : Answer) → QueuesFollowLog queued history first acknowledged e.queues → SayAll history first draft.packet.contents
+    → IsFlushAnswer ask e draft answer → SendsLogged queued history first acknowledged e.queues.queue answer.begun (asked e draft answer).after.queues (asked e draft answer).events
 asked_sends queued history first acknowledged ask e draft answer stands say answered =
-    let left = answered_below queued history first acknowledged ask e draft e.below.transfer answer refl stands answered.by_transfer in
+    let left = answered_below queued history first acknowledged ask e draft e.queues.transfer answer refl stands answered.by_transfer in
     let contents : List Content = (filled draft (answer_contents answer)).packet.contents in
-    let below = out_below answer.after (map told_event answer.told) draft.with_checksum draft.packet.tag contents in
-    let all : History = with_mark answer.begun left.ids left.bound (grown left.more history) in
+    let below = out_below answer.after (map filling_event answer.told) draft.with_checksum draft.packet.tag contents in
+    let all : History = with_mark answer.begun left.ids left.bound (log_extended left.more history) in
     let extends = extends_noted answer.begun left.ids left.bound left.more history left.low in
     record {
       more = left.more;
@@ -214,10 +214,10 @@ asked_sends queued history first acknowledged ask e draft answer stands say answ
       bound = left.bound;
       low = left.low;
       high = left.high;
-      stands = subst (λ (b : Below). StandsBelow queued all first acknowledged b) (sym below) left.stands;
+      stands = subst (λ (b : EndpointQueues). QueuesFollowLog queued all first acknowledged b) (sym below) left.stands;
       packets = out_says all first answer.after answer.told draft.with_checksum draft.packet.tag contents
           (say_both all first draft.packet.contents (answer_contents answer) (all_later history all extends first draft.packet.contents say) left.says);
       current = left.current;
-      kept = subst (λ (b : Below). AreKept b.queue.streams left.more) (sym below) left.kept;
-      handed = λ id handed. left.handed id (ap (λ (b : Below). is_handed_out (stream_named id b.queue.streams).pause) (sym below) ∙ handed);
+      kept = subst (λ (b : EndpointQueues). AreKept b.queue.streams left.more) (sym below) left.kept;
+      handed = λ id handed. left.handed id (ap (λ (b : EndpointQueues). is_handed_out (stream_named id b.queue.streams).pause) (sym below) ∙ handed);
     }

@@ -14,17 +14,17 @@ use Rattle.dcsctp_spec.specs.queues.Skipping.{forward_chunk}
 use Rattle.dcsctp_spec.specs.queues.Transfer.{Transfer}
 use Rattle.dcsctp_spec.specs.queues.Tracker.{TrackerState}
 use Rattle.dcsctp_spec.specs.endpoint.BegunResets.{BegunReset, request_contents}
-use Rattle.dcsctp_spec.specs.endpoint.FlushOutcomes.{Told, amount_is_low, total_amount_is_low, message_is_sent, message_may_have_expired, message_has_expired, message_ends, told_event, goes_out, where_fits, own_sack, Acknowledges, ForwardsWhere}
-use Rattle.dcsctp_delivery_sending.specs.Log.{Slot, History, grown, with_mark}
+use Rattle.dcsctp_spec.specs.endpoint.FlushOutcomes.{FillingEvent, amount_is_low, total_amount_is_low, message_is_sent, message_may_have_expired, message_has_expired, message_ends, filling_event, goes_out, where_fits, own_sack, Acknowledges, ForwardsWhere}
+use Rattle.dcsctp_delivery_sending.specs.Log.{Slot, History, log_extended, with_mark}
 use Rattle.dcsctp_delivery_sending.specs.Numbers.{AreOfKind}
 use Rattle.dcsctp_delivery_sending.specs.Stages.{Bears, IsOfLog, AreOfLog}
-use Rattle.dcsctp_delivery_sending.specs.Flushes.{AreBegun, NoRequests, IsPassed, AreEntries, SaysPlain, NoPlain, NoContent, NoData, SaysContent, SayAll, PacketsSay}
+use Rattle.dcsctp_delivery_sending.specs.Flushes.{AreBegun, NoRequests, IsPassed, AreForwardEntries, SaysPlain, NoPlain, NoContent, NoData, SaysContent, SayAll, PacketsSay}
 pub use Rattle.dcsctp_delivery_sending.proofs.Extended.{at_more}
 use Rattle.dcsctp_delivery_sending.proofs.Extended.{extends_grown, packets_later}
 use Rattle.dcsctp_delivery_sending.proofs.Entries.{listed_entries, entry_found}
 
-pub packets_more : (more : List Slot) (history : History) (first : ℕ) (emissions : List Emission) → PacketsSay history first emissions → PacketsSay (grown more history) first emissions
-packets_more more history first emissions say = packets_later history (grown more history) (extends_grown more history) first emissions say
+pub packets_more : (more : List Slot) (history : History) (first : ℕ) (emissions : List Emission) → PacketsSay history first emissions → PacketsSay (log_extended more history) first emissions
+packets_more more history first emissions say = packets_later history (log_extended more history) (extends_grown more history) first emissions say
 
 module _ (history : History) (first : ℕ) where
   pub say_both : (contents others : List Content) → SayAll history first contents → SayAll history first others → SayAll history first (contents ++ others)
@@ -73,7 +73,7 @@ module _ (history : History) (first : ℕ) where
   said_sacks false room transfer after chunks acknowledges = subst (λ (l : List Plain). SayAll history first (plain_contents l)) (sym acknowledges.1) tt
   said_sacks true room transfer after chunks acknowledges = subst (λ (l : List Plain). SayAll history first (plain_contents l)) (sym acknowledges.1) (said_fitting room (own_sack transfer) tt)
 
-  said_forward : (is_interleaved : Bool) (tsn : ℕ) (entries : List ((ℕ × Bool) × ℕ)) → (passed : IsPassed history.log first tsn) → AreEntries is_interleaved history passed.passed entries → SaysPlain history first (unworked (forward_chunk is_interleaved tsn entries))
+  said_forward : (is_interleaved : Bool) (tsn : ℕ) (entries : List ((ℕ × Bool) × ℕ)) → (passed : IsPassed history.log first tsn) → AreForwardEntries is_interleaved history passed.passed entries → SaysPlain history first (unworked (forward_chunk is_interleaved tsn entries))
   said_forward true tsn entries passed names = record { passed = passed; entries = entries; is = refl; names = names }
   said_forward false tsn entries passed names = record { passed = passed; entries = entries; is = refl; names = names }
 
@@ -95,7 +95,7 @@ module _ (history : History) (first : ℕ) where
   said_request None ids bound = tt
   said_request (Some begun) ids bound = ((record { mark = record { bound = bound; begun = begun; ids = ids }; has = inl refl; is = refl }, tt), tt)
 
-  told_none : (told : List Told) → PacketsSay history first (packets_in (map told_event told))
+  told_none : (told : List FillingEvent) → PacketsSay history first (packets_in (map filling_event told))
   told_none [] = tt
   told_none (amount_is_low stream ∷ told) = told_none told
   told_none (total_amount_is_low ∷ told) = told_none told
@@ -104,13 +104,13 @@ module _ (history : History) (first : ℕ) where
   told_none (message_has_expired id ∷ told) = told_none told
   told_none (message_ends id ∷ told) = told_none told
 
-  pub out_says : (e : Endpoint) (told : List Told) (with_checksum : Bool) (tag : ℕ) (contents : List Content) → SayAll history first contents
-      → PacketsSay history first (packets_in (goes_out e (map told_event told) with_checksum tag contents).events)
+  pub out_says : (e : Endpoint) (told : List FillingEvent) (with_checksum : Bool) (tag : ℕ) (contents : List Content) → SayAll history first contents
+      → PacketsSay history first (packets_in (goes_out e (map filling_event told) with_checksum tag contents).events)
   out_says e told with_checksum tag [] say = told_none told
   out_says e told with_checksum tag (c ∷ contents) say =
-      packets_both (map told_event told) (sent (record { with_checksum = with_checksum; packet = record { tag = tag; contents = c ∷ contents } }) ∷ []) (told_none told) (say, tt)
+      packets_both (map filling_event told) (sent (record { with_checksum = with_checksum; packet = record { tag = tag; contents = c ∷ contents } }) ∷ []) (told_none told) (say, tt)
 
-pub out_below : (e : Endpoint) (told : List (Event Emission)) (with_checksum : Bool) (tag : ℕ) (contents : List Content) → (goes_out e told with_checksum tag contents).after.below ≡ e.below
+pub out_below : (e : Endpoint) (told : List (Event Emission)) (with_checksum : Bool) (tag : ℕ) (contents : List Content) → (goes_out e told with_checksum tag contents).after.queues ≡ e.queues
 out_below e told with_checksum tag [] = refl
 out_below e told with_checksum tag (c ∷ contents) = refl
 

@@ -6,13 +6,13 @@ use Rattle.dcsctp_spec.specs.endpoint.Endpoint.{Endpoint}
 use Rattle.dcsctp_spec.specs.queues.Abandoning.{GivesUpFirst}
 use Rattle.dcsctp_spec.specs.queues.Filling.{Stage}
 use Rattle.dcsctp_spec.specs.queues.SendQueue.{SendQueueState}
-use Rattle.dcsctp_spec.specs.queues.Transfer.{Transfer, Below, may_give, is_idle}
+use Rattle.dcsctp_spec.specs.queues.Transfer.{Transfer, EndpointQueues, may_give, is_idle}
 use Rattle.dcsctp_spec.specs.queues.Retransmission.{RetransmissionState}
 use Rattle.dcsctp_spec.specs.association.Choices.{plain_contents}
 use Rattle.dcsctp_spec.specs.endpoint.BegunResets.{BegunReset, streams_within, request_contents, queue_requesting, retransmission_begun}
-use Rattle.dcsctp_spec.specs.endpoint.FlushOutcomes.{Ask, Gives, room_in, stage_of, may_forward, told_event, Answer, answer_contents, filled, asked, next_draft, flush_of, later_ask, GivesUpWhere, FillsWhere, GivesWhere, AnsweredBelow, Answered, Answers, at_limit, at_empty, after_packet}
+use Rattle.dcsctp_spec.specs.endpoint.FlushOutcomes.{Ask, Gives, room_in, stage_of, may_forward, filling_event, Answer, answer_contents, filled, asked, next_draft, flush_of, later_ask, GivesUpWhere, FillsWhere, GivesWhere, IsAnswerOfQueues, IsFlushAnswer, AreFlushAnswers, at_limit, at_empty, after_packet}
 use Rattle.dcsctp_delivery_sending.specs.Numbers.{stream_named, is_handed_out}
-use Rattle.dcsctp_delivery_sending.specs.Flushes.{begun_by}
+use Rattle.dcsctp_delivery_sending.specs.Flushes.{reset_begun_by}
 use Rattle.dcsctp_delivery_sending.proofs.Pauses.{PausesStay, StaysPaused, same_paused, gives_up_paused, steps_paused, fills_paused}
 use Rattle.dcsctp_delivery_sending.proofs.Packets.{out_below}
 
@@ -25,9 +25,9 @@ fills_where_paused now true old new fills id = fills_paused now old new fills id
 fills_where_paused now false old new fills id = elim fills [ inl e ↦ same_paused old new (ap (λ (s : Stage). s.waiting) e) id | inr e ↦ fills_paused now old new e id ]
 
 -- so it is of one packet, before the request and after it
-pub gave_up_paused : (ask : Ask) (e : Endpoint) (draft : Emission) (transfer : Transfer) (answer : Answer) (gives : Gives ask e draft transfer answer) → PausesStay e.below.queue.streams gives.gave_up.waiting.streams
+pub gave_up_paused : (ask : Ask) (e : Endpoint) (draft : Emission) (transfer : Transfer) (answer : Answer) (gives : Gives ask e draft transfer answer) → PausesStay e.queues.queue.streams gives.gave_up.waiting.streams
 gave_up_paused ask e draft transfer answer gives id =
-    gives_up_where_paused (may_forward ask e transfer.retransmission) e.moment (room_in e (filled draft (plain_contents gives.sacks))) transfer (stage_of e.below.queue transfer.retransmission [] 0) gives.gave_up gives.next
+    gives_up_where_paused (may_forward ask e transfer.retransmission) e.moment (room_in e (filled draft (plain_contents gives.sacks))) transfer (stage_of e.queues.queue transfer.retransmission [] 0) gives.gave_up gives.next
     gives.forwards gives.gives_up id
 
 pub sent_paused : (ask : Ask) (e : Endpoint) (draft : Emission) (transfer : Transfer) (answer : Answer) (gives : Gives ask e draft transfer answer)
@@ -46,37 +46,37 @@ later_unrequested : (b : Bool) (e : Endpoint) (draft : Emission) (transfer : Tra
 later_unrequested true e draft transfer answer gives = ap (λ (a : Answer). a.begun) gives
 later_unrequested false e draft transfer answer gives = gives.begins
 
-later_none : (e : Endpoint) (draft : Emission) (transfer : Option Transfer) (answer : Answer) → AnsweredBelow later_ask e draft answer transfer → answer.begun ≡ None
+later_none : (e : Endpoint) (draft : Emission) (transfer : Option Transfer) (answer : Answer) → IsAnswerOfQueues later_ask e draft answer transfer → answer.begun ≡ None
 later_none e draft None answer answered = ap (λ (a : Answer). a.begun) answered
-later_none e draft (Some transfer) answer answered = later_unrequested (is_idle e.below.queue transfer) e draft transfer answer answered
+later_none e draft (Some transfer) answer answered = later_unrequested (is_idle e.queues.queue transfer) e draft transfer answer answered
 
-pub later_begun : (n : ℕ) (e : Endpoint) (draft : Emission) (answers : List Answer) → Answers later_ask n e draft answers → begun_by answers ≡ None
+pub later_begun : (n : ℕ) (e : Endpoint) (draft : Emission) (answers : List Answer) → AreFlushAnswers later_ask n e draft answers → reset_begun_by answers ≡ None
 later_begun _ _ _ _ (at_limit ask e draft) = refl
-later_begun _ _ _ _ (at_empty ask more e draft answer is empty) = later_none e draft e.below.transfer answer is.by_transfer
-later_begun _ _ _ _ (after_packet ask more e draft answer answers is some rest) = later_none e draft e.below.transfer answer is.by_transfer
+later_begun _ _ _ _ (at_empty ask more e draft answer is empty) = later_none e draft e.queues.transfer answer is.by_transfer
+later_begun _ _ _ _ (after_packet ask more e draft answer answers is some rest) = later_none e draft e.queues.transfer answer is.by_transfer
 
 -- so the same streams are handed out after it
-abbrev BelowPaused : Below → Below → Type 0
+abbrev BelowPaused : EndpointQueues → EndpointQueues → Type 0
 BelowPaused old new = PausesStay old.queue.streams new.queue.streams
 
-later_given : (b : Bool) (e : Endpoint) (draft : Emission) (transfer : Transfer) (answer : Answer) → GivesWhere b later_ask e draft transfer answer → BelowPaused e.below answer.after.below
-later_given true e draft transfer answer gives id = ap (λ (a : Answer). is_handed_out (stream_named id a.after.below.queue.streams).pause) gives
+later_given : (b : Bool) (e : Endpoint) (draft : Emission) (transfer : Transfer) (answer : Answer) → GivesWhere b later_ask e draft transfer answer → BelowPaused e.queues answer.after.queues
+later_given true e draft transfer answer gives id = ap (λ (a : Answer). is_handed_out (stream_named id a.after.queues.queue.streams).pause) gives
 later_given false e draft transfer answer gives id =
-    ap (λ (b : Below). is_handed_out (stream_named id b.queue.streams).pause) gives.below ∙ sent_paused later_ask e draft transfer answer gives id
+    ap (λ (b : EndpointQueues). is_handed_out (stream_named id b.queue.streams).pause) gives.below ∙ sent_paused later_ask e draft transfer answer gives id
     ∙ ap (λ (q : SendQueueState). is_handed_out (stream_named id q.streams).pause)
     (requesting_none (streams_within (room_in e (filled draft (plain_contents answer.acknowledgements)))) answer.begun gives.gave_up.waiting gives.begins)
     ∙ gave_up_paused later_ask e draft transfer answer gives id
 
-later_answered : (e : Endpoint) (draft : Emission) (transfer : Option Transfer) (answer : Answer) → AnsweredBelow later_ask e draft answer transfer → BelowPaused e.below answer.after.below
-later_answered e draft None answer answered id = ap (λ (a : Answer). is_handed_out (stream_named id a.after.below.queue.streams).pause) answered
-later_answered e draft (Some transfer) answer answered id = later_given (is_idle e.below.queue transfer) e draft transfer answer answered id
+later_answered : (e : Endpoint) (draft : Emission) (transfer : Option Transfer) (answer : Answer) → IsAnswerOfQueues later_ask e draft answer transfer → BelowPaused e.queues answer.after.queues
+later_answered e draft None answer answered id = ap (λ (a : Answer). is_handed_out (stream_named id a.after.queues.queue.streams).pause) answered
+later_answered e draft (Some transfer) answer answered id = later_given (is_idle e.queues.queue transfer) e draft transfer answer answered id
 
-later_asked : (e : Endpoint) (draft : Emission) (answer : Answer) → Answered later_ask e draft answer → BelowPaused e.below (asked e draft answer).after.below
+later_asked : (e : Endpoint) (draft : Emission) (answer : Answer) → IsFlushAnswer later_ask e draft answer → BelowPaused e.queues (asked e draft answer).after.queues
 later_asked e draft answer answered id =
-    ap (λ (b : Below). is_handed_out (stream_named id b.queue.streams).pause) (out_below answer.after (map told_event answer.told) draft.with_checksum draft.packet.tag (filled draft (answer_contents answer)).packet.contents)
-    ∙ later_answered e draft e.below.transfer answer answered.by_transfer id
+    ap (λ (b : EndpointQueues). is_handed_out (stream_named id b.queue.streams).pause) (out_below answer.after (map filling_event answer.told) draft.with_checksum draft.packet.tag (filled draft (answer_contents answer)).packet.contents)
+    ∙ later_answered e draft e.queues.transfer answer answered.by_transfer id
 
-pub later_paused : (n : ℕ) (e : Endpoint) (draft : Emission) (answers : List Answer) → Answers later_ask n e draft answers → BelowPaused e.below (flush_of e draft answers).after.below
+pub later_paused : (n : ℕ) (e : Endpoint) (draft : Emission) (answers : List Answer) → AreFlushAnswers later_ask n e draft answers → BelowPaused e.queues (flush_of e draft answers).after.queues
 later_paused _ _ _ _ (at_limit ask e draft) id = refl
 later_paused _ _ _ _ (at_empty ask more e draft answer is empty) id = later_asked e draft answer is id
 later_paused _ _ _ _ (after_packet ask more e draft answer answers is some rest) id =

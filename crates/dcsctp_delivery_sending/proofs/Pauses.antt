@@ -6,11 +6,11 @@ use Rattle.dcsctp_spec.specs.types.declared.sending.Pause.{Pause}
 use Rattle.dcsctp_spec.specs.types.declared.sending.Pause.TheVariants.{Open, Pausing, HandedOut}
 use Rattle.dcsctp_spec.specs.types.declared.sending.Turn.{Turn}
 use Rattle.dcsctp_spec.specs.types.declared.sending.UnderWay.{UnderWay}
-use Rattle.dcsctp_spec.specs.types.queues.SendStreams.{Waiting, Stream, without_front, counted, served, stream_at, unused, turn_if, turn_of}
+use Rattle.dcsctp_spec.specs.types.queues.SendStreams.{Waiting, Stream, without_front, stream_counted, served, stream_at, unused, turn_if, turn_of}
 use Rattle.dcsctp_spec.specs.queues.SendQueue.{SendQueueState}
-use Rattle.dcsctp_spec.specs.queues.Sending.{Fragment, Drops, none as drops_none, more as drops_more, reduced, next_turn, counting as taking_turn, numbered, without_rest, after_part, after_last, produced, is_last, Takes, DiscardsNamed}
+use Rattle.dcsctp_spec.specs.queues.Sending.{Fragment, Drops, none as drops_none, more as drops_more, reduced, next_turn, begun_message_counted as taking_turn, begun_numbered, without_rest, after_part, after_last, produced, is_last, TakesFragment, DiscardsNamed}
 use Rattle.dcsctp_delivery_sending.specs.Numbers.{stream_named, is_handed_out, KeptWhere, AreCurrent, AreKept}
-use Rattle.dcsctp_spec.specs.queues.Filling.{Stage, Closes, GivesUpAt, payload_room, StepAgain, StepNew, Steps, none as steps_none, more as steps_more, counting, FillsPacket}
+use Rattle.dcsctp_spec.specs.queues.Filling.{Stage, ClosesMessage, GivesUpAt, payload_room, StepAgain, StepNew, StageSteps, none as steps_none, more as steps_more, resent_packet_counted, FillsPacket}
 use Rattle.dcsctp_spec.specs.queues.Items.{Item}
 use Rattle.dcsctp_spec.specs.queues.Outstanding.{header}
 use Rattle.dcsctp_delivery_sending.specs.Log.{Slot, History}
@@ -46,16 +46,16 @@ pauses_dropped now old events new drops_none id = refl
 pauses_dropped now old events new (drops_more events' queue place message drops next front expired) id =
     pauses_rest place 0 message queue id ∙ pauses_dropped now old events' queue drops id
 
-pauses_numbered : (place : ℕ) (message : Waiting) (under_way : UnderWay) (queue : SendQueueState) → PausesStay queue.streams (numbered place message under_way queue).streams
+pauses_numbered : (place : ℕ) (message : Waiting) (under_way : UnderWay) (queue : SendQueueState) → PausesStay queue.streams (begun_numbered place message under_way queue).streams
 pauses_numbered place message under_way queue id = go (under_way.sent == 0)
   where
-    its_id : (a b : Bool) (s : Stream) → (counted a b s).id ≡ s.id
+    its_id : (a b : Bool) (s : Stream) → (stream_counted a b s).id ≡ s.id
     its_id true true s = refl
     its_id true false s = refl
     its_id false true s = refl
     its_id false false s = refl
 
-    its_pause : (a b : Bool) (s : Stream) → SamePause s (counted a b s)
+    its_pause : (a b : Bool) (s : Stream) → SamePause s (stream_counted a b s)
     its_pause true true s = refl
     its_pause true false s = refl
     its_pause false true s = refl
@@ -64,7 +64,7 @@ pauses_numbered place message under_way queue id = go (under_way.sent == 0)
     go : (b : Bool) → is_handed_out (stream_named id (if b then taking_turn place message.is_unordered queue else queue).streams).pause
         ≡ is_handed_out (stream_named id queue.streams).pause
     go true =
-        pauses_set place (served (next_turn queue) (counted queue.is_interleaved message.is_unordered (stream_at queue.streams place))) queue.streams (its_id queue.is_interleaved message.is_unordered (stream_at queue.streams place))
+        pauses_set place (served (next_turn queue) (stream_counted queue.is_interleaved message.is_unordered (stream_at queue.streams place))) queue.streams (its_id queue.is_interleaved message.is_unordered (stream_at queue.streams place))
         (its_pause queue.is_interleaved message.is_unordered (stream_at queue.streams place)) id
     go false = refl
 
@@ -74,7 +74,7 @@ pauses_part place max message under_way queue id = pauses_numbered place message
 pauses_last : (place : ℕ) (message : Waiting) (under_way : UnderWay) (queue : SendQueueState) → PausesStay queue.streams (after_last place message under_way queue).streams
 pauses_last place message under_way queue id =
     let rest : ℕ = length message.payload - under_way.sent in
-    pauses_without place (numbered place message under_way (reduced place rest queue)).streams id ∙ pauses_numbered place message under_way (reduced place rest queue) id ∙ pauses_reduced place rest queue id
+    pauses_without place (begun_numbered place message under_way (reduced place rest queue)).streams id ∙ pauses_numbered place message under_way (reduced place rest queue) id ∙ pauses_reduced place rest queue id
 
 pub pauses_produced : (place max : ℕ) (message : Waiting) (under_way : UnderWay) (queue : SendQueueState) → PausesStay queue.streams (produced place max message under_way queue).streams
 pauses_produced place max message under_way queue id = go (is_last max message under_way)
@@ -92,7 +92,7 @@ produced_kept place max message under_way queue kept = go (is_last max message u
     go true = tt
     go false = pauses_part place max message under_way queue under_way.stream_id.0 ∙ kept
 
-pub pauses_taken : {P : Type 0} (now max : ℕ) (old new : SendQueueState) (before after : List (Event P)) (part : Fragment) → Takes now max old before part new after → PausesStay old.streams new.streams
+pub pauses_taken : {P : Type 0} (now max : ℕ) (old new : SendQueueState) (before after : List (Event P)) (part : Fragment) → TakesFragment now max old before part new after → PausesStay old.streams new.streams
 pauses_taken now max old new before after part takes id =
     ap (λ (q : SendQueueState). is_handed_out (stream_named id q.streams).pause) takes.left
     ∙ pauses_produced takes.place max takes.message takes.under_way takes.queue id ∙ pauses_dropped now old takes.drops.events takes.queue takes.drops.drops id
@@ -120,7 +120,7 @@ StaysPaused old new = PausesStay old.waiting.streams new.waiting.streams
 pub same_paused : (old new : Stage) → new.waiting ≡ old.waiting → StaysPaused old new
 same_paused old new same id = ap (λ (q : SendQueueState). is_handed_out (stream_named id q.streams).pause) same
 
-closes_paused : (now : ℕ) (last : Item) (old new : Stage) (is_end : Bool) → Closes now last old new is_end → StaysPaused old new
+closes_paused : (now : ℕ) (last : Item) (old new : Stage) (is_end : Bool) → ClosesMessage now last old new is_end → StaysPaused old new
 closes_paused now last old new true closes id = same_paused old new (ap (λ (s : Stage). s.waiting) closes) id
 closes_paused now last old new false closes id =
     elim closes [
@@ -146,14 +146,14 @@ anew_paused now old new step id =
       | inr e ↦ pauses_dropped now old.waiting e.takes.drops.events new.waiting e.takes.drops.drops id
     ]
 
-pub steps_paused : (OneStep : Stage → Stage → Type 0) → ((old new : Stage) → OneStep old new → StaysPaused old new) → (old new : Stage) → Steps OneStep old new → StaysPaused old new
+pub steps_paused : (OneStep : Stage → Stage → Type 0) → ((old new : Stage) → OneStep old new → StaysPaused old new) → (old new : Stage) → StageSteps OneStep old new → StaysPaused old new
 steps_paused OneStep each old new steps_none id = refl
 steps_paused OneStep each old new (steps_more between _ steps step) id = each between new step id ∙ steps_paused OneStep each old between steps id
 
 pub fills_paused : (now : ℕ) (old new : Stage) → FillsPacket now old new → StaysPaused old new
 fills_paused now old new fills id =
     same_paused fills.sent new (ap (λ (s : Stage). s.waiting) fills.is) id
-    ∙ steps_paused (StepNew now) (anew_paused now) (counting old.room fills.fills.resent) fills.sent fills.fills.anew id
+    ∙ steps_paused (StepNew now) (anew_paused now) (resent_packet_counted old.room fills.fills.resent) fills.sent fills.fills.anew id
     ∙ steps_paused (StepAgain now) (again_paused now) old fills.fills.resent fills.fills.again id
 
 -- ---- pieces of streams that aren't handed out

@@ -6,7 +6,7 @@ use Rattle.dcsctp_spec.specs.endpoint.Event.{Event}
 use Rattle.dcsctp_spec.specs.types.declared.sending.UnderWay.{UnderWay}
 use Rattle.dcsctp_spec.specs.types.queues.SendStreams.{Waiting, front_of, stream_at}
 use Rattle.dcsctp_spec.specs.queues.SendQueue.{SendQueueState}
-use Rattle.dcsctp_spec.specs.queues.Sending.{Fragment, fragment, produced, size_produced, Takes, Chooses}
+use Rattle.dcsctp_spec.specs.queues.Sending.{Fragment, fragment, produced, size_produced, TakesFragment, Chooses}
 use Rattle.dcsctp_delivery_sending.specs.Places.{at_place}
 use Rattle.dcsctp_delivery_sending.specs.Log.{Message, Piece, Slot, HasBefore, History, with_slot}
 use Rattle.dcsctp_delivery_sending.specs.Pieces.{WaitingWasQueued, AllBeyond, ComesTo, IsGoing, HoldsQueued, HandsOutPiece}
@@ -163,7 +163,7 @@ module _ (queued : List Message) (history : History) (max place : ℕ) (queue : 
       current_where true kind counts' c row interleaved = current_on true kind counts' c.piece.mid c.mid (newest_mid true counts' c refl) row refl
 
 pub hands_out : {P : Type 0} (queued : List Message) (history : History) (now max : ℕ) (old new : SendQueueState) (told_before told_after : List (Event P)) (part : Fragment)
-    → 0 < max → HoldsQueued queued history.log old.streams old.under_way → Numbered history old → Takes now max old told_before part new told_after
+    → 0 < max → HoldsQueued queued history.log old.streams old.under_way → Numbered history old → TakesFragment now max old told_before part new told_after
     → HandsOutPiece queued history part new
 hands_out queued history now max old new told_before told_after part room queue_holds numbers takes =
     let handed = go old.under_way refl queue_holds numbers.counts numbers.kept takes.chosen in

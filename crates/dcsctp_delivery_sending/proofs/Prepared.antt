@@ -4,8 +4,8 @@ use Rattle.std.specs.Prelude.{Option, None, Some, if◌then◌else◌}
 use Rattle.std.proofs.lemmas.Bool.Decides.{eqb_tells}
 use Rattle.dcsctp_spec.specs.types.declared.sending.UnderWay.{UnderWay}
 use Rattle.dcsctp_spec.specs.types.queues.SendStreams.{Waiting, Stream, front_of, stream_at}
-use Rattle.dcsctp_spec.specs.queues.OwnResets.{is_open, count_under_way, dropped_size, prepared_stream, with_used, prepared_open, prepared, prepared_all}
-use Rattle.dcsctp_spec.specs.queues.SendQueue.{SendQueueState, stream_of, changed}
+use Rattle.dcsctp_spec.specs.queues.OwnResets.{is_open_pause, count_under_way, dropped_size, prepared_stream, with_used, prepared_open, prepared, prepared_all}
+use Rattle.dcsctp_spec.specs.queues.SendQueue.{SendQueueState, queue_stream, stream_changed}
 use Rattle.dcsctp_delivery_sending.specs.Log.{Message, Slot, History}
 use Rattle.dcsctp_delivery_sending.specs.Pieces.{AllQueued, AllBeyond, Ascend, unbegun, Going, HoldsQueued}
 use Rattle.dcsctp_delivery_sending.specs.Queueing.{QueueHolds}
@@ -40,7 +40,7 @@ record Shortened (id kept : ℕ) (old new : List Stream) : Type 0 where
   others : (q : ℕ) → (stream_at old q).id ≢ id → (stream_at new q).messages ≡ (stream_at old q).messages
   here : (q : ℕ) → (stream_at old q).id ≡ id → (stream_at new q).messages ≡ take kept (stream_at old q).messages
 
-shortened : (id size kept : ℕ) (streams : List Stream) → Shortened id kept streams (changed id (prepared_stream size kept) streams)
+shortened : (id size kept : ℕ) (streams : List Stream) → Shortened id kept streams (stream_changed id (prepared_stream size kept) streams)
 shortened id size kept streams = record { sizes = sizes streams; ids = ids streams; others = others streams; here = here streams }
   where
     one_id : (b : Bool) (s : Stream) → (if b then prepared_stream size kept s else s).id ≡ s.id
@@ -51,23 +51,23 @@ shortened id size kept streams = record { sizes = sizes streams; ids = ids strea
     none zero = refl
     none (suc k) = refl
 
-    sizes : (l : List Stream) → length (changed id (prepared_stream size kept) l) ≡ length l
+    sizes : (l : List Stream) → length (stream_changed id (prepared_stream size kept) l) ≡ length l
     sizes [] = refl
     sizes (s ∷ l) = ap suc (sizes l)
 
-    ids : (l : List Stream) (q : ℕ) → (stream_at (changed id (prepared_stream size kept) l) q).id ≡ (stream_at l q).id
+    ids : (l : List Stream) (q : ℕ) → (stream_at (stream_changed id (prepared_stream size kept) l) q).id ≡ (stream_at l q).id
     ids [] zero = refl
     ids [] (suc q) = refl
     ids (s ∷ l) zero = one_id (s.id == id) s
     ids (s ∷ l) (suc q) = ids l q
 
-    others : (l : List Stream) (q : ℕ) → (stream_at l q).id ≢ id → (stream_at (changed id (prepared_stream size kept) l) q).messages ≡ (stream_at l q).messages
+    others : (l : List Stream) (q : ℕ) → (stream_at l q).id ≢ id → (stream_at (stream_changed id (prepared_stream size kept) l) q).messages ≡ (stream_at l q).messages
     others [] zero ne = refl
     others [] (suc q) ne = refl
     others (s ∷ l) zero ne = elim (eqb_tells s.id id) [ inl e ↦ absurd (ne e.1) | inr e ↦ rw e.0 refl ]
     others (s ∷ l) (suc q) ne = others l q ne
 
-    here : (l : List Stream) (q : ℕ) → (stream_at l q).id ≡ id → (stream_at (changed id (prepared_stream size kept) l) q).messages ≡ take kept (stream_at l q).messages
+    here : (l : List Stream) (q : ℕ) → (stream_at l q).id ≡ id → (stream_at (stream_changed id (prepared_stream size kept) l) q).messages ≡ take kept (stream_at l q).messages
     here [] zero is = sym (none kept)
     here [] (suc q) is = sym (none kept)
     here (s ∷ l) zero is = elim (eqb_tells s.id id) [ inl e ↦ rw e.0 refl | inr e ↦ absurd (e.1 is) ]
@@ -160,7 +160,7 @@ module _ (queued : List Message) (log : List Slot) (id : ℕ) (u : Option UnderW
       }
 
 prepared_one : (queued : List Message) (history : History) (id : ℕ) (queue : SendQueueState) → QueueHolds queued history queue → QueueHolds queued history (prepared id queue)
-prepared_one queued history id queue queues = go (is_open (stream_of start id).pause)
+prepared_one queued history id queue queues = go (is_open_pause (queue_stream start id).pause)
   where
     start : SendQueueState
     start = with_used id queue
@@ -203,7 +203,7 @@ prepared_one queued history id queue queues = go (is_open (stream_of start id).p
     go : (b : Bool) → QueueHolds queued history (if b then prepared_open id start else start)
     go true =
         record {
-          queue_holds = short_hold queued history.log id queue.under_way start.streams (changed id (prepared_stream (dropped_size id start) (count_under_way id start.under_way)) start.streams)
+          queue_holds = short_hold queued history.log id queue.under_way start.streams (stream_changed id (prepared_stream (dropped_size id start) (count_under_way id start.under_way)) start.streams)
               (shortened id (dropped_size id start) (count_under_way id start.under_way) start.streams) began.queue_holds
               (weight_prepared id (dropped_size id start) (count_under_way id start.under_way) start.streams);
           next = queues.next;
@@ -213,7 +213,7 @@ prepared_one queued history id queue queues = go (is_open (stream_of start id).p
 
 pub preparing_kind : (ids : List ℕ) (queue : SendQueueState) → (prepared_all ids queue).is_interleaved ≡ queue.is_interleaved
 preparing_kind [] queue = refl
-preparing_kind (id ∷ ids) queue = preparing_kind ids (prepared id queue) ∙ go (is_open (stream_of (with_used id queue) id).pause)
+preparing_kind (id ∷ ids) queue = preparing_kind ids (prepared id queue) ∙ go (is_open_pause (queue_stream (with_used id queue) id).pause)
   where
     go : (b : Bool) → (if b then prepared_open id (with_used id queue) else with_used id queue).is_interleaved ≡ queue.is_interleaved
     go true = refl

@@ -6,11 +6,11 @@ use Rattle.std.proofs.lemmas.List.{get_or-set_same, get_or_past}
 use Rattle.dcsctp_spec.specs.types.declared.sending.UnderWay.{UnderWay}
 use Rattle.dcsctp_spec.specs.types.queues.SendStreams.{Waiting, Stream, front_of, without_front, unused, stream_at}
 use Rattle.dcsctp_spec.specs.queues.SendQueue.{SendQueueState}
-use Rattle.dcsctp_spec.specs.queues.Sending.{fragment, reduced, numbered, after_part, after_last, produced, is_last, size_produced}
+use Rattle.dcsctp_spec.specs.queues.Sending.{fragment, reduced, begun_numbered, after_part, after_last, produced, is_last, size_produced}
 use Rattle.dcsctp_delivery_sending.specs.Places.{at_place}
 use Rattle.dcsctp_delivery_sending.specs.Log.{Message, Piece, Slot, IsPiece}
-use Rattle.dcsctp_delivery_sending.specs.Pieces.{IsMessage, AllQueued, AllBeyond, Ascend, unbegun, IsGoing, HoldsQueued, Says}
-use Rattle.dcsctp_delivery_sending.specs.Weights.{HasRoom}
+use Rattle.dcsctp_delivery_sending.specs.Pieces.{IsWaitingMessage, AllQueued, AllBeyond, Ascend, unbegun, IsGoing, HoldsQueued, CarriesPiece}
+use Rattle.dcsctp_delivery_sending.specs.Weights.{HasRoomForLog}
 use Rattle.dcsctp_delivery_sending.proofs.Places.{decide, at_cases}
 use Rattle.dcsctp_delivery_sending.proofs.Weights.{weight_same, weight_front}
 use Rattle.dcsctp_delivery_sending.proofs.Streams.{alike_is_shorter, distinct_on, wait_on, Alike, shorter_beyond, last_shorter, ascend_on, numbered_reduced, Shorter, rest_of, beyond_drop}
@@ -50,7 +50,7 @@ module _ (queued : List Message) (log : List Slot) (max place : ℕ) (queue : Se
     (old_there : (q n : ℕ) (f : Piece) → at_place n log ≡ Some (Some f) → f.message.stream ≡ (stream_at queue.streams q).id → (stream_at queue.streams q).id ≢ (stream_at queue.streams place).id
     → AllBeyond f.place (stream_at queue.streams q).messages)
     (named : message.message_id ≡ piece.place)
-    (message_is : IsMessage (stream_at queue.streams place).id message piece.message)
+    (message_is : IsWaitingMessage (stream_at queue.streams place).id message piece.message)
     (queued_at : at_place piece.place queued ≡ Some piece.message)
     (fresh : piece.message.is_spent ≡ false)
     (start_is : under_way.sent ≡ piece.start)
@@ -59,7 +59,7 @@ module _ (queued : List Message) (log : List Slot) (max place : ℕ) (queue : Se
     (first_is : piece.start ≡ 0 → piece.fsn ≡ 0)
     (size_is : piece.size ≡ size_produced max message under_way)
     (has_room : 0 < max)
-    (roomy : HasRoom queued log queue.streams (Some under_way))
+    (roomy : HasRoomForLog queued log queue.streams (Some under_way))
     (unfinished : under_way.sent < length message.payload) where
   has_size : 0 < size_produced max message under_way
   has_size = omega arith
@@ -77,7 +77,7 @@ module _ (queued : List Message) (log : List Slot) (max place : ℕ) (queue : Se
         first = first_is;
       }
 
-  pub it_says : Says (fragment under_way message (size_produced max message under_way)) piece
+  pub it_says : CarriesPiece (fragment under_way message (size_produced max message under_way)) piece
   it_says =
       record {
         named = named;
@@ -132,7 +132,7 @@ module _ (queued : List Message) (log : List Slot) (max place : ℕ) (queue : Se
 
   last_here : (stream_at (after_last place message under_way queue).streams place).messages ≡ drop 1 (stream_at queue.streams place).messages
   last_here =
-      let between = numbered place message under_way (reduced place (length message.payload - under_way.sent) queue) in
+      let between = begun_numbered place message under_way (reduced place (length message.payload - under_way.sent) queue) in
       let same = numbered_reduced place (length message.payload - under_way.sent) message under_way queue in
       let size : length between.streams ≡ length queue.streams = same.sizes in
       ap (λ (s : Stream). s.messages) (get_or-set_same between.streams place (without_front (stream_at between.streams place)) (unused 0 0 0) (omega (arith, within)))
@@ -197,15 +197,15 @@ module _ (queued : List Message) (log : List Slot) (max place : ℕ) (queue : Se
         | inr other ↦ shorter_beyond f.place q queue.streams (after_last place message under_way queue).streams shorter (there q n f at (of ∙ shorter.ids q) other)
       ]
 
-  last_room : HasRoom queued (Some piece ∷ log) (after_last place message under_way queue).streams None
+  last_room : HasRoomForLog queued (Some piece ∷ log) (after_last place message under_way queue).streams None
   last_room =
-      let between = numbered place message under_way (reduced place (length message.payload - under_way.sent) queue) in
+      let between = begun_numbered place message under_way (reduced place (length message.payload - under_way.sent) queue) in
       let alike' = numbered_reduced place (length message.payload - under_way.sent) message under_way queue in
       let same = weight_same queue.streams between.streams alike'.sizes alike'.messages in
       let left = weight_front between.streams place message (ap front_of (alike'.messages place) ∙ front) in
       record { whole = omega (arith, same, left, roomy.whole); count = omega (arith, same, left, roomy.count, unfinished) }
 
-  part_room : (u : UnderWay) → u.sent ≡ under_way.sent + max → HasRoom queued (Some piece ∷ log) (after_part place max message under_way queue).streams (Some u)
+  part_room : (u : UnderWay) → u.sent ≡ under_way.sent + max → HasRoomForLog queued (Some piece ∷ log) (after_part place max message under_way queue).streams (Some u)
   part_room u sent =
       let same = weight_same queue.streams (after_part place max message under_way queue).streams alike.sizes alike.messages in
       record { whole = omega (arith, same, roomy.whole); count = omega (arith, same, roomy.count, sent, has_room) }

@@ -4,11 +4,11 @@ use Rattle.std.specs.Prelude.{None, Some, slice_set, if◌then◌else◌}
 use Rattle.std.proofs.lemmas.Bool.Decides.{eqb_tells}
 use Rattle.std.proofs.lemmas.List.{length-set, get_or-set_same}
 use Rattle.dcsctp_spec.specs.types.declared.sending.UnderWay.{UnderWay}
-use Rattle.dcsctp_spec.specs.types.queues.SendStreams.{Waiting, Stream, front_of, counted, served, unused, stream_at}
+use Rattle.dcsctp_spec.specs.types.queues.SendStreams.{Waiting, Stream, front_of, stream_counted, served, unused, stream_at}
 use Rattle.dcsctp_spec.specs.queues.SendQueue.{SendQueueState}
-use Rattle.dcsctp_spec.specs.queues.Sending.{reduced, next_turn, counting, numbered, after_part, after_last, produced, is_last}
+use Rattle.dcsctp_spec.specs.queues.Sending.{reduced, next_turn, begun_message_counted, begun_numbered, after_part, after_last, produced, is_last}
 use Rattle.dcsctp_delivery_sending.specs.Log.{Piece, Slot, HasBefore, History, with_slot}
-use Rattle.dcsctp_delivery_sending.specs.Numbers.{stream_named, next_mid, Counts, AreOfKind, IsCurrent}
+use Rattle.dcsctp_delivery_sending.specs.Numbers.{stream_named, next_mid, CountsMessages, AreOfKind, IsCurrent}
 use Rattle.dcsctp_delivery_sending.proofs.Places.{at_cases}
 use Rattle.dcsctp_delivery_sending.proofs.Streams.{Alike, numbered_reduced, alike_is_shorter, distinct_on}
 use Rattle.dcsctp_delivery_sending.proofs.Numbers.{NumbersStay, numbers_then, numbers_reduced, numbers_without, mid_stays}
@@ -18,10 +18,10 @@ use Rattle.dcsctp_delivery_sending.proofs.Counted.{GoesOn, counts_begun, counts_
 
 -- ---- how they are numbered
 
-numbered_kind : (place : ℕ) (message : Waiting) (under_way : UnderWay) (queue : SendQueueState) → (numbered place message under_way queue).is_interleaved ≡ queue.is_interleaved
+numbered_kind : (place : ℕ) (message : Waiting) (under_way : UnderWay) (queue : SendQueueState) → (begun_numbered place message under_way queue).is_interleaved ≡ queue.is_interleaved
 numbered_kind place message under_way queue = go (under_way.sent == 0)
   where
-    go : (b : Bool) → (if b then counting place message.is_unordered queue else queue).is_interleaved ≡ queue.is_interleaved
+    go : (b : Bool) → (if b then begun_message_counted place message.is_unordered queue else queue).is_interleaved ≡ queue.is_interleaved
     go true = refl
     go false = refl
 
@@ -34,36 +34,36 @@ produced_kind place max message under_way queue = go (is_last max message under_
 
 -- a message that is begun is counted
 numbered_begun : (place : ℕ) (message : Waiting) (under_way : UnderWay) (queue : SendQueueState) → under_way.sent ≡ 0 → queue.is_interleaved ≡ true
-    → (numbered place message under_way queue).streams ≡ slice_set queue.streams place (served (next_turn queue) (counted true message.is_unordered (stream_at queue.streams place)))
+    → (begun_numbered place message under_way queue).streams ≡ slice_set queue.streams place (served (next_turn queue) (stream_counted true message.is_unordered (stream_at queue.streams place)))
 numbered_begun place message under_way queue sent kind = go (under_way.sent == 0) (ap (λ (k : ℕ). k == 0) sent)
   where
-    go : (b : Bool) → b ≡ true → (if b then counting place message.is_unordered queue else queue).streams
-        ≡ slice_set queue.streams place (served (next_turn queue) (counted true message.is_unordered (stream_at queue.streams place)))
-    go true e = ap (λ (b : Bool). slice_set queue.streams place (served (next_turn queue) (counted b message.is_unordered (stream_at queue.streams place)))) kind
+    go : (b : Bool) → b ≡ true → (if b then begun_message_counted place message.is_unordered queue else queue).streams
+        ≡ slice_set queue.streams place (served (next_turn queue) (stream_counted true message.is_unordered (stream_at queue.streams place)))
+    go true e = ap (λ (b : Bool). slice_set queue.streams place (served (next_turn queue) (stream_counted b message.is_unordered (stream_at queue.streams place)))) kind
     go false e = absurd (cc)
 
 -- one that goes on is not
-numbered_on : (place : ℕ) (message : Waiting) (under_way : UnderWay) (queue : SendQueueState) → 0 < under_way.sent → (numbered place message under_way queue).streams ≡ queue.streams
+numbered_on : (place : ℕ) (message : Waiting) (under_way : UnderWay) (queue : SendQueueState) → 0 < under_way.sent → (begun_numbered place message under_way queue).streams ≡ queue.streams
 numbered_on place message under_way queue some =
     elim (eqb_tells under_way.sent 0) [ inl e ↦ absurd (let none : under_way.sent ≡ 0 = e.1 in omega arith) | inr e ↦ go (under_way.sent == 0) e.0 ]
   where
-    go : (b : Bool) → b ≡ false → (if b then counting place message.is_unordered queue else queue).streams ≡ queue.streams
+    go : (b : Bool) → b ≡ false → (if b then begun_message_counted place message.is_unordered queue else queue).streams ≡ queue.streams
     go true e = absurd (cc)
     go false e = refl
 
 -- ---- a stream that is counted
 
-mid_counted : (turn : ℕ) (kind : Bool) (s : Stream) → next_mid kind (served turn (counted true kind s)) ≡ (next_mid kind s + 1) % 2 ^ 32
+mid_counted : (turn : ℕ) (kind : Bool) (s : Stream) → next_mid kind (served turn (stream_counted true kind s)) ≡ (next_mid kind s + 1) % 2 ^ 32
 mid_counted turn true s = refl
 mid_counted turn false s = refl
 
-mid_apart : (turn : ℕ) (kind b : Bool) (s : Stream) → (b ≡ kind → ⊥) → next_mid b (served turn (counted true kind s)) ≡ next_mid b s
+mid_apart : (turn : ℕ) (kind b : Bool) (s : Stream) → (b ≡ kind → ⊥) → next_mid b (served turn (stream_counted true kind s)) ≡ next_mid b s
 mid_apart turn true true s ne = absurd (ne refl)
 mid_apart turn true false s ne = refl
 mid_apart turn false true s ne = refl
 mid_apart turn false false s ne = absurd (ne refl)
 
-id_counted : (turn : ℕ) (kind : Bool) (s : Stream) → (served turn (counted true kind s)).id ≡ s.id
+id_counted : (turn : ℕ) (kind : Bool) (s : Stream) → (served turn (stream_counted true kind s)).id ≡ s.id
 id_counted turn true s = refl
 id_counted turn false s = refl
 
@@ -84,7 +84,7 @@ module _ (history : History) (max place : ℕ) (queue : SendQueueState) (message
   kind = message.is_unordered
 
   between : ℕ → SendQueueState
-  between size = numbered place message under_way (reduced place size queue)
+  between size = begun_numbered place message under_way (reduced place size queue)
 
   alike : (size : ℕ) → Alike queue.streams (between size).streams
   unfolding between
@@ -117,7 +117,7 @@ module _ (history : History) (max place : ℕ) (queue : SendQueueState) (message
         let set = numbered_begun place message under_way (reduced place size queue) sent_is interleaved in
         let long : place < length left = (let sizes : length left ≡ length queue.streams = length-set queue.streams place _ in omega (arith, within)) in
         ap (next_mid kind) (there size) ∙ ap (λ (l : List Stream). next_mid kind (stream_at l place)) set
-        ∙ ap (next_mid kind) (get_or-set_same left place (served turn (counted true kind (stream_at left place))) (unused 0 0 0) long)
+        ∙ ap (next_mid kind) (get_or-set_same left place (served turn (stream_counted true kind (stream_at left place))) (unused 0 0 0) long)
         ∙ mid_counted turn kind (stream_at left place)
         ∙ ap (λ (s : Stream). (next_mid kind s + 1) % 2 ^ 32) (get_or-set_same queue.streams place _ (unused 0 0 0) within)
         ∙ ap (λ (k : ℕ). (k + 1) % 2 ^ 32) (same_next kind (stream_at queue.streams place))
@@ -135,22 +135,22 @@ module _ (history : History) (max place : ℕ) (queue : SendQueueState) (message
         let set = numbered_begun place message under_way (reduced place size queue) sent_is interleaved in
         let long : (stream_at left place).id ≡ id = ap (λ (s : Stream). s.id) (get_or-set_same queue.streams place _ (unused 0 0 0) within) in
         ap (λ (l : List Stream). next_mid b (stream_named other l)) set
-        ∙ found_set (SameNext b) other (unused 0 0 0) (served turn (counted true kind (stream_at left place))) (λ s. refl) place left (id_counted turn kind (stream_at left place))
+        ∙ found_set (SameNext b) other (unused 0 0 0) (served turn (stream_counted true kind (stream_at left place))) (λ s. refl) place left (id_counted turn kind (stream_at left place))
         (λ same. mid_apart turn kind b (stream_at left place) (apart (sym same ∙ id_counted turn kind (stream_at left place) ∙ long)))
         ∙ mid_stays b (stream_named other queue.streams) (stream_named other left) ((numbers_reduced None place size queue).mids other)
 
-    module _ (c : Counts history queue.streams None) (number_is : piece.mid ≡ history.floors id kind + c.counts id kind) where
+    module _ (c : CountsMessages history queue.streams None) (number_is : piece.mid ≡ history.floors id kind + c.counts id kind) where
       pub begun_current : IsCurrent history piece
       begun_current = let same : history.floors piece.message.stream piece.message.is_unordered ≡ history.floors id kind = rw stream_is (rw kind_is refl) in omega (arith, same, number_is)
 
-      begun_part : Counts (with_slot (Some piece) history) (after_part place max message under_way queue).streams (after_part place max message under_way queue).under_way
+      begun_part : CountsMessages (with_slot (Some piece) history) (after_part place max message under_way queue).streams (after_part place max message under_way queue).under_way
       unfolding between
       begun_part =
           counts_begun history queue.streams (after_part place max message under_way queue).streams (after_part place max message under_way queue).under_way id kind piece c stream_is kind_is number_is
           (ap (λ (k : ℕ). k % 2 ^ 32) (counted_here max) ∙ omega arith) (λ other b apart. counted_else max other b apart)
           (λ v is. goes_part (after_part place max message under_way queue).streams max refl _ v is refl refl)
 
-      begun_last : Counts (with_slot (Some piece) history) (after_last place message under_way queue).streams (after_last place message under_way queue).under_way
+      begun_last : CountsMessages (with_slot (Some piece) history) (after_last place message under_way queue).streams (after_last place message under_way queue).under_way
       unfolding between
       begun_last =
           let rest : ℕ = length message.payload - under_way.sent in
@@ -160,17 +160,17 @@ module _ (history : History) (max place : ℕ) (queue : SendQueueState) (message
           (λ other b apart. mid_stays b (stream_named other (between rest).streams) (stream_named other (after_last place message under_way queue).streams) (gone.mids other) ∙ counted_else rest other b apart)
           (λ v is. absurd (cc))
 
-      pub begun_counts : Counts (with_slot (Some piece) history) (produced place max message under_way queue).streams (produced place max message under_way queue).under_way
+      pub begun_counts : CountsMessages (with_slot (Some piece) history) (produced place max message under_way queue).streams (produced place max message under_way queue).under_way
       begun_counts = go (is_last max message under_way)
         where
-          go : (b : Bool) → Counts (with_slot (Some piece) history) (if b then after_last place message under_way queue else after_part place max message under_way queue).streams
+          go : (b : Bool) → CountsMessages (with_slot (Some piece) history) (if b then after_last place message under_way queue else after_part place max message under_way queue).streams
               (if b then after_last place message under_way queue else after_part place max message under_way queue).under_way
           go true = begun_last
           go false = begun_part
 
   -- ---- a later one
 
-  module _ (some : 0 < under_way.sent) (c : Counts history queue.streams (Some under_way)) (number_is : piece.mid ≡ c.going.mid) (row : 0 < length history.log → HasBefore history.log (length history.log) piece) where
+  module _ (some : 0 < under_way.sent) (c : CountsMessages history queue.streams (Some under_way)) (number_is : piece.mid ≡ c.going.mid) (row : 0 < length history.log → HasBefore history.log (length history.log) piece) where
     is_waiting : c.going.waiting ≡ message
     is_waiting =
         let found : stream_named under_way.stream_id.0 queue.streams ≡ stream_at queue.streams place =
@@ -199,23 +199,23 @@ module _ (history : History) (max place : ℕ) (queue : SendQueueState) (message
         subst (λ (k : ℕ). GoesOn streams k c.going.waiting.is_unordered piece.mid v) id_is
         (subst (λ (b : Bool). GoesOn streams (stream_at queue.streams place).id b piece.mid v) same_kind (goes_part streams size is u v same same_stream same_mid))
 
-    later_part : Counts (with_slot (Some piece) history) (after_part place max message under_way queue).streams (after_part place max message under_way queue).under_way
+    later_part : CountsMessages (with_slot (Some piece) history) (after_part place max message under_way queue).streams (after_part place max message under_way queue).under_way
     unfolding between
     later_part =
         counts_continued history queue.streams (after_part place max message under_way queue).streams under_way (after_part place max message under_way queue).under_way piece c (stream_is ∙ id_is) (kind_is ∙ same_kind) number_is row (stays max)
         (λ v is. goes_later (after_part place max message under_way queue).streams max refl _ v is refl refl)
 
-    later_last : Counts (with_slot (Some piece) history) (after_last place message under_way queue).streams (after_last place message under_way queue).under_way
+    later_last : CountsMessages (with_slot (Some piece) history) (after_last place message under_way queue).streams (after_last place message under_way queue).under_way
     unfolding between
     later_last =
         let rest : ℕ = length message.payload - under_way.sent in
         counts_continued history queue.streams (after_last place message under_way queue).streams under_way None piece c (stream_is ∙ id_is) (kind_is ∙ same_kind) number_is row
         (numbers_then None queue.streams (between rest).streams (after_last place message under_way queue).streams (stays rest) (numbers_without place (between rest).streams)) (λ v is. absurd (cc))
 
-    pub later_counts : Counts (with_slot (Some piece) history) (produced place max message under_way queue).streams (produced place max message under_way queue).under_way
+    pub later_counts : CountsMessages (with_slot (Some piece) history) (produced place max message under_way queue).streams (produced place max message under_way queue).under_way
     later_counts = go (is_last max message under_way)
       where
-        go : (b : Bool) → Counts (with_slot (Some piece) history) (if b then after_last place message under_way queue else after_part place max message under_way queue).streams
+        go : (b : Bool) → CountsMessages (with_slot (Some piece) history) (if b then after_last place message under_way queue else after_part place max message under_way queue).streams
             (if b then after_last place message under_way queue else after_part place max message under_way queue).under_way
         go true = later_last
         go false = later_part

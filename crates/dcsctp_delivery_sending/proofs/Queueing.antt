@@ -4,7 +4,7 @@ use Rattle.std.specs.Prelude.{◌⊎◌, Option, None, Some, if◌then◌else◌
 use Rattle.std.proofs.lemmas.Bool.Decides.{eqb_tells}
 use Rattle.dcsctp_spec.specs.types.declared.sending.UnderWay.{UnderWay}
 use Rattle.dcsctp_spec.specs.types.queues.SendStreams.{Waiting, Stream, front_of, stream_at, with_message}
-use Rattle.dcsctp_spec.specs.queues.SendQueue.{SendQueueState, changed, used, queued as waiting_as}
+use Rattle.dcsctp_spec.specs.queues.SendQueue.{SendQueueState, stream_changed, used, queued as waiting_as}
 use Rattle.dcsctp_spec.specs.endpoint.MessageOutcomes.{Sending, sending_queued}
 use Rattle.dcsctp_delivery_sending.specs.Places.{at_place}
 use Rattle.dcsctp_delivery_sending.specs.Log.{Message, Piece, Slot, Cut, History}
@@ -35,31 +35,31 @@ record OneMore (id : ℕ) (m : Waiting) (old new : List Stream) : Type 0 where
   others : (q : ℕ) → (stream_at old q).id ≢ id → (stream_at new q).messages ≡ (stream_at old q).messages
   here : (q : ℕ) → (stream_at old q).id ≡ id → ((stream_at new q).messages ≡ (stream_at old q).messages ++ m ∷ []) ⊎ ((stream_at new q).messages ≡ [])
 
-one_more : (id : ℕ) (m : Waiting) (streams : List Stream) → OneMore id m streams (changed id (with_message m) streams)
+one_more : (id : ℕ) (m : Waiting) (streams : List Stream) → OneMore id m streams (stream_changed id (with_message m) streams)
 one_more id m streams = record { sizes = sizes streams; ids = ids streams; others = others streams; here = here streams }
   where
     one_id : (b : Bool) (s : Stream) → (if b then with_message m s else s).id ≡ s.id
     one_id true s = refl
     one_id false s = refl
 
-    sizes : (l : List Stream) → length (changed id (with_message m) l) ≡ length l
+    sizes : (l : List Stream) → length (stream_changed id (with_message m) l) ≡ length l
     sizes [] = refl
     sizes (s ∷ l) = ap suc (sizes l)
 
-    ids : (l : List Stream) (q : ℕ) → (stream_at (changed id (with_message m) l) q).id ≡ (stream_at l q).id
+    ids : (l : List Stream) (q : ℕ) → (stream_at (stream_changed id (with_message m) l) q).id ≡ (stream_at l q).id
     ids [] zero = refl
     ids [] (suc q) = refl
     ids (s ∷ l) zero = one_id (s.id == id) s
     ids (s ∷ l) (suc q) = ids l q
 
-    others : (l : List Stream) (q : ℕ) → (stream_at l q).id ≢ id → (stream_at (changed id (with_message m) l) q).messages ≡ (stream_at l q).messages
+    others : (l : List Stream) (q : ℕ) → (stream_at l q).id ≢ id → (stream_at (stream_changed id (with_message m) l) q).messages ≡ (stream_at l q).messages
     others [] zero ne = refl
     others [] (suc q) ne = refl
     others (s ∷ l) zero ne = elim (eqb_tells s.id id) [ inl e ↦ absurd (ne e.1) | inr e ↦ rw e.0 refl ]
     others (s ∷ l) (suc q) ne = others l q ne
 
     here : (l : List Stream) (q : ℕ) → (stream_at l q).id ≡ id
-        → ((stream_at (changed id (with_message m) l) q).messages ≡ (stream_at l q).messages ++ m ∷ []) ⊎ ((stream_at (changed id (with_message m) l) q).messages ≡ [])
+        → ((stream_at (stream_changed id (with_message m) l) q).messages ≡ (stream_at l q).messages ++ m ∷ []) ⊎ ((stream_at (stream_changed id (with_message m) l) q).messages ≡ [])
     here [] zero is = inr refl
     here [] (suc q) is = inr refl
     here (s ∷ l) zero is = elim (eqb_tells s.id id) [ inl e ↦ inl (rw e.0 refl) | inr e ↦ absurd (e.1 is) ]
@@ -192,7 +192,7 @@ module _ (queued : List Message) (message : Message) (log : List Slot) (id : ℕ
           }
 
 -- where the stream is, exactly
-exactly : (id : ℕ) (m : Waiting) (l : List Stream) (q : ℕ) → q < length l → (stream_at l q).id ≡ id → (stream_at (changed id (with_message m) l) q).messages ≡ (stream_at l q).messages ++ m ∷ []
+exactly : (id : ℕ) (m : Waiting) (l : List Stream) (q : ℕ) → q < length l → (stream_at l q).id ≡ id → (stream_at (stream_changed id (with_message m) l) q).messages ≡ (stream_at l q).messages ++ m ∷ []
 exactly id m [] q below is = absurd (omega arith)
 exactly id m (s ∷ l) zero below is = elim (eqb_tells s.id id) [ inl e ↦ rw e.0 refl | inr e ↦ absurd (e.1 is) ]
 exactly id m (s ∷ l) (suc q) below is = exactly id m l q (omega arith) is
@@ -201,7 +201,7 @@ pub queueing_hold : (queued : List Message) (history : History) (now : ℕ) (sen
     → Cut queued history.log → QueueHolds queued history queue → QueueHolds (message_of sending ∷ queued) history (sending_queued now sending queue)
 queueing_hold queued history now sending queue few some cut queues =
     record {
-      queue_holds = added_hold queued (message_of sending) history.log sending.message.stream m streams (changed sending.message.stream (with_message m) streams) queue.under_way (one_more sending.message.stream m streams)
+      queue_holds = added_hold queued (message_of sending) history.log sending.message.stream m streams (stream_changed sending.message.stream (with_message m) streams) queue.under_way (one_more sending.message.stream m streams)
           (record {
             message = message_of sending;
             at = subst (λ (k : ℕ). at_place k (message_of sending ∷ queued) ≡ Some (message_of sending)) (sym queues.next) (at_new (message_of sending) queued);
@@ -212,7 +212,7 @@ queueing_hold queued history now sending queue few some cut queues =
           (λ q below is. exactly sending.message.stream m streams q below is) (weight_added sending.message.stream m streams (used_hold queued history.log queue sending.message.stream queues.queue_holds).distinct);
       next = (let next = queues.next in omega (arith, next, few));
       numbers = numbered_stay history queue (sending_queued now sending queue) refl refl
-          (numbers_then queue.under_way queue.streams streams (changed sending.message.stream (with_message m) streams) (numbers_used queue.under_way queue sending.message.stream)
+          (numbers_then queue.under_way queue.streams streams (stream_changed sending.message.stream (with_message m) streams) (numbers_used queue.under_way queue sending.message.stream)
           (numbers_changed queue.under_way sending.message.stream (with_message m) (λ s. refl) (λ s. record { ordered = refl; unordered = refl }) (λ v is s here same. record { front = λ w e. front_append s.messages m w e; kept = λ e. e }) streams)) queues.numbers;
     }
   where

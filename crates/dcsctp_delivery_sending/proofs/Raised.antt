@@ -7,7 +7,7 @@ use Rattle.dcsctp_spec.specs.queues.Sending.{Fragment}
 use Rattle.dcsctp_spec.specs.queues.Transfer.{Transfer}
 use Rattle.dcsctp_delivery_sending.specs.Log.{History, new_history}
 use Rattle.dcsctp_delivery_sending.specs.Flushes.{InFlight, PendsWhere}
-use Rattle.dcsctp_delivery_sending.specs.Stages.{IsNamed, Bears, AreMarks}
+use Rattle.dcsctp_delivery_sending.specs.Stages.{IsNamedFragment, Bears, AreMarks}
 use Rattle.dcsctp_delivery_sending.proofs.Extended.{as_itself, Extends}
 
 -- ---- other floors
@@ -18,7 +18,7 @@ with_floors floors history = record history { floors = floors }
 pub extends_floors : (floors : ℕ → Bool → ℕ) (history : History) → Extends history (with_floors floors history)
 extends_floors floors history = record { at = λ n slot at. at; size = omega arith; marks = λ mark has. has; later = λ mark has. inl (as_itself history mark has) }
 
-named_floors : (floors : ℕ → Bool → ℕ) (history : History) (own : ℕ) (part : Fragment) → IsNamed history own part → IsNamed (with_floors floors history) own part
+named_floors : (floors : ℕ → Bool → ℕ) (history : History) (own : ℕ) (part : Fragment) → IsNamedFragment history own part → IsNamedFragment (with_floors floors history) own part
 named_floors floors history own part n = record { number = n.number; piece = n.piece; at = n.at; of = n.of; whole = n.whole; stream = n.stream; unordered = n.unordered; mid = n.mid }
 
 pub bears_floors : (floors : ℕ → Bool → ℕ) (history : History) (first acknowledged : ℕ) (outstanding : OutstandingState) → Bears history first acknowledged outstanding → Bears (with_floors floors history) first acknowledged outstanding

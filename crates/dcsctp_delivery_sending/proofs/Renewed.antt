@@ -7,22 +7,22 @@ use Rattle.dcsctp_spec.specs.queues.Items.{Item}
 use Rattle.dcsctp_spec.specs.queues.Outstanding.{OutstandingState}
 use Rattle.dcsctp_spec.specs.queues.SendQueue.{SendQueueState}
 use Rattle.dcsctp_spec.specs.queues.Sending.{Fragment}
-use Rattle.dcsctp_spec.specs.queues.Transfer.{Transfer, Below}
-use Rattle.dcsctp_delivery_sending.specs.Places.{Has}
+use Rattle.dcsctp_spec.specs.queues.Transfer.{Transfer, EndpointQueues}
+use Rattle.dcsctp_delivery_sending.specs.Places.{HasEntry}
 use Rattle.dcsctp_delivery_sending.specs.Log.{Message, Mark, mark_renewed, History, with_renewed, Resets}
 use Rattle.dcsctp_delivery_sending.specs.Numbers.{LastIs, CountsWhere, Numbered}
-use Rattle.dcsctp_delivery_sending.specs.Flushes.{InFlight, PendsWhere, StandsBelow}
-use Rattle.dcsctp_delivery_sending.specs.Stages.{IsNamed, Bears, IsMark, AreMarks}
+use Rattle.dcsctp_delivery_sending.specs.Flushes.{InFlight, PendsWhere, QueuesFollowLog}
+use Rattle.dcsctp_delivery_sending.specs.Stages.{IsNamedFragment, Bears, IsMark, AreMarks}
 
-module _ (history : History) (number : ℕ) (renewed : Mark) (known : Has renewed history.marks) where
+module _ (history : History) (number : ℕ) (renewed : Mark) (known : HasEntry renewed history.marks) where
   abbrev now : History
   now = with_renewed number renewed history
 
   -- What holds of each mark holds of each with that one, if it doesn't depend on the number of the request.
-  of_each : (P : Mark → Type 0) → (P renewed → P (mark_renewed number renewed)) → ((mark : Mark) → Has mark history.marks → P mark) → (mark : Mark) → Has mark now.marks → P mark
+  of_each : (P : Mark → Type 0) → (P renewed → P (mark_renewed number renewed)) → ((mark : Mark) → HasEntry mark history.marks → P mark) → (mark : Mark) → HasEntry mark now.marks → P mark
   of_each P same holds mark has = elim has [ inl e ↦ subst P (sym e) (same (holds renewed known)) | inr old ↦ holds mark old ]
 
-  named_renewed : (own : ℕ) (part : Fragment) → IsNamed history own part → IsNamed now own part
+  named_renewed : (own : ℕ) (part : Fragment) → IsNamedFragment history own part → IsNamedFragment now own part
   named_renewed own part n =
       record {
         number = n.number;
@@ -69,7 +69,7 @@ module _ (history : History) (number : ℕ) (renewed : Mark) (known : Has renewe
   numbered_renewed : (queue : SendQueueState) → Numbered history queue → Numbered now queue
   numbered_renewed queue n = record { kinds = n.kinds; counts = counts_renewed queue.is_interleaved queue.streams queue.under_way n.counts; kept = n.kept }
 
-  pub below_renewed : (queued : List Message) (first acknowledged : ℕ) (below : Below) → StandsBelow queued history first acknowledged below → StandsBelow queued now first acknowledged below
+  pub below_renewed : (queued : List Message) (first acknowledged : ℕ) (below : EndpointQueues) → QueuesFollowLog queued history first acknowledged below → QueuesFollowLog queued now first acknowledged below
   below_renewed queued first acknowledged below b =
       record {
         queue_holds = b.queue_holds;

@@ -2,8 +2,8 @@
 use Rattle.std.proofs.Common.{◌≡◌, ◌==◌, ℕ, zero, suc, Bool, true, false, ◌<◌, ◌+◌, ◌%◌, ◌^◌, List, [], ◌∷◌, length, refl, sym, ◌∙◌, ap, arith, subst, inl, inr}
 use Rattle.std.specs.Prelude.{Option, None, Some, if◌then◌else◌}
 use Rattle.dcsctp_spec.specs.types.declared.sending.UnderWay.{UnderWay}
-use Rattle.dcsctp_spec.specs.types.queues.SendStreams.{counted, Waiting, Stream, front_of, next_numbers, stream_at, unused}
-use Rattle.dcsctp_spec.specs.queues.SendQueue.{found_in, stream_of, renumbered, numbered_for, numbered_where, is_other, front_counted, is_front_unordered, SendQueueState, changed}
+use Rattle.dcsctp_spec.specs.types.queues.SendStreams.{stream_counted, Waiting, Stream, front_of, next_numbers, stream_at, unused}
+use Rattle.dcsctp_spec.specs.queues.SendQueue.{found_in, queue_stream, message_renumbered, numbered_for, numbered_where, is_other, front_counted, is_front_unordered, SendQueueState, stream_changed}
 use Rattle.dcsctp_delivery_sending.specs.Log.{Message, new_history}
 use Rattle.dcsctp_delivery_sending.specs.Pieces.{IsGoing, HoldsQueued}
 use Rattle.dcsctp_delivery_sending.specs.Queueing.{QueueWaits}
@@ -43,7 +43,7 @@ found_default d e id (suc q) (s ∷ streams) within is =
       | inr t ↦ rw t.0 (found_default d e id q streams (omega arith) is)
     ]
 
-found_changed : (d : Stream) (f : Stream → Stream) → ((s : Stream) → (f s).id ≡ s.id) → (id q : ℕ) (streams : List Stream) → q < length streams → (stream_at streams q).id ≡ id → found_in d id (changed id f streams) ≡ f (found_in d id streams)
+found_changed : (d : Stream) (f : Stream → Stream) → ((s : Stream) → (f s).id ≡ s.id) → (id q : ℕ) (streams : List Stream) → q < length streams → (stream_at streams q).id ≡ id → found_in d id (stream_changed id f streams) ≡ f (found_in d id streams)
 found_changed d f same id q [] within is = absurd (omega arith)
 found_changed d f same id zero (s ∷ streams) within is =
     elim (eqb_tells s.id id) [
@@ -58,10 +58,10 @@ found_changed d f same id (suc q) (s ∷ streams) within is =
 
 -- the rest of a message that takes the next number of its stream
 renumbered_counts : (queued : List Message) (enabled : Bool) (u : UnderWay) (queue : SendQueueState) → HoldsQueued queued [] queue.streams (Some u)
-    → Begins enabled (changed u.stream_id.0 (front_counted enabled) queue.streams) (Some (renumbered u (stream_of queue u.stream_id.0)))
+    → Begins enabled (stream_changed u.stream_id.0 (front_counted enabled) queue.streams) (Some (message_renumbered u (queue_stream queue u.stream_id.0)))
 renumbered_counts queued false u queue queue_holds = record { floors = λ id is_unordered. 0; counts = tt }
 renumbered_counts queued true u queue queue_holds =
-    counts_rest (changed id (front_counted true) queue.streams) (renumbered u (stream_of queue id)) g.there.waiting (renumbered u (stream_of queue id)).mid front refl next
+    counts_rest (stream_changed id (front_counted true) queue.streams) (message_renumbered u (queue_stream queue id)) g.there.waiting (message_renumbered u (queue_stream queue id)).mid front refl next
   where
     id : ℕ
     id = u.stream_id.0
@@ -75,40 +75,40 @@ renumbered_counts queued true u queue queue_holds =
     keeps_id : (s : Stream) → (front_counted true s).id ≡ s.id
     keeps_id s = go (is_front_unordered s.messages)
       where
-        go : (b : Bool) → (counted true b s).id ≡ s.id
+        go : (b : Bool) → (stream_counted true b s).id ≡ s.id
         go true = refl
         go false = refl
 
-    keeps_messages : (b : Bool) (s : Stream) → (counted true b s).messages ≡ s.messages
+    keeps_messages : (b : Bool) (s : Stream) → (stream_counted true b s).messages ≡ s.messages
     keeps_messages true s = refl
     keeps_messages false s = refl
 
-    changes : stream_named id (changed id (front_counted true) queue.streams) ≡ front_counted true (stream_named id queue.streams)
+    changes : stream_named id (stream_changed id (front_counted true) queue.streams) ≡ front_counted true (stream_named id queue.streams)
     changes = found_changed (unused 0 0 0) (front_counted true) keeps_id id g.there.q queue.streams g.there.within g.there.is
 
-    front : front_of (stream_named id (changed id (front_counted true) queue.streams)).messages ≡ Some g.there.waiting
+    front : front_of (stream_named id (stream_changed id (front_counted true) queue.streams)).messages ≡ Some g.there.waiting
     front = ap (λ (s : Stream). front_of s.messages) changes ∙ ap front_of (keeps_messages (is_front_unordered (stream_named id queue.streams).messages) (stream_named id queue.streams)) ∙ ap (λ (s : Stream). front_of s.messages) named ∙ g.there.front
 
     unordered_front : (l : List Waiting) (w : Waiting) → front_of l ≡ Some w → is_front_unordered l ≡ w.is_unordered
     unordered_front [] w e = absurd (cc)
     unordered_front (v ∷ l) w e = (let same : v ≡ w = cc in ap (λ (x : Waiting). x.is_unordered) same)
 
-    counts_up : (b : Bool) (s : Stream) → (next_numbers b (counted true b s)).1 ≡ ((next_numbers b s).1 + 1) % 2 ^ 32
+    counts_up : (b : Bool) (s : Stream) → (next_numbers b (stream_counted true b s)).1 ≡ ((next_numbers b s).1 + 1) % 2 ^ 32
     counts_up true s = refl
     counts_up false s = refl
 
     kind : is_front_unordered (stream_named id queue.streams).messages ≡ g.there.waiting.is_unordered
     kind = unordered_front (stream_named id queue.streams).messages g.there.waiting (ap (λ (s : Stream). front_of s.messages) named ∙ g.there.front)
 
-    mid : (renumbered u (stream_of queue id)).mid ≡ next_mid g.there.waiting.is_unordered (stream_named id queue.streams)
+    mid : (message_renumbered u (queue_stream queue id)).mid ≡ next_mid g.there.waiting.is_unordered (stream_named id queue.streams)
     mid =
         ap (λ (s : Stream). (next_numbers (is_front_unordered s.messages) s).1) (found_default (unused id queue.default_priority queue.default_threshold) (unused 0 0 0) id g.there.q queue.streams g.there.within g.there.is)
         ∙ ap (λ (b : Bool). next_mid b (stream_named id queue.streams)) kind
 
-    next : next_mid g.there.waiting.is_unordered (stream_named id (changed id (front_counted true) queue.streams)) % 2 ^ 32 ≡ ((renumbered u (stream_of queue id)).mid + 1) % 2 ^ 32
+    next : next_mid g.there.waiting.is_unordered (stream_named id (stream_changed id (front_counted true) queue.streams)) % 2 ^ 32 ≡ ((message_renumbered u (queue_stream queue id)).mid + 1) % 2 ^ 32
     next =
         ap (λ (k : ℕ). k % 2 ^ 32)
-        (ap (next_mid g.there.waiting.is_unordered) changes ∙ ap (λ (b : Bool). next_mid g.there.waiting.is_unordered (counted true b (stream_named id queue.streams))) kind
+        (ap (next_mid g.there.waiting.is_unordered) changes ∙ ap (λ (b : Bool). next_mid g.there.waiting.is_unordered (stream_counted true b (stream_named id queue.streams))) kind
         ∙ counts_up g.there.waiting.is_unordered (stream_named id queue.streams) ∙ ap (λ (k : ℕ). (k + 1) % 2 ^ 32) (sym mid))
         ∙ omega arith
 
@@ -123,19 +123,19 @@ numbered_kind enabled queue = go queue.under_way (is_other queue.is_interleaved 
 pub numbered_hold : (queued : List Message) (enabled : Bool) (queue : SendQueueState) → QueueWaits queued queue → QueueWaits queued (numbered_for enabled queue)
 numbered_hold queued enabled queue waits = go queue.under_way refl (is_other queue.is_interleaved enabled) refl waits.holds.queue_holds
   where
-    same_id : (a b : Bool) (s : Stream) → (counted a b s).id ≡ s.id
+    same_id : (a b : Bool) (s : Stream) → (stream_counted a b s).id ≡ s.id
     same_id true true s = refl
     same_id true false s = refl
     same_id false true s = refl
     same_id false false s = refl
 
-    same_messages : (a b : Bool) (s : Stream) → (counted a b s).messages ≡ s.messages
+    same_messages : (a b : Bool) (s : Stream) → (stream_counted a b s).messages ≡ s.messages
     same_messages true true s = refl
     same_messages true false s = refl
     same_messages false true s = refl
     same_messages false false s = refl
 
-    same_pause : (a b : Bool) (s : Stream) → SamePause s (counted a b s)
+    same_pause : (a b : Bool) (s : Stream) → SamePause s (stream_counted a b s)
     same_pause true true s = refl
     same_pause true false s = refl
     same_pause false true s = refl
@@ -159,9 +159,9 @@ numbered_hold queued enabled queue waits = go queue.under_way refl (is_other que
         })
         (subst (λ (v : Option UnderWay). KeptWhere queue.streams v) is waits.holds.numbers.kept)
     go (Some u) is true other queue_holds =
-        so (changed u.stream_id.0 (front_counted enabled) queue.streams) (Some (renumbered u (stream_of queue u.stream_id.0)))
-        (numbered_again queued u _ _ (changed u.stream_id.0 (front_counted enabled) queue.streams)
-        (alike_hold queued [] (Some u) queue.streams (changed u.stream_id.0 (front_counted enabled) queue.streams)
+        so (stream_changed u.stream_id.0 (front_counted enabled) queue.streams) (Some (message_renumbered u (queue_stream queue u.stream_id.0)))
+        (numbered_again queued u _ _ (stream_changed u.stream_id.0 (front_counted enabled) queue.streams)
+        (alike_hold queued [] (Some u) queue.streams (stream_changed u.stream_id.0 (front_counted enabled) queue.streams)
         (one_set (front_counted enabled) (λ s. same_id enabled (is_front_unordered s.messages) s) (λ s. same_messages enabled (is_front_unordered s.messages) s) u.stream_id.0 queue.streams) queue_holds))
         (renumbered_counts queued enabled u (record start { under_way = Some u }) queue_holds)
         (found_mapped SamePause u.stream_id.0 (unused 0 0 0) (λ s. if s.id == u.stream_id.0 then front_counted enabled s else s) (λ s. one_id (s.id == u.stream_id.0) s) refl

@@ -6,12 +6,12 @@ use Rattle.dcsctp_spec.specs.types.declared.sending.UnderWay.{UnderWay}
 use Rattle.dcsctp_spec.specs.types.declared.sending.Pause.{Pause}
 use Rattle.dcsctp_spec.specs.types.declared.sending.Pause.TheVariants.{Open, Pausing, HandedOut}
 use Rattle.dcsctp_spec.specs.queues.OwnResets.{queue_committed, queue_rolled_back}
-use Rattle.dcsctp_spec.specs.queues.SendQueue.{with_priority, with_threshold, SendQueueState, changed, used}
+use Rattle.dcsctp_spec.specs.queues.SendQueue.{with_priority, with_threshold, SendQueueState, stream_changed, used}
 use Rattle.dcsctp_spec.specs.types.Setting.{Setting, stream_priority, stream_low_threshold, longest_message}
 use Rattle.dcsctp_spec.specs.endpoint.SettingOutcomes.{set_in_queue}
 use Rattle.dcsctp_delivery_sending.specs.Log.{Message, History}
-use Rattle.dcsctp_delivery_sending.specs.Queueing.{raised, QueueHolds}
-use Rattle.dcsctp_delivery_sending.specs.Numbers.{stream_named, next_mid, is_handed_out, KeptWhere, LastIs, Counts, CountsWhere, Numbered}
+use Rattle.dcsctp_delivery_sending.specs.Queueing.{floors_raised, QueueHolds}
+use Rattle.dcsctp_delivery_sending.specs.Numbers.{stream_named, next_mid, is_handed_out, KeptWhere, LastIs, CountsMessages, CountsWhere, Numbered}
 use Rattle.dcsctp_delivery_sending.proofs.Numbers.{SameMids, front_kept, numbers_then, numbers_used, numbers_changed, numbers_mapped, numbered_stay}
 use Rattle.dcsctp_delivery_sending.proofs.Streams.{alike_hold}
 use Rattle.dcsctp_delivery_sending.proofs.StreamsNamed.{found_mapped}
@@ -19,10 +19,10 @@ use Rattle.dcsctp_delivery_sending.proofs.NewStreams.{used_hold}
 use Rattle.dcsctp_delivery_sending.proofs.KeptQueues.{one_set, mapped_alike}
 
 set_numbered : (history : History) (id : ℕ) (queue : SendQueueState) (f : Stream → Stream) → ((s : Stream) → (f s).id ≡ s.id) → ((s : Stream) → SameMids s (f s)) → ((s : Stream) → (f s).messages ≡ s.messages) → ((s : Stream) → (f s).pause ≡ s.pause) → Numbered history queue
-    → Numbered history (record queue { streams = changed id f (used queue id) })
+    → Numbered history (record queue { streams = stream_changed id f (used queue id) })
 set_numbered history id queue f same mids messages pauses numbers =
-    numbered_stay history queue (record queue { streams = changed id f (used queue id) }) refl refl
-    (numbers_then queue.under_way queue.streams (used queue id) (changed id f (used queue id)) (numbers_used queue.under_way queue id)
+    numbered_stay history queue (record queue { streams = stream_changed id f (used queue id) }) refl refl
+    (numbers_then queue.under_way queue.streams (used queue id) (stream_changed id f (used queue id)) (numbers_used queue.under_way queue id)
     (numbers_changed queue.under_way id f same mids (λ v is s here named. front_kept s (f s) (messages s) (λ e. ap is_handed_out (pauses s) ∙ e)) (used queue id))) numbers
 
 pub setting_kind : (setting : Setting) (queue : SendQueueState) → (set_in_queue setting queue).is_interleaved ≡ queue.is_interleaved
@@ -33,13 +33,13 @@ setting_kind (longest_message bytes) queue = refl
 pub setting_hold : (queued : List Message) (history : History) (setting : Setting) (queue : SendQueueState) → QueueHolds queued history queue → QueueHolds queued history (set_in_queue setting queue)
 setting_hold queued history (stream_priority id priority) queue queues =
     record {
-      queue_holds = alike_hold queued history.log queue.under_way (used queue id) (changed id (with_priority priority) (used queue id)) (one_set (with_priority priority) (λ s. refl) (λ s. refl) id (used queue id)) (used_hold queued history.log queue id queues.queue_holds);
+      queue_holds = alike_hold queued history.log queue.under_way (used queue id) (stream_changed id (with_priority priority) (used queue id)) (one_set (with_priority priority) (λ s. refl) (λ s. refl) id (used queue id)) (used_hold queued history.log queue id queues.queue_holds);
       next = queues.next;
       numbers = set_numbered history id queue (with_priority priority) (λ s. refl) (λ s. record { ordered = refl; unordered = refl }) (λ s. refl) (λ s. refl) queues.numbers;
     }
 setting_hold queued history (stream_low_threshold id bytes) queue queues =
     record {
-      queue_holds = alike_hold queued history.log queue.under_way (used queue id) (changed id (with_threshold bytes) (used queue id)) (one_set (with_threshold bytes) (λ s. refl) (λ s. refl) id (used queue id)) (used_hold queued history.log queue id queues.queue_holds);
+      queue_holds = alike_hold queued history.log queue.under_way (used queue id) (stream_changed id (with_threshold bytes) (used queue id)) (one_set (with_threshold bytes) (λ s. refl) (λ s. refl) id (used queue id)) (used_hold queued history.log queue id queues.queue_holds);
       next = queues.next;
       numbers = set_numbered history id queue (with_threshold bytes) (λ s. refl) (λ s. record { ordered = refl; unordered = refl }) (λ s. refl) (λ s. refl) queues.numbers;
     }
@@ -100,7 +100,7 @@ committed_kept streams None = tt
 committed_kept streams (Some u) = committed_open streams u.stream_id.0
 
 -- the messages of a stream that was handed out are counted from its new floor
-committed_counts : (history : History) (streams : List Stream) (u : Option UnderWay) → KeptWhere streams u → Counts history streams u → Counts (raised streams history) (map committed streams) u
+committed_counts : (history : History) (streams : List Stream) (u : Option UnderWay) → KeptWhere streams u → CountsMessages history streams u → CountsMessages (floors_raised streams history) (map committed streams) u
 committed_counts history streams u kept c =
     record {
       counts = λ id b. if handed id then 0 else c.counts id b;
@@ -128,7 +128,7 @@ committed_counts history streams u kept c =
     below true mid floor count size less le = omega arith
     below false mid floor count size less le = less
 
-    going : (v : Option UnderWay) → KeptWhere streams v → LastIs history streams c.counts v → LastIs (raised streams history) (map committed streams) (λ id b. if handed id then 0 else c.counts id b) v
+    going : (v : Option UnderWay) → KeptWhere streams v → LastIs history streams c.counts v → LastIs (floors_raised streams history) (map committed streams) (λ id b. if handed id then 0 else c.counts id b) v
     going None kept last = tt
     going (Some v) kept last =
         record {
@@ -141,7 +141,7 @@ committed_counts history streams u kept c =
           came = last.came;
         }
 
-pub committing_hold : (queued : List Message) (history : History) (queue : SendQueueState) → QueueHolds queued history queue → QueueHolds queued (raised queue.streams history) (queue_committed queue)
+pub committing_hold : (queued : List Message) (history : History) (queue : SendQueueState) → QueueHolds queued history queue → QueueHolds queued (floors_raised queue.streams history) (queue_committed queue)
 committing_hold queued history queue queues =
     record {
       queue_holds = alike_hold queued history.log queue.under_way queue.streams (map committed queue.streams) (mapped_alike committed (λ s. by_id s s.pause refl) (λ s. by_messages s s.pause refl) refl queue.streams) queues.queue_holds;
@@ -149,7 +149,7 @@ committing_hold queued history queue queues =
       numbers = record { kinds = queues.numbers.kinds; counts = counted queue.is_interleaved queues.numbers.counts; kept = committed_kept queue.streams queue.under_way };
     }
   where
-    counted : (b : Bool) → CountsWhere b history queue.streams queue.under_way → CountsWhere b (raised queue.streams history) (map committed queue.streams) queue.under_way
+    counted : (b : Bool) → CountsWhere b history queue.streams queue.under_way → CountsWhere b (floors_raised queue.streams history) (map committed queue.streams) queue.under_way
     counted false counts = tt
     counted true counts = committed_counts history queue.streams queue.under_way queues.numbers.kept counts
 

@@ -10,7 +10,7 @@ use Rattle.dcsctp_spec.specs.queues.Sending.{Fragment}
 use Rattle.dcsctp_delivery_sending.specs.Places.{at_place}
 use Rattle.dcsctp_delivery_sending.specs.Log.{Message, Piece, Slot, IsPiece, HasBefore, Cut, History, with_slot}
 use Rattle.dcsctp_delivery_sending.specs.Pieces.{HandsOutPiece}
-use Rattle.dcsctp_delivery_sending.specs.Stages.{SaysSlot, SaysAt, IsNamed, Bears, Pends}
+use Rattle.dcsctp_delivery_sending.specs.Stages.{SaysSlot, SaysAt, IsNamedFragment, Bears, Pends}
 use Rattle.dcsctp_delivery_sending.proofs.Places.{at_new, at_cases, at_below, at_stays}
 
 -- ---- logs
@@ -109,7 +109,7 @@ bears_changed history first acknowledged change start end outstanding b =
           );
       named = λ k item at. (
           let was = changed_at change start end k outstanding.items item at in
-          subst (λ (part : Fragment). IsNamed history (acknowledged + k) part) was.fragment (b.named k was.old was.at)
+          subst (λ (part : Fragment). IsNamedFragment history (acknowledged + k) part) was.fragment (b.named k was.old was.at)
           );
       splits = λ mark has k item at is. (
           let was = changed_at change start end k outstanding.items item at in
@@ -124,13 +124,13 @@ at_last [] last (suc k) item at = absurd (cc)
 at_last (i ∷ items) last zero item at = inl at
 at_last (i ∷ items) last (suc k) item at = elim (at_last items last k item at) [ inl e ↦ inl e | inr e ↦ inr (ap suc e.0, e.1) ]
 
-pub named_stays : (slot : Slot) (history : History) (own : ℕ) (part : Fragment) → IsNamed history own part → IsNamed (with_slot slot history) own part
+pub named_stays : (slot : Slot) (history : History) (own : ℕ) (part : Fragment) → IsNamedFragment history own part → IsNamedFragment (with_slot slot history) own part
 named_stays slot history own part n =
     record { number = n.number; piece = n.piece; at = at_stays n.number slot (Some n.piece) history.log n.at; of = n.of; whole = n.whole; stream = n.stream; unordered = n.unordered; mid = n.mid }
 
 -- The new item says whether a reset was begun before it.
 pub bears_grown : (history : History) (first acknowledged : ℕ) (slot : Slot) (item : Item) (outstanding : OutstandingState) → Bears history first acknowledged outstanding → SaysSlot item.fragment slot
-    → IsNamed (with_slot slot history) (length history.log) item.fragment → Pends history item.begins_after_reset
+    → IsNamedFragment (with_slot slot history) (length history.log) item.fragment → Pends history item.begins_after_reset
     → Bears (with_slot slot history) first acknowledged (record outstanding { items = outstanding.items ++ item ∷ [] })
 bears_grown history first acknowledged slot item outstanding b says named pends =
     record {
@@ -148,8 +148,8 @@ bears_grown history first acknowledged slot item outstanding b says named pends 
       named = λ k found at. elim (at_last outstanding.items item k found at) [
         | inl old ↦ named_stays slot history (acknowledged + k) found.fragment (b.named k found old)
         | inr e ↦
-            subst (λ (n : ℕ). IsNamed (with_slot slot history) n found.fragment) (sym (here k e.0))
-            (subst (λ (x : Item). IsNamed (with_slot slot history) (length history.log) x.fragment) e.1 named)
+            subst (λ (n : ℕ). IsNamedFragment (with_slot slot history) n found.fragment) (sym (here k e.0))
+            (subst (λ (x : Item). IsNamedFragment (with_slot slot history) (length history.log) x.fragment) e.1 named)
       ];
       splits = λ mark has k found at is. elim (at_last outstanding.items item k found at) [
         | inl old ↦ b.splits mark has k found old is

@@ -5,13 +5,13 @@ use Rattle.std.proofs.lemmas.Bool.Decides.{eqb_tells, leb_tells}
 use Rattle.std.proofs.lemmas.List.{length-set, get_or-set_same, get_or-set_other, get_or_past}
 use Rattle.dcsctp_spec.specs.endpoint.Event.{Event}
 use Rattle.dcsctp_spec.specs.types.declared.sending.UnderWay.{UnderWay}
-use Rattle.dcsctp_spec.specs.types.queues.SendStreams.{Waiting, Stream, front_of, without_front, counted, served, unused, stream_at}
+use Rattle.dcsctp_spec.specs.types.queues.SendStreams.{Waiting, Stream, front_of, without_front, stream_counted, served, unused, stream_at}
 use Rattle.dcsctp_spec.specs.queues.SendQueue.{SendQueueState}
-use Rattle.dcsctp_spec.specs.queues.Sending.{Drops, none, more, reduced, next_turn, counting, numbered, without_rest, after_last}
+use Rattle.dcsctp_spec.specs.queues.Sending.{Drops, none, more, reduced, next_turn, begun_message_counted, begun_numbered, without_rest, after_last}
 use Rattle.dcsctp_delivery_sending.specs.Places.{at_place}
 use Rattle.dcsctp_delivery_sending.specs.Log.{Message, Slot, newest}
 use Rattle.dcsctp_delivery_sending.specs.Pieces.{WaitingWasQueued, AllQueued, AllBeyond, Ascend, unbegun, Going, HoldsQueued}
-use Rattle.dcsctp_delivery_sending.specs.Weights.{HasRoom}
+use Rattle.dcsctp_delivery_sending.specs.Weights.{HasRoomForLog}
 use Rattle.dcsctp_delivery_sending.proofs.Places.{at_new}
 use Rattle.dcsctp_delivery_sending.proofs.Weights.{weight_same, weight_less}
 
@@ -143,12 +143,12 @@ distinct_on old new shorter distinct p q below below' same =
     let size : length new ≡ length old = shorter.sizes in
     distinct p q (omega arith) (omega arith) (sym (shorter.ids p) ∙ same ∙ shorter.ids q)
 
-shorter_room : (queued : List Message) (log : List Slot) (old new : List Stream) → Shorter old new → HasRoom queued log old None → HasRoom queued log new None
+shorter_room : (queued : List Message) (log : List Slot) (old new : List Stream) → Shorter old new → HasRoomForLog queued log old None → HasRoomForLog queued log new None
 shorter_room queued log old new shorter room =
     let less = weight_less old new shorter.sizes shorter.messages in
     record { whole = omega (arith, less, room.whole); count = omega (arith, less, room.count) }
 
-alike_room : (queued : List Message) (log : List Slot) (u : Option UnderWay) (old new : List Stream) → Alike old new → HasRoom queued log old u → HasRoom queued log new u
+alike_room : (queued : List Message) (log : List Slot) (u : Option UnderWay) (old new : List Stream) → Alike old new → HasRoomForLog queued log old u → HasRoomForLog queued log new u
 alike_room queued log u old new alike room =
     let same = weight_same old new alike.sizes alike.messages in
     record { whole = omega (arith, same, room.whole); count = omega (arith, same, room.count) }
@@ -213,27 +213,27 @@ pub reduced_alike : (place size : ℕ) (queue : SendQueueState) → Alike queue.
 reduced_alike place size queue = alike_set queue.streams place (record (stream_at queue.streams place) { amount = (stream_at queue.streams place).amount - size }) refl refl
 
 counted_alike : (interleaved unordered : Bool) (turn place : ℕ) (streams : List Stream)
-    → Alike streams (slice_set streams place (served turn (counted interleaved unordered (stream_at streams place))))
-counted_alike true true turn place streams = alike_set streams place (served turn (counted true true (stream_at streams place))) refl refl
-counted_alike true false turn place streams = alike_set streams place (served turn (counted true false (stream_at streams place))) refl refl
-counted_alike false true turn place streams = alike_set streams place (served turn (counted false true (stream_at streams place))) refl refl
-counted_alike false false turn place streams = alike_set streams place (served turn (counted false false (stream_at streams place))) refl refl
+    → Alike streams (slice_set streams place (served turn (stream_counted interleaved unordered (stream_at streams place))))
+counted_alike true true turn place streams = alike_set streams place (served turn (stream_counted true true (stream_at streams place))) refl refl
+counted_alike true false turn place streams = alike_set streams place (served turn (stream_counted true false (stream_at streams place))) refl refl
+counted_alike false true turn place streams = alike_set streams place (served turn (stream_counted false true (stream_at streams place))) refl refl
+counted_alike false false turn place streams = alike_set streams place (served turn (stream_counted false false (stream_at streams place))) refl refl
 
-numbered_alike : (place : ℕ) (message : Waiting) (under_way : UnderWay) (queue : SendQueueState) → Alike queue.streams (numbered place message under_way queue).streams
+numbered_alike : (place : ℕ) (message : Waiting) (under_way : UnderWay) (queue : SendQueueState) → Alike queue.streams (begun_numbered place message under_way queue).streams
 numbered_alike place message under_way queue = go (under_way.sent == 0)
   where
-    go : (b : Bool) → Alike queue.streams (if b then counting place message.is_unordered queue else queue).streams
+    go : (b : Bool) → Alike queue.streams (if b then begun_message_counted place message.is_unordered queue else queue).streams
     go true = counted_alike queue.is_interleaved message.is_unordered (next_turn queue) place queue.streams
     go false = alike_same queue.streams
 
-pub numbered_reduced : (place size : ℕ) (message : Waiting) (under_way : UnderWay) (queue : SendQueueState) → Alike queue.streams (numbered place message under_way (reduced place size queue)).streams
+pub numbered_reduced : (place size : ℕ) (message : Waiting) (under_way : UnderWay) (queue : SendQueueState) → Alike queue.streams (begun_numbered place message under_way (reduced place size queue)).streams
 numbered_reduced place size message under_way queue =
-    alike_twice queue.streams (reduced place size queue).streams (numbered place message under_way (reduced place size queue)).streams (reduced_alike place size queue)
+    alike_twice queue.streams (reduced place size queue).streams (begun_numbered place message under_way (reduced place size queue)).streams (reduced_alike place size queue)
     (numbered_alike place message under_way (reduced place size queue))
 
 pub last_shorter : (place : ℕ) (message : Waiting) (under_way : UnderWay) (queue : SendQueueState) → Shorter queue.streams (after_last place message under_way queue).streams
 last_shorter place message under_way queue =
-    let between = numbered place message under_way (reduced place (length message.payload - under_way.sent) queue) in
+    let between = begun_numbered place message under_way (reduced place (length message.payload - under_way.sent) queue) in
     alike_shorter queue.streams between.streams (after_last place message under_way queue).streams (numbered_reduced place (length message.payload - under_way.sent) message under_way queue)
     (shorter_set between.streams place)
 

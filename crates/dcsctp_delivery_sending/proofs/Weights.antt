@@ -4,7 +4,7 @@ use Rattle.std.specs.Prelude.{◌⊎◌, Some, nat_lt, slice_set, if◌then◌el
 use Rattle.std.proofs.lemmas.Bool.Decides.{eqb_tells}
 use Rattle.dcsctp_spec.specs.types.queues.SendStreams.{Waiting, Stream, front_of, without_front, stream_at, with_message}
 use Rattle.dcsctp_spec.specs.queues.OwnResets.{prepared_stream}
-use Rattle.dcsctp_spec.specs.queues.SendQueue.{changed, with_stream}
+use Rattle.dcsctp_spec.specs.queues.SendQueue.{stream_changed, with_stream}
 use Rattle.dcsctp_delivery_sending.specs.Weights.{weigh, weight}
 
 pub weight_same : (old new : List Stream) → length new ≡ length old → ((q : ℕ) → (stream_at new q).messages ≡ (stream_at old q).messages) → weight new ≡ weight old
@@ -66,16 +66,16 @@ weigh_append : (messages : List Waiting) (m : Waiting) → weigh (messages ++ m 
 weigh_append [] m = omega arith
 weigh_append (w ∷ messages) m = (let rest = weigh_append messages m in omega (arith, rest))
 
-none_changed : (id : ℕ) (m : Waiting) (l : List Stream) → ((q : ℕ) → q < length l → (stream_at l q).id ≢ id) → weight (changed id (with_message m) l) ≡ weight l
+none_changed : (id : ℕ) (m : Waiting) (l : List Stream) → ((q : ℕ) → q < length l → (stream_at l q).id ≢ id) → weight (stream_changed id (with_message m) l) ≡ weight l
 none_changed id m [] none = refl
 none_changed id m (s ∷ l) none = go (s.id == id) (elim (eqb_tells s.id id) [ inl e ↦ absurd (none 0 (omega arith) e.1) | inr e ↦ e.0 ]) (none_changed id m l (λ q below. none (suc q) (omega (arith, below))))
   where
-    go : (b : Bool) → b ≡ false → weight (changed id (with_message m) l) ≡ weight l → weigh (if b then with_message m s else s).messages + weight (changed id (with_message m) l) ≡ weigh s.messages + weight l
+    go : (b : Bool) → b ≡ false → weight (stream_changed id (with_message m) l) ≡ weight l → weigh (if b then with_message m s else s).messages + weight (stream_changed id (with_message m) l) ≡ weigh s.messages + weight l
     go true e rest = absurd (cc)
     go false e rest = omega (arith, rest)
 
 pub weight_added : (id : ℕ) (m : Waiting) (l : List Stream) → ((p q : ℕ) → p < length l → q < length l → (stream_at l p).id ≡ (stream_at l q).id → p ≡ q)
-    → weight (changed id (with_message m) l) ≤ weight l + suc (length m.payload)
+    → weight (stream_changed id (with_message m) l) ≤ weight l + suc (length m.payload)
 weight_added id m [] distinct = omega arith
 weight_added id m (s ∷ l) distinct =
     elim (eqb_tells s.id id) [
@@ -85,17 +85,17 @@ weight_added id m (s ∷ l) distinct =
           (weight_added id m l (λ p q below below' same. (let up : suc p ≡ suc q = distinct (suc p) (suc q) (omega (arith, below)) (omega (arith, below')) same in omega (arith, up))))
     ]
   where
-    here : (b : Bool) → s.id ≡ id → weigh (if b then with_message m s else s).messages + weight (changed id (with_message m) l) ≤ weigh s.messages + weight l + suc (length m.payload)
+    here : (b : Bool) → s.id ≡ id → weigh (if b then with_message m s else s).messages + weight (stream_changed id (with_message m) l) ≤ weigh s.messages + weight l + suc (length m.payload)
     here b is =
-        let rest : weight (changed id (with_message m) l) ≡ weight l =
+        let rest : weight (stream_changed id (with_message m) l) ≡ weight l =
         none_changed id m l (λ q below same. (let clash : 0 ≡ suc q = distinct 0 (suc q) (omega arith) (omega (arith, below)) (is ∙ sym same) in absurd (omega (arith, clash)))) in
         first b rest
       where
-        first : (b : Bool) → weight (changed id (with_message m) l) ≡ weight l → weigh (if b then with_message m s else s).messages + weight (changed id (with_message m) l) ≤ weigh s.messages + weight l + suc (length m.payload)
+        first : (b : Bool) → weight (stream_changed id (with_message m) l) ≡ weight l → weigh (if b then with_message m s else s).messages + weight (stream_changed id (with_message m) l) ≤ weigh s.messages + weight l + suc (length m.payload)
         first true rest = (let one = weigh_append s.messages m in omega (arith, one, rest))
         first false rest = omega (arith, rest)
 
-    there : (b : Bool) → b ≡ false → weight (changed id (with_message m) l) ≤ weight l + suc (length m.payload) → weigh (if b then with_message m s else s).messages + weight (changed id (with_message m) l) ≤ weigh s.messages + weight l + suc (length m.payload)
+    there : (b : Bool) → b ≡ false → weight (stream_changed id (with_message m) l) ≤ weight l + suc (length m.payload) → weigh (if b then with_message m s else s).messages + weight (stream_changed id (with_message m) l) ≤ weigh s.messages + weight l + suc (length m.payload)
     there true e rest = absurd (cc)
     there false e rest = omega (arith, rest)
 
@@ -105,10 +105,10 @@ weigh_take zero messages = omega arith
 weigh_take (suc k) [] = omega arith
 weigh_take (suc k) (w ∷ messages) = (let rest = weigh_take k messages in omega (arith, rest))
 
-pub weight_prepared : (id size kept : ℕ) (l : List Stream) → weight (changed id (prepared_stream size kept) l) ≤ weight l
+pub weight_prepared : (id size kept : ℕ) (l : List Stream) → weight (stream_changed id (prepared_stream size kept) l) ≤ weight l
 weight_prepared id size kept [] = omega arith
 weight_prepared id size kept (s ∷ l) = go (s.id == id) (weight_prepared id size kept l)
   where
-    go : (b : Bool) → weight (changed id (prepared_stream size kept) l) ≤ weight l → weigh (if b then prepared_stream size kept s else s).messages + weight (changed id (prepared_stream size kept) l) ≤ weigh s.messages + weight l
+    go : (b : Bool) → weight (stream_changed id (prepared_stream size kept) l) ≤ weight l → weigh (if b then prepared_stream size kept s else s).messages + weight (stream_changed id (prepared_stream size kept) l) ≤ weigh s.messages + weight l
     go true rest = (let first = weigh_take kept s.messages in omega (arith, rest, first))
     go false rest = omega (arith, rest)

@@ -2,7 +2,7 @@
 use Rattle.std.specs.Prelude.{◌≡◌, ◌+◌, ℕ, true, List}
 use Rattle.dcsctp_spec.specs.wire.declared.chunk.sack.GapAckBlock.{GapAckBlock}
 use Rattle.dcsctp_spec.specs.queues.Acknowledging.{is_sack_valid, AcknowledgesItems}
-use Rattle.dcsctp_spec.specs.queues.Outstanding.{acknowledged_by}
+use Rattle.dcsctp_spec.specs.queues.Outstanding.{acknowledged_count}
 use Rattle.dcsctp_spec.specs.queues.Retransmission.{RetransmissionState, after_expiry}
 use Rattle.dcsctp_delivery_sending.specs.Log.{History}
 use Rattle.dcsctp_delivery_sending.specs.Stages.{Bears}
@@ -11,7 +11,7 @@ use Rattle.dcsctp_delivery_sending.specs.Stages.{Bears}
 abbrev pub AcknowledgingKeeps : Type 0
 AcknowledgingKeeps =
     (history : History) (first acknowledged now cumulative window : ℕ) (blocks : List GapAckBlock) (old new : RetransmissionState) → is_sack_valid old cumulative ≡ true → Bears history first acknowledged old.outstanding
-    → AcknowledgesItems now cumulative window blocks old new → Bears history first (acknowledged + acknowledged_by old.outstanding cumulative) new.outstanding
+    → AcknowledgesItems now cumulative window blocks old new → Bears history first (acknowledged + acknowledged_count old.outstanding cumulative) new.outstanding
 
 -- So does what the timer marks as lost.
 abbrev pub LosingKeeps : Type 0

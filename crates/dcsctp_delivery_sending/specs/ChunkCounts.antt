@@ -8,7 +8,7 @@ use Rattle.dcsctp_spec.specs.endpoint.Event.{packets_in}
 use Rattle.dcsctp_spec.specs.Packet.{Content, unworked, plain, Emission}
 use Rattle.dcsctp_spec.specs.queues.Items.{Item}
 use Rattle.dcsctp_spec.specs.queues.SendQueue.{SendQueueState}
-use Rattle.dcsctp_spec.specs.queues.Transfer.{Transfer, Below}
+use Rattle.dcsctp_spec.specs.queues.Transfer.{Transfer, EndpointQueues}
 use Rattle.dcsctp_spec.specs.endpoint.FlushOutcomes.{Answer, FlushAnswers, flush_of}
 
 -- a chunk of data counts,
@@ -45,11 +45,11 @@ abbrev pub tsns_where : SendQueueState → Option Transfer → ℕ
 tsns_where queue None = going queue.under_way
 tsns_where queue (Some transfer) = tsns_of queue transfer.retransmission.outstanding.items
 
-abbrev pub tsns_below : Below → ℕ
-tsns_below below = tsns_where below.queue below.transfer
+abbrev pub tsns_of_queues : EndpointQueues → ℕ
+tsns_of_queues sender_queues = tsns_where sender_queues.queue sender_queues.transfer
 
 -- A flush assigns at most two TSNs for each chunk of data that it sends.
 abbrev pub FlushesAssignFew : Type 0
 FlushesAssignFew =
     (e : Endpoint) (draft : Emission) (answers : List Answer) → FlushAnswers e draft answers
-    → tsns_below (flush_of e draft answers).after.below ≤ tsns_below e.below + 2 * chunks_in (packets_in (flush_of e draft answers).events)
+    → tsns_of_queues (flush_of e draft answers).after.queues ≤ tsns_of_queues e.queues + 2 * chunks_in (packets_in (flush_of e draft answers).events)

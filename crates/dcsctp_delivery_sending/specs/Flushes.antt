@@ -13,10 +13,10 @@ use Rattle.dcsctp_spec.specs.queues.Chunks.{data_said, i_data_said}
 use Rattle.dcsctp_spec.specs.queues.Sending.{Fragment}
 use Rattle.dcsctp_spec.specs.queues.Skipping.{entry_bytes}
 use Rattle.std.specs.List.{flat_map}
-use Rattle.dcsctp_spec.specs.queues.Transfer.{Transfer, Below}
+use Rattle.dcsctp_spec.specs.queues.Transfer.{Transfer, EndpointQueues}
 use Rattle.dcsctp_spec.specs.endpoint.FlushOutcomes.{Answer, FlushAnswers, flush_of}
-use Rattle.dcsctp_delivery_sending.specs.Log.{Message, Piece, Slot, Cut, History, grown, with_mark, Mark, Resets}
-use Rattle.dcsctp_delivery_sending.specs.Places.{Has, at_place}
+use Rattle.dcsctp_delivery_sending.specs.Log.{Message, Piece, Slot, Cut, History, log_extended, with_mark, Mark, Resets}
+use Rattle.dcsctp_delivery_sending.specs.Places.{HasEntry, at_place}
 use Rattle.dcsctp_delivery_sending.specs.Numbers.{stream_named, is_handed_out, AreCurrent, AreKept, Numbered, KindAt, IsOfKind}
 use Rattle.dcsctp_delivery_sending.specs.Pieces.{HoldsQueued}
 use Rattle.dcsctp_delivery_sending.specs.Stages.{SaysAt, Bears, Pends, AreMarks}
@@ -51,23 +51,23 @@ pub record IsEntry (is_interleaved : Bool) (history : History) (passed : ℕ) (e
   pub piece : Piece
   pub at : at_place number history.log ≡ Some (Some piece)
   -- No TSN is passed together with one before a reset that names the stream.
-  pub within : (mark : Mark) → Has mark history.marks → Resets mark piece.message.stream → number < mark.bound → passed ≤ mark.bound
+  pub within : (mark : Mark) → HasEntry mark history.marks → Resets mark piece.message.stream → number < mark.bound → passed ≤ mark.bound
   pub kind : piece.is_interleaved ≡ is_interleaved
   pub stream : entry.0.0 ≡ piece.message.stream
   pub unordered : entry.0.1 ≡ piece.message.is_unordered
   pub mid : is_interleaved ≡ true → entry.1 % 2 ^ 32 ≡ piece.mid % 2 ^ 32
 
 -- Each does.
-abbrev pub AreEntries : Bool → History → ℕ → List ((ℕ × Bool) × ℕ) → Type 0
-AreEntries is_interleaved history passed [] = Unit {0}
-AreEntries is_interleaved history passed (entry ∷ entries) = IsEntry is_interleaved history passed entry × AreEntries is_interleaved history passed entries
+abbrev pub AreForwardEntries : Bool → History → ℕ → List ((ℕ × Bool) × ℕ) → Type 0
+AreForwardEntries is_interleaved history passed [] = Unit {0}
+AreForwardEntries is_interleaved history passed (entry ∷ entries) = IsEntry is_interleaved history passed entry × AreForwardEntries is_interleaved history passed entries
 
 -- A FORWARD-TSN or I-FORWARD-TSN passes assigned TSNs, and names messages of the log.
 pub record IsForward (is_interleaved : Bool) (history : History) (first tsn : ℕ) (streams : List ℕ) : Type 0 where
   pub passed : IsPassed history.log first tsn
   pub entries : List ((ℕ × Bool) × ℕ)
   pub is : streams ≡ flat_map (entry_bytes is_interleaved) entries
-  pub names : AreEntries is_interleaved history passed.passed entries
+  pub names : AreForwardEntries is_interleaved history passed.passed entries
 
 -- A chunk of data carries what its TSN bears, and one that passes TSNs passes assigned ones.
 abbrev pub SaysPlain : History → ℕ → Plain → Type 0
@@ -80,7 +80,7 @@ SaysPlain history first chunk = Unit {0}
 -- A reset of own streams was begun with this request.
 pub record IsBegun (history : History) (number : ℕ) (reset : RequestedReset) : Type 0 where
   pub mark : Mark
-  pub has : Has mark history.marks
+  pub has : HasEntry mark history.marks
   pub is : mark.begun ≡ record { number = number; reset = reset }
 
 -- Each request to reset streams among these parameters is one of a reset that was begun. None asks for a reset of incoming streams.
@@ -145,21 +145,21 @@ PendsWhere history None = Unit {0}
 PendsWhere history (Some transfer) = Pends history transfer.retransmission.reset_begun
 
 -- What waits was queued, and what is in flight is of the log.
-pub record StandsBelow (queued : List Message) (history : History) (first acknowledged : ℕ) (below : Below) : Type 0 where
-  pub queue_holds : HoldsQueued queued history.log below.queue.streams below.queue.under_way
+pub record QueuesFollowLog (queued : List Message) (history : History) (first acknowledged : ℕ) (sender_queues : EndpointQueues) : Type 0 where
+  pub queue_holds : HoldsQueued queued history.log sender_queues.queue.streams sender_queues.queue.under_way
   pub cut : Cut queued history.log
-  pub flight : InFlight history first acknowledged below.transfer
-  pub pends : PendsWhere history below.transfer
-  pub marks : AreMarks history first below.queue.under_way
-  pub numbers : Numbered history below.queue
-  pub kind : IsOfKind below.queue.is_interleaved below.transfer
+  pub flight : InFlight history first acknowledged sender_queues.transfer
+  pub pends : PendsWhere history sender_queues.transfer
+  pub marks : AreMarks history first sender_queues.queue.under_way
+  pub numbers : Numbered history sender_queues.queue
+  pub kind : IsOfKind sender_queues.queue.is_interleaved sender_queues.transfer
 
 -- ---- what a flush leaves
 
 -- the reset of own streams that a flush began: its first packet alone may have the request
-abbrev pub begun_by : List Answer → Option BegunReset
-begun_by [] = None
-begun_by (answer ∷ answers) = answer.begun
+abbrev pub reset_begun_by : List Answer → Option BegunReset
+reset_begun_by [] = None
+reset_begun_by (answer ∷ answers) = answer.begun
 
 -- It is one of these streams, which were handed out for the reset that was begun.
 abbrev pub NamedBy : Option BegunReset → List ℕ → ℕ → Type 0
@@ -169,14 +169,14 @@ NamedBy (Some begun) ids id = is_named ids id ≡ true
 -- More TSNs may have been assigned, and all data that was sent is of the log. It is sent after the last reset of its stream, which isn't
 -- handed out to be reset again. The reset that was begun, if one was, stands in the history with the TSNs that were assigned before
 -- it. The streams that are handed out now were before, or were handed out for it.
-pub record Sends (queued : List Message) (history : History) (first acknowledged : ℕ) (old : SendQueueState) (begun : Option BegunReset) (after : Below) (events : List (Event Emission)) : Type 0 where
+pub record SendsLogged (queued : List Message) (history : History) (first acknowledged : ℕ) (old : SendQueueState) (begun : Option BegunReset) (after : EndpointQueues) (events : List (Event Emission)) : Type 0 where
   pub more : List Slot
   pub ids : List ℕ
   pub bound : ℕ
   pub low : length history.log ≤ bound
   pub high : bound ≤ length more + length history.log
-  pub stands : StandsBelow queued (with_mark begun ids bound (grown more history)) first acknowledged after
-  pub packets : PacketsSay (with_mark begun ids bound (grown more history)) first (packets_in events)
+  pub stands : QueuesFollowLog queued (with_mark begun ids bound (log_extended more history)) first acknowledged after
+  pub packets : PacketsSay (with_mark begun ids bound (log_extended more history)) first (packets_in events)
   pub current : AreCurrent history more
   pub kept : AreKept after.queue.streams more
   pub handed : (id : ℕ) → is_handed_out (stream_named id after.queue.streams).pause ≡ true → (is_handed_out (stream_named id old.streams).pause ≡ true) ⊎ NamedBy begun ids id
@@ -184,6 +184,6 @@ pub record Sends (queued : List Message) (history : History) (first acknowledged
 -- So it is of a flush whose first packet has no other data.
 abbrev pub FlushesSendPieces : Type 0
 FlushesSendPieces =
-    (queued : List Message) (history : History) (first acknowledged : ℕ) (e : Endpoint) (draft : Emission) (answers : List Answer) → StandsBelow queued history first acknowledged e.below
+    (queued : List Message) (history : History) (first acknowledged : ℕ) (e : Endpoint) (draft : Emission) (answers : List Answer) → QueuesFollowLog queued history first acknowledged e.queues
     → SayAll history first draft.packet.contents → FlushAnswers e draft answers
-    → Sends queued history first acknowledged e.below.queue (begun_by answers) (flush_of e draft answers).after.below (flush_of e draft answers).events
+    → SendsLogged queued history first acknowledged e.queues.queue (reset_begun_by answers) (flush_of e draft answers).after.queues (flush_of e draft answers).events

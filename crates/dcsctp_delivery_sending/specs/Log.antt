@@ -41,8 +41,8 @@ is_beginning piece = piece.start == 0
 abbrev pub is_end : Piece → Bool
 is_end piece = (piece.start + piece.size) == length piece.message.payload
 
-abbrev pub bytes_of : Piece → List ℕ
-bytes_of piece = take piece.size (drop piece.start piece.message.payload)
+abbrev pub piece_bytes : Piece → List ℕ
+piece_bytes piece = take piece.size (drop piece.start piece.message.payload)
 
 -- what the newest TSN bears
 abbrev pub newest : List Slot → Option Slot
@@ -96,8 +96,8 @@ pub record History : Type 0 where
   pub floors : ℕ → Bool → ℕ
 
 -- more TSNs were assigned
-abbrev pub grown : List Slot → History → History
-grown more history = record history { log = more ++ history.log }
+abbrev pub log_extended : List Slot → History → History
+log_extended more history = record history { log = more ++ history.log }
 
 -- one more was, which bears this
 abbrev pub with_slot : Slot → History → History

@@ -17,38 +17,38 @@ abbrev pub WaitsNoLonger : ℕ → List Stream → Type 0
 WaitsNoLonger place streams = (q : ℕ) → NoneNamed place (stream_at streams q).messages
 
 -- the messages that were queued, with that of this place marked
-abbrev pub marked : ℕ → List Message → List Message
-marked place [] = []
-marked place (message ∷ earlier) = if place == length earlier then record message { is_spent = true } ∷ earlier else message ∷ marked place earlier
+abbrev pub message_marked_spent : ℕ → List Message → List Message
+message_marked_spent place [] = []
+message_marked_spent place (message ∷ earlier) = if place == length earlier then record message { is_spent = true } ∷ earlier else message ∷ message_marked_spent place earlier
 
 -- The message of a place that waits no longer may be marked where an association begins.
 abbrev pub MarkingKeeps : Type 0
-MarkingKeeps = (queued : List Message) (place : ℕ) (queue : SendQueueState) → WaitsNoLonger place queue.streams → QueueWaits queued queue → QueueWaits (marked place queued) queue
+MarkingKeeps = (queued : List Message) (place : ℕ) (queue : SendQueueState) → WaitsNoLonger place queue.streams → QueueWaits queued queue → QueueWaits (message_marked_spent place queued) queue
 
 -- It is spent then,
 abbrev pub MarkedIsSpent : Type 0
-MarkedIsSpent = (place : ℕ) (queued : List Message) (message : Message) → at_place place (marked place queued) ≡ Some message → message.is_spent ≡ true
+MarkedIsSpent = (place : ℕ) (queued : List Message) (message : Message) → at_place place (message_marked_spent place queued) ≡ Some message → message.is_spent ≡ true
 
 -- and all messages still fit.
 abbrev pub MarkingFits : Type 0
-MarkingFits = (place : ℕ) (queued : List Message) → AllByRecursion Fits queued → AllByRecursion Fits (marked place queued)
+MarkingFits = (place : ℕ) (queued : List Message) → AllByRecursion Fits queued → AllByRecursion Fits (message_marked_spent place queued)
 
 -- ---- all that no longer waits is marked
 
 -- Does the message of this place wait here?
-abbrev pub is_waiting : ℕ → List Waiting → Bool
-is_waiting place [] = false
-is_waiting place (waiting ∷ others) = if waiting.message_id == place then true else is_waiting place others
+abbrev pub is_place_waiting : ℕ → List Waiting → Bool
+is_place_waiting place [] = false
+is_place_waiting place (waiting ∷ others) = if waiting.message_id == place then true else is_place_waiting place others
 
 -- or on any stream?
-abbrev pub waits_in : ℕ → List Stream → Bool
-waits_in place [] = false
-waits_in place (stream ∷ streams) = if is_waiting place stream.messages then true else waits_in place streams
+abbrev pub is_waiting_on_streams : ℕ → List Stream → Bool
+is_waiting_on_streams place [] = false
+is_waiting_on_streams place (stream ∷ streams) = if is_place_waiting place stream.messages then true else is_waiting_on_streams place streams
 
 -- the messages that were queued, with each of the first ones marked that no longer waits
 abbrev pub all_marked : ℕ → List Stream → List Message → List Message
 all_marked zero streams queued = queued
-all_marked (suc count) streams queued = if waits_in count streams then all_marked count streams queued else marked count (all_marked count streams queued)
+all_marked (suc count) streams queued = if is_waiting_on_streams count streams then all_marked count streams queued else message_marked_spent count (all_marked count streams queued)
 
 -- The same message, which may be marked.
 pub record IsMarkOf (mark message : Message) : Type 0 where

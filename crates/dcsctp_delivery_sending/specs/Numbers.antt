@@ -42,7 +42,7 @@ abbrev pub AreKept : List Stream → List Slot → Type 0
 AreKept streams slots = (n : ℕ) (f : Piece) → at_place n slots ≡ Some (Some f) → is_handed_out (stream_named f.message.stream streams).pause ≡ false
 
 -- The message under way is the last that was begun on its stream, among ordered or unordered messages.
-pub record IsLast (history : History) (streams : List Stream) (counts : ℕ → Bool → ℕ) (under_way : UnderWay) : Type 0 where
+pub record IsLastBegun (history : History) (streams : List Stream) (counts : ℕ → Bool → ℕ) (under_way : UnderWay) : Type 0 where
   pub waiting : Waiting
   pub front : front_of (stream_named under_way.stream_id.0 streams).messages ≡ Some waiting
   pub mid : ℕ
@@ -54,11 +54,11 @@ pub record IsLast (history : History) (streams : List Stream) (counts : ℕ → 
 -- So it is if a message is under way.
 abbrev pub LastIs : History → List Stream → (ℕ → Bool → ℕ) → Option UnderWay → Type 0
 LastIs history streams counts None = Unit {0}
-LastIs history streams counts (Some under_way) = IsLast history streams counts under_way
+LastIs history streams counts (Some under_way) = IsLastBegun history streams counts under_way
 
 -- Messages are counted apart for each stream, and for ordered and unordered messages. `counts` are how many messages have a number since
 -- the stream was reset: one for each TSN at most, and the one that was under way where the association began.
-pub record Counts (history : History) (streams : List Stream) (under_way : Option UnderWay) : Type 0 where
+pub record CountsMessages (history : History) (streams : List Stream) (under_way : Option UnderWay) : Type 0 where
   pub counts : ℕ → Bool → ℕ
   pub few : (id : ℕ) (is_unordered : Bool) → counts id is_unordered ≤ length history.log + 1
   pub next : (id : ℕ) (is_unordered : Bool) → next_mid is_unordered (stream_named id streams) % 2 ^ 32 ≡ (history.floors id is_unordered + counts id is_unordered) % 2 ^ 32
@@ -71,7 +71,7 @@ pub record Counts (history : History) (streams : List Stream) (under_way : Optio
 -- Without interleaving MIDs don't count.
 abbrev pub CountsWhere : Bool → History → List Stream → Option UnderWay → Type 0
 CountsWhere false history streams under_way = Unit {0}
-CountsWhere true history streams under_way = Counts history streams under_way
+CountsWhere true history streams under_way = CountsMessages history streams under_way
 
 -- Each piece was sent as the queue numbers messages.
 abbrev pub AreOfKind : Bool → List Slot → Type 0
@@ -94,13 +94,13 @@ IsOfKind is_interleaved (Some transfer) = transfer.retransmission.outstanding.is
 
 -- The log of an association in which fewer than 2^31 TSNs were assigned, as its receiver sees it: all is DATA; or all is I-DATA, and
 -- pieces under one number are of one message. No number is far above the floor of its stream.
-pub data Told (history : History) : Type 0 where
-  plain : AreOfKind false history.log → Told history
+pub data IsUnambiguous (history : History) : Type 0 where
+  plain : AreOfKind false history.log → IsUnambiguous history
   interleaved : AreOfKind true history.log → length history.log < 2 ^ 31
       → ((n : ℕ) (f : Piece) → at_place n history.log ≡ Some (Some f) → f.mid < history.floors f.message.stream f.message.is_unordered + 2 ^ 31)
       → ((m n : ℕ) (f g : Piece) → at_place m history.log ≡ Some (Some f) → at_place n history.log ≡ Some (Some g) → f.message.stream ≡ g.message.stream
-      → f.message.is_unordered ≡ g.message.is_unordered → f.mid ≡ g.mid → f.place ≡ g.place) → Told history
+      → f.message.is_unordered ≡ g.message.is_unordered → f.mid ≡ g.mid → f.place ≡ g.place) → IsUnambiguous history
 
 -- So it is of each such log.
-abbrev pub LogsAreTold : Type 0
-LogsAreTold = (history : History) (queue : SendQueueState) → Numbered history queue → length history.log < 2 ^ 31 → Told history
+abbrev pub LogsAreUnambiguous : Type 0
+LogsAreUnambiguous = (history : History) (queue : SendQueueState) → Numbered history queue → length history.log < 2 ^ 31 → IsUnambiguous history

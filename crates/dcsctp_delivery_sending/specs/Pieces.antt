@@ -4,14 +4,14 @@ use Rattle.dcsctp_spec.specs.endpoint.Event.{Event}
 use Rattle.dcsctp_spec.specs.types.declared.sending.UnderWay.{UnderWay}
 use Rattle.dcsctp_spec.specs.types.queues.SendStreams.{Waiting, Stream, front_of, stream_at}
 use Rattle.dcsctp_spec.specs.queues.SendQueue.{SendQueueState}
-use Rattle.dcsctp_spec.specs.queues.Sending.{Fragment, Takes}
+use Rattle.dcsctp_spec.specs.queues.Sending.{Fragment, TakesFragment}
 use Rattle.dcsctp_delivery_sending.specs.Places.{at_place}
-use Rattle.dcsctp_delivery_sending.specs.Weights.{HasRoom}
+use Rattle.dcsctp_delivery_sending.specs.Weights.{HasRoomForLog}
 use Rattle.dcsctp_delivery_sending.specs.Numbers.{stream_named, is_handed_out, IsCurrent, Numbered}
-use Rattle.dcsctp_delivery_sending.specs.Log.{Message, Piece, Slot, newest, is_beginning, is_end, bytes_of, IsPiece, HasBefore, History, with_slot}
+use Rattle.dcsctp_delivery_sending.specs.Log.{Message, Piece, Slot, newest, is_beginning, is_end, piece_bytes, IsPiece, HasBefore, History, with_slot}
 
 -- The message that waits on the stream is this one.
-pub record IsMessage (id : ℕ) (waiting : Waiting) (message : Message) : Type 0 where
+pub record IsWaitingMessage (id : ℕ) (waiting : Waiting) (message : Message) : Type 0 where
   pub stream : id ≡ message.stream
   pub ppid : waiting.ppid ≡ message.ppid
   pub unordered : waiting.is_unordered ≡ message.is_unordered
@@ -21,7 +21,7 @@ pub record IsMessage (id : ℕ) (waiting : Waiting) (message : Message) : Type 0
 pub record WaitingWasQueued (queued : List Message) (id : ℕ) (waiting : Waiting) : Type 0 where
   pub message : Message
   pub at : at_place waiting.message_id queued ≡ Some message
-  pub is : IsMessage id waiting message
+  pub is : IsWaitingMessage id waiting message
   pub fresh : message.is_spent ≡ false
   pub some : 0 < length waiting.payload
 
@@ -89,17 +89,17 @@ pub record HoldsQueued (queued : List Message) (log : List Slot) (streams : List
       → AllBeyond f.place (unbegun under_way (stream_at streams q))
   pub distinct : (p q : ℕ) → p < length streams → q < length streams → (stream_at streams p).id ≡ (stream_at streams q).id → p ≡ q
   pub going : Going queued log streams under_way
-  pub room : HasRoom queued log streams under_way
+  pub room : HasRoomForLog queued log streams under_way
 
 -- The fragment that was handed out says what the piece does.
-pub record Says (part : Fragment) (piece : Piece) : Type 0 where
+pub record CarriesPiece (part : Fragment) (piece : Piece) : Type 0 where
   pub named : part.message_id ≡ piece.place
   pub stream : part.stream ≡ piece.message.stream
   pub ppid : part.ppid ≡ piece.message.ppid
   pub unordered : part.is_unordered ≡ piece.message.is_unordered
   pub beginning : part.is_beginning ≡ is_beginning piece
   pub end : part.is_end ≡ is_end piece
-  pub payload : part.payload ≡ bytes_of piece
+  pub payload : part.payload ≡ piece_bytes piece
   pub mid : part.mid % 2 ^ 32 ≡ piece.mid % 2 ^ 32
   pub fsn : part.fsn ≡ piece.fsn
 
@@ -109,7 +109,7 @@ pub record HandsOutPiece (queued : List Message) (history : History) (part : Fra
   pub is_piece : IsPiece queued piece
   pub row : 0 < length history.log → 0 < piece.start → HasBefore history.log (length history.log) piece
   pub ascends : (n : ℕ) (f : Piece) → at_place n history.log ≡ Some (Some f) → piece.start ≡ 0 → f.message.stream ≡ piece.message.stream → f.place < piece.place
-  pub says : Says part piece
+  pub says : CarriesPiece part piece
   pub queue_holds : HoldsQueued queued (Some piece ∷ history.log) new.streams new.under_way
   pub numbers : Numbered (with_slot (Some piece) history) new
   pub current : piece.is_interleaved ≡ true → IsCurrent history piece
@@ -119,5 +119,5 @@ pub record HandsOutPiece (queued : List Message) (history : History) (part : Fra
 abbrev pub PiecesFollow : Type 0
 PiecesFollow =
     (queued : List Message) (history : History) (now max : ℕ) (old new : SendQueueState) (told_before told_after : List (Event (List ℕ))) (part : Fragment)
-    → 0 < max → HoldsQueued queued history.log old.streams old.under_way → Numbered history old → Takes now max old told_before part new told_after
+    → 0 < max → HoldsQueued queued history.log old.streams old.under_way → Numbered history old → TakesFragment now max old told_before part new told_after
     → HandsOutPiece queued history part new

@@ -2,9 +2,9 @@
 use Rattle.std.specs.Prelude.{◌≡◌, ◌==◌, ℕ, Option, None, Some, List, [], ◌∷◌, ◌⊎◌, length, if◌then◌else◌}
 
 -- The entry is in the list.
-abbrev pub Has : {A : Type 0} → A → List A → Type 0
-Has entry [] = ⊥
-Has entry (newest ∷ earlier) = (entry ≡ newest) ⊎ Has entry earlier
+abbrev pub HasEntry : {A : Type 0} → A → List A → Type 0
+HasEntry entry [] = ⊥
+HasEntry entry (newest ∷ earlier) = (entry ≡ newest) ⊎ HasEntry entry earlier
 
 -- the entry at this place: so many came before it
 abbrev pub at_place : {A : Type 0} → ℕ → List A → Option A

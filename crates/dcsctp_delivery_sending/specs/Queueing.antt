@@ -1,7 +1,7 @@
 -- What a user queues waits after the rest, under the next identifier; it outlasts settings, resets and associations.
 use Rattle.std.specs.Prelude.{◌≡◌, ◌<◌, ◌+◌, ◌*◌, ◌^◌, ℕ, Bool, false, List, if◌then◌else◌, ◌∷◌, length}
 use Rattle.dcsctp_spec.specs.types.queues.SendStreams.{Stream}
-use Rattle.dcsctp_spec.specs.queues.SendQueue.{SendQueueState, restarted}
+use Rattle.dcsctp_spec.specs.queues.SendQueue.{SendQueueState, queue_restarted}
 use Rattle.dcsctp_spec.specs.queues.OwnResets.{prepared_all, queue_committed, queue_rolled_back}
 use Rattle.dcsctp_spec.specs.types.Setting.{Setting}
 use Rattle.dcsctp_spec.specs.endpoint.SettingOutcomes.{set_in_queue}
@@ -38,7 +38,7 @@ KeptQueuesHold = (queued : List Message) (history : History) (queue : SendQueueS
 
 -- or is put back.
 abbrev pub RestartedQueuesHold : Type 0
-RestartedQueuesHold = (queued : List Message) (history : History) (queue : SendQueueState) → QueueHolds queued history queue → QueueWaits queued (restarted queue)
+RestartedQueuesHold = (queued : List Message) (history : History) (queue : SendQueueState) → QueueHolds queued history queue → QueueWaits queued (queue_restarted queue)
 
 -- What a user sets leaves it so,
 abbrev pub SettingKeeps : Type 0
@@ -49,8 +49,8 @@ abbrev pub PreparingKeeps : Type 0
 PreparingKeeps = (queued : List Message) (history : History) (ids : List ℕ) (queue : SendQueueState) → QueueHolds queued history queue → QueueHolds queued history (prepared_all ids queue)
 
 -- the floors once the streams that are handed out were reset: each a multiple of 2^32 that is above all numbers so far
-abbrev pub raised : List Stream → History → History
-raised streams history =
+abbrev pub floors_raised : List Stream → History → History
+floors_raised streams history =
     record history {
       floors = λ id is_unordered.
           if is_handed_out (stream_named id streams).pause then 2 ^ 32 * (history.floors id is_unordered + length history.log + 1) else history.floors id is_unordered;
@@ -60,7 +60,7 @@ raised streams history =
 abbrev pub CommittingKeeps : Type 0
 CommittingKeeps =
     (queued : List Message) (history : History) (queue : SendQueueState) → QueueHolds queued history queue
-    → QueueHolds queued (raised queue.streams history) (queue_committed queue)
+    → QueueHolds queued (floors_raised queue.streams history) (queue_committed queue)
 
 -- and one that was not.
 abbrev pub RollingBackKeeps : Type 0

@@ -1,32 +1,32 @@
 -- What is in flight bears what the log has, while packets are filled (RFC 9260, section 6.1).
 use Rattle.std.specs.Prelude.{◌≡◌, ◌<◌, ◌≤◌, ◌+◌, ◌-◌, ◌%◌, ◌^◌, ℕ, Bool, true, Option, None, Some, List, [], ◌∷◌, ◌++◌, length, map, slice_get}
 use Rattle.dcsctp_spec.specs.Packet.{Plain, unworked}
-use Rattle.dcsctp_spec.specs.queues.Chunks.{AreChunks, chunk_said}
+use Rattle.dcsctp_spec.specs.queues.Chunks.{AreChunksOfTsns, chunk_said}
 use Rattle.dcsctp_spec.specs.queues.Abandoning.{GivesUpAll}
 use Rattle.dcsctp_spec.specs.queues.Filling.{Stage, FillsPacket}
 use Rattle.dcsctp_spec.specs.queues.Items.{Item}
 use Rattle.dcsctp_spec.specs.queues.Outstanding.{OutstandingState}
 use Rattle.dcsctp_spec.specs.queues.Sending.{Fragment}
 use Rattle.dcsctp_spec.specs.endpoint.BegunResets.{stream_field}
-use Rattle.dcsctp_delivery_sending.specs.Places.{Has, at_place}
+use Rattle.dcsctp_delivery_sending.specs.Places.{HasEntry, at_place}
 use Rattle.dcsctp_spec.specs.types.declared.sending.UnderWay.{UnderWay}
-use Rattle.dcsctp_delivery_sending.specs.Log.{Message, Piece, Slot, Cut, Mark, History, grown, Resets}
+use Rattle.dcsctp_delivery_sending.specs.Log.{Message, Piece, Slot, Cut, Mark, History, log_extended, Resets}
 use Rattle.dcsctp_delivery_sending.specs.Numbers.{Numbered, KindAt, AreCurrent, AreKept}
-use Rattle.dcsctp_delivery_sending.specs.Pieces.{Says, HoldsQueued}
+use Rattle.dcsctp_delivery_sending.specs.Pieces.{CarriesPiece, HoldsQueued}
 
 -- The fragment says what the slot does. The end of an abandoned message has no payload.
 abbrev pub SaysSlot : Fragment → Slot → Type 0
 SaysSlot part None = part.payload ≡ []
-SaysSlot part (Some piece) = Says part piece
+SaysSlot part (Some piece) = CarriesPiece part piece
 
 -- The fragment of this TSN is of the message of a piece of the log, and has its number. A reset that names its stream lies between
 -- messages.
-pub record IsNamed (history : History) (own : ℕ) (part : Fragment) : Type 0 where
+pub record IsNamedFragment (history : History) (own : ℕ) (part : Fragment) : Type 0 where
   pub number : ℕ
   pub piece : Piece
   pub at : at_place number history.log ≡ Some (Some piece)
   pub of : part.message_id ≡ piece.place
-  pub whole : (mark : Mark) → Has mark history.marks → Resets mark piece.message.stream → number < mark.bound → own < mark.bound
+  pub whole : (mark : Mark) → HasEntry mark history.marks → Resets mark piece.message.stream → number < mark.bound → own < mark.bound
   pub stream : part.stream ≡ piece.message.stream
   pub unordered : part.is_unordered ≡ piece.message.is_unordered
   pub mid : part.mid % 2 ^ 32 ≡ piece.mid % 2 ^ 32
@@ -43,13 +43,13 @@ pub record Bears (history : History) (first acknowledged : ℕ) (outstanding : O
   pub tsn : outstanding.first_tsn ≡ (first + acknowledged) % 2 ^ 32
   pub count : length history.log ≡ acknowledged + length outstanding.items
   pub items : (k : ℕ) (item : Item) → slice_get outstanding.items k ≡ Some item → SaysAt history.log (acknowledged + k) item.fragment
-  pub named : (k : ℕ) (item : Item) → slice_get outstanding.items k ≡ Some item → IsNamed history (acknowledged + k) item.fragment
-  pub splits : (mark : Mark) → Has mark history.marks → (k : ℕ) (item : Item) → slice_get outstanding.items k ≡ Some item → acknowledged + k ≡ mark.bound
+  pub named : (k : ℕ) (item : Item) → slice_get outstanding.items k ≡ Some item → IsNamedFragment history (acknowledged + k) item.fragment
+  pub splits : (mark : Mark) → HasEntry mark history.marks → (k : ℕ) (item : Item) → slice_get outstanding.items k ≡ Some item → acknowledged + k ≡ mark.bound
       → item.begins_after_reset ≡ true
 
 -- What was in flight when a reset was begun lies before it. The next item will say so.
 abbrev pub Pends : History → Bool → Type 0
-Pends history reset_begun = (mark : Mark) → Has mark history.marks → mark.bound ≡ length history.log → reset_begun ≡ true
+Pends history reset_begun = (mark : Mark) → HasEntry mark history.marks → mark.bound ≡ length history.log → reset_begun ≡ true
 
 -- The reset that was begun names a last TSN, the last that was assigned before it, and the fields of its streams. A message of these streams
 -- lies before it, or behind it.
@@ -63,7 +63,7 @@ pub record IsMark (history : History) (first : ℕ) (under_way : Option UnderWay
 
 -- Each that was begun does.
 abbrev pub AreMarks : History → ℕ → Option UnderWay → Type 0
-AreMarks history first under_way = (mark : Mark) → Has mark history.marks → IsMark history first under_way mark
+AreMarks history first under_way = (mark : Mark) → HasEntry mark history.marks → IsMark history first under_way mark
 
 -- What waits was queued, and what is in flight is of the log.
 pub record Stands (queued : List Message) (history : History) (first acknowledged : ℕ) (stage : Stage) : Type 0 where
@@ -78,7 +78,7 @@ pub record Stands (queued : List Message) (history : History) (first acknowledge
 -- So it is again; more TSNs may have been assigned, to pieces of streams that aren't handed out.
 pub record Stays (queued : List Message) (history : History) (first acknowledged : ℕ) (new : Stage) : Type 0 where
   pub more : List Slot
-  pub stands : Stands queued (grown more history) first acknowledged new
+  pub stands : Stands queued (log_extended more history) first acknowledged new
   pub current : AreCurrent history more
   pub kept : AreKept new.waiting.streams more
 
@@ -99,7 +99,7 @@ AreOfLog log first is_interleaved (chunk ∷ chunks) = IsOfLog log first is_inte
 abbrev pub PacketsBearPieces : Type 0
 PacketsBearPieces =
     (queued : List Message) (history : History) (first acknowledged now : ℕ) (old new : Stage) (chunks : List Plain) → Stands queued history first acknowledged old → FillsPacket now old new
-    → AreChunks new.queue.outstanding new.tsns chunks
+    → AreChunksOfTsns new.queue.outstanding new.tsns chunks
     → (stays : Stays queued history first acknowledged new) × AreOfLog (stays.more ++ history.log) first new.queue.outstanding.is_interleaved chunks
 
 -- Messages that are abandoned leave it so.

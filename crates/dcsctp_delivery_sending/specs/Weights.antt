@@ -21,11 +21,11 @@ total [] = 0
 total (message ∷ messages) = suc (length message.payload) + total messages
 
 -- how many bytes of the message under way were handed out
-abbrev pub sent_of : Option UnderWay → ℕ
-sent_of None = 0
-sent_of (Some under_way) = under_way.sent
+abbrev pub bytes_handed_out : Option UnderWay → ℕ
+bytes_handed_out None = 0
+bytes_handed_out (Some under_way) = under_way.sent
 
 -- The bytes and messages that were queued are as many as the TSNs that were assigned and those that what waits may take.
-pub record HasRoom (queued : List Message) (log : List Slot) (streams : List Stream) (under_way : Option UnderWay) : Type 0 where
+pub record HasRoomForLog (queued : List Message) (log : List Slot) (streams : List Stream) (under_way : Option UnderWay) : Type 0 where
   pub whole : weight streams ≤ total queued
-  pub count : length log + weight streams ≤ total queued + sent_of under_way
+  pub count : length log + weight streams ≤ total queued + bytes_handed_out under_way

@@ -4,7 +4,7 @@ ghost use Rattle.dcsctp_delivery_sending.specs.Acknowledged.{AcknowledgingKeeps,
 ghost use Rattle.dcsctp_delivery_sending.specs.ChunkCounts.{FlushesAssignFew};
 ghost use Rattle.dcsctp_delivery_sending.specs.Flushes.{FlushesSendPieces};
 ghost use Rattle.dcsctp_delivery_sending.specs.Marking.{AllAreMarked, AllMarkedFit, AllMarkedKeep, GoneAreMarked, MarkedIsSpent, MarkingFits, MarkingKeeps};
-ghost use Rattle.dcsctp_delivery_sending.specs.Numbers.{LogsAreTold};
+ghost use Rattle.dcsctp_delivery_sending.specs.Numbers.{LogsAreUnambiguous};
 ghost use Rattle.dcsctp_delivery_sending.specs.Pieces.{PiecesFollow};
 ghost use Rattle.dcsctp_delivery_sending.specs.Queueing.{QueueingKeeps, KeptQueuesHold, RestartedQueuesHold, SettingKeeps, PreparingKeeps, CommittingKeeps, RollingBackKeeps};
 ghost use Rattle.dcsctp_delivery_sending.specs.Stages.{PacketsBearPieces, GivingUpKeeps};
@@ -42,7 +42,7 @@ pub fn flushes_send_pieces()
 /// With interleaving no two messages of a stream have one number in an association (RFC 8260, section 2.1). Numbers are
 /// counted without wrap, and never begin at 0 again.
 pub fn numbers_tell_apart()
-    ensures { LogsAreTold }
+    ensures { LogsAreUnambiguous }
 {}
 
 /// A message that is queued waits after the others of its stream, under the next identifier. What waits outlasts

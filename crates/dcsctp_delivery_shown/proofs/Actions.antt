@@ -8,11 +8,11 @@ use Rattle.dcsctp_spec_lemmas.specs.spec.Packet.{Content, Emission}
 use Rattle.dcsctp_spec_lemmas.specs.spec.association.Choices.{plain_contents}
 use Rattle.dcsctp_spec_lemmas.specs.spec.queues.Retransmission.{RetransmissionState}
 use Rattle.dcsctp_spec_lemmas.specs.spec.queues.SendQueue.{SendQueueState}
-use Rattle.dcsctp_spec_lemmas.specs.spec.queues.Transfer.{Transfer, Below, may_give, is_idle}
+use Rattle.dcsctp_spec_lemmas.specs.spec.queues.Transfer.{Transfer, EndpointQueues, may_give, is_idle}
 use Rattle.dcsctp_spec_lemmas.specs.spec.queues.Arrivals.{Arrival}
 use Rattle.dcsctp_spec_lemmas.specs.types.declared.arrivals.SkippedTo.{SkippedTo}
 use Rattle.dcsctp_spec_lemmas.specs.spec.endpoint.BegunResets.{streams_within, request_contents, queue_requesting, retransmission_begun}
-use Rattle.dcsctp_spec_lemmas.specs.spec.endpoint.FlushOutcomes.{Told, told_event, Answer, answer_contents, filled, goes_out, asked, next_draft, flush_of, Ask, first_ask, later_ask, packets_allowed, room_in, stage_of, may_forward, wants_sack, Gives, GivesWhere, AnsweredBelow, Answered, nothing_waits, Answers, at_limit, at_empty, after_packet, FlushAnswers}
+use Rattle.dcsctp_spec_lemmas.specs.spec.endpoint.FlushOutcomes.{FillingEvent, filling_event, Answer, answer_contents, filled, goes_out, asked, next_draft, flush_of, Ask, first_ask, later_ask, packets_allowed, room_in, stage_of, may_forward, wants_sack, Gives, GivesWhere, IsAnswerOfQueues, IsFlushAnswer, nothing_waits, AreFlushAnswers, at_limit, at_empty, after_packet, FlushAnswers}
 use Rattle.dcsctp_spec_lemmas.specs.spec.endpoint.TransferMoves.{ReceivesWhere, MovesWhere}
 use Rattle.dcsctp_theorem_sockets.proofs.Bursts.{packets_in-append, told_none}
 use Rattle.dcsctp_delivery_turns.specs.Actions.{Ledger, Action, Actions, nothing, further}
@@ -32,12 +32,12 @@ module _ (kinds : Capabilities) where
 
   -- what an answer leaves, and what it says
   record AnswerIs (answer : Answer) : Type 0 where
-    left : TransferIs kinds answer.after.below.transfer
+    left : TransferIs kinds answer.after.queues.transfer
     says : AllAllowed kinds (answer_contents answer)
 
   gives_is : (ask : Ask) (e : Endpoint) (draft : Emission) (transfer : Transfer) (answer : Answer) → IsOf kinds transfer.retransmission → Gives ask e draft transfer answer → AnswerIs answer
   gives_is ask e draft transfer answer is gives =
-      let gave = forwards_go kinds (may_forward ask e transfer.retransmission) ask e transfer (room_in e (filled draft (plain_contents gives.sacks))) (stage_of e.below.queue transfer.retransmission [] 0) gives.gave_up
+      let gave = forwards_go kinds (may_forward ask e transfer.retransmission) ask e transfer (room_in e (filled draft (plain_contents gives.sacks))) (stage_of e.queues.queue transfer.retransmission [] 0) gives.gave_up
       gives.next gives.forwards refl is refl gives.gives_up in
       let left : SendQueueState = queue_requesting (streams_within (room_in e (filled draft (plain_contents answer.acknowledgements)))) answer.begun gives.gave_up.waiting in
       let begun : RetransmissionState = retransmission_begun answer.begun gives.gave_up.queue in
@@ -45,48 +45,48 @@ module _ (kinds : Capabilities) where
       fills_where_is kinds (may_give left begun) e.moment
       (stage_of left begun gives.gave_up.told (room_in e (filled draft (plain_contents answer.acknowledgements ++ request_contents answer.begun)))) gives.sent
       (begun_is kinds answer.begun gives.gave_up.queue gave.0) gives.fills in
-      let sacks : AllByRecursion (MayGo kinds) gives.sacks = sacks_go kinds (wants_sack ask e.below.queue transfer) (room_in e draft) transfer gives.tracker gives.sacks gives.acknowledges in
+      let sacks : AllByRecursion (MayGo kinds) gives.sacks = sacks_go kinds (wants_sack ask e.queues.queue transfer) (room_in e draft) transfer gives.tracker gives.sacks gives.acknowledges in
       record {
-        left = subst (λ (b : Below). TransferIs kinds b.transfer) (sym gives.below) full;
+        left = subst (λ (b : EndpointQueues). TransferIs kinds b.transfer) (sym gives.below) full;
         says = all_append _ (plain_contents answer.acknowledgements) (request_contents answer.begun ++ plain_contents answer.data_chunks)
             (plain_go kinds answer.acknowledgements (subst (AllByRecursion (MayGo kinds)) (sym gives.parts) (all_append (MayGo kinds) gives.sacks gives.forwards sacks gave.1)))
             (all_append _ (request_contents answer.begun) (plain_contents answer.data_chunks) (request_goes kinds answer.begun)
             (plain_go kinds answer.data_chunks (data_goes kinds gives.sent.queue.outstanding gives.sent.tsns answer.data_chunks full.0 gives.chunks)));
       }
 
-  nothing_is : (e : Endpoint) (answer : Answer) → TransferIs kinds e.below.transfer → answer ≡ nothing_waits e → AnswerIs answer
+  nothing_is : (e : Endpoint) (answer : Answer) → TransferIs kinds e.queues.transfer → answer ≡ nothing_waits e → AnswerIs answer
   nothing_is e answer is none = subst AnswerIs (sym none) (record { left = is; says = tt })
 
-  gives_where_is : (b : Bool) (ask : Ask) (e : Endpoint) (draft : Emission) (transfer : Transfer) (answer : Answer) → e.below.transfer ≡ Some transfer → TransferIs kinds e.below.transfer → GivesWhere b ask e draft transfer answer
+  gives_where_is : (b : Bool) (ask : Ask) (e : Endpoint) (draft : Emission) (transfer : Transfer) (answer : Answer) → e.queues.transfer ≡ Some transfer → TransferIs kinds e.queues.transfer → GivesWhere b ask e draft transfer answer
       → AnswerIs answer
   gives_where_is true ask e draft transfer answer known is gives = nothing_is e answer is gives
   gives_where_is false ask e draft transfer answer known is gives = gives_is ask e draft transfer answer (subst (TransferIs kinds) known is) gives
 
-  answered_is : (ask : Ask) (e : Endpoint) (draft : Emission) (transfer : Option Transfer) (answer : Answer) → e.below.transfer ≡ transfer → TransferIs kinds e.below.transfer → AnsweredBelow ask e draft answer transfer
+  answered_is : (ask : Ask) (e : Endpoint) (draft : Emission) (transfer : Option Transfer) (answer : Answer) → e.queues.transfer ≡ transfer → TransferIs kinds e.queues.transfer → IsAnswerOfQueues ask e draft answer transfer
       → AnswerIs answer
   answered_is ask e draft None answer known is answered = nothing_is e answer is answered
-  answered_is ask e draft (Some transfer) answer known is answered = gives_where_is (is_idle e.below.queue transfer) ask e draft transfer answer known is answered
+  answered_is ask e draft (Some transfer) answer known is answered = gives_where_is (is_idle e.queues.queue transfer) ask e draft transfer answer known is answered
 
   -- ---- a flush
 
   -- what is in flight after it, and what was sent
-  pub record Keeps (below : Below) (events : List (Event Emission)) : Type 0 where
+  pub record Keeps (below : EndpointQueues) (events : List (Event Emission)) : Type 0 where
     pub left : TransferIs kinds below.transfer
     pub says : AreAllowed kinds (packets_in events)
 
-  out_says : (e : Endpoint) (told : List Told) (with_checksum : Bool) (tag : ℕ) (contents : List Content) → AllAllowed kinds contents → AreAllowed kinds (packets_in (goes_out e (map told_event told) with_checksum tag contents).events)
+  out_says : (e : Endpoint) (told : List FillingEvent) (with_checksum : Bool) (tag : ℕ) (contents : List Content) → AllAllowed kinds contents → AreAllowed kinds (packets_in (goes_out e (map filling_event told) with_checksum tag contents).events)
   out_says e told with_checksum tag [] are =
-      subst (AreAllowed kinds) (sym (ap (λ (l : List (Event Emission)). packets_in l) (sym (append-nil (map told_event told))) ∙ told_none told [])) tt
+      subst (AreAllowed kinds) (sym (ap (λ (l : List (Event Emission)). packets_in l) (sym (append-nil (map filling_event told))) ∙ told_none told [])) tt
   out_says e told with_checksum tag (content ∷ contents) are =
       subst (AreAllowed kinds) (sym (told_none told (sent (record { with_checksum = with_checksum; packet = record { tag = tag; contents = content ∷ contents } }) ∷ []))) (are, tt)
 
-  asked_keeps : (ask : Ask) (e : Endpoint) (draft : Emission) (answer : Answer) → TransferIs kinds e.below.transfer → AllAllowed kinds draft.packet.contents → Answered ask e draft answer
-      → Keeps (asked e draft answer).after.below (asked e draft answer).events
+  asked_keeps : (ask : Ask) (e : Endpoint) (draft : Emission) (answer : Answer) → TransferIs kinds e.queues.transfer → AllAllowed kinds draft.packet.contents → IsFlushAnswer ask e draft answer
+      → Keeps (asked e draft answer).after.queues (asked e draft answer).events
   asked_keeps ask e draft answer is are answered =
-      let so : AnswerIs answer = answered_is ask e draft e.below.transfer answer refl is answered.by_transfer in
+      let so : AnswerIs answer = answered_is ask e draft e.queues.transfer answer refl is answered.by_transfer in
       let contents : List Content = (filled draft (answer_contents answer)).packet.contents in
       record {
-        left = subst (λ (b : Below). TransferIs kinds b.transfer) (sym (out_below answer.after (map told_event answer.told) draft.with_checksum draft.packet.tag contents)) so.left;
+        left = subst (λ (b : EndpointQueues). TransferIs kinds b.transfer) (sym (out_below answer.after (map filling_event answer.told) draft.with_checksum draft.packet.tag contents)) so.left;
         says = out_says answer.after answer.told draft.with_checksum draft.packet.tag contents (all_append _ draft.packet.contents (answer_contents answer) are so.says);
       }
 
@@ -99,8 +99,8 @@ module _ (kinds : Capabilities) where
   next_empty (cookie_echoed my held cookie) draft = tt
   next_empty (open_in phase my held) draft = tt
 
-  answers_keep : (ask : Ask) (n : ℕ) (e : Endpoint) (draft : Emission) (answers : List Answer) → TransferIs kinds e.below.transfer → AllAllowed kinds draft.packet.contents → Answers ask n e draft answers
-      → Keeps (flush_of e draft answers).after.below (flush_of e draft answers).events
+  answers_keep : (ask : Ask) (n : ℕ) (e : Endpoint) (draft : Emission) (answers : List Answer) → TransferIs kinds e.queues.transfer → AllAllowed kinds draft.packet.contents → AreFlushAnswers ask n e draft answers
+      → Keeps (flush_of e draft answers).after.queues (flush_of e draft answers).events
   answers_keep _ _ _ _ _ is are (at_limit ask e draft) = record { left = is; says = tt }
   answers_keep _ _ _ _ _ is are (at_empty ask more e draft answer answered empty) =
       let one = asked_keeps ask e draft answer is are answered in record { left = one.left; says = events_both (asked e draft answer).events [] one.says tt }
@@ -109,8 +109,8 @@ module _ (kinds : Capabilities) where
       let others = answers_keep later_ask more (asked e draft answer).after (next_draft e.core draft) answers one.left (next_empty e.core draft) rest in
       record { left = others.left; says = events_both (asked e draft answer).events (flush_of (asked e draft answer).after (next_draft e.core draft) answers).events one.says others.says }
 
-  pub flush_keeps : (e : Endpoint) (draft : Emission) (answers : List Answer) → TransferIs kinds e.below.transfer → AllAllowed kinds draft.packet.contents → FlushAnswers e draft answers
-      → Keeps (flush_of e draft answers).after.below (flush_of e draft answers).events
+  pub flush_keeps : (e : Endpoint) (draft : Emission) (answers : List Answer) → TransferIs kinds e.queues.transfer → AllAllowed kinds draft.packet.contents → FlushAnswers e draft answers
+      → Keeps (flush_of e draft answers).after.queues (flush_of e draft answers).events
   flush_keeps e draft answers is are allowed = answers_keep first_ask (packets_allowed e.options.max_burst e.core) e draft answers is are allowed
 
   -- ---- data that is received
@@ -125,7 +125,7 @@ module _ (kinds : Capabilities) where
   -- ---- each action
 
   pub record LedgerIs (ledger : Ledger) : Type 0 where
-    pub left : TransferIs kinds ledger.below.transfer
+    pub left : TransferIs kinds ledger.queues.transfer
     pub says : AreAllowed kinds ledger.sent
 
   pub of_known : (transfer : Transfer) (below : Option Transfer) → below ≡ Some transfer → TransferIs kinds below → IsOf kinds transfer.retransmission
@@ -136,28 +136,28 @@ module _ (kinds : Capabilities) where
   action_is came to old _ h (actions.sets setting) = record { left = h.left; says = h.says }
   action_is came to old _ h (actions.prepares ids) = record { left = h.left; says = h.says }
   action_is came to old _ h (actions.flushes e draft answers below at same no_data no_end allowed) =
-      let keeps = flush_keeps e draft answers (subst (λ (b : Below). TransferIs kinds b.transfer) (sym below) h.left) (no_data_goes kinds draft.packet.contents no_data) allowed in
+      let keeps = flush_keeps e draft answers (subst (λ (b : EndpointQueues). TransferIs kinds b.transfer) (sym below) h.left) (no_data_goes kinds draft.packet.contents no_data) allowed in
       record { left = keeps.left; says = all_append _ old.sent (packets_in (flush_of e draft answers).events) h.says keeps.says }
   action_is came to old _ h (actions.resends now room transfer left tsns chunks emission tag known sends are contents) =
-      let is : IsOf kinds left = at_once_is kinds now room old.below.queue transfer.retransmission left tsns (of_known transfer old.below.transfer known h.left) sends in
+      let is : IsOf kinds left = at_once_is kinds now room old.queues.queue transfer.retransmission left tsns (of_known transfer old.queues.transfer known h.left) sends in
       record {
         left = is;
         says = all_append _ old.sent (emission ∷ []) h.says (subst (AllAllowed kinds) (sym contents) (plain_go kinds chunks (data_goes kinds left.outstanding tsns chunks is.0 are)), tt);
       }
   action_is came to old _ h (actions.resends_nothing now room transfer left tsns known sends) =
-      record { left = at_once_is kinds now room old.below.queue transfer.retransmission left tsns (of_known transfer old.below.transfer known h.left) sends; says = h.says }
+      record { left = at_once_is kinds now room old.queues.queue transfer.retransmission left tsns (of_known transfer old.queues.transfer known h.left) sends; says = h.says }
   action_is came to old _ h (actions.speaks emission no_data) = record { left = h.left; says = all_append _ old.sent (emission ∷ []) h.says (no_data_goes kinds emission.packet.contents no_data, tt) }
   action_is came to old _ h (actions.asks_again emission begun tag has contents) =
       record { left = h.left; says = all_append _ old.sent (emission ∷ []) h.says (subst (AllAllowed kinds) (sym contents) (tt, tt), tt) }
   action_is came to old _ h (actions.acknowledges now sack transfer new known valid takes) =
-      record { left = sack_is kinds now sack transfer new (of_known transfer old.below.transfer known h.left) takes; says = h.says }
-  action_is came to old _ h (actions.loses now transfer known) = record { left = of_known transfer old.below.transfer known h.left; says = h.says }
-  action_is came to old _ h (actions.receives chunk transfer new is some known does) = record { left = receives_is _ _ transfer new (of_known transfer old.below.transfer known h.left) does; says = h.says }
-  action_is came to old _ h (actions.receives_interleaved chunk transfer new is some known does) = record { left = receives_is _ _ transfer new (of_known transfer old.below.transfer known h.left) does; says = h.says }
-  action_is came to old _ h (actions.forwards tsn streams transfer new is known does) = record { left = moves_is _ _ _ transfer new (of_known transfer old.below.transfer known h.left) does; says = h.says }
-  action_is came to old _ h (actions.forwards_interleaved tsn streams transfer new is known does) = record { left = moves_is _ _ _ transfer new (of_known transfer old.below.transfer known h.left) does; says = h.says }
-  action_is came to old _ h (actions.tracks transfer tracker known same_tsn same_ranges) = record { left = of_known transfer old.below.transfer known h.left; says = h.says }
-  action_is came to old _ h (actions.takes transfer message messages known ready) = record { left = of_known transfer old.below.transfer known h.left; says = h.says }
+      record { left = sack_is kinds now sack transfer new (of_known transfer old.queues.transfer known h.left) takes; says = h.says }
+  action_is came to old _ h (actions.loses now transfer known) = record { left = of_known transfer old.queues.transfer known h.left; says = h.says }
+  action_is came to old _ h (actions.receives chunk transfer new is some known does) = record { left = receives_is _ _ transfer new (of_known transfer old.queues.transfer known h.left) does; says = h.says }
+  action_is came to old _ h (actions.receives_interleaved chunk transfer new is some known does) = record { left = receives_is _ _ transfer new (of_known transfer old.queues.transfer known h.left) does; says = h.says }
+  action_is came to old _ h (actions.forwards tsn streams transfer new is known does) = record { left = moves_is _ _ _ transfer new (of_known transfer old.queues.transfer known h.left) does; says = h.says }
+  action_is came to old _ h (actions.forwards_interleaved tsn streams transfer new is known does) = record { left = moves_is _ _ _ transfer new (of_known transfer old.queues.transfer known h.left) does; says = h.says }
+  action_is came to old _ h (actions.tracks transfer tracker known same_tsn same_ranges) = record { left = of_known transfer old.queues.transfer known h.left; says = h.says }
+  action_is came to old _ h (actions.takes transfer message messages known ready) = record { left = of_known transfer old.queues.transfer known h.left; says = h.says }
 
   pub actions_are : (came : Option Content) (to : ℕ) (old new : Ledger) → LedgerIs old → Actions came to old new → LedgerIs new
   actions_are came to old _ h nothing = h

@@ -7,19 +7,19 @@ use Rattle.dcsctp_spec_lemmas.specs.wire.Format.{IsPacket}
 use Rattle.dcsctp_spec_lemmas.specs.types.declared.capabilities.Capabilities.{Capabilities}
 use Rattle.dcsctp_spec_lemmas.specs.types.declared.options.Options.{Options}
 use Rattle.dcsctp_spec_lemmas.specs.spec.Admission.{Admission, all_chunks, shutdown_acks_alone, refused, admits, shutdown_acks_in}
-use Rattle.dcsctp_spec_lemmas.specs.spec.endpoint.CallTurns.{Turned, Turns, AlongTurns, AfterChunk, ChunkTurns, AdmittedTurns, HandleInput, unreadable, readable, after_all, effects_of, events_of}
+use Rattle.dcsctp_spec_lemmas.specs.spec.endpoint.CallTurns.{Transition, Turns, AlongTurns, AfterChunk, ChunkTurns, AdmittedTurns, HandleInput, unreadable, readable, after_all, effects_of, events_of}
 use Rattle.dcsctp_spec_lemmas.specs.spec.endpoint.Endpoint.{Endpoint}
 use Rattle.dcsctp_spec_lemmas.specs.spec.endpoint.Following.{Following, next_chunk, packet_end, dropped_rest}
 use Rattle.dcsctp_spec_laws.specs.TurnLaws.{ChunksAreControlled}
 use Rattle.dcsctp_spec_lemmas.specs.types.Offer.{Offer, offer_of}
 use Rattle.dcsctp_spec_lemmas.specs.spec.endpoint.Outcome.{Outcome}
 use Rattle.dcsctp_spec_lemmas.specs.spec.Packet.{Content, init_ack, cookie_echo, shutdown_ack, Packet, packet_in}
-use Rattle.dcsctp_spec_runs.specs.Past.{Has}
+use Rattle.dcsctp_spec_runs.specs.Past.{HasEffect}
 use Rattle.dcsctp_spec_lemmas.specs.types.Schedule.{CallContent, send_call, send_many_call}
 use Rattle.dcsctp_spec_lemmas.specs.types.Settings.{SameOptions, wire_options}
 use Rattle.dcsctp_spec_lemmas.specs.spec.endpoint.UserTurns.{UserTurns}
-use Rattle.dcsctp_spec_lemmas.specs.spec.endpoint.Turn.{Input, arrival, refusal, chunk_input, packet_ends, has_data, unreadable_text}
-use Rattle.dcsctp_spec_lemmas.specs.spec.association.Effect.{Link, Effect, holds, link_of, link_in}
+use Rattle.dcsctp_spec_lemmas.specs.spec.endpoint.Turn.{Input, arrival, refusal, chunk_input, packet_ends, has_data_chunk, unreadable_text}
+use Rattle.dcsctp_spec_lemmas.specs.spec.association.Effect.{AssociationIdentity, Effect, holds, identity_of, identity_in}
 use Rattle.dcsctp_spec_laws.proofs.TurnLemmas.{same_after}
 use Rattle.dcsctp_theorem_sockets.proofs.NewAssociations.{FirstAlone}
 use Rattle.dcsctp_theorem_sockets.proofs.NoHolding.{HoldsNone, none-append}
@@ -35,7 +35,7 @@ use Rattle.dcsctp_delivery_shown.proofs.Stays.{after_link, rest_link}
 use Rattle.dcsctp_delivery_shown.proofs.Begins.{FrontKinds, begins_so}
 use Rattle.dcsctp_delivery_shown.proofs.Calm.{GoodTurn, Known, Calm, calm_turns, none_among, Notes, notes_none, notes_one, ActIs, of_calm, one_then}
 
-abbrev AreCalm : List Turned → Type 0
+abbrev AreCalm : List Transition → Type 0
 AreCalm turns = AllByRecursion (λ t. IsCalm t.input) turns
 
 -- ---- calls
@@ -64,7 +64,7 @@ sends_calm call = tt
 
 -- ---- the inputs of a packet
 
-tail_calm : (following : Following) (e : Endpoint) (tail : List Input) (turns : List Turned) (Others : Type 0) → AllByRecursion IsCalm tail → (Others → AreCalm turns) → AfterChunk following Others (Turns e tail turns) (turns ≡ []) → AreCalm turns
+tail_calm : (following : Following) (e : Endpoint) (tail : List Input) (turns : List Transition) (Others : Type 0) → AllByRecursion IsCalm tail → (Others → AreCalm turns) → AfterChunk following Others (Turns e tail turns) (turns ≡ []) → AreCalm turns
 tail_calm next_chunk e tail turns Others calm others rest = others rest
 tail_calm packet_end e tail turns Others calm others rest = of_turns IsCalm e tail turns calm rest
 tail_calm dropped_rest e tail turns Others calm others rest = subst AreCalm (sym rest) tt
@@ -72,7 +72,7 @@ tail_calm dropped_rest e tail turns Others calm others rest = subst AreCalm (sym
 abbrev AllCalm : ℕ → List Content → Type 0
 AllCalm tag contents = AllByRecursion (λ content. IsCalm (chunk_input tag content)) contents
 
-chunks_calm : (e : Endpoint) (tag : ℕ) (contents : List Content) (tail : List Input) (turns : List Turned) → AllCalm tag contents → AllByRecursion IsCalm tail → ChunkTurns e tag contents tail turns → AreCalm turns
+chunks_calm : (e : Endpoint) (tag : ℕ) (contents : List Content) (tail : List Input) (turns : List Transition) → AllCalm tag contents → AllByRecursion IsCalm tail → ChunkTurns e tag contents tail turns → AreCalm turns
 chunks_calm e tag [] tail turns calm tail_is taken = of_turns IsCalm e tail turns tail_is taken
 chunks_calm e tag (content ∷ contents) tail [] calm tail_is taken = absurd taken
 chunks_calm e tag (content ∷ contents) tail (t ∷ turns) calm tail_is taken = (
@@ -103,23 +103,23 @@ ContentsAre kinds mine [] = Unit {0}
 ContentsAre kinds mine (content ∷ contents) = FrontKinds kinds mine content × AllMayFollow contents
 
 module _ (law : ChunksAreControlled) (kinds : Capabilities) where
-  calm_act : (e : Endpoint) (turns : List Turned) → AreCalm turns → AlongTurns Known e turns → EndpointIs kinds e → ActIs kinds e turns
+  calm_act : (e : Endpoint) (turns : List Transition) → AreCalm turns → AlongTurns Known e turns → EndpointIs kinds e → ActIs kinds e turns
   calm_act e turns calm known h = of_calm kinds e turns (calm_turns kinds turns e calm known h)
 
-  pub call_acts : (e : Endpoint) (call : CallContent) (turns : List Turned) → UserTurns e call turns → AlongTurns Known e turns → EndpointIs kinds e → ActIs kinds e turns
+  pub call_acts : (e : Endpoint) (call : CallContent) (turns : List Transition) → UserTurns e call turns → AlongTurns Known e turns → EndpointIs kinds e → ActIs kinds e turns
   call_acts e call turns taken known h = calm_act e turns (of_call IsCalm calls_calm e call turns (sends_calm call) taken) known h
 
   -- The association that the first chunk begins is the only one, and stays.
-  begun_first : (e : Endpoint) (t : Turned) (rest : List Turned) → GoodTurn e t → (begun : Begun e t.outcome) → link_in t.outcome.after.core ≡ Some (link_of begun.my begun.held) → HoldsNone (effects_of rest)
-      → link_in (after_all t.outcome.after rest).core ≡ link_in t.outcome.after.core → Notes e (t ∷ rest)
+  begun_first : (e : Endpoint) (t : Transition) (rest : List Transition) → GoodTurn e t → (begun : Begun e t.outcome) → identity_in t.outcome.after.core ≡ Some (identity_of begun.my begun.held) → HoldsNone (effects_of rest)
+      → identity_in (after_all t.outcome.after rest).core ≡ identity_in t.outcome.after.core → Notes e (t ∷ rest)
   begun_first e t rest good begun linked none stays =
-      let link : Link = link_of begun.my begun.held in
+      let link : AssociationIdentity = identity_of begun.my begun.held in
       let later : HoldsNone begun.later = subst FirstAlone begun.noted good.first in
       notes_one link [] (begun.later ++ effects_of rest) (ap (λ (es : List Effect). es ++ effects_of rest) begun.noted) tt (none-append begun.later (effects_of rest) later none)
-      (good.anew link (subst (Has (holds link)) (sym begun.noted) (inl refl))) (stays ∙ linked)
+      (good.anew link (subst (HasEffect (holds link)) (sym begun.noted) (inl refl))) (stays ∙ linked)
 
-  front_notes : (came : Option Content) (e : Endpoint) (t : Turned) (rest : List Turned) → GoodTurn e t → MovesLink came e t.outcome → HoldsNone (effects_of rest)
-      → link_in (after_all t.outcome.after rest).core ≡ link_in t.outcome.after.core → Notes e (t ∷ rest)
+  front_notes : (came : Option Content) (e : Endpoint) (t : Transition) (rest : List Transition) → GoodTurn e t → MovesLink came e t.outcome → HoldsNone (effects_of rest)
+      → identity_in (after_all t.outcome.after rest).core ≡ identity_in t.outcome.after.core → Notes e (t ∷ rest)
   front_notes came e t rest good (link_begins begun opening linked) none stays = begun_first e t rest good begun linked none stays
   front_notes came e t rest good (link_stays is) none stays =
       notes_none (none-append t.outcome.effects (effects_of rest) (none_among t.outcome.effects (λ link has. good.anew link has (sym is ∙ good.held link has))) none)
@@ -127,7 +127,7 @@ module _ (law : ChunksAreControlled) (kinds : Capabilities) where
       notes_none (none-append t.outcome.effects (effects_of rest) (none_among t.outcome.effects (λ link has. (let both : None ≡ Some link = sym is ∙ good.held link has in absurd (cc)))) none)
 
   -- The first chunk, the others, and the end of the packet.
-  front_act : (e : Endpoint) (tag : ℕ) (content : Content) (contents : List Content) (t : Turned) (rest : List Turned) → FrontKinds kinds (offer_of e.options) content → AllMayFollow contents → AllAllowed kinds contents
+  front_act : (e : Endpoint) (tag : ℕ) (content : Content) (contents : List Content) (t : Transition) (rest : List Transition) → FrontKinds kinds (offer_of e.options) content → AllMayFollow contents → AllAllowed kinds contents
       → EndpointIs kinds e → OpensFitting t → Known e t → AlongTurns Known t.outcome.after rest → ChunkTurns e tag (content ∷ contents) (packet_ends ∷ []) (t ∷ rest) → ActIs kinds e (t ∷ rest)
   front_act e tag content contents t rest front may allowed h fits here known taken =
       let so : TurnIs kinds e (Some content) t.outcome = turn_is kinds e (chunk_input tag content) t.outcome h tt (begins_so kinds law e tag content t.outcome front (λ opening. fits (subst (λ (i : Input). IsOpening (came_by i)) (sym taken.0.is) opening)) taken.0.comes) taken.0.comes in
@@ -135,7 +135,7 @@ module _ (law : ChunksAreControlled) (kinds : Capabilities) where
       tail_calm t.outcome.following t.outcome.after (packet_ends ∷ []) rest (ChunkTurns t.outcome.after tag contents (packet_ends ∷ []) rest) (tt, tt)
       (λ others. chunks_calm t.outcome.after tag contents (packet_ends ∷ []) rest (all_calm tag contents may) (tt, tt) others) taken.1 in
       let left : Calm kinds t.outcome.after rest = calm_turns kinds rest t.outcome.after calm known so.after in
-      let stays : link_in (after_all t.outcome.after rest).core ≡ link_in t.outcome.after.core =
+      let stays : identity_in (after_all t.outcome.after rest).core ≡ identity_in t.outcome.after.core =
       after_link kinds law t.outcome.following t.outcome.after rest (ChunkTurns t.outcome.after tag contents (packet_ends ∷ []) rest) so.after
       (λ others. rest_link kinds law t.outcome.after tag contents rest may allowed so.after others) taken.1 in
       record {
@@ -144,7 +144,7 @@ module _ (law : ChunksAreControlled) (kinds : Capabilities) where
         says = events_both kinds t.outcome.events (events_of rest) so.says left.says;
       }
 
-  whole_act : (e : Endpoint) (tag : ℕ) (contents : List Content) (turns : List Turned) → ContentsAre kinds (offer_of e.options) contents → AllAllowed kinds contents → EndpointIs kinds e → AllOpenFitting turns → AlongTurns Known e turns
+  whole_act : (e : Endpoint) (tag : ℕ) (contents : List Content) (turns : List Transition) → ContentsAre kinds (offer_of e.options) contents → AllAllowed kinds contents → EndpointIs kinds e → AllOpenFitting turns → AlongTurns Known e turns
       → ChunkTurns e tag contents (packet_ends ∷ []) turns → ActIs kinds e turns
   whole_act e tag [] turns are allowed h fit known taken = calm_act e turns (of_turns IsCalm e (packet_ends ∷ []) turns (tt, tt) taken) known h
   whole_act e tag (content ∷ contents) [] are allowed h fit known taken = absurd taken
@@ -156,11 +156,11 @@ module _ (law : ChunksAreControlled) (kinds : Capabilities) where
   contents_of : (mine own : Options) (contents : List Content) → SameOptions mine own → ContentsAre kinds (offer_of mine) contents → ContentsAre kinds (offer_of own) contents
   contents_of mine own contents same are = subst (λ (o : Offer). ContentsAre kinds o contents) (sym (same_offer mine own same)) are
 
-  admitted_act : (mine : Options) (e : Endpoint) (packet : Packet) (admission : Admission) (turns : List Turned) → SameOptions mine e.options → ContentsAre kinds (offer_of mine) packet.contents → AllAllowed kinds packet.contents
+  admitted_act : (mine : Options) (e : Endpoint) (packet : Packet) (admission : Admission) (turns : List Transition) → SameOptions mine e.options → ContentsAre kinds (offer_of mine) packet.contents → AllAllowed kinds packet.contents
       → EndpointIs kinds e → AllOpenFitting turns → AlongTurns Known e turns → AdmittedTurns e packet admission turns → ActIs kinds e turns
   admitted_act mine e packet all_chunks [] own are allowed h fit known taken = absurd taken
   admitted_act mine e packet all_chunks (t ∷ turns) own are allowed h fit known taken =
-      one_then kinds e t turns (subst IsCalm (sym taken.0.is) tt, tt) known.0 h (ap link_in (begin_core e e.core (has_data packet.contents) t.outcome taken.0.comes))
+      one_then kinds e t turns (subst IsCalm (sym taken.0.is) tt, tt) known.0 h (ap identity_in (begin_core e e.core (has_data_chunk packet.contents) t.outcome taken.0.comes))
       (λ is. whole_act t.outcome.after packet.tag packet.contents turns
       (contents_of mine t.outcome.after.options packet.contents (same_after mine e.options t.outcome.after.options own known.0.1.options) are) allowed is fit.1 known.1 taken.1)
   admitted_act mine e packet shutdown_acks_alone turns own are allowed h fit known taken =
@@ -168,13 +168,13 @@ module _ (law : ChunksAreControlled) (kinds : Capabilities) where
   admitted_act mine e packet (refused text) turns own are allowed h fit known taken = calm_act e turns (of_turns IsCalm e (refusal text ∷ []) turns (tt, tt) taken) known h
 
   -- So it is of the bytes of a packet that the other socket sent.
-  pub packet_acts : (mine : Options) (e : Endpoint) (bytes : List ℕ) (was : Packet) (turns : List Turned) → SameOptions mine e.options → ContentsAre kinds (offer_of mine) was.contents
+  pub packet_acts : (mine : Options) (e : Endpoint) (bytes : List ℕ) (was : Packet) (turns : List Transition) → SameOptions mine e.options → ContentsAre kinds (offer_of mine) was.contents
       → AllAllowed kinds was.contents → ((packet : PacketContent) → IsPacket (wire_options e.options) packet bytes → packet_in packet ≡ was) → EndpointIs kinds e → AllOpenFitting turns → AlongTurns Known e turns
       → HandleInput e bytes turns → ActIs kinds e turns
   packet_acts mine e bytes was turns own are allowed is h fit known (unreadable _ none taken) =
       calm_act e turns (of_turns IsCalm e (arrival ∷ refusal unreadable_text ∷ []) turns (tt, (tt, tt)) taken) known h
   packet_acts mine e bytes was _ own are allowed is h fit known (readable packet counted turns found counting taken) =
       let core : counted.outcome.after.core ≡ e.core = ap (λ (x : Outcome). x.after.core) counting.comes in
-      one_then kinds e counted turns (subst IsCalm (sym counting.is) tt, tt) known.0 h (ap link_in core)
+      one_then kinds e counted turns (subst IsCalm (sym counting.is) tt, tt) known.0 h (ap identity_in core)
       (λ left. admitted_act mine counted.outcome.after was (admits e.core was) turns (same_after mine e.options counted.outcome.after.options own known.0.1.options) are allowed left fit.1 known.1
       (subst (λ (p : Packet). AdmittedTurns counted.outcome.after p (admits e.core p) turns) (is packet found) taken))

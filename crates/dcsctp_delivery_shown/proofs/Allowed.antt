@@ -8,7 +8,7 @@ use Rattle.dcsctp_spec_lemmas.specs.types.declared.capabilities.Capabilities.{Ca
 use Rattle.dcsctp_spec_lemmas.specs.spec.endpoint.Endpoint.{Endpoint}
 use Rattle.dcsctp_spec_lemmas.specs.spec.Packet.{Plain, plain_out, unworked, Content, plain, Emission}
 use Rattle.dcsctp_spec_lemmas.specs.spec.association.Choices.{plain_contents}
-use Rattle.dcsctp_spec_lemmas.specs.spec.queues.Chunks.{chunk_said, AreChunks}
+use Rattle.dcsctp_spec_lemmas.specs.spec.queues.Chunks.{chunk_said, AreChunksOfTsns}
 use Rattle.dcsctp_spec_lemmas.specs.spec.queues.Filling.{Stage}
 use Rattle.dcsctp_spec_lemmas.specs.spec.queues.Items.{is_first_abandoned}
 use Rattle.dcsctp_spec_lemmas.specs.spec.queues.Outstanding.{OutstandingState}
@@ -87,7 +87,7 @@ module _ (kinds : Capabilities) where
   said_goes true tsn part is = subst (λ (b : Bool). i_data_violation b ≡ None) is refl
   said_goes false tsn part is = subst (λ (b : Bool). data_violation b ≡ None) is refl
 
-  pub data_goes : (outstanding : OutstandingState) (tsns : List ℕ) (chunks : List Plain) → outstanding.is_interleaved ≡ kinds.message_interleaving → AreChunks outstanding tsns chunks
+  pub data_goes : (outstanding : OutstandingState) (tsns : List ℕ) (chunks : List Plain) → outstanding.is_interleaved ≡ kinds.message_interleaving → AreChunksOfTsns outstanding tsns chunks
       → AllByRecursion (MayGo kinds) chunks
   data_goes outstanding [] [] is are = tt
   data_goes outstanding [] (chunk ∷ chunks) is are = absurd are

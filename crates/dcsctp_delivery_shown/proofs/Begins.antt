@@ -12,12 +12,12 @@ use Rattle.dcsctp_spec_laws.specs.TurnLaws.{ChunksAreControlled}
 use Rattle.dcsctp_spec_lemmas.specs.types.Offer.{Offer, offer_of, negotiated}
 use Rattle.dcsctp_spec_lemmas.specs.spec.endpoint.Outcome.{Outcome}
 use Rattle.dcsctp_spec_lemmas.specs.spec.Packet.{Introduction, Content, init_ack, cookie_echo, cookie_ack}
-use Rattle.dcsctp_spec_runs.specs.Past.{Has}
+use Rattle.dcsctp_spec_runs.specs.Past.{HasEffect}
 use Rattle.dcsctp_spec_lemmas.specs.spec.endpoint.Turn.{ContentTurn}
 use Rattle.dcsctp_spec_lemmas.specs.spec.association.Acts.{chunk_change}
 use Rattle.dcsctp_spec_lemmas.specs.spec.association.Choices.{Filling, Choices}
 use Rattle.dcsctp_spec_lemmas.specs.spec.association.CookieEchoChanges.{Resolution, establish_new, restart, simultaneous_init, discard, maintain_existing, invalid_tag, stale, aged, resolve, held_by_cookie, new_association_change, restart_change, maintain_change, resolved_change, read_echo_change}
-use Rattle.dcsctp_spec_lemmas.specs.spec.association.Effect.{Link, Effect, holds, ends, Change, link_of}
+use Rattle.dcsctp_spec_lemmas.specs.spec.association.Effect.{AssociationIdentity, Effect, holds, ends, Change, identity_of}
 use Rattle.dcsctp_spec_lemmas.specs.spec.association.FlushChanges.{flush}
 use Rattle.dcsctp_spec_lemmas.specs.spec.association.HandshakeChanges.{echo_change, held_by_init_ack, init_ack_change}
 use Rattle.dcsctp_theorem_association.proofs.Facts.{TrueFront}
@@ -28,7 +28,7 @@ use Rattle.dcsctp_delivery_turns.specs.Actions.{IsOpening, Begun}
 use Rattle.dcsctp_delivery_sockets.proofs.NewLinks.{link_fits}
 use Rattle.dcsctp_delivery_shown.proofs.Turns.{SameKinds, BeginsSo}
 
-pub not_among : (link : Link) (effects : List Effect) → HoldsNone effects → Has (holds link) effects → ⊥
+pub not_among : (link : AssociationIdentity) (effects : List Effect) → HoldsNone effects → HasEffect (holds link) effects → ⊥
 not_among link [] none has = has
 not_among link (effect ∷ effects) none (inl is) = subst IsNoHolding (sym is) none.0
 not_among link (effect ∷ effects) none (inr has) = not_among link effects none.1 has
@@ -39,26 +39,26 @@ echoed_none : (my : Pair) (held : Held) (cookie : List ℕ) (fits : Bool) (filli
 echoed_none my held cookie false filling = tt
 echoed_none my held cookie true filling = none-flush held.peer.tag held (cookie_echo cookie ∷ []) filling
 
-init_ack_says : (options : Options) (core : Core) (theirs : Introduction) (cookie : Option (List ℕ)) (choices : Choices) (link : Link) → Has (holds link) (init_ack_change options core theirs cookie choices).effects
+init_ack_says : (options : Options) (core : Core) (theirs : Introduction) (cookie : Option (List ℕ)) (choices : Choices) (link : AssociationIdentity) → HasEffect (holds link) (init_ack_change options core theirs cookie choices).effects
     → link.capabilities ≡ negotiated (offer_of options) theirs.offer
 init_ack_says options closed theirs cookie choices link has = absurd has
 init_ack_says options (cookie_wait my) theirs None choices link has = absurd (not_among link _ (none-append _ (ends ∷ []) (none-alone choices.fits _ _) (tt, tt)) has)
 init_ack_says options (cookie_wait my) theirs (Some cookie) choices link (inl is) =
-    let same : link ≡ link_of my (held_by_init_ack options my theirs) = cc in
-    ap (λ (l : Link). l.capabilities) same
+    let same : link ≡ identity_of my (held_by_init_ack options my theirs) = cc in
+    ap (λ (l : AssociationIdentity). l.capabilities) same
 init_ack_says options (cookie_wait my) theirs (Some cookie) choices link (inr has) =
     absurd (not_among link _ (echoed_none my (held_by_init_ack options my theirs) cookie choices.fits choices.filling) has)
 init_ack_says options (cookie_echoed my held echoed) theirs cookie choices link has = absurd has
 init_ack_says options (open_in phase my held) theirs cookie choices link has = absurd has
 
-module _ (options : Options) (cookie : Cookie) (choices : Choices) (link : Link) where
+module _ (options : Options) (cookie : Cookie) (choices : Choices) (link : AssociationIdentity) where
   abbrev Says : Change → Type 0
-  Says change = Has (holds link) change.effects → link.capabilities ≡ negotiated (offer_of options) cookie.offer
+  Says change = HasEffect (holds link) change.effects → link.capabilities ≡ negotiated (offer_of options) cookie.offer
 
   new_says : Says (new_association_change options cookie choices)
   new_says (inl is) =
-      let same : link ≡ link_of cookie.maker (held_by_cookie options cookie) = cc in
-      ap (λ (l : Link). l.capabilities) same
+      let same : link ≡ identity_of cookie.maker (held_by_cookie options cookie) = cc in
+      ap (λ (l : AssociationIdentity). l.capabilities) same
   new_says (inr (inl is)) = absurd (cc)
   new_says (inr (inr has)) =
       absurd (not_among link (flush cookie.addressee.tag (held_by_cookie options cookie) (cookie_ack ∷ []) choices.filling).effects (none-flush cookie.addressee.tag (held_by_cookie options cookie) (cookie_ack ∷ []) choices.filling) has)
@@ -78,12 +78,12 @@ module _ (options : Options) (cookie : Cookie) (choices : Choices) (link : Link)
   resolved_says core stale has = absurd has
 
 -- The cookie reads back as one with this offer.
-record SaysOffer (options : Options) (read : Result Cookie (List ℕ)) (link : Link) : Type 0 where
+record SaysOffer (options : Options) (read : Result Cookie (List ℕ)) (link : AssociationIdentity) : Type 0 where
   cookie : Cookie
   reads : read ≡ Ok cookie
   says : link.capabilities ≡ negotiated (offer_of options) cookie.offer
 
-echo_says : (options : Options) (core : Core) (header : ℕ) (read : Result Cookie (List ℕ)) (choices : Choices) (link : Link) → Has (holds link) (read_echo_change options core header read choices).effects → SaysOffer options read link
+echo_says : (options : Options) (core : Core) (header : ℕ) (read : Result Cookie (List ℕ)) (choices : Choices) (link : AssociationIdentity) → HasEffect (holds link) (read_echo_change options core header read choices).effects → SaysOffer options read link
 echo_says options core header (Err text) choices link has = absurd has
 echo_says options core header (Ok cookie) choices link has =
     record { cookie = cookie; reads = refl; says = resolved_says options cookie choices link core (aged choices.is_stale (resolve core choices.tie header cookie)) has }
@@ -109,24 +109,24 @@ module _ (kinds : Capabilities) where
   front_kinds sender mine theirs own tag content same is = tt
 
   noted_in_change : (e : Endpoint) (tag : ℕ) (content : Content) (o : Outcome) (controlled : ControlledChunk e tag content o) (begun : Begun e o)
-      → Has (holds (link_of begun.my begun.held)) (chunk_change e.options e.core tag content controlled.1.0).effects
+      → HasEffect (holds (identity_of begun.my begun.held)) (chunk_change e.options e.core tag content controlled.1.0).effects
   noted_in_change e tag content o controlled begun =
-      let noted : Has (holds (link_of begun.my begun.held)) o.effects = subst (Has (holds (link_of begun.my begun.held))) (sym begun.noted) (inl refl) in
-      subst (λ (c : Change). Has (holds (link_of begun.my begun.held)) c.effects) controlled.1.2
-      (noted_happened (holds (link_of begun.my begun.held)) controlled.0.effects (subst (Has (holds (link_of begun.my begun.held))) controlled.2.effects noted))
+      let noted : HasEffect (holds (identity_of begun.my begun.held)) o.effects = subst (HasEffect (holds (identity_of begun.my begun.held))) (sym begun.noted) (inl refl) in
+      subst (λ (c : Change). HasEffect (holds (identity_of begun.my begun.held)) c.effects) controlled.1.2
+      (noted_happened (holds (identity_of begun.my begun.held)) controlled.0.effects (subst (HasEffect (holds (identity_of begun.my begun.held))) controlled.2.effects noted))
 
   -- So it is of one that a chunk begins; its first TSN fits its field, as all that the turn leaves does.
   pub begins_so : ChunksAreControlled → (e : Endpoint) (tag : ℕ) (content : Content) (o : Outcome) → FrontKinds (offer_of e.options) content → (IsOpening (Some content) → FitsCore o.after.core) → ContentTurn e tag content o → BeginsSo kinds e (Some content) o
   begins_so law e tag (init_ack theirs cookie) o front fits turn = λ begun opening linked.
       let controlled : ControlledChunk e tag (init_ack theirs cookie) o = law e tag (init_ack theirs cookie) o turn tt in (
         so_of begun.held.capabilities (negotiated (offer_of e.options) theirs.offer)
-            (init_ack_says e.options e.core theirs cookie controlled.1.0 (link_of begun.my begun.held) (noted_in_change e tag (init_ack theirs cookie) o controlled begun)) front,
-        (link_fits o.after.core (link_of begun.my begun.held) (fits opening) linked).my.first_tsn,
+            (init_ack_says e.options e.core theirs cookie controlled.1.0 (identity_of begun.my begun.held) (noted_in_change e tag (init_ack theirs cookie) o controlled begun)) front,
+        (link_fits o.after.core (identity_of begun.my begun.held) (fits opening) linked).my.first_tsn,
       )
   begins_so law e tag (cookie_echo bytes) o front fits turn = λ begun opening linked.
       let controlled : ControlledChunk e tag (cookie_echo bytes) o = law e tag (cookie_echo bytes) o turn tt in
-      let said = echo_says e.options e.core tag (cookie_at bytes) controlled.1.0 (link_of begun.my begun.held) (noted_in_change e tag (cookie_echo bytes) o controlled begun) in (
+      let said = echo_says e.options e.core tag (cookie_at bytes) controlled.1.0 (identity_of begun.my begun.held) (noted_in_change e tag (cookie_echo bytes) o controlled begun) in (
         so_of begun.held.capabilities (negotiated (offer_of e.options) said.cookie.offer) said.says (front said.cookie said.reads),
-        (link_fits o.after.core (link_of begun.my begun.held) (fits opening) linked).my.first_tsn,
+        (link_fits o.after.core (identity_of begun.my begun.held) (fits opening) linked).my.first_tsn,
       )
   begins_so law e tag content o front fits turn = λ begun opening linked. absurd opening

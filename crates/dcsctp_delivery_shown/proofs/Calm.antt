@@ -3,13 +3,13 @@ use Rattle.std.proofs.Common.{◌≡◌, ◌≢◌, Option, None, Some, List, []
 use Rattle.std.specs.List.{AllByRecursion}
 use Rattle.dcsctp_spec_lemmas.specs.types.declared.capabilities.Capabilities.{Capabilities}
 use Rattle.dcsctp_spec_lemmas.specs.types.Settings.{SameOptions}
-use Rattle.dcsctp_spec_lemmas.specs.spec.endpoint.CallTurns.{Turned, AlongTurns, after_all, effects_of, events_of}
+use Rattle.dcsctp_spec_lemmas.specs.spec.endpoint.CallTurns.{Transition, AlongTurns, after_all, effects_of, events_of}
 use Rattle.dcsctp_spec_lemmas.specs.spec.endpoint.Endpoint.{Endpoint}
 use Rattle.dcsctp_spec_lemmas.specs.spec.endpoint.Event.{packets_in}
 use Rattle.dcsctp_spec_lemmas.specs.spec.Packet.{Content}
-use Rattle.dcsctp_spec_runs.specs.Past.{Has}
+use Rattle.dcsctp_spec_runs.specs.Past.{HasEffect}
 use Rattle.dcsctp_spec_lemmas.specs.spec.endpoint.Turn.{Turn}
-use Rattle.dcsctp_spec_lemmas.specs.spec.association.Effect.{Link, Effect, draws, sends, holds, connects, ends, begins, gives_up, completes, fails, accepts, performs, resumes, noted, link_in}
+use Rattle.dcsctp_spec_lemmas.specs.spec.association.Effect.{AssociationIdentity, Effect, draws, sends, holds, connects, ends, begins, gives_up, completes, fails, accepts, performs, resumes, noted, identity_in}
 use Rattle.dcsctp_theorem_association.specs.OneSide.{EffectsMean}
 use Rattle.dcsctp_theorem_sockets.specs.Telling.{NotesAnew}
 use Rattle.dcsctp_theorem_sockets.proofs.NewAssociations.{FirstAlone, change_anew}
@@ -24,11 +24,11 @@ use Rattle.dcsctp_delivery_shown.proofs.Turns.{EndpointIs, IsCalm, calm_step, ca
 -- ---- each turn
 
 -- What a turn notes of associations: at most one, and that first. It is there after the turn, and wasn't before.
-pub record GoodTurn (e : Endpoint) (t : Turned) : Type 0 where
+pub record GoodTurn (e : Endpoint) (t : Transition) : Type 0 where
   pub options : SameOptions e.options t.outcome.after.options
   pub first : FirstAlone t.outcome.effects
   pub anew : NotesAnew e t
-  pub held : (link : Link) → Has (holds link) t.outcome.effects → link_in t.outcome.after.core ≡ Some link
+  pub held : (link : AssociationIdentity) → HasEffect (holds link) t.outcome.effects → identity_in t.outcome.after.core ≡ Some link
 
 noted_none : (effects : List Effect) → HoldsNone effects → HoldsNone (noted effects)
 noted_none [] none = tt
@@ -65,48 +65,48 @@ noted_alone (performs peer number ∷ effects) first = noted_none effects first
 noted_alone (resumes link own last ∷ effects) first = noted_none effects first
 
 -- So it is of each turn that moves the association as the machine does.
-pub good_turn : EffectsMean → (e : Endpoint) (t : Turned) → Moves e t.outcome → GoodTurn e t
+pub good_turn : EffectsMean → (e : Endpoint) (t : Transition) → Moves e t.outcome → GoodTurn e t
 good_turn law e t (it_rests core options effects told) =
     record {
       options = options;
       first = subst FirstAlone (sym effects) tt;
-      anew = λ link has. absurd (subst (Has (holds link)) effects has);
-      held = λ link has. absurd (subst (Has (holds link)) effects has);
+      anew = λ link has. absurd (subst (HasEffect (holds link)) effects has);
+      held = λ link has. absurd (subst (HasEffect (holds link)) effects has);
     }
 good_turn law e t (it_moves change turn is) =
     let new = change_anew e.options e.core change turn in
     record {
       options = is.options;
       first = subst FirstAlone (sym is.effects) (noted_alone change.effects new.first);
-      anew = λ link has. new.anew link (noted_happened (holds link) change.effects (subst (Has (holds link)) is.effects has));
-      held = λ link has. ap link_in is.core ∙ (law e.options e.core change turn).held link (noted_happened (holds link) change.effects (subst (Has (holds link)) is.effects has));
+      anew = λ link has. new.anew link (noted_happened (holds link) change.effects (subst (HasEffect (holds link)) is.effects has));
+      held = λ link has. ap identity_in is.core ∙ (law e.options e.core change turn).held link (noted_happened (holds link) change.effects (subst (HasEffect (holds link)) is.effects has));
     }
 
 -- What is known of each turn of a run.
-abbrev pub Known : Endpoint → Turned → Type 0
+abbrev pub Known : Endpoint → Transition → Type 0
 Known e t = Turn e t.input t.outcome × GoodTurn e t
 
 -- ---- turns that begin nothing
 
-pub none_among : (effects : List Effect) → ((link : Link) → Has (holds link) effects → ⊥) → HoldsNone effects
+pub none_among : (effects : List Effect) → ((link : AssociationIdentity) → HasEffect (holds link) effects → ⊥) → HoldsNone effects
 none_among [] without = tt
 none_among (holds link ∷ effects) without = absurd (without link (inl refl))
 none_among (effect ∷ effects) without = (tt, none_among effects (λ link has. without link (inr has)))
 
 -- A turn that begins no association notes none.
-pub none_noted : (came : Option Content) (e : Endpoint) (t : Turned) → GoodTurn e t → (IsOpening came → ⊥) → MovesLink came e t.outcome → HoldsNone t.outcome.effects
+pub none_noted : (came : Option Content) (e : Endpoint) (t : Transition) → GoodTurn e t → (IsOpening came → ⊥) → MovesLink came e t.outcome → HoldsNone t.outcome.effects
 none_noted came e t good unopened (link_stays is) = none_among t.outcome.effects (λ link has. good.anew link has (sym is ∙ good.held link has))
 none_noted came e t good unopened (link_ends none) = none_among t.outcome.effects (λ link has. (let both : None ≡ Some link = sym none ∙ good.held link has in absurd (cc)))
 none_noted came e t good unopened (link_begins begun opening linked) = absurd (unopened opening)
 
 module _ (kinds : Capabilities) where
   -- The turns note no association; their kinds are kept.
-  pub record Calm (e : Endpoint) (turns : List Turned) : Type 0 where
+  pub record Calm (e : Endpoint) (turns : List Transition) : Type 0 where
     pub none : HoldsNone (effects_of turns)
     pub is : EndpointIs kinds (after_all e turns)
     pub says : AreAllowed kinds (packets_in (events_of turns))
 
-  pub calm_turns : (turns : List Turned) (e : Endpoint) → AllByRecursion (λ t. IsCalm t.input) turns → AlongTurns Known e turns → EndpointIs kinds e → Calm e turns
+  pub calm_turns : (turns : List Transition) (e : Endpoint) → AllByRecursion (λ t. IsCalm t.input) turns → AlongTurns Known e turns → EndpointIs kinds e → Calm e turns
   calm_turns [] e calm known h = record { none = tt; is = h; says = tt }
   calm_turns (t ∷ turns) e calm known h =
       let so : TurnIs kinds e (came_by t.input) t.outcome =
@@ -121,27 +121,27 @@ module _ (kinds : Capabilities) where
 -- ---- an act
 
 -- The turns note no association; or one, which wasn't there before them and is there after them.
-pub data Notes (e : Endpoint) (turns : List Turned) : Type 0 where
+pub data Notes (e : Endpoint) (turns : List Transition) : Type 0 where
   notes_none : HoldsNone (effects_of turns) → Notes e turns
-  notes_one : (link : Link) (front later : List Effect) → effects_of turns ≡ front ++ holds link ∷ later → HoldsNone front → HoldsNone later → link_in e.core ≢ Some link → link_in (after_all e turns).core ≡ Some link
+  notes_one : (link : AssociationIdentity) (front later : List Effect) → effects_of turns ≡ front ++ holds link ∷ later → HoldsNone front → HoldsNone later → identity_in e.core ≢ Some link → identity_in (after_all e turns).core ≡ Some link
       → Notes e turns
 
-pub record ActIs (kinds : Capabilities) (e : Endpoint) (turns : List Turned) : Type 0 where
+pub record ActIs (kinds : Capabilities) (e : Endpoint) (turns : List Transition) : Type 0 where
   pub notes : Notes e turns
   pub is : EndpointIs kinds (after_all e turns)
   pub says : AreAllowed kinds (packets_in (events_of turns))
 
-pub of_calm : (kinds : Capabilities) (e : Endpoint) (turns : List Turned) → Calm kinds e turns → ActIs kinds e turns
+pub of_calm : (kinds : Capabilities) (e : Endpoint) (turns : List Transition) → Calm kinds e turns → ActIs kinds e turns
 of_calm kinds e turns calm = record { notes = notes_none calm.none; is = calm.is; says = calm.says }
 
 -- a turn in front that leaves the association and notes none
-front_notes : (e : Endpoint) (t : Turned) (turns : List Turned) → HoldsNone t.outcome.effects → link_in t.outcome.after.core ≡ link_in e.core → Notes t.outcome.after turns → Notes e (t ∷ turns)
+front_notes : (e : Endpoint) (t : Transition) (turns : List Transition) → HoldsNone t.outcome.effects → identity_in t.outcome.after.core ≡ identity_in e.core → Notes t.outcome.after turns → Notes e (t ∷ turns)
 front_notes e t turns none same (notes_none others) = notes_none (none-append t.outcome.effects (effects_of turns) none others)
 front_notes e t turns none same (notes_one link front later is front_none later_none other there) =
     notes_one link (t.outcome.effects ++ front) later (ap (λ (es : List Effect). t.outcome.effects ++ es) is ∙ sym (append_assoc t.outcome.effects front (holds link ∷ later)))
     (none-append t.outcome.effects front none front_none) later_none (λ was. other (same ∙ was)) there
 
-pub one_then : (kinds : Capabilities) (e : Endpoint) (t : Turned) (turns : List Turned) → AllByRecursion (λ u. IsCalm u.input) (t ∷ []) → Known e t → EndpointIs kinds e → link_in t.outcome.after.core ≡ link_in e.core
+pub one_then : (kinds : Capabilities) (e : Endpoint) (t : Transition) (turns : List Transition) → AllByRecursion (λ u. IsCalm u.input) (t ∷ []) → Known e t → EndpointIs kinds e → identity_in t.outcome.after.core ≡ identity_in e.core
     → (EndpointIs kinds t.outcome.after → ActIs kinds t.outcome.after turns) → ActIs kinds e (t ∷ turns)
 one_then kinds e t turns calm known h same rest =
     let so : TurnIs kinds e (came_by t.input) t.outcome =

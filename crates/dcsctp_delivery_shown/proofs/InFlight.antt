@@ -9,10 +9,10 @@ use Rattle.dcsctp_spec_lemmas.specs.spec.queues.Abandoning.{GivesUpFirst, GivesU
 use Rattle.dcsctp_spec_lemmas.specs.types.declared.progress.Change.TheVariants.{Miss}
 use Rattle.dcsctp_spec_lemmas.specs.spec.queues.Acknowledging.{covered, lossy, missed_until, exiting, AcknowledgesItems}
 use Rattle.dcsctp_spec_lemmas.specs.spec.queues.AtOnce.{empty_stage, SendsAtOnce}
-use Rattle.dcsctp_spec_lemmas.specs.spec.queues.Filling.{Stage, DropsRestAt, Closes, GivesUpAt, SendsMarked, SendsNew, FindsNone, StepAgain, StepNew, Steps, none, more, counting, FillsPacket}
+use Rattle.dcsctp_spec_lemmas.specs.spec.queues.Filling.{Stage, DropsRestAt, ClosesMessage, GivesUpAt, SendsMarked, SendsNew, FindsNone, StepAgain, StepNew, StageSteps, none, more, resent_packet_counted, FillsPacket}
 use Rattle.dcsctp_spec_lemmas.specs.spec.queues.ItemMessages.{EndsDropped}
 use Rattle.dcsctp_spec_lemmas.specs.spec.queues.Items.{Item, marked_items, changed_between}
-use Rattle.dcsctp_spec_lemmas.specs.spec.queues.Outstanding.{OutstandingState, tsn_at, acknowledged_by}
+use Rattle.dcsctp_spec_lemmas.specs.spec.queues.Outstanding.{OutstandingState, tsn_at, acknowledged_count}
 use Rattle.dcsctp_spec_lemmas.specs.spec.queues.Retransmission.{RetransmissionState, with_items, counted_again}
 use Rattle.dcsctp_spec_lemmas.specs.spec.queues.SendQueue.{SendQueueState}
 use Rattle.dcsctp_spec_lemmas.specs.spec.queues.Transfer.{Transfer}
@@ -38,7 +38,7 @@ module _ (kinds : Capabilities) where
   drops_is now last old new h does =
       subst StageIs (sym does.is) (dropped_same now old.queue.reset_begun last old.queue.outstanding does.outstanding does.drops.is_dropped does.drops.ends ∙ h.0, h.1)
 
-  closes_is : (now : ℕ) (last : Item) (old new : Stage) (b : Bool) → StageIs old → Closes now last old new b → StageIs new
+  closes_is : (now : ℕ) (last : Item) (old new : Stage) (b : Bool) → StageIs old → ClosesMessage now last old new b → StageIs new
   closes_is now last old new true h does = subst StageIs (sym does) h
   closes_is now last old new false h (inl does) = drops_is now last old new h does.1
   closes_is now last old new false h (inr does) = subst StageIs (sym does.1) h
@@ -59,7 +59,7 @@ module _ (kinds : Capabilities) where
   anew_is now old new h (inl does) = subst StageIs (sym does.is) h
   anew_is now old new h (inr does) = subst StageIs (sym does.is) h
 
-  steps_are : (Step : Stage → Stage → Type 0) → ((old new : Stage) → StageIs old → Step old new → StageIs new) → (old new : Stage) → StageIs old → Steps Step old new → StageIs new
+  steps_are : (Step : Stage → Stage → Type 0) → ((old new : Stage) → StageIs old → Step old new → StageIs new) → (old new : Stage) → StageIs old → StageSteps Step old new → StageIs new
   steps_are Step step old _ h none = h
   steps_are Step step old new h (more between _ steps last) = step between new (steps_are Step step old between h steps) last
 
@@ -75,8 +75,8 @@ module _ (kinds : Capabilities) where
   fills_is : (now : ℕ) (old new : Stage) → StageIs old → FillsPacket now old new → StageIs new
   fills_is now old new h does =
       let resent : StageIs does.fills.resent = steps_are (StepAgain now) (again_is now) old does.fills.resent h does.fills.again in
-      let counted : StageIs (counting old.room does.fills.resent) = counted_is (old.room - does.fills.resent.room) does.fills.resent.queue resent in
-      subst StageIs (sym does.is) (steps_are (StepNew now) (λ o n k step. anew_is now o n k step.1) (counting old.room does.fills.resent) does.sent counted does.fills.anew)
+      let counted : StageIs (resent_packet_counted old.room does.fills.resent) = counted_is (old.room - does.fills.resent.room) does.fills.resent.queue resent in
+      subst StageIs (sym does.is) (steps_are (StepNew now) (λ o n k step. anew_is now o n k step.1) (resent_packet_counted old.room does.fills.resent) does.sent counted does.fills.anew)
 
   pub fills_where_is : (b : Bool) (now : ℕ) (old new : Stage) → StageIs old → FillsWhere b now old new → StageIs new
   fills_where_is true now old new h does = fills_is now old new h does
@@ -109,7 +109,7 @@ module _ (kinds : Capabilities) where
 
   acknowledged_is : (now cumulative window : ℕ) (blocks : List GapAckBlock) (old new : RetransmissionState) → IsOf kinds old → AcknowledgesItems now cumulative window blocks old new → IsOf kinds new
   acknowledged_is now cumulative window blocks old new h does =
-      let count = acknowledged_by old.outstanding cumulative in
+      let count = acknowledged_count old.outstanding cumulative in
       subst (IsOf kinds) (sym does.is)
       (missed_is count does.limit (option_map (tsn_at old.outstanding) does.newest) (with_items (covered count blocks old.outstanding.items) (exiting cumulative old)) h)
 

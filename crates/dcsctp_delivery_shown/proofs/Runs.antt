@@ -5,15 +5,15 @@ use Rattle.dcsctp_spec_lemmas.specs.types.declared.capabilities.Capabilities.{Ca
 use Rattle.dcsctp_spec_lemmas.specs.types.declared.options.Options.{Options}
 use Rattle.dcsctp_spec_lemmas.specs.types.declared.schedule.Side.{Side}
 use Rattle.dcsctp_spec_lemmas.specs.types.declared.schedule.Side.TheVariants as sides
-use Rattle.dcsctp_spec_lemmas.specs.spec.endpoint.CallTurns.{Turned, AlongTurns, events_of}
+use Rattle.dcsctp_spec_lemmas.specs.spec.endpoint.CallTurns.{Transition, AlongTurns, events_of}
 use Rattle.dcsctp_spec_lemmas.specs.spec.endpoint.Endpoint.{Core, closed, cookie_wait, cookie_echoed, open_in, association_of, fresh_endpoint}
 use Rattle.dcsctp_spec_runs.specs.Fitting.{AllSent}
 use Rattle.dcsctp_spec_lemmas.specs.types.Offer.{Offer, offer_of, negotiated}
 use Rattle.dcsctp_spec_lemmas.specs.types.Schedule.{StepContent, ActContent, step_act, outside_act, IsHonestAct, AreHonest}
-use Rattle.dcsctp_spec_runs.specs.Sockets.{Worked, Both, of_side, of_other, with_turns, turns_after, endpoint_after, packets_shown, StepTurns, SocketRun, side_of, side_of_act, NextTurns, acts_of}
+use Rattle.dcsctp_spec_runs.specs.Sockets.{PerformedAct, Both, of_side, of_other, side_turns_added, turns_after, endpoint_after, packets_shown, StepTurns, SocketRun, side_of, side_of_act, NextTurns, acts_of}
 use Rattle.dcsctp_spec_runs.specs.World as machine
 use Rattle.dcsctp_spec_runs.specs.World.{world_after}
-use Rattle.dcsctp_spec_lemmas.specs.spec.association.Effect.{Link, link_in}
+use Rattle.dcsctp_spec_lemmas.specs.spec.association.Effect.{AssociationIdentity, identity_in}
 use Rattle.dcsctp_spec_runs.proofs.RunsAlong.{run_along}
 use Rattle.dcsctp_spec_lemmas.proofs.TurnLists.{events_of-append}
 use Rattle.dcsctp_theorem_association.proofs.Agreement.{TrueWorld}
@@ -26,7 +26,7 @@ use Rattle.dcsctp_delivery_directions.specs.Directions.{nothing_asked}
 use Rattle.dcsctp_delivery_sockets.proofs.Delivery.{DeliveryLaws}
 use Rattle.dcsctp_delivery_sockets.proofs.Echoes.{true_world}
 use Rattle.dcsctp_delivery_sockets.proofs.Known.{along_front, along_rest, sent_front, IsOwn, own_turn}
-use Rattle.dcsctp_delivery_shown.specs.Shown.{link_shown, links_shown, ShownTagsSuffice}
+use Rattle.dcsctp_delivery_shown.specs.Shown.{identity_shown, identities_shown, ShownTagsSuffice}
 use Rattle.dcsctp_delivery_shown.proofs.Turns.{SameKinds, EndpointIs}
 use Rattle.dcsctp_delivery_shown.proofs.Calm.{GoodTurn, good_turn, Known, ActIs}
 use Rattle.dcsctp_delivery_shown.proofs.Sides.{SideIs, acted_side, rested_side}
@@ -34,40 +34,40 @@ use Rattle.dcsctp_delivery_shown.proofs.Steps.{along_both, WasTrue, was_true, st
 
 -- ---- both sides
 
-record BothSides (kinds : Capabilities) (options : Both Options) (turns : Both (List Turned)) (shown_a shown_b : List (Option Link)) : Type 0 where
+record BothSides (kinds : Capabilities) (options : Both Options) (turns : Both (List Transition)) (shown_a shown_b : List (Option AssociationIdentity)) : Type 0 where
   a : SideIs kinds options.a turns.a shown_a
   b : SideIs kinds options.b turns.b shown_b
 
 -- What is known of one side: of each turn, and of what it sent.
-record SideGood (kinds : Capabilities) (mine theirs : Options) (turns : List Turned) : Type 0 where
+record SideGood (kinds : Capabilities) (mine theirs : Options) (turns : List Transition) : Type 0 where
   known : AlongTurns Known (fresh_endpoint mine) turns
   packets : AllSent (WasTrue kinds (offer_of theirs)) (events_of turns)
 
-record BothGood (kinds : Capabilities) (options : Both Options) (turns : Both (List Turned)) : Type 0 where
+record BothGood (kinds : Capabilities) (options : Both Options) (turns : Both (List Transition)) : Type 0 where
   a : SideGood kinds options.a options.b turns.a
   b : SideGood kinds options.b options.a turns.b
 
-side_front : (kinds : Capabilities) (mine theirs : Options) (turns more : List Turned) → SideGood kinds mine theirs (turns ++ more) → SideGood kinds mine theirs turns
+side_front : (kinds : Capabilities) (mine theirs : Options) (turns more : List Transition) → SideGood kinds mine theirs (turns ++ more) → SideGood kinds mine theirs turns
 side_front kinds mine theirs turns more h =
     record {
       known = along_front Known (fresh_endpoint mine) turns more h.known;
       packets = sent_front (WasTrue kinds (offer_of theirs)) (events_of turns) (events_of more) (subst (AllSent (WasTrue kinds (offer_of theirs))) (events_of-append turns more) h.packets);
     }
 
-both_front : (kinds : Capabilities) (options : Both Options) (turns : Both (List Turned)) (side : Side) (more : List Turned) → BothGood kinds options (with_turns side more turns) → BothGood kinds options turns
+both_front : (kinds : Capabilities) (options : Both Options) (turns : Both (List Transition)) (side : Side) (more : List Transition) → BothGood kinds options (side_turns_added side more turns) → BothGood kinds options turns
 both_front kinds options turns sides.A more h = record { a = side_front kinds options.a options.b turns.a more h.a; b = h.b }
 both_front kinds options turns sides.B more h = record { a = h.a; b = side_front kinds options.b options.a turns.b more h.b }
 
 -- ---- an act
 
 -- the association of a side after these turns
-abbrev link_at : Options → List Turned → Option Link
-link_at options turns = link_in (endpoint_after options turns).core
+abbrev link_at : Options → List Transition → Option AssociationIdentity
+link_at options turns = identity_in (endpoint_after options turns).core
 
 module _ (law : DeliveryLaws) (kinds : Capabilities) (options : Both Options) (are : AreUsable options) where
-  stepped : (turns : Both (List Turned)) (step : StepContent) (more : List Turned) (side : Side) (shown_a shown_b : List (Option Link)) → Joined options turns → BothGood kinds options (with_turns side more turns)
+  stepped : (turns : Both (List Transition)) (step : StepContent) (more : List Transition) (side : Side) (shown_a shown_b : List (Option AssociationIdentity)) → Joined options turns → BothGood kinds options (side_turns_added side more turns)
       → BothSides kinds options turns shown_a shown_b → StepTurns (endpoint_after (of_side side options) (of_side side turns)) (packets_shown (of_other side options) (of_other side turns)) step more
-      → BothSides kinds options (with_turns side more turns) (link_at options.a (with_turns side more turns).a ∷ shown_a) (link_at options.b (with_turns side more turns).b ∷ shown_b)
+      → BothSides kinds options (side_turns_added side more turns) (link_at options.a (side_turns_added side more turns).a ∷ shown_a) (link_at options.b (side_turns_added side more turns).b ∷ shown_b)
   stepped turns step more sides.A shown_a shown_b j good h taken =
       let act : ActIs kinds (endpoint_after options.a turns.a) more =
       step_acts law kinds options.a options.b turns.a turns.b more shown_a shown_b j.a.fits j.a.own_options (are sides.B).fits (along_rest Known (fresh_endpoint options.a) turns.a more good.a.known) good.b.packets h.a h.b step taken in
@@ -77,15 +77,15 @@ module _ (law : DeliveryLaws) (kinds : Capabilities) (options : Both Options) (a
       step_acts law kinds options.b options.a turns.b turns.a more shown_b shown_a j.b.fits j.b.own_options (are sides.A).fits (along_rest Known (fresh_endpoint options.b) turns.b more good.b.known) good.a.packets h.b h.a step taken in
       record { a = rested_side kinds options.a turns.a shown_a h.a; b = acted_side kinds options.b turns.b shown_b more h.b act }
 
-  acted : (turns : Both (List Turned)) (act : ActContent) (more : List Turned) (shown_a shown_b : List (Option Link)) → IsHonestAct act → Joined options turns → BothGood kinds options (with_turns (side_of_act act) more turns)
+  acted : (turns : Both (List Transition)) (act : ActContent) (more : List Transition) (shown_a shown_b : List (Option AssociationIdentity)) → IsHonestAct act → Joined options turns → BothGood kinds options (side_turns_added (side_of_act act) more turns)
       → BothSides kinds options turns shown_a shown_b → NextTurns options turns act more
-      → let after = with_turns (side_of_act act) more turns in BothSides kinds options after (link_at options.a after.a ∷ shown_a) (link_at options.b after.b ∷ shown_b)
+      → let after = side_turns_added (side_of_act act) more turns in BothSides kinds options after (link_at options.a after.a ∷ shown_a) (link_at options.b after.b ∷ shown_b)
   acted turns (step_act step) more shown_a shown_b honest j good h taken = stepped turns step more (side_of step) shown_a shown_b j good h taken
   acted turns (outside_act outside) more shown_a shown_b honest j good h taken = absurd honest
 
   -- ---- a run
 
-  shown_is : (core : Core) → link_in core ≡ link_shown (association_of core)
+  shown_is : (core : Core) → identity_in core ≡ identity_shown (association_of core)
   shown_is closed = refl
   shown_is (cookie_wait my) = refl
   shown_is (cookie_echoed my held cookie) = refl
@@ -95,8 +95,8 @@ module _ (law : DeliveryLaws) (kinds : Capabilities) (options : Both Options) (a
   fresh_is : (own : Options) → EndpointIs kinds (fresh_endpoint own)
   fresh_is own = record { linked = tt; left = tt; asks = record { first = 0; asking = nothing_asked; fits = tt } }
 
-  both_sides : (run : List Worked) → SocketRun options run → AreHonest (acts_of run) → BothGood kinds options (turns_after run)
-      → BothSides kinds options (turns_after run) (links_shown sides.A options run) (links_shown sides.B options run)
+  both_sides : (run : List PerformedAct) → SocketRun options run → AreHonest (acts_of run) → BothGood kinds options (turns_after run)
+      → BothSides kinds options (turns_after run) (identities_shown sides.A options run) (identities_shown sides.B options run)
   both_sides [] runs honest good =
       record {
         a = record { is = fresh_is options.a; says = tt; newest = refl; past = record { among = λ link has. absurd has; each = λ serve. tt } };
@@ -104,14 +104,14 @@ module _ (law : DeliveryLaws) (kinds : Capabilities) (options : Both Options) (a
       }
   both_sides (worked ∷ earlier) runs honest good =
       let before : BothGood kinds options (turns_after earlier) = both_front kinds options (turns_after earlier) (side_of_act worked.act) worked.turns good in
-      let turns : Both (List Turned) = turns_after (worked ∷ earlier) in
-      let shown_a : List (Option Link) = links_shown sides.A options earlier in
-      let shown_b : List (Option Link) = links_shown sides.B options earlier in
+      let turns : Both (List Transition) = turns_after (worked ∷ earlier) in
+      let shown_a : List (Option AssociationIdentity) = identities_shown sides.A options earlier in
+      let shown_b : List (Option AssociationIdentity) = identities_shown sides.B options earlier in
       let now : BothSides kinds options turns (link_at options.a turns.a ∷ shown_a) (link_at options.b turns.b ∷ shown_b) =
       acted (turns_after earlier) worked.act worked.turns shown_a shown_b honest.0 (joined law.below options earlier are runs.1 honest.1) good (both_sides earlier runs.1 honest.1 before) runs.0 in
       record {
-        a = subst (λ (entry : Option Link). SideIs kinds options.a turns.a (entry ∷ shown_a)) (shown_is (endpoint_after options.a turns.a).core) now.a;
-        b = subst (λ (entry : Option Link). SideIs kinds options.b turns.b (entry ∷ shown_b)) (shown_is (endpoint_after options.b turns.b).core) now.b;
+        a = subst (λ (entry : Option AssociationIdentity). SideIs kinds options.a turns.a (entry ∷ shown_a)) (shown_is (endpoint_after options.a turns.a).core) now.a;
+        b = subst (λ (entry : Option AssociationIdentity). SideIs kinds options.b turns.b (entry ∷ shown_b)) (shown_is (endpoint_after options.b turns.b).core) now.b;
       }
 
 -- ---- what is known of a run
@@ -134,7 +134,7 @@ true_past : (own their : Options) (side other : machine.SideState) → side.opti
 true_past own their side other own_is their_is past =
     subst (λ (o : Options). TruePast (offer_of own) (offer_of o) side.past other.past) their_is (subst (λ (o : Options). TruePast (offer_of o) (offer_of other.options) side.past other.past) own_is past)
 
-both_good : DeliveryLaws → (options : Both Options) (run : List Worked) → AreUsable options → SocketRun options run → AreHonest (acts_of run) → AreFresh (turns_after run) → BothGood (kinds_of options) options (turns_after run)
+both_good : DeliveryLaws → (options : Both Options) (run : List PerformedAct) → AreUsable options → SocketRun options run → AreHonest (acts_of run) → AreFresh (turns_after run) → BothGood (kinds_of options) options (turns_after run)
 both_good law options run are runs honest fresh =
     let j : Joined options (turns_after run) = joined law.below options run are runs honest in
     let world : machine.World = world_after options.a options.b j.steps in
@@ -155,7 +155,7 @@ both_good law options run are runs honest fresh =
 
 pub shown_tags_suffice : DeliveryLaws → ShownTagsSuffice
 shown_tags_suffice law options run are runs honest fresh serve =
-    let h : BothSides (kinds_of options) options (turns_after run) (links_shown sides.A options run) (links_shown sides.B options run) =
+    let h : BothSides (kinds_of options) options (turns_after run) (identities_shown sides.A options run) (identities_shown sides.B options run) =
     both_sides law (kinds_of options) options are run runs honest (both_good law options run are runs honest fresh) in
     record {
       a = h.a.past.each serve.a;

@@ -5,7 +5,7 @@ use Rattle.dcsctp_spec_lemmas.specs.types.declared.capabilities.Capabilities.{Ca
 use Rattle.dcsctp_spec_lemmas.specs.types.declared.ends.Violation.{Violation}
 use Rattle.dcsctp_spec_lemmas.specs.spec.endpoint.Cause.{Cause}
 use Rattle.dcsctp_spec_lemmas.specs.spec.association.Controlled.{IsControlled, ControlledChunk}
-use Rattle.dcsctp_spec_lemmas.specs.spec.endpoint.CallTurns.{Turned, IsTurn, Turns, AfterChunk, ChunkTurns, after_all}
+use Rattle.dcsctp_spec_lemmas.specs.spec.endpoint.CallTurns.{Transition, IsTurn, Turns, AfterChunk, ChunkTurns, after_all}
 use Rattle.dcsctp_spec_lemmas.specs.spec.endpoint.Endpoint.{Endpoint, Core, closed, cookie_wait, cookie_echoed, open_in, shutdown_pending, shutdown_received}
 use Rattle.dcsctp_spec_lemmas.specs.spec.endpoint.Following.{Following, next_chunk, packet_end, dropped_rest}
 use Rattle.dcsctp_spec_laws.specs.TurnLaws.{ChunksAreControlled}
@@ -15,12 +15,12 @@ use Rattle.dcsctp_spec_lemmas.specs.spec.Reconfiguration.{ResetParameter}
 use Rattle.dcsctp_spec_lemmas.specs.spec.endpoint.Turn.{chunk_input, packet_ends, ContentTurn}
 use Rattle.dcsctp_spec_lemmas.specs.spec.association.Acts.{flush_change, plain_change}
 use Rattle.dcsctp_spec_lemmas.specs.spec.association.Choices.{Choices}
-use Rattle.dcsctp_spec_lemmas.specs.spec.association.Effect.{link_in}
+use Rattle.dcsctp_spec_lemmas.specs.spec.association.Effect.{identity_in}
 use Rattle.dcsctp_spec_lemmas.specs.spec.association.ResetChanges.{re_config_change}
 use Rattle.dcsctp_spec_lemmas.specs.spec.association.ShutdownChanges.{shutdown_step_change}
 use Rattle.dcsctp_spec_lemmas.specs.spec.queues.Arrivals.{data_arrival, i_data_arrival, skipped_in, messages_skipped_in}
 use Rattle.dcsctp_spec_lemmas.specs.spec.endpoint.HeartbeatOutcomes.{heartbeat_outcome, heartbeat_ack_outcome, answered, info_in, counter_of}
-use Rattle.dcsctp_spec_lemmas.specs.spec.endpoint.PlainOutcomes.{violation_by, violation_at, PlainTurnBy, is_reported, after_unknown, unknown_bytes, unknown_told, unknown_outcome, error_outcome}
+use Rattle.dcsctp_spec_lemmas.specs.spec.endpoint.PlainOutcomes.{violation_by, violation_at, PlainTurnBy, is_reported, after_unknown, unknown_bytes, unknown_chunk_outcome, unknown_outcome, error_outcome}
 use Rattle.dcsctp_spec_laws.proofs.DataLemmas.{chosen, FlushedAt, data_at, forward_at, end_at}
 use Rattle.dcsctp_spec_laws.proofs.SackLemmas.{SteppedAt, sack_at}
 use Rattle.dcsctp_theorem_sockets.proofs.Bursts.{emits_core}
@@ -36,19 +36,19 @@ IsHeldIn (cookie_wait my) = ⊥
 IsHeldIn (cookie_echoed my held cookie) = Unit {0}
 IsHeldIn (open_in phase my held) = Unit {0}
 
-held_some : (core : Core) → IsHeldIn core → link_in core ≡ None → ⊥
+held_some : (core : Core) → IsHeldIn core → identity_in core ≡ None → ⊥
 held_some closed held none = held
 held_some (cookie_wait my) held none = held
 held_some (cookie_echoed my of_peer cookie) held none = absurd (cc)
 held_some (open_in phase my of_peer) held none = absurd (cc)
 
-none_before : (core after : Core) → (IsHeldIn core → IsHeldIn after) → link_in after ≡ None → link_in core ≡ None
+none_before : (core after : Core) → (IsHeldIn core → IsHeldIn after) → identity_in after ≡ None → identity_in core ≡ None
 none_before closed after keeps none = refl
 none_before (cookie_wait my) after keeps none = refl
 none_before (cookie_echoed my held cookie) after keeps none = absurd (held_some after (keeps tt) none)
 none_before (open_in phase my held) after keeps none = absurd (held_some after (keeps tt) none)
 
-link_kept : (came : Option Content) (e : Endpoint) (o : Outcome) → (IsOpening came → ⊥) → (IsHeldIn e.core → IsHeldIn o.after.core) → MovesLink came e o → link_in o.after.core ≡ link_in e.core
+link_kept : (came : Option Content) (e : Endpoint) (o : Outcome) → (IsOpening came → ⊥) → (IsHeldIn e.core → IsHeldIn o.after.core) → MovesLink came e o → identity_in o.after.core ≡ identity_in e.core
 link_kept came e o unopened keeps (link_stays is) = is
 link_kept came e o unopened keeps (link_ends none) = none ∙ sym (none_before e.core o.after.core keeps none)
 link_kept came e o unopened keeps (link_begins begun opening linked) = absurd (unopened opening)
@@ -88,7 +88,7 @@ stepped_at e o h held = by_plain e o _ h.4 held
 same_core : (e : Endpoint) (o outcome : Outcome) → o ≡ outcome → outcome.after.core ≡ e.core → IsHeldIn e.core → IsHeldIn o.after.core
 same_core e o outcome is same held = subst IsHeldIn (sym (ap (λ (x : Outcome). x.after.core) is ∙ same)) held
 
-unknown_core : (e : Endpoint) (core : Core) (type : ℕ) (chunk : List ℕ) (reported : Bool) → (record (cond reported (unknown_told e core type chunk) (still e)) { following = after_unknown type }).after.core ≡ e.core
+unknown_core : (e : Endpoint) (core : Core) (type : ℕ) (chunk : List ℕ) (reported : Bool) → (record (cond reported (unknown_chunk_outcome e core type chunk) (still e)) { following = after_unknown type }).after.core ≡ e.core
 unknown_core e core type chunk false = refl
 unknown_core e closed type chunk true = refl
 unknown_core e (cookie_wait my) type chunk true = refl
@@ -123,9 +123,9 @@ plain_held e (heartbeat parameters) o turn = same_core e o (heartbeat_outcome e 
 plain_held e (heartbeat_ack parameters) o turn = same_core e o (heartbeat_ack_outcome e (counter_of (info_in parameters))) turn (ack_core e (counter_of (info_in parameters)))
 plain_held e (unworked (data_chunk chunk)) o turn = flushed_at e o (data_at e (data_arrival chunk) o turn)
 plain_held e (unworked (i_data_chunk chunk)) o turn = flushed_at e o (data_at e (i_data_arrival chunk) o turn)
-plain_held e (unworked (sack_chunk chunk)) o turn = stepped_at e o (sack_at e e.below.transfer chunk o turn)
-plain_held e (unworked (forward_tsn_chunk tsn streams)) o turn = flushed_at e o (forward_at e e.below.transfer tsn (skipped_in streams) o turn)
-plain_held e (unworked (i_forward_tsn_chunk tsn streams)) o turn = flushed_at e o (forward_at e e.below.transfer tsn (messages_skipped_in streams) o turn)
+plain_held e (unworked (sack_chunk chunk)) o turn = stepped_at e o (sack_at e e.queues.transfer chunk o turn)
+plain_held e (unworked (forward_tsn_chunk tsn streams)) o turn = flushed_at e o (forward_at e e.queues.transfer tsn (skipped_in streams) o turn)
+plain_held e (unworked (i_forward_tsn_chunk tsn streams)) o turn = flushed_at e o (forward_at e e.queues.transfer tsn (messages_skipped_in streams) o turn)
 plain_held e (unworked (error_chunk causes)) o turn = same_core e o (error_outcome e e.core causes) turn (error_core e e.core causes)
 plain_held e (unworked chunk) o turn = same_core e o (still e) turn refl
 
@@ -144,7 +144,7 @@ module _ (kinds : Capabilities) where
   same_violation own (unworked (i_forward_tsn_chunk tsn streams)) same may = cc
   same_violation own chunk same may = refl
 
-  breaks_nothing : (core : Core) (chunk : Plain) → LinkIs kinds (link_in core) → MayGo kinds chunk → violation_at core chunk ≡ None
+  breaks_nothing : (core : Core) (chunk : Plain) → LinkIs kinds (identity_in core) → MayGo kinds chunk → violation_at core chunk ≡ None
   breaks_nothing closed chunk linked may = refl
   breaks_nothing (cookie_wait my) chunk linked may = refl
   breaks_nothing (cookie_echoed my held cookie) chunk linked may = same_violation held.capabilities chunk linked may
@@ -171,34 +171,34 @@ module _ (kinds : Capabilities) where
     follows_calm content may opening = opening
 
     -- what a turn behind the first chunk leaves
-    record Left (e : Endpoint) (t : Turned) : Type 0 where
-      linked : link_in t.outcome.after.core ≡ link_in e.core
+    record Left (e : Endpoint) (t : Transition) : Type 0 where
+      linked : identity_in t.outcome.after.core ≡ identity_in e.core
       is : EndpointIs kinds t.outcome.after
 
-    follows_left : (e : Endpoint) (tag : ℕ) (content : Content) (t : Turned) → MayFollow content → Allowed kinds content → EndpointIs kinds e → IsTurn e (chunk_input tag content) t → Left e t
+    follows_left : (e : Endpoint) (tag : ℕ) (content : Content) (t : Transition) → MayFollow content → Allowed kinds content → EndpointIs kinds e → IsTurn e (chunk_input tag content) t → Left e t
     follows_left e tag content t may allowed h turn =
         let so : TurnIs kinds e (Some content) t.outcome = turn_is kinds e (chunk_input tag content) t.outcome h tt (λ begun opening linked. absurd (follows_calm content may opening)) turn.comes in
         record { linked = link_kept (Some content) e t.outcome (follows_calm content may) (follows_held e tag content t.outcome may allowed h turn.comes) so.moves; is = so.after }
 
-    end_left : (e : Endpoint) (t : Turned) → EndpointIs kinds e → IsTurn e packet_ends t → Left e t
+    end_left : (e : Endpoint) (t : Transition) → EndpointIs kinds e → IsTurn e packet_ends t → Left e t
     end_left e t h turn =
         let so : TurnIs kinds e None t.outcome = turn_is kinds e packet_ends t.outcome h tt (λ begun opening linked. absurd opening) turn.comes in
-        record { linked = link_kept None e t.outcome (λ opening. opening) (flushed_at e t.outcome (end_at e e.below.transfer t.outcome turn.comes)) so.moves; is = so.after }
+        record { linked = link_kept None e t.outcome (λ opening. opening) (flushed_at e t.outcome (end_at e e.queues.transfer t.outcome turn.comes)) so.moves; is = so.after }
 
-    end_link : (e : Endpoint) (turns : List Turned) → EndpointIs kinds e → Turns e (packet_ends ∷ []) turns → link_in (after_all e turns).core ≡ link_in e.core
+    end_link : (e : Endpoint) (turns : List Transition) → EndpointIs kinds e → Turns e (packet_ends ∷ []) turns → identity_in (after_all e turns).core ≡ identity_in e.core
     end_link e [] h taken = absurd taken
     end_link e (t ∷ []) h taken = (end_left e t h taken.0).linked
     end_link e (t ∷ u ∷ turns) h taken = absurd taken.1
 
-    pub after_link : (following : Following) (e : Endpoint) (turns : List Turned) (Others : Type 0) → EndpointIs kinds e → (Others → link_in (after_all e turns).core ≡ link_in e.core)
-        → AfterChunk following Others (Turns e (packet_ends ∷ []) turns) (turns ≡ []) → link_in (after_all e turns).core ≡ link_in e.core
+    pub after_link : (following : Following) (e : Endpoint) (turns : List Transition) (Others : Type 0) → EndpointIs kinds e → (Others → identity_in (after_all e turns).core ≡ identity_in e.core)
+        → AfterChunk following Others (Turns e (packet_ends ∷ []) turns) (turns ≡ []) → identity_in (after_all e turns).core ≡ identity_in e.core
     after_link next_chunk e turns Others h others rest = others rest
     after_link packet_end e turns Others h others rest = end_link e turns h rest
-    after_link dropped_rest e turns Others h others rest = ap (λ (ts : List Turned). link_in (after_all e ts).core) rest
+    after_link dropped_rest e turns Others h others rest = ap (λ (ts : List Transition). identity_in (after_all e ts).core) rest
 
     -- The chunks behind the first, and the end of the packet.
-    pub rest_link : (e : Endpoint) (tag : ℕ) (contents : List Content) (turns : List Turned) → AllMayFollow contents → AllAllowed kinds contents → EndpointIs kinds e → ChunkTurns e tag contents (packet_ends ∷ []) turns
-        → link_in (after_all e turns).core ≡ link_in e.core
+    pub rest_link : (e : Endpoint) (tag : ℕ) (contents : List Content) (turns : List Transition) → AllMayFollow contents → AllAllowed kinds contents → EndpointIs kinds e → ChunkTurns e tag contents (packet_ends ∷ []) turns
+        → identity_in (after_all e turns).core ≡ identity_in e.core
     rest_link e tag [] turns may allowed h taken = end_link e turns h taken
     rest_link e tag (content ∷ contents) [] may allowed h taken = absurd taken
     rest_link e tag (content ∷ contents) (t ∷ turns) may allowed h taken =

@@ -6,7 +6,7 @@ use Rattle.dcsctp_spec_lemmas.specs.wire.Content.{PacketContent}
 use Rattle.dcsctp_spec_lemmas.specs.wire.Format.{IsPacket}
 use Rattle.dcsctp_spec_lemmas.specs.types.declared.capabilities.Capabilities.{Capabilities}
 use Rattle.dcsctp_spec_lemmas.specs.types.declared.options.Options.{Options}
-use Rattle.dcsctp_spec_lemmas.specs.spec.endpoint.CallTurns.{Turned, HandleInput, AlongTurns, events_of}
+use Rattle.dcsctp_spec_lemmas.specs.spec.endpoint.CallTurns.{Transition, HandleInput, AlongTurns, events_of}
 use Rattle.dcsctp_spec_lemmas.specs.spec.endpoint.Endpoint.{Endpoint}
 use Rattle.dcsctp_spec_lemmas.specs.spec.endpoint.Event.{Event, sent, packets_in}
 use Rattle.dcsctp_spec_runs.specs.Fitting.{AllSent, FitsEndpoint, IsSendable}
@@ -15,7 +15,7 @@ use Rattle.dcsctp_spec_lemmas.specs.spec.Packet.{Content, re_config, plain, pack
 use Rattle.dcsctp_spec_lemmas.specs.types.Schedule.{StepContent, call_step, delivery_step}
 use Rattle.dcsctp_spec_lemmas.specs.types.Settings.{SameOptions, FitsOptions, wire_options, ports_of}
 use Rattle.dcsctp_spec_runs.specs.Sockets.{endpoint_after, packets_shown, DeliveryTurns, StepTurns}
-use Rattle.dcsctp_spec_lemmas.specs.spec.association.Effect.{Link, Effect, sends}
+use Rattle.dcsctp_spec_lemmas.specs.spec.association.Effect.{AssociationIdentity, Effect, sends}
 use Rattle.dcsctp_theorem_association.proofs.Facts.{Behind, AllBehind, TrueContents, TruePast}
 use Rattle.dcsctp_theorem_association.proofs.Growth.{true_of}
 use Rattle.dcsctp_theorem_sockets.proofs.Deliver.{IsSent, sent_at, reads_as_sent}
@@ -33,7 +33,7 @@ use Rattle.dcsctp_delivery_shown.proofs.Sides.{SideIs}
 
 -- ---- lists of turns
 
-pub along_both : (e : Endpoint) (turns : List Turned) → AlongTurns IsOwn e turns → AlongTurns GoodTurn e turns → AlongTurns Known e turns
+pub along_both : (e : Endpoint) (turns : List Transition) → AlongTurns IsOwn e turns → AlongTurns GoodTurn e turns → AlongTurns Known e turns
 along_both e [] own good = tt
 along_both e (t ∷ turns) own good = ((own.0, good.0), along_both t.outcome.after turns own.1 good.1)
 
@@ -73,7 +73,7 @@ module _ (kinds : Capabilities) (sender mine : Offer) (theirs own : List Effect)
 
 -- ---- an act of one side
 
-module _ (law : DeliveryLaws) (kinds : Capabilities) (mine theirs : Options) (turns others more : List Turned) (shown other_shown : List (Option Link)) (fits : FitsEndpoint (endpoint_after mine turns)) (own : SameOptions mine (endpoint_after mine turns).options) (their_fits : FitsOptions theirs)
+module _ (law : DeliveryLaws) (kinds : Capabilities) (mine theirs : Options) (turns others more : List Transition) (shown other_shown : List (Option AssociationIdentity)) (fits : FitsEndpoint (endpoint_after mine turns)) (own : SameOptions mine (endpoint_after mine turns).options) (their_fits : FitsOptions theirs)
     (known : AlongTurns Known (endpoint_after mine turns) more) (packets : AllSent (WasTrue kinds (offer_of mine)) (events_of others)) (h : SideIs kinds mine turns shown) (k : SideIs kinds theirs others other_shown) where
   nothing_done : more ≡ [] → ActIs kinds (endpoint_after mine turns) more
   nothing_done none = subst (ActIs kinds (endpoint_after mine turns)) (sym none) (of_calm kinds (endpoint_after mine turns) [] (record { none = tt; is = h.is; says = tt }))

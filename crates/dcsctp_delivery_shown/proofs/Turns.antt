@@ -7,16 +7,16 @@ use Rattle.dcsctp_spec_lemmas.specs.spec.endpoint.Outcome.{Outcome, then_outcome
 use Rattle.dcsctp_spec_lemmas.specs.spec.Packet.{Content, init_ack, cookie_echo, Emission}
 use Rattle.dcsctp_spec_lemmas.specs.spec.endpoint.Turn.{Input, chunk_input, act_input, user_sends, restores, Turn}
 use Rattle.dcsctp_spec_lemmas.specs.spec.association.Acts.{flushes, request_again, request_renewed}
-use Rattle.dcsctp_spec_lemmas.specs.spec.association.Effect.{Effect, Link, link_of, link_in}
+use Rattle.dcsctp_spec_lemmas.specs.spec.association.Effect.{Effect, AssociationIdentity, identity_of, identity_in}
 use Rattle.dcsctp_spec_lemmas.specs.types.queues.Messages.{MessageContent}
-use Rattle.dcsctp_spec_lemmas.specs.spec.queues.Transfer.{Below}
+use Rattle.dcsctp_spec_lemmas.specs.spec.queues.Transfer.{EndpointQueues}
 use Rattle.dcsctp_spec_lemmas.specs.spec.endpoint.FlushOutcomes.{Answer}
-use Rattle.dcsctp_spec_lemmas.specs.spec.endpoint.MessageOutcomes.{MessageRefusal, Sending, sending_refusal, name_of, queue_by, queue_one, queue_all, takes_any, SendAnswers, send_by, SendTurn}
+use Rattle.dcsctp_spec_lemmas.specs.spec.endpoint.MessageOutcomes.{MessageRefusal, Sending, sending_refusal, lifecycle_name, queue_by, queue_one, queue_all, takes_any, SendAnswers, send_by, SendTurn}
 use Rattle.dcsctp_theorem_sockets.proofs.Bursts.{packets_in-append}
 use Rattle.dcsctp_delivery_sending.specs.Log.{Message}
 use Rattle.dcsctp_delivery_directions.specs.Directions.{nothing_asked}
 use Rattle.dcsctp_delivery_turns.specs.Asking.{own_of, SomeFit}
-use Rattle.dcsctp_delivery_turns.specs.Actions.{ledger_of, came_by, Begun, begun_below, IsOpening, Inside, inside, Made, MakesAlso, OwnEnds, unended, committed, rolled_back, PeerResets, unreset, absent, deferred, reset_now, Becomes, goes_on, works_resets, renews, ends, begins, IsCall, peer_tag, queued_after, read_after}
+use Rattle.dcsctp_delivery_turns.specs.Actions.{ledger_of, came_by, Begun, opening_queues, IsOpening, Inside, inside, Made, MakesAlso, OwnEnds, unended, committed, rolled_back, PeerResets, unreset, absent, deferred, reset_now, Becomes, goes_on, works_resets, renews, ends, begins, IsCall, peer_tag, queued_after, read_after}
 use Rattle.dcsctp_delivery_turns.proofs.Fixed.{queue_all_core, refusal_none}
 use Rattle.dcsctp_delivery_turns.proofs.Fronts.{renewed_fit, own_ends_fit}
 use Rattle.dcsctp_delivery_turns.proofs.Beginnings.{nothing_fits, unlinked_fits}
@@ -30,15 +30,15 @@ use Rattle.dcsctp_delivery_shown.proofs.Actions.{TransferIs, events_both, Ledger
 abbrev pub SameKinds : Capabilities → Capabilities → Type 0
 SameKinds own kinds = (own.message_interleaving ≡ kinds.message_interleaving) × (own.partial_reliability ≡ kinds.partial_reliability)
 
-abbrev pub LinkIs : Capabilities → Option Link → Type 0
+abbrev pub LinkIs : Capabilities → Option AssociationIdentity → Type 0
 LinkIs kinds None = Unit {0}
 LinkIs kinds (Some link) = SameKinds link.capabilities kinds
 
 -- Its association, if there is one, is of these kinds, and so is what is in flight; what it keeps of its own requests to reset streams is
 -- of some that were begun.
 pub record EndpointIs (kinds : Capabilities) (e : Endpoint) : Type 0 where
-  pub linked : LinkIs kinds (link_in e.core)
-  pub left : TransferIs kinds e.below.transfer
+  pub linked : LinkIs kinds (identity_in e.core)
+  pub left : TransferIs kinds e.queues.transfer
   pub asks : SomeFit (own_of e)
 
 -- ---- inputs
@@ -75,9 +75,9 @@ calm_opens input calm opening = opening
 
 -- The association stays, or ends, or another one begins.
 pub data MovesLink (came : Option Content) (e : Endpoint) (o : Outcome) : Type 0 where
-  link_stays : link_in o.after.core ≡ link_in e.core → MovesLink came e o
-  link_ends : link_in o.after.core ≡ None → MovesLink came e o
-  link_begins : (begun : Begun e o) → IsOpening came → link_in o.after.core ≡ Some (link_of begun.my begun.held) → MovesLink came e o
+  link_stays : identity_in o.after.core ≡ identity_in e.core → MovesLink came e o
+  link_ends : identity_in o.after.core ≡ None → MovesLink came e o
+  link_begins : (begun : Begun e o) → IsOpening came → identity_in o.after.core ≡ Some (identity_of begun.my begun.held) → MovesLink came e o
 
 is_call : (input : Input) → IsStep input → ((sendings : List Sending) → input ≡ user_sends sendings → ⊥) → IsCall input
 is_call (user_sends sendings) step other = absurd (other sendings refl)
@@ -95,13 +95,13 @@ module _ (kinds : Capabilities) where
     where
       go : (why : Option MessageRefusal) → packets_in (queue_by e sending why).events ≡ []
       go None = refl
-      go (Some why) = refusal_none why (name_of sending)
+      go (Some why) = refusal_none why (lifecycle_name sending)
 
   -- ---- what a turn makes
 
   -- What is in flight, and what is kept of own requests.
   record InsideIs (i : Inside) : Type 0 where
-    left : TransferIs kinds i.below.transfer
+    left : TransferIs kinds i.queues.transfer
     asks : SomeFit i.own
 
   -- What is kept fits what was begun, once the own request has ended.
@@ -118,9 +118,9 @@ module _ (kinds : Capabilities) where
   peer_resets : (came : Option Content) (happened : List Effect) (old new : Inside) → InsideIs old → PeerResets came happened old new → InsideIs new
   peer_resets came happened old _ h (unreset none) = h
   peer_resets came happened old _ h (absent gone) = h
-  peer_resets came happened old _ h (deferred none transfer last_tsn streams known) = record { left = of_known kinds transfer old.below.transfer known h.left; asks = h.asks }
+  peer_resets came happened old _ h (deferred none transfer last_tsn streams known) = record { left = of_known kinds transfer old.queues.transfer known h.left; asks = h.asks }
   peer_resets came happened old _ h (reset_now done parameters reset handled asked transfer reassembly known reached leaves) =
-      record { left = of_known kinds transfer old.below.transfer known h.left; asks = h.asks }
+      record { left = of_known kinds transfer old.queues.transfer known h.left; asks = h.asks }
 
   -- what is in flight after actions, what is kept of own requests, and what was sent
   record MadeIs (new : Inside) (packets : List Emission) : Type 0 where
@@ -130,9 +130,9 @@ module _ (kinds : Capabilities) where
   makes_is : (came : Option Content) (to : ℕ) (adds : List Message → List Message) (taken : List MessageContent → List MessageContent) (old new : Inside) (packets : List Emission) → InsideIs old
       → MakesAlso came to adds taken old packets new → MadeIs new packets
   makes_is came to adds taken old new packets h makes =
-      let made : Made came to (ledger_of [] old.below [] [] h.asks.asking) h.asks.first new (adds []) packets (taken []) = makes [] [] [] h.asks.first h.asks.asking h.asks.fits in
-      let is : LedgerIs kinds (ledger_of (adds []) new.below packets (taken []) made.asking) =
-      actions_are kinds came to (ledger_of [] old.below [] [] h.asks.asking) (ledger_of (adds []) new.below packets (taken []) made.asking) (record { left = h.left; says = tt }) made.actions in
+      let made : Made came to (ledger_of [] old.queues [] [] h.asks.asking) h.asks.first new (adds []) packets (taken []) = makes [] [] [] h.asks.first h.asks.asking h.asks.fits in
+      let is : LedgerIs kinds (ledger_of (adds []) new.queues packets (taken []) made.asking) =
+      actions_are kinds came to (ledger_of [] old.queues [] [] h.asks.asking) (ledger_of (adds []) new.queues packets (taken []) made.asking) (record { left = h.left; says = tt }) made.actions in
       record { inside_is = record { left = is.left; asks = record { first = h.asks.first; asking = made.asking; fits = made.fits } }; says = is.says }
 
   -- ---- each turn
@@ -146,9 +146,9 @@ module _ (kinds : Capabilities) where
   -- the association that a turn begins, if it begins one, is of these kinds, and its first TSN fits its field
   abbrev pub BeginsSo : Endpoint → Option Content → Outcome → Type 0
   BeginsSo e came o =
-      (begun : Begun e o) → IsOpening came → link_in o.after.core ≡ Some (link_of begun.my begun.held) → SameKinds begun.held.capabilities kinds × (begun.my.first_tsn < 2 ^ 32)
+      (begun : Begun e o) → IsOpening came → identity_in o.after.core ≡ Some (identity_of begun.my begun.held) → SameKinds begun.held.capabilities kinds × (begun.my.first_tsn < 2 ^ 32)
 
-  stays_is : (came : Option Content) (e : Endpoint) (o : Outcome) → EndpointIs kinds e → link_in o.after.core ≡ link_in e.core → MadeIs (inside o.after) (packets_in o.events) → TurnIs e came o
+  stays_is : (came : Option Content) (e : Endpoint) (o : Outcome) → EndpointIs kinds e → identity_in o.after.core ≡ identity_in e.core → MadeIs (inside o.after) (packets_in o.events) → TurnIs e came o
   stays_is came e o h linked made =
       record { moves = link_stays linked; after = record { linked = subst (LinkIs kinds) (sym linked) h.linked; left = made.inside_is.left; asks = made.inside_is.asks }; says = made.says }
 
@@ -163,7 +163,7 @@ module _ (kinds : Capabilities) where
       stays_is came e o h linked
       (record {
         inside_is = record {
-          left = subst (λ (i : Inside). TransferIs kinds i.below.transfer) (sym is) h.left;
+          left = subst (λ (i : Inside). TransferIs kinds i.queues.transfer) (sym is) h.left;
           asks = renewed_fit (own_of e) (own_of o.after) own number kept out (ap (λ (i : Inside). i.own) is) h.asks;
         };
         says = subst (AreAllowed kinds) (sym packets) (subst (AllAllowed kinds) (sym contents) (tt, tt), tt);
@@ -174,7 +174,7 @@ module _ (kinds : Capabilities) where
         moves = link_ends none;
         after = record {
           linked = subst (LinkIs kinds) (sym none) tt;
-          left = subst (λ (b : Below). TransferIs kinds b.transfer) (sym is) tt;
+          left = subst (λ (b : EndpointQueues). TransferIs kinds b.transfer) (sym is) tt;
           asks = unlinked_fits o.after.core o.after.outstanding none;
         };
         says = made.says;
@@ -182,7 +182,7 @@ module _ (kinds : Capabilities) where
   becomes_is came to adds taken e o h so (begins begun opening linked unqueued unread again makes) =
       let start : SameKinds begun.held.capabilities kinds × (begun.my.first_tsn < 2 ^ 32) = so begun opening linked in
       let made : MadeIs (inside o.after) (packets_in o.events) =
-      makes_is came begun.held.peer.tag (λ queued. queued) (λ read. read) (record { below = begun_below e o begun; own = Some (record { number = None; next = begun.my.first_tsn; again = again }) }) (inside o.after) (packets_in o.events)
+      makes_is came begun.held.peer.tag (λ queued. queued) (λ read. read) (record { queues = opening_queues e o begun; own = Some (record { number = None; next = begun.my.first_tsn; again = again }) }) (inside o.after) (packets_in o.events)
       (record { left = start.0; asks = (record { first = begun.my.first_tsn; asking = nothing_asked; fits = nothing_fits begun.my.first_tsn again start.1 }) }) makes in
       record {
         moves = link_begins begun opening linked;
@@ -207,9 +207,9 @@ module _ (kinds : Capabilities) where
       becomes_is None (peer_tag e.core) (queued_after e (act_input flushes)) (read_after e (act_input flushes)) e (send_by true e answers) h (λ begun opening linked. absurd opening)
       (turns_are_actions e (act_input flushes) (send_by true e answers) tt (answers, allowed, refl))
 
-  later_moves : (e d : Endpoint) (o whole : Outcome) → link_in d.core ≡ link_in e.core → whole.after ≡ o.after → MovesLink None d o → MovesLink None e whole
-  later_moves e d o whole same after (link_stays is) = link_stays (ap (λ (x : Endpoint). link_in x.core) after ∙ is ∙ same)
-  later_moves e d o whole same after (link_ends none) = link_ends (ap (λ (x : Endpoint). link_in x.core) after ∙ none)
+  later_moves : (e d : Endpoint) (o whole : Outcome) → identity_in d.core ≡ identity_in e.core → whole.after ≡ o.after → MovesLink None d o → MovesLink None e whole
+  later_moves e d o whole same after (link_stays is) = link_stays (ap (λ (x : Endpoint). identity_in x.core) after ∙ is ∙ same)
+  later_moves e d o whole same after (link_ends none) = link_ends (ap (λ (x : Endpoint). identity_in x.core) after ∙ none)
   later_moves e d o whole same after (link_begins begun opening linked) = absurd opening
 
   send_is : (e : Endpoint) (sendings : List Sending) (o : Outcome) → EndpointIs kinds e → SendTurn e sendings o → TurnIs e None o
@@ -219,7 +219,7 @@ module _ (kinds : Capabilities) where
       let is : TurnIs all.after None last = sends_is (takes_any e sendings) all.after turn.0 (all_queued e sendings h) turn.1 in
       subst (TurnIs e None) (sym turn.2)
       (record {
-        moves = later_moves e all.after last (then_outcome all last) (ap link_in (queue_all_core e sendings)) refl is.moves;
+        moves = later_moves e all.after last (then_outcome all last) (ap identity_in (queue_all_core e sendings)) refl is.moves;
         after = is.after;
         says = events_both kinds all.events last.events (subst (AreAllowed kinds) (sym (queue_all_silent e sendings)) tt) is.says;
       })

@@ -7,7 +7,7 @@ use Rattle.dcsctp_spec_lemmas.specs.wire.Format.{IsPacket}
 use Rattle.dcsctp_spec_lemmas.specs.types.declared.options.Options.{Options}
 use Rattle.dcsctp_spec_lemmas.specs.types.Settings.{wire_options}
 use Rattle.dcsctp_spec_lemmas.specs.spec.Admission.{admits}
-use Rattle.dcsctp_spec_lemmas.specs.spec.endpoint.CallTurns.{Turned, IsTurn, Turns, AdmittedTurns, HandleInput, unreadable, readable, after_all, effects_of, events_of}
+use Rattle.dcsctp_spec_lemmas.specs.spec.endpoint.CallTurns.{Transition, IsTurn, Turns, AdmittedTurns, HandleInput, unreadable, readable, after_all, effects_of, events_of}
 use Rattle.dcsctp_spec_lemmas.specs.spec.endpoint.Endpoint.{Endpoint, Core}
 use Rattle.dcsctp_spec_lemmas.specs.spec.endpoint.Event.{packets_in}
 use Rattle.dcsctp_spec_lemmas.specs.spec.endpoint.Outcome.{Outcome}
@@ -37,7 +37,7 @@ use Rattle.dcsctp_delivery_sockets.proofs.PacketTurns.{packet_goes}
 
 -- ---- the sender
 
-queued_grows : (e : Endpoint) (turns : List Turned) (queued : List Message) → length queued ≤ length (queued_through e turns queued)
+queued_grows : (e : Endpoint) (turns : List Transition) (queued : List Message) → length queued ≤ length (queued_through e turns queued)
 queued_grows e [] queued = omega arith
 queued_grows e (t ∷ turns) queued =
     let rest = queued_grows t.outcome.after turns (queued_after e t.input queued) in
@@ -45,7 +45,7 @@ queued_grows e (t ∷ turns) queued =
     omega (arith, rest, first)
 
 -- the packets of a turn and of those behind it
-packets_apart : (packets : List Emission) (t : Turned) (turns : List Turned) → (packets ++ packets_in t.outcome.events) ++ packets_in (events_of turns) ≡ packets ++ packets_in (events_of (t ∷ turns))
+packets_apart : (packets : List Emission) (t : Transition) (turns : List Transition) → (packets ++ packets_in t.outcome.events) ++ packets_in (events_of turns) ≡ packets ++ packets_in (events_of (t ∷ turns))
 packets_apart packets t turns = append_assoc packets (packets_in t.outcome.events) (packets_in (events_of turns)) ∙ ap (λ (l : List Emission). packets ++ l) (sym (packets_in-append t.outcome.events (events_of turns)))
 
 -- What all packets ask is no less than what the first ones ask.
@@ -53,7 +53,7 @@ asks_little : (packets more : List Emission) → AsksLittle (packets ++ more) �
 asks_little packets more little tag = (let both = requests_more_to tag packets more in let few = little tag in omega (arith, both, few))
 
 module _ (options : Options) (d : Endpoint) (their_past : List Effect) (reads : List MessageContent) where
-  pub senders_act : (turns : List Turned) (e : Endpoint) (queued : List Message) (past : List Effect) (packets : List Emission) → AreEnds options e queued past packets d their_past reads → AreTurns e turns
+  pub senders_act : (turns : List Transition) (e : Endpoint) (queued : List Message) (past : List Effect) (packets : List Emission) → AreEnds options e queued past packets d their_past reads → AreTurns e turns
       → AreNewPeers past their_past e turns → length (queued_through e turns queued) < 2 ^ 64 → AsksLittle (packets ++ packets_in (events_of turns))
       → AreEnds options (after_all e turns) (queued_through e turns queued) (after_effects (effects_of turns) past) (packets ++ packets_in (events_of turns)) d their_past reads
   senders_act [] e queued past packets h taken new few little = subst (λ (l : List Emission). AreEnds options e queued past l d their_past reads) (sym (append-nil packets)) h
@@ -89,7 +89,7 @@ none_sent sent (inputs.time_passes moment) none = tt
 none_sent sent (inputs.restores state) none = tt
 
 module _ (options : Options) (e : Endpoint) (queued : List Message) (past : List Effect) (packets : List Emission) (few : length queued < 2 ^ 64) (little : AsksLittle packets) where
-  pub receivers_act : (turns : List Turned) (d : Endpoint) (their_past : List Effect) (reads : List MessageContent) → AreEnds options e queued past packets d their_past reads → NoChunks turns → AreTurns d turns
+  pub receivers_act : (turns : List Transition) (d : Endpoint) (their_past : List Effect) (reads : List MessageContent) → AreEnds options e queued past packets d their_past reads → NoChunks turns → AreTurns d turns
       → AllByRecursion (λ turn. IsCall turn.input) turns → AreNewTags options their_past past d turns
       → AreEnds options e queued past packets (after_all d turns) (after_effects (effects_of turns) their_past) (reads_through d turns reads)
   receivers_act [] d their_past reads h none taken may new = h
@@ -102,17 +102,17 @@ module _ (options : Options) (e : Endpoint) (queued : List Message) (past : List
       subst (λ (l : List Effect). AreEnds options e queued past packets (after_all t.outcome.after turns) l (reads_through t.outcome.after turns (reads_after d t.input reads)))
       (sym (after_effects-append t.outcome.effects (effects_of turns) their_past)) rest
 
-  one_turn : (d : Endpoint) (their_past : List Effect) (reads : List MessageContent) (input : Input) (t : Turned) → NoChunk input → IsCall input → IsTurn d input t → NoChunk t.input × IsCall t.input × Turn d t.input t.outcome
+  one_turn : (d : Endpoint) (their_past : List Effect) (reads : List MessageContent) (input : Input) (t : Transition) → NoChunk input → IsCall input → IsTurn d input t → NoChunk t.input × IsCall t.input × Turn d t.input t.outcome
   one_turn d their_past reads input t none may turn =
       (subst NoChunk (sym turn.is) none, subst IsCall (sym turn.is) may, subst (λ (i : Input). Turn d i t.outcome) (sym turn.is) turn.comes)
 
-  pub receivers_handle : (d : Endpoint) (their_past : List Effect) (reads : List MessageContent) (emission : Emission) (bytes : List ℕ) (turns : List Turned) → AreEnds options e queued past packets d their_past reads → places.Has emission packets
+  pub receivers_handle : (d : Endpoint) (their_past : List Effect) (reads : List MessageContent) (emission : Emission) (bytes : List ℕ) (turns : List Transition) → AreEnds options e queued past packets d their_past reads → places.HasEntry emission packets
       → GoesToMaker emission → ((packet : PacketContent) → IsPacket (wire_options d.options) packet bytes → packet_in packet ≡ emission.packet)
       → AreNewTags options their_past past d turns → HandleInput d bytes turns
       → AreEnds options e queued past packets (after_all d turns) (after_effects (effects_of turns) their_past) (reads_through d turns reads)
   receivers_handle d their_past reads emission bytes turns h has go is new (unreadable ts unread taken) = two ts new taken
     where
-      two : (turns : List Turned) → AreNewTags options their_past past d turns → Turns d (arrival ∷ refusal unreadable_text ∷ []) turns
+      two : (turns : List Transition) → AreNewTags options their_past past d turns → Turns d (arrival ∷ refusal unreadable_text ∷ []) turns
           → AreEnds options e queued past packets (after_all d turns) (after_effects (effects_of turns) their_past) (reads_through d turns reads)
       two [] new taken = absurd taken
       two (t ∷ []) new taken = absurd taken.1

@@ -19,7 +19,7 @@ use Rattle.dcsctp_spec_lemmas.specs.spec.endpoint.OwnTimers.{OwnTimer}
 use Rattle.dcsctp_spec_lemmas.specs.types.Setting.{Setting}
 use Rattle.dcsctp_spec_lemmas.specs.spec.endpoint.Turn.{Input, arrival, refusal, packet_begins, chunk_input, packet_ends, act_input, user_sets, user_sends, user_resets, user_takes, timer_expires, time_passes, unreadable_text}
 use Rattle.dcsctp_spec_lemmas.specs.spec.endpoint.TimeTurns.{Timer, t1_timer, own_timer, t2_timer, timers_in, deadline, has_come, has_restart, t2_input, expiry_input, inputs_behind, after_expiries, ExpiryThen, ExpiryTurns, MomentTurns, TimeTurns}
-use Rattle.dcsctp_spec_lemmas.specs.spec.endpoint.CallTurns.{Turned, IsTurn, Turns, AfterChunk, ChunkTurns, AdmittedTurns, HandleInput, unreadable, readable}
+use Rattle.dcsctp_spec_lemmas.specs.spec.endpoint.CallTurns.{Transition, IsTurn, Turns, AfterChunk, ChunkTurns, AdmittedTurns, HandleInput, unreadable, readable}
 use Rattle.dcsctp_spec_lemmas.specs.spec.Handover.{readiness_of}
 use Rattle.dcsctp_spec_lemmas.specs.spec.HandoverInputs.{inputs_of_handover}
 use Rattle.dcsctp_spec_lemmas.specs.spec.endpoint.UserTurns.{UserTurns}
@@ -34,16 +34,16 @@ module _ (May : Input → Type 0) where
   abbrev MayEach : List Input → Type 0
   MayEach inputs = AllByRecursion May inputs
 
-  abbrev AreSuch : List Turned → Type 0
+  abbrev AreSuch : List Transition → Type 0
   AreSuch turns = AllByRecursion (λ turn. May turn.input) turns
 
-  none_of : (turns : List Turned) → turns ≡ [] → AreSuch turns
+  none_of : (turns : List Transition) → turns ≡ [] → AreSuch turns
   none_of turns none = subst AreSuch (sym none) tt
 
-  of_input : (e : Endpoint) (input : Input) (turn : Turned) → IsTurn e input turn → May input → May turn.input
+  of_input : (e : Endpoint) (input : Input) (turn : Transition) → IsTurn e input turn → May input → May turn.input
   of_input e input turn is h = subst May (sym is.is) h
 
-  pub of_turns : (e : Endpoint) (inputs : List Input) (turns : List Turned) → MayEach inputs → Turns e inputs turns → AreSuch turns
+  pub of_turns : (e : Endpoint) (inputs : List Input) (turns : List Transition) → MayEach inputs → Turns e inputs turns → AreSuch turns
   of_turns e [] [] h taken = tt
   of_turns e [] (t ∷ turns) h taken = absurd taken
   of_turns e (input ∷ inputs) [] h taken = absurd taken
@@ -95,26 +95,26 @@ module _ (May : Input → Type 0) (may : MayCall May) where
   of_after e false = tt
   of_after e true = of_behind e e.core
 
-  of_expiry_then : (due : Bool) (Rest : Bool → Endpoint → List Turned → Type 0)
-      → ((has_expired : Bool) (e : Endpoint) (turns : List Turned) → Rest has_expired e turns → AllByRecursion (λ turn. May turn.input) turns)
-      → (e : Endpoint) (has_expired : Bool) (timer : Timer) (turns : List Turned) → ExpiryThen due Rest e has_expired timer turns → AllByRecursion (λ turn. May turn.input) turns
+  of_expiry_then : (due : Bool) (Rest : Bool → Endpoint → List Transition → Type 0)
+      → ((has_expired : Bool) (e : Endpoint) (turns : List Transition) → Rest has_expired e turns → AllByRecursion (λ turn. May turn.input) turns)
+      → (e : Endpoint) (has_expired : Bool) (timer : Timer) (turns : List Transition) → ExpiryThen due Rest e has_expired timer turns → AllByRecursion (λ turn. May turn.input) turns
   of_expiry_then true Rest rest e has_expired timer [] taken = absurd taken
   of_expiry_then true Rest rest e has_expired timer (t ∷ turns) taken = (of_input May e (expiry_input e timer) t taken.0 (of_expiry e timer), rest true t.outcome.after turns taken.1)
   of_expiry_then false Rest rest e has_expired timer turns taken = rest has_expired e turns taken
 
-  of_expiries : (timers : List Timer) (has_expired : Bool) (e : Endpoint) (turns : List Turned) → ExpiryTurns timers has_expired e turns → AllByRecursion (λ turn. May turn.input) turns
+  of_expiries : (timers : List Timer) (has_expired : Bool) (e : Endpoint) (turns : List Transition) → ExpiryTurns timers has_expired e turns → AllByRecursion (λ turn. May turn.input) turns
   of_expiries [] has_expired e turns taken = of_turns May e (after_expiries e has_expired) turns (of_after e has_expired) taken
   of_expiries (timer ∷ timers) has_expired e turns taken =
       of_expiry_then (has_come e.moment (deadline e timer)) (ExpiryTurns timers) (of_expiries timers) e has_expired timer turns taken
 
-  of_moment : (e : Endpoint) (moment : ℕ) (turns : List Turned) → MomentTurns e moment turns → AllByRecursion (λ turn. May turn.input) turns
+  of_moment : (e : Endpoint) (moment : ℕ) (turns : List Transition) → MomentTurns e moment turns → AllByRecursion (λ turn. May turn.input) turns
   of_moment e moment [] taken = absurd taken
   of_moment e moment (t ∷ turns) taken = (
     of_input May e (time_passes moment) t taken.0 (may.passes moment),
     of_expiries (timers_in t.outcome.after.core) false t.outcome.after turns taken.1,
   )
 
-  of_time : (later : Bool) (e : Endpoint) (moment : ℕ) (turns : List Turned) → TimeTurns later e moment turns → AllByRecursion (λ turn. May turn.input) turns
+  of_time : (later : Bool) (e : Endpoint) (moment : ℕ) (turns : List Transition) → TimeTurns later e moment turns → AllByRecursion (λ turn. May turn.input) turns
   of_time true e moment turns taken = of_moment e moment turns taken
   of_time false e moment turns none = none_of May turns none
 
@@ -122,7 +122,7 @@ module _ (May : Input → Type 0) (may : MayCall May) where
   of_handover zero = (may.hands_over, tt)
   of_handover (suc reasons) = tt
 
-  pub of_call : (e : Endpoint) (call : CallContent) (turns : List Turned) → MaySend May call → UserTurns e call turns → AllByRecursion (λ turn. May turn.input) turns
+  pub of_call : (e : Endpoint) (call : CallContent) (turns : List Transition) → MaySend May call → UserTurns e call turns → AllByRecursion (λ turn. May turn.input) turns
   of_call e connect_call turns sends taken = of_turns May e (act_input connect ∷ []) turns (may.connects, tt) taken
   of_call e close_call turns sends taken = of_turns May e (act_input (abort_with CloseCalled) ∷ []) turns (may.aborts CloseCalled, tt) taken
   of_call e shutdown_call turns sends taken = of_turns May e (act_input shut_down ∷ []) turns (may.shuts_down, tt) taken
@@ -140,7 +140,7 @@ abbrev pub NoChunk : Input → Type 0
 NoChunk (chunk_input tag content) = ⊥
 NoChunk input = Unit {0}
 
-abbrev pub NoChunks : List Turned → Type 0
+abbrev pub NoChunks : List Transition → Type 0
 NoChunks turns = AllByRecursion (λ turn. NoChunk turn.input) turns
 
 calls_without : MayCall NoChunk
@@ -173,7 +173,7 @@ sends_without take_call = tt
 sends_without hand_over_call = tt
 
 -- The turns of a user's call handle no chunk.
-pub call_without : (e : Endpoint) (call : CallContent) (turns : List Turned) → UserTurns e call turns → NoChunks turns
+pub call_without : (e : Endpoint) (call : CallContent) (turns : List Transition) → UserTurns e call turns → NoChunks turns
 call_without e call turns taken = of_call NoChunk calls_without e call turns (sends_without call) taken
 
 -- ---- calls and chunks alone
@@ -214,21 +214,21 @@ sends_are (reset_call ids) fits = tt
 sends_are take_call fits = tt
 sends_are hand_over_call fits = tt
 
-abbrev pub AreCalls : List Turned → Type 0
+abbrev pub AreCalls : List Transition → Type 0
 AreCalls turns = AllByRecursion (λ turn. IsCall turn.input) turns
 
 -- Those of a call are, if its messages fit,
-pub call_is : (e : Endpoint) (call : CallContent) (turns : List Turned) → FitsCall call → UserTurns e call turns → AreCalls turns
+pub call_is : (e : Endpoint) (call : CallContent) (turns : List Transition) → FitsCall call → UserTurns e call turns → AreCalls turns
 call_is e call turns fits taken = of_call IsCall calls_are e call turns (sends_are call fits) taken
 
 -- and so are those of bytes that are handed in.
-rest_is : (following : Following) (e : Endpoint) (tail : List Input) (turns : List Turned) (More : Type 0) → AllByRecursion IsCall tail → (More → AreCalls turns) → AfterChunk following More (Turns e tail turns) (turns ≡ [])
+rest_is : (following : Following) (e : Endpoint) (tail : List Input) (turns : List Transition) (More : Type 0) → AllByRecursion IsCall tail → (More → AreCalls turns) → AfterChunk following More (Turns e tail turns) (turns ≡ [])
     → AreCalls turns
 rest_is next_chunk e tail turns More are more rest = more rest
 rest_is packet_end e tail turns More are more rest = of_turns IsCall e tail turns are rest
 rest_is dropped_rest e tail turns More are more rest = none_of IsCall turns rest
 
-chunks_are : (e : Endpoint) (tag : ℕ) (contents : List Content) (tail : List Input) (turns : List Turned) → AllByRecursion IsCall tail → ChunkTurns e tag contents tail turns → AreCalls turns
+chunks_are : (e : Endpoint) (tag : ℕ) (contents : List Content) (tail : List Input) (turns : List Transition) → AllByRecursion IsCall tail → ChunkTurns e tag contents tail turns → AreCalls turns
 chunks_are e tag [] tail turns are taken = of_turns IsCall e tail turns are taken
 chunks_are e tag (content ∷ contents) tail [] are taken = absurd taken
 chunks_are e tag (content ∷ contents) tail (t ∷ turns) are taken = (
@@ -236,14 +236,14 @@ chunks_are e tag (content ∷ contents) tail (t ∷ turns) are taken = (
   rest_is t.outcome.following t.outcome.after tail turns (ChunkTurns t.outcome.after tag contents tail turns) are (λ more. chunks_are t.outcome.after tag contents tail turns are more) taken.1,
 )
 
-admitted_are : (e : Endpoint) (packet : Packet) (admission : Admission) (turns : List Turned) → AdmittedTurns e packet admission turns → AreCalls turns
+admitted_are : (e : Endpoint) (packet : Packet) (admission : Admission) (turns : List Transition) → AdmittedTurns e packet admission turns → AreCalls turns
 admitted_are e packet all_chunks [] taken = absurd taken
 admitted_are e packet all_chunks (t ∷ turns) taken =
     (of_input IsCall e (packet_begins packet.contents) t taken.0 tt, chunks_are t.outcome.after packet.tag packet.contents (packet_ends ∷ []) turns (tt, tt) taken.1)
 admitted_are e packet shutdown_acks_alone turns taken = chunks_are e packet.tag (shutdown_acks_in packet.contents) [] turns tt taken
 admitted_are e packet (refused text) turns taken = of_turns IsCall e (refusal text ∷ []) turns (tt, tt) taken
 
-pub input_is : (e : Endpoint) (bytes : List ℕ) (turns : List Turned) → HandleInput e bytes turns → AreCalls turns
+pub input_is : (e : Endpoint) (bytes : List ℕ) (turns : List Transition) → HandleInput e bytes turns → AreCalls turns
 input_is e bytes _ (unreadable turns none taken) = of_turns IsCall e (arrival ∷ refusal unreadable_text ∷ []) turns (tt, (tt, tt)) taken
 input_is e bytes _ (readable packet counted turns found counting taken) =
     (of_input IsCall e arrival counted counting tt, admitted_are counted.outcome.after (packet_in packet) _ turns taken)

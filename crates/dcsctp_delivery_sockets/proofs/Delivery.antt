@@ -10,13 +10,13 @@ use Rattle.dcsctp_spec_lemmas.specs.types.declared.schedule.Side.{Side}
 use Rattle.dcsctp_spec_lemmas.specs.types.declared.schedule.Side.TheVariants as sides
 use Rattle.dcsctp_spec_lemmas.specs.types.Schedule.{StepContent, call_step, delivery_step, ActContent, step_act, outside_act, IsHonestAct, AreHonest}
 use Rattle.dcsctp_spec_lemmas.specs.types.Settings.{FitsOptions, wire_options, ports_of}
-use Rattle.dcsctp_spec_lemmas.specs.spec.endpoint.CallTurns.{Turned, HandleInput, events_of}
+use Rattle.dcsctp_spec_lemmas.specs.spec.endpoint.CallTurns.{Transition, HandleInput, events_of}
 use Rattle.dcsctp_spec_lemmas.specs.spec.endpoint.Endpoint.{Endpoint, fresh_endpoint}
 use Rattle.dcsctp_spec_lemmas.specs.spec.endpoint.Event.{Event, sent, packets_in}
 use Rattle.dcsctp_spec_runs.specs.Fitting.{OfSent, AllSent, FitsEndpoint, IsSendable}
 use Rattle.dcsctp_spec_runs.specs.Laws.{AnswerKeepsAgreement}
 use Rattle.dcsctp_spec_lemmas.specs.spec.Packet.{packet_in, Emission, emission_bytes}
-use Rattle.dcsctp_spec_runs.specs.Sockets.{Worked, Both, of_side, of_other, side_of, with_turns, turns_after, endpoint_after, packets_shown, DeliveryTurns, StepTurns, SocketRun, side_of_act, NextTurns, acts_of}
+use Rattle.dcsctp_spec_runs.specs.Sockets.{PerformedAct, Both, of_side, of_other, side_of, side_turns_added, turns_after, endpoint_after, packets_shown, DeliveryTurns, StepTurns, SocketRun, side_of_act, NextTurns, acts_of}
 use Rattle.dcsctp_spec_runs.proofs.RunsAlong.{run_along}
 use Rattle.dcsctp_theorem_sockets.specs.Agreement.{AreUsable, AreFresh, noted_past}
 use Rattle.dcsctp_theorem_sockets.proofs.Deliver.{IsSent, sent_at, reads_as_sent}
@@ -27,7 +27,7 @@ use Rattle.dcsctp_theorem_sockets.proofs.SocketsAlone.{MoveLaws, of_moves}
 use Rattle.dcsctp_delivery_sending.specs.Places as places
 use Rattle.dcsctp_delivery_directions.specs.Directions.{Delivered}
 use Rattle.dcsctp_delivery_sockets.specs.Echoes.{GoesToMaker}
-use Rattle.dcsctp_delivery_sockets.specs.UserMessages.{sent_of, read_of, IsDelivered}
+use Rattle.dcsctp_delivery_sockets.specs.UserMessages.{messages_sent_in, read_of, IsDelivered}
 use Rattle.dcsctp_delivery_sockets.specs.Delivery.{FitsStep, AreInMemory, MatchByTags, SendsLittle, TurnsAllowDelivery, Delivers, SocketsDeliver}
 use Rattle.dcsctp_delivery_associations.proofs.Delivers.{ends_begin, ends_deliver}
 use Rattle.dcsctp_delivery_sockets.proofs.Calls.{AreCalls, call_without, call_is, input_is}
@@ -44,9 +44,9 @@ use Rattle.dcsctp_delivery_sockets.proofs.UserMessages.{turns_read, is_delivered
 -- It was sent by the other side.
 record WasGood (packets : List Emission) (emission : Emission) : Type 0 where
   good : GoodPacket emission
-  has : places.Has emission packets
+  has : places.HasEntry emission packets
 
-good_among : (all : List Emission) (events : List (Event Emission)) → ((emission : Emission) → places.Has emission (packets_in events) → places.Has emission all) → AllSent GoodPacket events
+good_among : (all : List Emission) (events : List (Event Emission)) → ((emission : Emission) → places.HasEntry emission (packets_in events) → places.HasEntry emission all) → AllSent GoodPacket events
     → AllSent (WasGood all) events
 good_among all [] within each = tt
 good_among all (sent emission ∷ events) within each =
@@ -56,19 +56,19 @@ good_among all (event ∷ events) within each = (tt, good_among all events withi
 -- ---- an act of one side
 
 -- both directions, once the side that acts has taken these turns
-record ActedSide (mine theirs : Options) (turns others more : List Turned) : Type 0 where
+record ActedSide (mine theirs : Options) (turns others more : List Transition) : Type 0 where
   sends : Stand mine theirs (turns ++ more) others
   receives : Stand theirs mine others (turns ++ more)
 
-module _ (law : Below) (mine theirs : Options) (turns others more : List Turned) (fits : FitsEndpoint (endpoint_after mine turns)) (their_fits : FitsOptions theirs)
+module _ (law : Below) (mine theirs : Options) (turns others more : List Transition) (fits : FitsEndpoint (endpoint_after mine turns)) (their_fits : FitsOptions theirs)
     (known : SideKnown mine (turns ++ more)) (their_known : SideKnown theirs others) (matched : MatchByTags (noted_past (turns ++ more)) (noted_past others))
     (performed : AllPerformed (noted_past (turns ++ more)) (noted_past others)) (sends : Stand mine theirs turns others)
     (receives : Stand theirs mine others turns) where
   nothing_done : more ≡ [] → ActedSide mine theirs turns others more
   nothing_done none =
       record {
-        sends = subst (λ (ts : List Turned). Stand mine theirs ts others) (sym (ap (λ (m : List Turned). turns ++ m) none ∙ append-nil turns)) sends;
-        receives = subst (λ (ts : List Turned). Stand theirs mine others ts) (sym (ap (λ (m : List Turned). turns ++ m) none ∙ append-nil turns)) receives;
+        sends = subst (λ (ts : List Transition). Stand mine theirs ts others) (sym (ap (λ (m : List Transition). turns ++ m) none ∙ append-nil turns)) sends;
+        receives = subst (λ (ts : List Transition). Stand theirs mine others ts) (sym (ap (λ (m : List Transition). turns ++ m) none ∙ append-nil turns)) receives;
       }
 
   handled : (bytes : List ℕ) → IsSent (WasGood (packets_of others)) (emission_bytes (ports_of theirs)) bytes → HandleInput (endpoint_after mine turns) bytes more → ActedSide mine theirs turns others more
@@ -101,13 +101,13 @@ module _ (law : Below) (mine theirs : Options) (turns others more : List Turned)
 
 -- ---- a run
 
-record BothStand (options : Both Options) (turns : Both (List Turned)) : Type 0 where
+record BothStand (options : Both Options) (turns : Both (List Transition)) : Type 0 where
   to_b : Stand options.a options.b turns.a turns.b
   to_a : Stand options.b options.a turns.b turns.a
 
-stepped : Below → (options : Both Options) (turns : Both (List Turned)) (step : StepContent) (more : List Turned) (side : Side) → AreUsable options → Joined options turns → BothKnown options (with_turns side more turns)
-    → BothPerformed (with_turns side more turns) → FitsStep step → BothStand options turns → StepTurns (endpoint_after (of_side side options) (of_side side turns)) (packets_shown (of_other side options) (of_other side turns)) step more
-    → BothStand options (with_turns side more turns)
+stepped : Below → (options : Both Options) (turns : Both (List Transition)) (step : StepContent) (more : List Transition) (side : Side) → AreUsable options → Joined options turns → BothKnown options (side_turns_added side more turns)
+    → BothPerformed (side_turns_added side more turns) → FitsStep step → BothStand options turns → StepTurns (endpoint_after (of_side side options) (of_side side turns)) (packets_shown (of_other side options) (of_other side turns)) step more
+    → BothStand options (side_turns_added side more turns)
 stepped law options turns step more sides.A are j known performed in_memory h taken =
     let done = side_acts law options.a options.b turns.a turns.b more j.a.fits (are sides.B).fits known.a known.b known.matched performed.a h.to_b h.to_a step in_memory taken in
     record { to_b = done.sends; to_a = done.receives }
@@ -116,12 +116,12 @@ stepped law options turns step more sides.B are j known performed in_memory h ta
     (matched_swapped (noted_past turns.a) (noted_past (turns.b ++ more)) known.matched) performed.b h.to_a h.to_b step in_memory taken in
     record { to_b = done.receives; to_a = done.sends }
 
-acted : Below → (options : Both Options) (turns : Both (List Turned)) (act : ActContent) (more : List Turned) → AreUsable options → IsHonestAct act → AreInMemory (act ∷ []) → Joined options turns
-    → BothKnown options (with_turns (side_of_act act) more turns) → BothPerformed (with_turns (side_of_act act) more turns) → BothStand options turns → NextTurns options turns act more → BothStand options (with_turns (side_of_act act) more turns)
+acted : Below → (options : Both Options) (turns : Both (List Transition)) (act : ActContent) (more : List Transition) → AreUsable options → IsHonestAct act → AreInMemory (act ∷ []) → Joined options turns
+    → BothKnown options (side_turns_added (side_of_act act) more turns) → BothPerformed (side_turns_added (side_of_act act) more turns) → BothStand options turns → NextTurns options turns act more → BothStand options (side_turns_added (side_of_act act) more turns)
 acted law options turns (step_act step) more are honest in_memory j known performed h taken = stepped law options turns step more (side_of step) are j known performed in_memory.0 h taken
 acted law options turns (outside_act outside) more are honest in_memory j known performed h taken = absurd honest
 
-both_stand : Below → AnswerKeepsAgreement → (options : Both Options) (run : List Worked) → AreUsable options → SocketRun options run → AreHonest (acts_of run) → AreFresh (turns_after run) → AreInMemory (acts_of run)
+both_stand : Below → AnswerKeepsAgreement → (options : Both Options) (run : List PerformedAct) → AreUsable options → SocketRun options run → AreHonest (acts_of run) → AreFresh (turns_after run) → AreInMemory (acts_of run)
     → BothKnown options (turns_after run)
     → BothStand options (turns_after run)
 both_stand law answers options [] are runs honest fresh in_memory known = record { to_b = ends_begin options.a options.b; to_a = ends_begin options.b options.a }
@@ -147,7 +147,7 @@ good_all : (events : List (Event Emission)) → AllSent IsSendable events → Al
 good_all [] sendable goes = tt
 good_all (event ∷ events) sendable goes = (good_one event sendable.0 goes.0, good_all events sendable.1 goes.1)
 
-both_known : DeliveryLaws → (options : Both Options) (run : List Worked) → AreUsable options → SocketRun options run → AreHonest (acts_of run) → AreFresh (turns_after run) → TurnsAllowDelivery options (turns_after run)
+both_known : DeliveryLaws → (options : Both Options) (run : List PerformedAct) → AreUsable options → SocketRun options run → AreHonest (acts_of run) → AreFresh (turns_after run) → TurnsAllowDelivery options (turns_after run)
     → BothKnown options (turns_after run)
 both_known law options run are runs honest fresh allows =
     let j : Joined options (turns_after run) = joined law.below options run are runs honest in
@@ -175,15 +175,15 @@ both_known law options run are runs honest fresh allows =
 
 -- ---- what was read
 
-one_way : (mine theirs : Options) (turns others : List Turned) → SendsLittle mine turns → Stand mine theirs turns others → IsDelivered (sent_of (fresh_endpoint mine) turns) (read_of (fresh_endpoint theirs) others)
+one_way : (mine theirs : Options) (turns others : List Transition) → SendsLittle mine turns → Stand mine theirs turns others → IsDelivered (messages_sent_in (fresh_endpoint mine) turns) (read_of (fresh_endpoint theirs) others)
 one_way mine theirs turns others little h =
     let same = queued_same mine turns in
     let all : Delivered (queued_of mine turns) (reads_of theirs others) =
     subst (Delivered (queued_of mine turns)) h.are_all
     (ends_deliver theirs h.ends (endpoint_after mine turns) (queued_of mine turns) (noted_past turns) (packets_of turns) (endpoint_after theirs others) (noted_past others) h.tagged h.between
     (few_queued mine turns little) little.chunks) in
-    subst (IsDelivered (sent_of (fresh_endpoint mine) turns)) (turns_read (fresh_endpoint theirs) others [])
-    (is_delivered (queued_of mine turns) (sent_of (fresh_endpoint mine) turns) (reads_of theirs others) same all)
+    subst (IsDelivered (messages_sent_in (fresh_endpoint mine) turns)) (turns_read (fresh_endpoint theirs) others [])
+    (is_delivered (queued_of mine turns) (messages_sent_in (fresh_endpoint mine) turns) (reads_of theirs others) same all)
 
 pub sockets_deliver : DeliveryLaws → SocketsDeliver
 sockets_deliver law options run are in_memory runs honest fresh allows side =

@@ -10,8 +10,8 @@ use Rattle.dcsctp_spec_lemmas.specs.spec.association.Effect.{Effect, sends, Chan
 use Rattle.dcsctp_spec_runs.specs.Fitting.{AllSent}
 use Rattle.dcsctp_spec_runs.specs.Laws.{AnswerKeepsAgreement}
 use Rattle.dcsctp_spec_runs.specs.Past.{HasFreshTags}
-use Rattle.dcsctp_spec_runs.specs.World.{SideState, after_changes, after_change, Which, at_a, at_b, Move, MoveChanges, Step, World, step_after, world_after, StepChanges, Run}
-use Rattle.dcsctp_spec_runs.specs.Sockets.{Worked, Both, of_side, turns_after}
+use Rattle.dcsctp_spec_runs.specs.World.{SideState, after_changes, after_change, Which, at_a, at_b, Move, MoveChanges, WorldStep, World, step_after, world_after, StepChanges, WorldRun}
+use Rattle.dcsctp_spec_runs.specs.Sockets.{PerformedAct, Both, of_side, turns_after}
 use Rattle.dcsctp_theorem_association.proofs.Agreement.{TrueWorld, FreshWorld}
 use Rattle.dcsctp_theorem_association.proofs.Facts.{TrueFront, Behind, AllBehind, TrueContents, TruePast}
 use Rattle.dcsctp_theorem_association.proofs.Growth.{true_of}
@@ -53,7 +53,7 @@ true_after_step law world at_b move changes h fresh turns =
     true_step law world.b world.a move changes h.b h.a fresh.b fresh.a turns in
     record { a = both.1; b = both.0 }
 
-pub true_run : AnswerKeepsAgreement → (options_a options_b : Options) (steps : List Step) → Run options_a options_b steps
+pub true_run : AnswerKeepsAgreement → (options_a options_b : Options) (steps : List WorldStep) → WorldRun options_a options_b steps
     → FreshWorld (world_after options_a options_b steps) → TrueWorld (world_after options_a options_b steps)
 true_run law options_a options_b [] run fresh = record { a = record { past = tt; core = tt }; b = record { past = tt; core = tt } }
 true_run law options_a options_b (step ∷ earlier) run fresh =
@@ -102,11 +102,11 @@ module _ (my_offer their_offer : Offer) (mine theirs : List Effect) where
 -- ---- a run of two sockets
 
 -- both sides of the machine that the sockets are followed by, and what is true of them
-pub true_world : Below → AnswerKeepsAgreement → (options : Both Options) (run : List Worked) (h : Joined options (turns_after run)) → AreFresh (turns_after run)
+pub true_world : Below → AnswerKeepsAgreement → (options : Both Options) (run : List PerformedAct) (h : Joined options (turns_after run)) → AreFresh (turns_after run)
     → TrueWorld (world_after options.a options.b h.steps)
 true_world law answers options run h tags = true_run answers options.a options.b h.steps h.is_run (record { a = h.a.fresh tags.a; b = h.b.fresh tags.b })
 
-echoes_of : (options : Both Options) (run : List Worked) (h : Joined options (turns_after run)) → TrueWorld (world_after options.a options.b h.steps) → (side : Side)
+echoes_of : (options : Both Options) (run : List PerformedAct) (h : Joined options (turns_after run)) → TrueWorld (world_after options.a options.b h.steps) → (side : Side)
     → AllSent GoesToMaker (events_of (of_side side (turns_after run)))
 echoes_of options run h is sides.A =
     let world : World = world_after options.a options.b h.steps in

@@ -3,14 +3,14 @@ use Rattle.std.proofs.Common.{◌≡◌, List, [], ◌∷◌, ◌++◌, length, 
 use Rattle.dcsctp_spec_lemmas.specs.types.declared.options.Options.{Options}
 use Rattle.dcsctp_spec_lemmas.specs.types.declared.schedule.Side.{Side}
 use Rattle.dcsctp_spec_lemmas.specs.types.declared.schedule.Side.TheVariants as sides
-use Rattle.dcsctp_spec_lemmas.specs.spec.endpoint.CallTurns.{Turned, IsTurn, AlongTurns, after_all, effects_of, events_of}
+use Rattle.dcsctp_spec_lemmas.specs.spec.endpoint.CallTurns.{Transition, IsTurn, AlongTurns, after_all, effects_of, events_of}
 use Rattle.dcsctp_spec_lemmas.specs.spec.endpoint.Endpoint.{Endpoint, fresh_endpoint}
 use Rattle.std.proofs.lemmas.List.{length-append}
 use Rattle.dcsctp_spec_lemmas.specs.spec.endpoint.Event.{Event, packets_in}
 use Rattle.dcsctp_spec_runs.specs.Fitting.{AllSent, IsSendable}
 use Rattle.dcsctp_spec_lemmas.specs.spec.Packet.{Emission}
 use Rattle.dcsctp_spec_runs.specs.Past.{Each}
-use Rattle.dcsctp_spec_runs.specs.Sockets.{Both, with_turns, endpoint_after}
+use Rattle.dcsctp_spec_runs.specs.Sockets.{Both, side_turns_added, endpoint_after}
 use Rattle.dcsctp_spec_lemmas.specs.spec.endpoint.Turn.{Input, Turn}
 use Rattle.dcsctp_spec_runs.specs.World.{after_effects}
 use Rattle.dcsctp_spec_lemmas.specs.spec.association.Effect.{Effect}
@@ -24,7 +24,7 @@ use Rattle.dcsctp_delivery_directions.specs.Requests.{requests_to}
 use Rattle.dcsctp_delivery_directions.proofs.RequestCounts.{requests_more_to}
 use Rattle.dcsctp_delivery_sockets.specs.Acts.{AreTurns}
 use Rattle.dcsctp_delivery_sockets.specs.Echoes.{GoesToMaker}
-use Rattle.dcsctp_delivery_sockets.specs.UserMessages.{sent_in, sent_of}
+use Rattle.dcsctp_delivery_sockets.specs.UserMessages.{sent_in, messages_sent_in}
 use Rattle.dcsctp_delivery_sockets.specs.Delivery.{IsOfNewTags, MatchByTags, SendsLittle, IsUnrefused}
 use Rattle.dcsctp_delivery_associations.proofs.Counting.{more_to}
 use Rattle.dcsctp_delivery_sockets.proofs.KnownPeers.{each_earlier, IsMove, RanTo, run_starts, run_through}
@@ -32,12 +32,12 @@ use Rattle.dcsctp_delivery_sockets.proofs.NewLinks.{matched_earlier}
 
 -- ---- lists of turns and of events
 
-module _ (Good : Endpoint → Turned → Type 0) where
-  pub along_front : (e : Endpoint) (turns more : List Turned) → AlongTurns Good e (turns ++ more) → AlongTurns Good e turns
+module _ (Good : Endpoint → Transition → Type 0) where
+  pub along_front : (e : Endpoint) (turns more : List Transition) → AlongTurns Good e (turns ++ more) → AlongTurns Good e turns
   along_front e [] more along = tt
   along_front e (t ∷ turns) more along = (along.0, along_front t.outcome.after turns more along.1)
 
-  pub along_rest : (e : Endpoint) (turns more : List Turned) → AlongTurns Good e (turns ++ more) → AlongTurns Good (after_all e turns) more
+  pub along_rest : (e : Endpoint) (turns more : List Transition) → AlongTurns Good e (turns ++ more) → AlongTurns Good (after_all e turns) more
   along_rest e [] more along = along
   along_rest e (t ∷ turns) more along = along_rest t.outcome.after turns more along.1
 
@@ -45,23 +45,23 @@ pub sent_front : (Good : Emission → Type 0) (events more : List (Event Emissio
 sent_front Good [] more each = tt
 sent_front Good (event ∷ events) more each = (each.0, sent_front Good events more each.1)
 
-abbrev pub IsOwn : Endpoint → Turned → Type 0
+abbrev pub IsOwn : Endpoint → Transition → Type 0
 IsOwn e turn = Turn e turn.input turn.outcome
 
-pub own_turn : (e : Endpoint) (input : Input) (turn : Turned) → IsTurn e input turn → IsOwn e turn
+pub own_turn : (e : Endpoint) (input : Input) (turn : Transition) → IsTurn e input turn → IsOwn e turn
 own_turn e input turn is = subst (λ (i : Input). Turn e i turn.outcome) (sym is.is) is.comes
 
-are_turns : (e : Endpoint) (turns : List Turned) → AlongTurns IsOwn e turns → AreTurns e turns
+are_turns : (e : Endpoint) (turns : List Transition) → AlongTurns IsOwn e turns → AreTurns e turns
 are_turns e [] along = tt
 are_turns e (t ∷ turns) along = (along.0, are_turns t.outcome.after turns along.1)
 
-pub past_more : (turns more : List Turned) → noted_past (turns ++ more) ≡ after_effects (effects_of more) (noted_past turns)
+pub past_more : (turns more : List Transition) → noted_past (turns ++ more) ≡ after_effects (effects_of more) (noted_past turns)
 past_more turns more = ap (λ (effects : List Effect). after_effects effects []) (effects_of-append turns more) ∙ after_effects-append (effects_of turns) (effects_of more) []
 
-sent_more : (e : Endpoint) (turns more : List Turned) → sent_of e (turns ++ more) ≡ sent_of e turns ++ sent_of (after_all e turns) more
+sent_more : (e : Endpoint) (turns more : List Transition) → messages_sent_in e (turns ++ more) ≡ messages_sent_in e turns ++ messages_sent_in (after_all e turns) more
 sent_more e [] more = refl
 sent_more e (t ∷ turns) more =
-    ap (λ (l : List MessageContent). sent_in e t.input ++ l) (sent_more t.outcome.after turns more) ∙ sym (append_assoc (sent_in e t.input) (sent_of t.outcome.after turns) (sent_of (after_all t.outcome.after turns) more))
+    ap (λ (l : List MessageContent). sent_in e t.input ++ l) (sent_more t.outcome.after turns more) ∙ sym (append_assoc (sent_in e t.input) (messages_sent_in t.outcome.after turns) (messages_sent_in (after_all t.outcome.after turns) more))
 
 -- ---- one side
 
@@ -70,7 +70,7 @@ pub record GoodPacket (emission : Emission) : Type 0 where
   pub sendable : IsSendable emission
   pub goes : GoesToMaker emission
 
-pub record SideKnown (options : Options) (turns : List Turned) : Type 0 where
+pub record SideKnown (options : Options) (turns : List Transition) : Type 0 where
   pub own : AlongTurns IsOwn (fresh_endpoint options) turns
   pub moves : AlongTurns IsMove (fresh_endpoint options) turns
   pub refused : AlongTurns IsUnrefused (fresh_endpoint options) turns
@@ -78,7 +78,7 @@ pub record SideKnown (options : Options) (turns : List Turned) : Type 0 where
   pub tags : Each IsOfNewTags (noted_past turns)
   pub little : SendsLittle options turns
 
-pub side_front : (options : Options) (turns more : List Turned) → SideKnown options (turns ++ more) → SideKnown options turns
+pub side_front : (options : Options) (turns more : List Transition) → SideKnown options (turns ++ more) → SideKnown options turns
 side_front options turns more h =
     record {
       own = along_front IsOwn (fresh_endpoint options) turns more h.own;
@@ -90,7 +90,7 @@ side_front options turns more h =
           record {
             messages =
                 (let both = ap (λ (l : List MessageContent). length l) (sent_more (fresh_endpoint options) turns more)
-                ∙ length-append (sent_of (fresh_endpoint options) turns) (sent_of (endpoint_after options turns) more) in
+                ∙ length-append (messages_sent_in (fresh_endpoint options) turns) (messages_sent_in (endpoint_after options turns) more) in
                 let few = h.little.messages in
                 omega (arith, both, few));
             chunks = λ tag.
@@ -107,27 +107,27 @@ side_front options turns more h =
     }
 
 -- what is known of the turns of an act
-pub rest_turns : (options : Options) (turns more : List Turned) → SideKnown options (turns ++ more) → AreTurns (endpoint_after options turns) more
+pub rest_turns : (options : Options) (turns more : List Transition) → SideKnown options (turns ++ more) → AreTurns (endpoint_after options turns) more
 rest_turns options turns more h = are_turns (endpoint_after options turns) more (along_rest IsOwn (fresh_endpoint options) turns more h.own)
 
-pub rest_moves : (options : Options) (turns more : List Turned) → SideKnown options (turns ++ more) → AlongTurns IsMove (endpoint_after options turns) more
+pub rest_moves : (options : Options) (turns more : List Transition) → SideKnown options (turns ++ more) → AlongTurns IsMove (endpoint_after options turns) more
 rest_moves options turns more h = along_rest IsMove (fresh_endpoint options) turns more h.moves
 
-pub rest_refused : (options : Options) (turns more : List Turned) → SideKnown options (turns ++ more) → AlongTurns IsUnrefused (endpoint_after options turns) more
+pub rest_refused : (options : Options) (turns more : List Transition) → SideKnown options (turns ++ more) → AlongTurns IsUnrefused (endpoint_after options turns) more
 rest_refused options turns more h = along_rest IsUnrefused (fresh_endpoint options) turns more h.refused
 
 -- A side ran to where the act begins.
-pub ran_front : (options : Options) (turns more : List Turned) → SideKnown options (turns ++ more) → RanTo options (endpoint_after options turns) (noted_past turns)
+pub ran_front : (options : Options) (turns more : List Transition) → SideKnown options (turns ++ more) → RanTo options (endpoint_after options turns) (noted_past turns)
 ran_front options turns more h = run_through options turns (fresh_endpoint options) [] (run_starts options) (along_front IsMove (fresh_endpoint options) turns more h.moves)
 
 -- ---- both sides
 
-pub record BothKnown (options : Both Options) (turns : Both (List Turned)) : Type 0 where
+pub record BothKnown (options : Both Options) (turns : Both (List Transition)) : Type 0 where
   pub a : SideKnown options.a turns.a
   pub b : SideKnown options.b turns.b
   pub matched : MatchByTags (noted_past turns.a) (noted_past turns.b)
 
-pub both_front : (options : Both Options) (turns : Both (List Turned)) (side : Side) (more : List Turned) → BothKnown options (with_turns side more turns) → BothKnown options turns
+pub both_front : (options : Both Options) (turns : Both (List Transition)) (side : Side) (more : List Transition) → BothKnown options (side_turns_added side more turns) → BothKnown options turns
 both_front options turns sides.A more h =
     record {
       a = side_front options.a turns.a more h.a;

@@ -7,7 +7,7 @@ use Rattle.dcsctp_spec_lemmas.specs.wire.declared.reconfiguration.Reconfiguratio
 use Rattle.dcsctp_spec_lemmas.specs.types.declared.association.Held.{Held}
 use Rattle.dcsctp_spec_lemmas.specs.types.declared.association.Pair.{Pair}
 use Rattle.dcsctp_spec_lemmas.specs.types.declared.options.Options.{Options}
-use Rattle.dcsctp_spec_lemmas.specs.spec.endpoint.CallTurns.{Turned, AlongTurns, after_all, effects_of}
+use Rattle.dcsctp_spec_lemmas.specs.spec.endpoint.CallTurns.{Transition, AlongTurns, after_all, effects_of}
 use Rattle.dcsctp_spec_lemmas.specs.spec.endpoint.Endpoint.{Endpoint, Core, closed, cookie_wait, cookie_echoed, open_in, fresh_endpoint}
 use Rattle.dcsctp_spec_lemmas.specs.spec.Packet.{re_config}
 use Rattle.dcsctp_spec_runs.specs.Past.{Each, InPlace, number_to_perform}
@@ -18,11 +18,11 @@ use Rattle.dcsctp_spec_lemmas.specs.spec.association.Acts.{Act, connect, t1_expi
 use Rattle.dcsctp_spec_lemmas.specs.spec.association.Choices.{Choices, idle_choices}
 use Rattle.dcsctp_spec_lemmas.specs.spec.association.Effect.{Effect, performs, noted, Change}
 use Rattle.dcsctp_spec_lemmas.specs.spec.association.FlushChanges.{next_number}
-use Rattle.dcsctp_spec_lemmas.specs.spec.association.ResetChanges.{again, next, astray, place_of, Answered, repeated, outgoing_by, reset_sent}
+use Rattle.dcsctp_spec_lemmas.specs.spec.association.ResetChanges.{again, next, astray, request_place, RequestOutcome, repeated, outgoing_by, reset_sent}
 use Rattle.dcsctp_spec_lemmas.specs.spec.association.ResetChanges as resets
 use Rattle.dcsctp_spec_runs.proofs.DeliveryLemmas.{longest_connects, chunk_same}
 use Rattle.dcsctp_spec_laws.proofs.TurnLemmas.{same_after}
-use Rattle.dcsctp_theorem_association.specs.OneSide.{Leaves, LeavesHeld}
+use Rattle.dcsctp_theorem_association.specs.OneSide.{LeavesCore, LeavesHeld}
 use Rattle.dcsctp_theorem_association.proofs.Growth.{after_effects-append}
 use Rattle.dcsctp_theorem_association.proofs.OneSideTurns.{effects_in_place, past_is_state}
 use Rattle.dcsctp_theorem_sockets.proofs.Follow.{noted_after}
@@ -38,12 +38,12 @@ repeats_last : Held → List ResetParameter
 repeats_last held = outgoing_reset_request held.peer_last 0 (record { last_tsn = 0; streams = [] }) ∷ []
 
 -- what it does, if it is answered so
-abbrev effects_with : Pair → Held → Answered → List Effect
+abbrev effects_with : Pair → Held → RequestOutcome → List Effect
 effects_with my held first =
     (first.effects ++ []) ++ (reset_sent false first.held (reconfiguration_response held.peer_last first.result ∷ []) (idle_choices my)).effects
 
 -- It is performed then, if it is in progress.
-last_again : (held : Held) → held.peer_result ≡ InProgress → outgoing_by held held.peer_last true (place_of held.peer_last held.peer_last) ≡ resets.worked held held.peer_last true
+last_again : (held : Held) → held.peer_result ≡ InProgress → outgoing_by held held.peer_last true (request_place held.peer_last held.peer_last) ≡ resets.performed_request held held.peer_last true
 last_again held is =
     ap (λ (b : Bool). outgoing_by held held.peer_last true (if b then again else (if held.peer_last == next_number held.peer_last then next else astray))) ((Decides-eqb held.peer_last held.peer_last).1 refl)
     ∙ ap (λ (r : ReconfigurationResponseResult). repeated held r true) is
@@ -53,16 +53,16 @@ each_earlier Rule [] past each = each
 each_earlier Rule (effect ∷ effects) past each = (each_earlier Rule effects (effect ∷ past) each).1
 
 module _ (my : Pair) (held : Held) (past : List Effect) (in_progress : held.peer_result ≡ InProgress) where
-  abbrev first : Answered
-  first = outgoing_by held held.peer_last true (place_of held.peer_last held.peer_last)
+  abbrev first : RequestOutcome
+  first = outgoing_by held held.peer_last true (request_place held.peer_last held.peer_last)
 
   -- So the past knows its number.
   pub number_known : Each InPlace (after_effects (effects_with my held first) past) → number_to_perform (noted past) ≡ Some held.peer_last
   number_known each =
-      let done : Answered = resets.worked held held.peer_last true in
+      let done : RequestOutcome = resets.performed_request held held.peer_last true in
       let effects : List Effect = (reset_sent false done.held (reconfiguration_response held.peer_last done.result ∷ []) (idle_choices my)).effects in
       let all : Each InPlace (after_effects effects (performs held.peer held.peer_last ∷ past)) =
-      subst (λ (a : Answered). Each InPlace (after_effects (effects_with my held a) past)) (last_again held in_progress) each in
+      subst (λ (a : RequestOutcome). Each InPlace (after_effects (effects_with my held a) past)) (last_again held in_progress) each in
       (in_place-noted (performs held.peer held.peer_last ∷ past) (each_earlier InPlace effects (performs held.peer held.peer_last ∷ past) all)).0.0
 
 -- ---- each run of a side
@@ -72,7 +72,7 @@ module _ (options : Options) (steps : List (List Change)) (run : SideRun options
   side = side_after options steps
 
   known_held : (core : Core) (my : Pair) (held : Held) → side.core ≡ core → LeavesHeld side.past my held
-      → ((choices : Choices) → (chunk_change options core 0 (re_config (repeats_last held)) choices).effects ≡ (resets.reset_worked my held (repeats_last held) choices).effects) → KnowsPeer (noted side.past) held
+      → ((choices : Choices) → (chunk_change options core 0 (re_config (repeats_last held)) choices).effects ≡ (resets.peer_part_handled my held (repeats_last held) choices).effects) → KnowsPeer (noted side.past) held
   unfolding repeats_last
   known_held core my held at leaves is =
       record {
@@ -85,7 +85,7 @@ module _ (options : Options) (steps : List (List Change)) (run : SideRun options
             (subst (λ (effects : List Effect). Each InPlace (after_effects effects side.past)) (is (idle_choices my)) (effects_in_place options ((change ∷ []) ∷ steps) ((turn, tt), run))));
       }
 
-  knows_peer : (core : Core) → side.core ≡ core → Leaves side.past core → KnowsPeerIn (noted side.past) core
+  knows_peer : (core : Core) → side.core ≡ core → LeavesCore side.past core → KnowsPeerIn (noted side.past) core
   knows_peer closed at leaves = tt
   knows_peer (cookie_wait my) at leaves = tt
   knows_peer (cookie_echoed my held cookie) at leaves = known_held (cookie_echoed my held cookie) my held at leaves (λ choices. refl)
@@ -118,7 +118,7 @@ same_turn p q core change same turn = longest_turns p q.max_message_size core ch
 
 -- ---- turn by turn
 
-abbrev pub IsMove : Endpoint → Turned → Type 0
+abbrev pub IsMove : Endpoint → Transition → Type 0
 IsMove e turn = Moves e turn.outcome
 
 -- A side that runs with these options has this past and this association.
@@ -132,7 +132,7 @@ pub record RanTo (options : Options) (e : Endpoint) (past : List Effect) : Type 
 pub run_starts : (options : Options) → RanTo options (fresh_endpoint options) []
 run_starts options = record { steps = []; is_run = tt; same = refl; core = refl; noted_is = refl }
 
-pub next_run : (options : Options) (e : Endpoint) (past : List Effect) (t : Turned) → RanTo options e past → Moves e t.outcome → RanTo options t.outcome.after (after_effects t.outcome.effects past)
+pub next_run : (options : Options) (e : Endpoint) (past : List Effect) (t : Transition) → RanTo options e past → Moves e t.outcome → RanTo options t.outcome.after (after_effects t.outcome.effects past)
 next_run options e past t ran (it_rests core same effects told) =
     record {
       steps = ran.steps;
@@ -153,7 +153,7 @@ next_run options e past t ran (it_moves change turn is) =
           ∙ ap (after_effects t.outcome.effects) ran.noted_is;
     }
 
-pub run_through : (options : Options) (turns : List Turned) (e : Endpoint) (past : List Effect) → RanTo options e past → AlongTurns IsMove e turns → RanTo options (after_all e turns) (after_effects (effects_of turns) past)
+pub run_through : (options : Options) (turns : List Transition) (e : Endpoint) (past : List Effect) → RanTo options e past → AlongTurns IsMove e turns → RanTo options (after_all e turns) (after_effects (effects_of turns) past)
 run_through options [] e past ran along = ran
 run_through options (t ∷ turns) e past ran along =
     subst (RanTo options (after_all t.outcome.after turns)) (sym (after_effects-append t.outcome.effects (effects_of turns) past))

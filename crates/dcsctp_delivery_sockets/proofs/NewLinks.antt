@@ -8,22 +8,22 @@ use Rattle.dcsctp_spec_lemmas.specs.types.declared.association.Pair.{Pair}
 use Rattle.dcsctp_spec_lemmas.specs.types.declared.options.Options.{Options}
 use Rattle.dcsctp_spec_lemmas.specs.types.Settings.{wire_options}
 use Rattle.dcsctp_spec_lemmas.specs.spec.Admission.{Admission, all_chunks, shutdown_acks_alone, refused, admits, shutdown_acks_in}
-use Rattle.dcsctp_spec_lemmas.specs.spec.endpoint.CallTurns.{Turned, IsTurn, Turns, AlongTurns, AdmittedTurns, HandleInput, unreadable, readable, effects_of}
+use Rattle.dcsctp_spec_lemmas.specs.spec.endpoint.CallTurns.{Transition, IsTurn, Turns, AlongTurns, AdmittedTurns, HandleInput, unreadable, readable, effects_of}
 use Rattle.dcsctp_spec_lemmas.specs.spec.endpoint.Endpoint.{Endpoint, Core, closed, cookie_wait, cookie_echoed, open_in, established, shutdown_pending, shutdown_sent, shutdown_received, shutdown_ack_sent}
 use Rattle.dcsctp_spec_runs.specs.Fitting.{FitsCore, FitsEndpoint, SendablePacket, IsSendable}
 use Rattle.dcsctp_spec_lemmas.specs.spec.CookieFits.{FitsPair}
 use Rattle.dcsctp_spec_runs.specs.Laws.{OfferReadsBack}
 use Rattle.dcsctp_spec_lemmas.specs.spec.endpoint.Outcome.{Outcome}
 use Rattle.dcsctp_spec_lemmas.specs.spec.Packet.{Packet, packet_in, Emission}
-use Rattle.dcsctp_spec_runs.specs.Past.{Has, Each}
-use Rattle.dcsctp_spec_lemmas.specs.spec.endpoint.Turn.{Input, arrival, refusal, packet_begins, chunk_input, packet_ends, act_input, user_sets, user_sends, user_resets, user_takes, timer_expires, time_passes, restores, has_data, BeginTurn, unreadable_text}
+use Rattle.dcsctp_spec_runs.specs.Past.{HasEffect, Each}
+use Rattle.dcsctp_spec_lemmas.specs.spec.endpoint.Turn.{Input, arrival, refusal, packet_begins, chunk_input, packet_ends, act_input, user_sets, user_sends, user_resets, user_takes, timer_expires, time_passes, restores, has_data_chunk, BeginTurn, unreadable_text}
 use Rattle.dcsctp_spec_runs.specs.World.{after_effects}
-use Rattle.dcsctp_spec_lemmas.specs.spec.association.Effect.{Link, Effect, holds, completes, performs, link_of, link_in}
+use Rattle.dcsctp_spec_lemmas.specs.spec.association.Effect.{AssociationIdentity, Effect, holds, completes, performs, identity_of, identity_in}
 use Rattle.dcsctp_theorem_association.proofs.Growth.{after_effects-append, after_within}
 use Rattle.dcsctp_theorem_sockets.proofs.Deliver.{Fits, chunk_turns_fit, packet_end_fits, nothing_ends, acks_sendable}
 use Rattle.dcsctp_theorem_sockets.proofs.Signs.{among_after}
 use Rattle.dcsctp_delivery_turns.specs.Actions.{came_by, IsOpening, Begun}
-use Rattle.dcsctp_delivery_associations.specs.Answered.{number_at}
+use Rattle.dcsctp_delivery_associations.specs.Answered.{request_number_at}
 use Rattle.dcsctp_delivery_associations.specs.Ends.{NewPeer, NewTag}
 use Rattle.dcsctp_delivery_sockets.specs.Acts.{AreNewPeers}
 use Rattle.dcsctp_delivery_sockets.specs.Packets.{AreNewTags}
@@ -33,10 +33,10 @@ use Rattle.dcsctp_delivery_sockets.proofs.Calls.{NoChunk, NoChunks, AreCalls}
 
 -- ---- where an association begins, its numbers fit
 
-abbrev pub OpensFitting : Turned → Type 0
+abbrev pub OpensFitting : Transition → Type 0
 OpensFitting turn = IsOpening (came_by turn.input) → FitsCore turn.outcome.after.core
 
-abbrev pub AllOpenFitting : List Turned → Type 0
+abbrev pub AllOpenFitting : List Transition → Type 0
 AllOpenFitting turns = AllByRecursion OpensFitting turns
 
 -- No association begins where no chunk is handled.
@@ -55,20 +55,20 @@ opens_none (timer_expires timer) none opening = opening
 opens_none (time_passes moment) none opening = opening
 opens_none (restores state) none opening = opening
 
-pub none_open : (turns : List Turned) → NoChunks turns → AllOpenFitting turns
+pub none_open : (turns : List Transition) → NoChunks turns → AllOpenFitting turns
 none_open [] none = tt
 none_open (turn ∷ turns) none = ((λ opening. absurd (opens_none turn.input none.0 opening)), none_open turns none.1)
 
-input_opens : (e : Endpoint) (input : Input) (turn : Turned) → NoChunk input → IsTurn e input turn → OpensFitting turn
+input_opens : (e : Endpoint) (input : Input) (turn : Transition) → NoChunk input → IsTurn e input turn → OpensFitting turn
 input_opens e input turn none is opening = absurd (opens_none turn.input (subst NoChunk (sym is.is) none) opening)
 
-inputs_open : (e : Endpoint) (inputs : List Input) (turns : List Turned) → AllByRecursion NoChunk inputs → Turns e inputs turns → AllOpenFitting turns
+inputs_open : (e : Endpoint) (inputs : List Input) (turns : List Transition) → AllByRecursion NoChunk inputs → Turns e inputs turns → AllOpenFitting turns
 inputs_open e [] [] none taken = tt
 inputs_open e [] (t ∷ turns) none taken = absurd taken
 inputs_open e (input ∷ inputs) [] none taken = absurd taken
 inputs_open e (input ∷ inputs) (t ∷ turns) none taken = (input_opens e input t none.0 taken.0, inputs_open t.outcome.after inputs turns none.1 taken.1)
 
-fit_open : (turns : List Turned) → AllByRecursion Fits turns → AllOpenFitting turns
+fit_open : (turns : List Transition) → AllByRecursion Fits turns → AllOpenFitting turns
 fit_open [] fit = tt
 fit_open (turn ∷ turns) fit = ((λ opening. fit.0.after.core), fit_open turns fit.1)
 
@@ -85,19 +85,19 @@ begun_fits e (open_in shutdown_sent my held) false o h turn = subst (λ (x : Out
 begun_fits e (open_in shutdown_received my held) has o h turn = subst (λ (x : Outcome). FitsEndpoint x.after) (sym turn) h
 begun_fits e (open_in shutdown_ack_sent my held) has o h turn = subst (λ (x : Outcome). FitsEndpoint x.after) (sym turn) h
 
-admitted_open : OfferReadsBack → (e : Endpoint) (packet : Packet) (admission : Admission) (turns : List Turned) → FitsEndpoint e → SendablePacket packet → AdmittedTurns e packet admission turns → AllOpenFitting turns
+admitted_open : OfferReadsBack → (e : Endpoint) (packet : Packet) (admission : Admission) (turns : List Transition) → FitsEndpoint e → SendablePacket packet → AdmittedTurns e packet admission turns → AllOpenFitting turns
 admitted_open law e packet all_chunks [] h good taken = absurd taken
 admitted_open law e packet all_chunks (t ∷ turns) h good taken = (
   input_opens e (packet_begins packet.contents) t tt taken.0,
   fit_open turns (chunk_turns_fit law t.outcome.after packet.tag packet.contents (packet_ends ∷ []) turns taken.1
-      (begun_fits e e.core (has_data packet.contents) t.outcome h taken.0.comes) good.tag good.contents packet_end_fits).turns_fit,
+      (begun_fits e e.core (has_data_chunk packet.contents) t.outcome h taken.0.comes) good.tag good.contents packet_end_fits).turns_fit,
 )
 admitted_open law e packet shutdown_acks_alone turns h good taken =
     fit_open turns (chunk_turns_fit law e packet.tag (shutdown_acks_in packet.contents) [] turns taken h good.tag (acks_sendable packet.contents good.contents) nothing_ends).turns_fit
 admitted_open law e packet (refused text) turns h good taken = inputs_open e (refusal text ∷ []) turns (tt, tt) taken
 
 -- So it is of a packet that was sent.
-pub packet_opens : OfferReadsBack → (e : Endpoint) (bytes : List ℕ) (emission : Emission) (turns : List Turned) → FitsEndpoint e → IsSendable emission
+pub packet_opens : OfferReadsBack → (e : Endpoint) (bytes : List ℕ) (emission : Emission) (turns : List Transition) → FitsEndpoint e → IsSendable emission
     → ((packet : PacketContent) → IsPacket (wire_options e.options) packet bytes → packet_in packet ≡ emission.packet) → HandleInput e bytes turns → AllOpenFitting turns
 packet_opens law e bytes emission _ h good is (unreadable turns none taken) = inputs_open e (arrival ∷ refusal unreadable_text ∷ []) turns (tt, (tt, tt)) taken
 packet_opens law e bytes emission _ h good is (readable packet counted turns found counting taken) =
@@ -109,18 +109,18 @@ packet_opens law e bytes emission _ h good is (readable packet counted turns fou
           (subst (λ (p : Packet). AdmittedTurns counted.outcome.after p (admits e.core p) turns) same taken),
     )
 
-pub record LinkFits (link : Link) : Type 0 where
+pub record LinkFits (link : AssociationIdentity) : Type 0 where
   pub my : FitsPair link.my
   pub peer : FitsPair link.peer
 
-pub link_fits : (core : Core) (link : Link) → FitsCore core → link_in core ≡ Some link → LinkFits link
+pub link_fits : (core : Core) (link : AssociationIdentity) → FitsCore core → identity_in core ≡ Some link → LinkFits link
 link_fits closed link fits is = absurd (cc)
 link_fits (cookie_wait my) link fits is = absurd (cc)
 link_fits (cookie_echoed my held cookie) link fits is =
-    let same : link_of my held ≡ link = cc in
+    let same : identity_of my held ≡ link = cc in
     subst LinkFits same (record { my = fits.0; peer = fits.1.peer })
 link_fits (open_in phase my held) link fits is =
-    let same : link_of my held ≡ link = cc in
+    let same : identity_of my held ≡ link = cc in
     subst LinkFits same (record { my = fits.0; peer = fits.1.peer })
 
 not_zero : (n : ℕ) → 1 ≤ n → n ≢ 0
@@ -129,7 +129,7 @@ not_zero n some zero = absurd (omega arith)
 -- ---- its tags are new
 
 -- Each association that was noted is of another own tag than those before.
-new_noted : (effects past : List Effect) → Each IsOfNewTags (after_effects effects past) → (link old : Link) → Has (holds link) effects → Has (holds old) past → old.my.tag ≢ link.my.tag
+new_noted : (effects past : List Effect) → Each IsOfNewTags (after_effects effects past) → (link old : AssociationIdentity) → HasEffect (holds link) effects → HasEffect (holds old) past → old.my.tag ≢ link.my.tag
 new_noted [] past each link old has before = absurd has
 new_noted (effect ∷ effects) past each link old (inl is) before =
     let rule : IsOfNewTags (holds link) past = subst (λ (x : Effect). IsOfNewTags x past) (sym is) (each_earlier IsOfNewTags effects (effect ∷ past) each).0 in
@@ -145,13 +145,13 @@ matched_swapped mine theirs matched link other has has' (inr e) = (let both = ma
 
 -- The association that a turn begins was noted first in it.
 noted_first : (e : Endpoint) (o : Outcome) (begun : Begun e o) (rest past : List Effect)
-    → after_effects (o.effects ++ rest) past ≡ after_effects (begun.later ++ rest) (holds (link_of begun.my begun.held) ∷ past)
+    → after_effects (o.effects ++ rest) past ≡ after_effects (begun.later ++ rest) (holds (identity_of begun.my begun.held) ∷ past)
 noted_first e o begun rest past = ap (λ (effects : List Effect). after_effects (effects ++ rest) past) begun.noted
 
-module _ (e : Endpoint) (o : Outcome) (begun : Begun e o) (rest past their_past : List Effect) (opening : FitsCore o.after.core) (linked : link_in o.after.core ≡ Some (link_of begun.my begun.held))
+module _ (e : Endpoint) (o : Outcome) (begun : Begun e o) (rest past their_past : List Effect) (opening : FitsCore o.after.core) (linked : identity_in o.after.core ≡ Some (identity_of begun.my begun.held))
     (each : Each IsOfNewTags (after_effects (o.effects ++ rest) past)) (matched : MatchByTags (after_effects (o.effects ++ rest) past) their_past) where
-  begun_link : Link
-  begun_link = link_of begun.my begun.held
+  begun_link : AssociationIdentity
+  begun_link = identity_of begun.my begun.held
 
   its_fits : LinkFits begun_link
   unfolding begun_link
@@ -161,11 +161,11 @@ module _ (e : Endpoint) (o : Outcome) (begun : Begun e o) (rest past their_past 
   unfolding begun_link
   is_new = (each_earlier IsOfNewTags (begun.later ++ rest) (holds begun_link ∷ past) (subst (Each IsOfNewTags) (noted_first e o begun rest past) each)).0
 
-  was_noted : Has (holds begun_link) (after_effects (o.effects ++ rest) past)
+  was_noted : HasEffect (holds begun_link) (after_effects (o.effects ++ rest) past)
   unfolding begun_link
-  was_noted = subst (Has (holds begun_link)) (sym (noted_first e o begun rest past)) (after_within (begun.later ++ rest) (holds begun_link ∷ past) (holds begun_link) (inl refl))
+  was_noted = subst (HasEffect (holds begun_link)) (sym (noted_first e o begun rest past)) (after_within (begun.later ++ rest) (holds begun_link ∷ past) (holds begun_link) (inl refl))
 
-  pub new_peer : NewPeer past their_past (link_of begun.my begun.held)
+  pub new_peer : NewPeer past their_past (identity_of begun.my begun.held)
   unfolding begun_link its_fits is_new was_noted
   new_peer =
       record {
@@ -175,7 +175,7 @@ module _ (e : Endpoint) (o : Outcome) (begun : Begun e o) (rest past their_past 
         match = λ theirs has same. (let both = matched begun_link theirs was_noted has (elim same [ inl e ↦ inr (sym e) | inr e ↦ inl (sym e) ]) in (sym both.0, ap (λ (p : Pair). p.tag) (sym both.1)));
       }
 
-  pub new_tag : NewTag past their_past (link_of begun.my begun.held)
+  pub new_tag : NewTag past their_past (identity_of begun.my begun.held)
   unfolding begun_link its_fits is_new was_noted
   new_tag =
       record {
@@ -193,9 +193,9 @@ after_first first rest past = after_effects-append first rest past
 
 -- Each own request that was performed, as far as this past knows, the other side has performed; or it is the 2^32nd of its association.
 abbrev pub AllPerformed : List Effect → List Effect → Type 0
-AllPerformed past their_past = (my : Pair) (number : ℕ) → Has (completes my number) past → Has (performs my number) their_past ⊎ (number ≡ number_at my.first_tsn (2 ^ 32 - 1))
+AllPerformed past their_past = (my : Pair) (number : ℕ) → HasEffect (completes my number) past → HasEffect (performs my number) their_past ⊎ (number ≡ request_number_at my.first_tsn (2 ^ 32 - 1))
 
-pub new_peers : (their_past : List Effect) (turns : List Turned) (past : List Effect) (e : Endpoint) → AreCalls turns → AlongTurns IsUnrefused e turns → AllOpenFitting turns → Each IsOfNewTags (after_effects (effects_of turns) past)
+pub new_peers : (their_past : List Effect) (turns : List Transition) (past : List Effect) (e : Endpoint) → AreCalls turns → AlongTurns IsUnrefused e turns → AllOpenFitting turns → Each IsOfNewTags (after_effects (effects_of turns) past)
     → MatchByTags (after_effects (effects_of turns) past) their_past → AllPerformed (after_effects (effects_of turns) past) their_past → AreNewPeers past their_past e turns
 new_peers their_past [] past e calls unrefused opens each matched performed = tt
 new_peers their_past (t ∷ turns) past e calls unrefused opens each matched performed =
@@ -209,7 +209,7 @@ new_peers their_past (t ∷ turns) past e calls unrefused opens each matched per
           (subst (λ (p : List Effect). MatchByTags p their_past) split matched) later,
     )
 
-pub new_tags : (options : Options) (past : List Effect) (turns : List Turned) (their_past : List Effect) (e : Endpoint) → RanTo options e their_past → AlongTurns IsMove e turns → AllOpenFitting turns
+pub new_tags : (options : Options) (past : List Effect) (turns : List Transition) (their_past : List Effect) (e : Endpoint) → RanTo options e their_past → AlongTurns IsMove e turns → AllOpenFitting turns
     → Each IsOfNewTags (after_effects (effects_of turns) their_past) → MatchByTags (after_effects (effects_of turns) their_past) past → AreNewTags options their_past past e turns
 new_tags options past [] their_past e ran along opens each matched = tt
 new_tags options past (t ∷ turns) their_past e ran along opens each matched =

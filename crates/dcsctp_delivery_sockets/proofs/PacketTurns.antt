@@ -3,14 +3,14 @@ use Rattle.std.proofs.Common.{◌≡◌, ℕ, Bool, true, false, ◌<◌, ◌^�
 use Rattle.std.specs.Prelude.{◌⊎◌}
 use Rattle.dcsctp_spec_lemmas.specs.types.declared.options.Options.{Options}
 use Rattle.dcsctp_spec_lemmas.specs.spec.Admission.{Admission, all_chunks, shutdown_acks_alone, refused, admits, is_echo_in_front, shutdown_acks_in}
-use Rattle.dcsctp_spec_lemmas.specs.spec.endpoint.CallTurns.{Turned, IsTurn, Turns, AfterChunk, ChunkTurns, WholeTurns, AdmittedTurns, after_all, effects_of}
+use Rattle.dcsctp_spec_lemmas.specs.spec.endpoint.CallTurns.{Transition, IsTurn, Turns, AfterChunk, ChunkTurns, WholeTurns, AdmittedTurns, after_all, effects_of}
 use Rattle.dcsctp_spec_lemmas.specs.spec.endpoint.Endpoint.{Endpoint, Core, closed, cookie_wait, cookie_echoed, open_in, established, shutdown_pending, shutdown_sent, shutdown_received, shutdown_ack_sent, own_tag}
 use Rattle.dcsctp_spec_lemmas.specs.spec.endpoint.Following.{Following, next_chunk, packet_end, dropped_rest}
 use Rattle.dcsctp_spec_lemmas.specs.spec.endpoint.Outcome.{Outcome}
 use Rattle.dcsctp_spec_lemmas.specs.spec.Packet.{Content, init, init_ack, cookie_echo, cookie_ack, re_config, abort, shutdown, shutdown_ack, shutdown_complete, plain, Emission}
-use Rattle.dcsctp_spec_lemmas.specs.spec.endpoint.Turn.{Input, refusal, packet_begins, chunk_input, packet_ends, has_data, BeginTurn}
+use Rattle.dcsctp_spec_lemmas.specs.spec.endpoint.Turn.{Input, refusal, packet_begins, chunk_input, packet_ends, has_data_chunk, BeginTurn}
 use Rattle.dcsctp_spec_runs.specs.World.{after_effects}
-use Rattle.dcsctp_spec_lemmas.specs.spec.association.Effect.{Link, Effect, link_in}
+use Rattle.dcsctp_spec_lemmas.specs.spec.association.Effect.{AssociationIdentity, Effect, identity_in}
 use Rattle.dcsctp_spec_lemmas.specs.types.queues.Messages.{MessageContent}
 use Rattle.dcsctp_spec_lemmas.specs.spec.queues.Transfer.{Transfer}
 use Rattle.dcsctp_theorem_association.proofs.Growth.{after_effects-append}
@@ -54,23 +54,23 @@ acks_none (shutdown t ∷ contents) = acks_none contents
 acks_none (shutdown_complete r ∷ contents) = acks_none contents
 acks_none (plain c ∷ contents) = acks_none contents
 
-module _ (options : Options) (e : Endpoint) (queued : List Message) (past : List Effect) (packets : List Emission) (few : length queued < 2 ^ 64) (little : AsksLittle packets) (emission : Emission) (has : places.Has emission packets) where
+module _ (options : Options) (e : Endpoint) (queued : List Message) (past : List Effect) (packets : List Emission) (few : length queued < 2 ^ 64) (little : AsksLittle packets) (emission : Emission) (has : places.HasEntry emission packets) where
   abbrev Have : Endpoint → List Effect → List MessageContent → Type 0
   Have d their_past reads = AreEnds options e queued past packets d their_past reads
 
   -- what is to be shown of turns
-  abbrev Leave : Endpoint → List Effect → List MessageContent → List Turned → Type 0
+  abbrev Leave : Endpoint → List Effect → List MessageContent → List Transition → Type 0
   Leave d their_past reads turns = Have (after_all d turns) (after_effects (effects_of turns) their_past) (reads_through d turns reads)
 
   -- one turn, and the others
-  then_others : (d : Endpoint) (their_past : List Effect) (reads : List MessageContent) (t : Turned) (turns : List Turned)
+  then_others : (d : Endpoint) (their_past : List Effect) (reads : List MessageContent) (t : Transition) (turns : List Transition)
       → Leave t.outcome.after (after_effects t.outcome.effects their_past) (reads_after d t.input reads) turns → Leave d their_past reads (t ∷ turns)
   then_others d their_past reads t turns rest =
       subst (λ (l : List Effect). Have (after_all t.outcome.after turns) l (reads_through t.outcome.after turns (reads_after d t.input reads))) (sym (after_effects-append t.outcome.effects (effects_of turns) their_past)) rest
 
-  one_turn : (d : Endpoint) (their_past : List Effect) (reads : List MessageContent) (input : Input) (t : Turned) → (h : Have d their_past reads) → IsTurn d input t
+  one_turn : (d : Endpoint) (their_past : List Effect) (reads : List MessageContent) (input : Input) (t : Transition) → (h : Have d their_past reads) → IsTurn d input t
       → AreNewTags options their_past past d (t ∷ [])
-      → ((transfer : Transfer) (link : Link) → d.below.transfer ≡ Some transfer → link_in d.core ≡ Some link → WasSent (h.ends.sends link.my.tag).sent (came_by input)) → IsCall input
+      → ((transfer : Transfer) (link : AssociationIdentity) → d.queues.transfer ≡ Some transfer → identity_in d.core ≡ Some link → WasSent (h.ends.sends link.my.tag).sent (came_by input)) → IsCall input
       → Have t.outcome.after (after_effects t.outcome.effects their_past) (reads_after d t.input reads)
   one_turn d their_past reads input t h turn new sent may =
       subst (λ (i : Input). Have t.outcome.after (after_effects t.outcome.effects their_past) (reads_after d i reads)) (sym turn.is)
@@ -78,7 +78,7 @@ module _ (options : Options) (e : Endpoint) (queued : List Message) (past : List
       (receiver_turns options h.ends e queued past packets d their_past h.tagged h.between few new.0 input t.outcome (λ begun opening linked. new.1 begun (subst (λ (i : Input). IsOpening (came_by i)) (sym turn.is) opening) linked)
       h.answered little new.3 may turn.comes new.2 sent))
 
-  chunk_turn : (d : Endpoint) (their_past : List Effect) (reads : List MessageContent) (tag : ℕ) (content : Content) (t : Turned) → Have d their_past reads → IsTurn d (chunk_input tag content) t
+  chunk_turn : (d : Endpoint) (their_past : List Effect) (reads : List MessageContent) (tag : ℕ) (content : Content) (t : Transition) → Have d their_past reads → IsTurn d (chunk_input tag content) t
       → AreNewTags options their_past past d (t ∷ []) → MayHandle emission d content
       → Have t.outcome.after (after_effects t.outcome.effects their_past) (reads_after d t.input reads)
   chunk_turn d their_past reads tag content t h turn new may =
@@ -87,49 +87,49 @@ module _ (options : Options) (e : Endpoint) (queued : List Message) (past : List
       (let c = h.between.receiver.current transfer there in
       was_sent h.ends emission (of_ends h.ends emission packets h.between.sender.all_sent has) d link linked (λ zero. c.had.some (own_link c.link link c.linked linked ∙ zero)) content may)) tt
     where
-      own_link : (one two : Link) → link_in d.core ≡ Some one → link_in d.core ≡ Some two → one.my.tag ≡ two.my.tag
-      own_link one two first second = (let same' : one ≡ two = cc in ap (λ (l : Link). l.my.tag) same')
+      own_link : (one two : AssociationIdentity) → identity_in d.core ≡ Some one → identity_in d.core ≡ Some two → one.my.tag ≡ two.my.tag
+      own_link one two first second = (let same' : one ≡ two = cc in ap (λ (l : AssociationIdentity). l.my.tag) same')
 
   -- the end of a packet, or nothing
   IsTail : List Input → Type 0
   IsTail tail = (tail ≡ []) ⊎ (tail ≡ packet_ends ∷ [])
 
-  ends_go : (d : Endpoint) (their_past : List Effect) (reads : List MessageContent) (turns : List Turned) → Have d their_past reads → AreNewTags options their_past past d turns → Turns d (packet_ends ∷ []) turns → Leave d their_past reads turns
+  ends_go : (d : Endpoint) (their_past : List Effect) (reads : List MessageContent) (turns : List Transition) → Have d their_past reads → AreNewTags options their_past past d turns → Turns d (packet_ends ∷ []) turns → Leave d their_past reads turns
   ends_go d their_past reads [] h new taken = absurd taken
   ends_go d their_past reads (t ∷ []) h new taken =
       then_others d their_past reads t [] (one_turn d their_past reads packet_ends t h taken.0 (new.0, new.1, new.2, new.3, tt) (λ transfer link there linked. tt) tt)
   ends_go d their_past reads (t ∷ other ∷ turns) h new taken = absurd taken.1
 
-  tail_goes : (d : Endpoint) (their_past : List Effect) (reads : List MessageContent) (tail : List Input) (turns : List Turned) → Have d their_past reads → AreNewTags options their_past past d turns → IsTail tail → Turns d tail turns
+  tail_goes : (d : Endpoint) (their_past : List Effect) (reads : List MessageContent) (tail : List Input) (turns : List Transition) → Have d their_past reads → AreNewTags options their_past past d turns → IsTail tail → Turns d tail turns
       → Leave d their_past reads turns
   unfolding IsTail
   tail_goes d their_past reads tail turns h new (inl none) taken = nothing turns new (subst (λ (l : List Input). Turns d l turns) none taken)
     where
-      nothing : (turns : List Turned) → AreNewTags options their_past past d turns → Turns d [] turns → Leave d their_past reads turns
+      nothing : (turns : List Transition) → AreNewTags options their_past past d turns → Turns d [] turns → Leave d their_past reads turns
       nothing [] new taken = h
       nothing (t ∷ turns) new taken = absurd taken
   tail_goes d their_past reads tail turns h new (inr is) taken = ends_go d their_past reads turns h new (subst (λ (l : List Input). Turns d l turns) is taken)
 
   -- What is left of the packet has no data; or it begins no association, and the one that is there has the packet's tag.
   abbrev MayGo : Endpoint → List Content → Type 0
-  MayGo d contents = NoData contents ⊎ (AllMayFollow contents × ((content : Content) → places.Has content contents → places.Has content emission.packet.contents) × TagIs emission.packet.tag d)
+  MayGo d contents = NoData contents ⊎ (AllMayFollow contents × ((content : Content) → places.HasEntry content contents → places.HasEntry content emission.packet.contents) × TagIs emission.packet.tag d)
 
   first_may : (d : Endpoint) (content : Content) (contents : List Content) → MayGo d (content ∷ contents) → MayHandle emission d content
   first_may d content contents (inl none) = inl none.0
   first_may d content contents (inr (follow, all, tag)) = inr (all content (inl refl), tag)
 
-  rest_may : (d : Endpoint) (content : Content) (contents : List Content) (tag : ℕ) (t : Turned) → IsTurn d (chunk_input tag content) t → MayGo d (content ∷ contents) → MayGo t.outcome.after contents
+  rest_may : (d : Endpoint) (content : Content) (contents : List Content) (tag : ℕ) (t : Transition) → IsTurn d (chunk_input tag content) t → MayGo d (content ∷ contents) → MayGo t.outcome.after contents
   rest_may d content contents tag t turn (inl none) = inl none.1
   rest_may d content contents tag t turn (inr (follow, all, is)) =
       inr (follow.1, (λ c h. all c (inr h)), tag_stays emission.packet.tag d (chunk_input tag content) t.outcome (not_opening content follow.0) tt is turn.comes)
 
-  after_chunk : (following : Following) (d : Endpoint) (their_past : List Effect) (reads : List MessageContent) (tail : List Input) (turns : List Turned) (More : Type 0) → Have d their_past reads → AreNewTags options their_past past d turns
+  after_chunk : (following : Following) (d : Endpoint) (their_past : List Effect) (reads : List MessageContent) (tail : List Input) (turns : List Transition) (More : Type 0) → Have d their_past reads → AreNewTags options their_past past d turns
       → IsTail tail → (More → Leave d their_past reads turns) → AfterChunk following More (Turns d tail turns) (turns ≡ []) → Leave d their_past reads turns
   after_chunk next_chunk d their_past reads tail turns More h new is more taken = more taken
   after_chunk packet_end d their_past reads tail turns More h new is more taken = tail_goes d their_past reads tail turns h new is taken
-  after_chunk dropped_rest d their_past reads tail turns More h new is more none = subst (λ (ts : List Turned). Leave d their_past reads ts) (sym none) h
+  after_chunk dropped_rest d their_past reads tail turns More h new is more none = subst (λ (ts : List Transition). Leave d their_past reads ts) (sym none) h
 
-  chunks_go : (contents : List Content) (d : Endpoint) (their_past : List Effect) (reads : List MessageContent) (tag : ℕ) (tail : List Input) (turns : List Turned) → Have d their_past reads → AreNewTags options their_past past d turns
+  chunks_go : (contents : List Content) (d : Endpoint) (their_past : List Effect) (reads : List MessageContent) (tag : ℕ) (tail : List Input) (turns : List Transition) → Have d their_past reads → AreNewTags options their_past past d turns
       → IsTail tail → MayGo d contents → ChunkTurns d tag contents tail turns → Leave d their_past reads turns
   chunks_go [] d their_past reads tag tail turns h new is may taken = tail_goes d their_past reads tail turns h new is taken
   chunks_go (content ∷ contents) d their_past reads tag tail [] h new is may taken = absurd taken
@@ -142,7 +142,7 @@ module _ (options : Options) (e : Endpoint) (queued : List Message) (past : List
   -- ---- the first chunk
 
   -- the tag of the association after the first chunk, if more is handled
-  front_tag : (d : Endpoint) (content : Content) (contents : List Content) (t : Turned) → IsTurn d (chunk_input emission.packet.tag content) t → ContentsGo emission.packet.tag (content ∷ contents)
+  front_tag : (d : Endpoint) (content : Content) (contents : List Content) (t : Transition) → IsTurn d (chunk_input emission.packet.tag content) t → ContentsGo emission.packet.tag (content ∷ contents)
       → (is_echo_in_front (content ∷ contents) ≡ false → own_tag d.core ≡ emission.packet.tag) → t.outcome.following ≡ next_chunk → TagIs emission.packet.tag t.outcome.after
   front_tag d (cookie_echo bytes) contents t turn go own next =
       own_is t.outcome.after.core emission.packet.tag (echoes_own d emission.packet.tag bytes go.0.cookie t.outcome go.0.reads go.0.under turn.comes next)
@@ -161,15 +161,15 @@ module _ (options : Options) (e : Endpoint) (queued : List Message) (past : List
   front_may d (init introduction) contents is own = inl tt
   front_may d (init_ack theirs cookie) contents is own = inl tt
   front_may d cookie_ack contents is own = inl tt
-  front_may d (re_config p) contents is own = inr (subst (λ (l : List Content). places.Has (re_config p) l) (sym is) (inl refl), own_is d.core emission.packet.tag (own refl))
+  front_may d (re_config p) contents is own = inr (subst (λ (l : List Content). places.HasEntry (re_config p) l) (sym is) (inl refl), own_is d.core emission.packet.tag (own refl))
   front_may d (abort r c) contents is own = inl tt
   front_may d (shutdown tsn) contents is own = inl tt
   front_may d shutdown_ack contents is own = inl tt
   front_may d (shutdown_complete r) contents is own = inl tt
-  front_may d (plain chunk) contents is own = inr (subst (λ (l : List Content). places.Has (plain chunk) l) (sym is) (inl refl), own_is d.core emission.packet.tag (own refl))
+  front_may d (plain chunk) contents is own = inr (subst (λ (l : List Content). places.HasEntry (plain chunk) l) (sym is) (inl refl), own_is d.core emission.packet.tag (own refl))
 
   -- with the tag that the packet has
-  tagged_go : (contents : List Content) → emission.packet.contents ≡ contents → (d : Endpoint) (their_past : List Effect) (reads : List MessageContent) (turns : List Turned) → Have d their_past reads → AreNewTags options their_past past d turns
+  tagged_go : (contents : List Content) → emission.packet.contents ≡ contents → (d : Endpoint) (their_past : List Effect) (reads : List MessageContent) (turns : List Transition) → Have d their_past reads → AreNewTags options their_past past d turns
       → ContentsGo emission.packet.tag contents → (is_echo_in_front contents ≡ false → own_tag d.core ≡ emission.packet.tag)
       → ChunkTurns d emission.packet.tag contents (packet_ends ∷ []) turns → Leave d their_past reads turns
   unfolding IsTail
@@ -184,14 +184,14 @@ module _ (options : Options) (e : Endpoint) (queued : List Message) (past : List
           → Leave t.outcome.after (after_effects t.outcome.effects their_past) (reads_after d t.input reads) turns
       more next_chunk next first rest =
           chunks_go contents t.outcome.after (after_effects t.outcome.effects their_past) (reads_after d t.input reads) emission.packet.tag (packet_ends ∷ []) turns first new.4 (inr refl)
-          (inr (go.1, (λ c has'. subst (λ (l : List Content). places.Has c l) (sym is) (inr has')), front_tag d content contents t taken.0 go own next)) rest
+          (inr (go.1, (λ c has'. subst (λ (l : List Content). places.HasEntry c l) (sym is) (inr has')), front_tag d content contents t taken.0 go own next)) rest
       more packet_end next first rest = ends_go t.outcome.after (after_effects t.outcome.effects their_past) (reads_after d t.input reads) turns first new.4 rest
       more dropped_rest next first none =
-          subst (λ (ts : List Turned). Leave t.outcome.after (after_effects t.outcome.effects their_past) (reads_after d t.input reads) ts) (sym none) first
+          subst (λ (ts : List Transition). Leave t.outcome.after (after_effects t.outcome.effects their_past) (reads_after d t.input reads) ts) (sym none) first
 
   -- ---- the whole packet
 
-  whole_goes : (d : Endpoint) (their_past : List Effect) (reads : List MessageContent) (turns : List Turned) → Have d their_past reads → AreNewTags options their_past past d turns
+  whole_goes : (d : Endpoint) (their_past : List Effect) (reads : List MessageContent) (turns : List Transition) → Have d their_past reads → AreNewTags options their_past past d turns
       → GoesToMaker emission → admits d.core emission.packet ≡ all_chunks → WholeTurns d emission.packet turns → Leave d their_past reads turns
   unfolding IsTail
   whole_goes d their_past reads [] h new go admitted taken = absurd taken
@@ -205,16 +205,16 @@ module _ (options : Options) (e : Endpoint) (queued : List Message) (past : List
           chunks_go emission.packet.contents begun.outcome.after (after_effects begun.outcome.effects their_past) (reads_after d begun.input reads) emission.packet.tag (packet_ends ∷ []) turns first new.4 (inr refl) (inl none) taken.1
       by_data first table (inr (free, was)) =
           tagged_go emission.packet.contents refl begun.outcome.after (after_effects begun.outcome.effects their_past) (reads_after d begun.input reads) turns first new.4 go
-          (λ front. ap own_tag (begin_core d d.core (has_data emission.packet.contents) begun.outcome taken.0.comes) ∙ sym (addressed_tags_are_own d.core emission.packet free front admitted)) taken.1
+          (λ front. ap own_tag (begin_core d d.core (has_data_chunk emission.packet.contents) begun.outcome taken.0.comes) ∙ sym (addressed_tags_are_own d.core emission.packet free front admitted)) taken.1
 
-  refused_go : (d : Endpoint) (their_past : List Effect) (reads : List MessageContent) (text : List ℕ) (turns : List Turned) → Have d their_past reads → AreNewTags options their_past past d turns → Turns d (refusal text ∷ []) turns
+  refused_go : (d : Endpoint) (their_past : List Effect) (reads : List MessageContent) (text : List ℕ) (turns : List Transition) → Have d their_past reads → AreNewTags options their_past past d turns → Turns d (refusal text ∷ []) turns
       → Leave d their_past reads turns
   refused_go d their_past reads text [] h new taken = absurd taken
   refused_go d their_past reads text (t ∷ []) h new taken =
       then_others d their_past reads t [] (one_turn d their_past reads (refusal text) t h taken.0 (new.0, new.1, new.2, new.3, tt) (λ transfer link there linked. tt) tt)
   refused_go d their_past reads text (t ∷ other ∷ turns) h new taken = absurd taken.1
 
-  pub packet_goes : (d : Endpoint) (their_past : List Effect) (reads : List MessageContent) (turns : List Turned) → Have d their_past reads → AreNewTags options their_past past d turns
+  pub packet_goes : (d : Endpoint) (their_past : List Effect) (reads : List MessageContent) (turns : List Transition) → Have d their_past reads → AreNewTags options their_past past d turns
       → GoesToMaker emission → (admission : Admission) → admits d.core emission.packet ≡ admission → AdmittedTurns d emission.packet admission turns → Leave d their_past reads turns
   unfolding IsTail
   packet_goes d their_past reads turns h new go all_chunks admitted taken = whole_goes d their_past reads turns h new go admitted taken

@@ -8,7 +8,7 @@ use Rattle.dcsctp_spec_lemmas.specs.spec.endpoint.Endpoint.{Endpoint, Core, clos
 use Rattle.dcsctp_spec_lemmas.specs.spec.endpoint.Outcome.{Outcome, quiet, fits}
 use Rattle.dcsctp_spec_lemmas.specs.spec.Packet.{Introduction, Content, init, init_ack, cookie_echo, cookie_ack, re_config, abort, shutdown, shutdown_ack, shutdown_complete, unknown, heartbeat, heartbeat_ack, unworked, plain, Emission}
 use Rattle.dcsctp_spec_lemmas.specs.spec.Reconfiguration.{ResetParameter}
-use Rattle.dcsctp_spec_lemmas.specs.spec.association.Effect.{Link, link_of, link_in}
+use Rattle.dcsctp_spec_lemmas.specs.spec.association.Effect.{AssociationIdentity, identity_of, identity_in}
 use Rattle.dcsctp_spec_lemmas.specs.spec.endpoint.FlushOutcomes.{Answer, flush_answered}
 use Rattle.dcsctp_spec_lemmas.specs.spec.endpoint.HandshakeOutcomes.{echo_emission, EchoAnswers, awaits_cookie_ack, InitAckAnswers, init_ack_by, InitAckTurn}
 use Rattle.dcsctp_spec_lemmas.specs.spec.endpoint.Turn.{Input, Turn}
@@ -23,25 +23,25 @@ use Rattle.dcsctp_delivery_turns.proofs.Turns.{turns_are_actions}
 
 -- ---- what was sent
 
-pub of_ends : (table : Ends) (emission : Emission) (packets : List Emission) → AreOfEnds table packets → places.Has emission packets → IsOfEnds table emission
+pub of_ends : (table : Ends) (emission : Emission) (packets : List Emission) → AreOfEnds table packets → places.HasEntry emission packets → IsOfEnds table emission
 of_ends table emission [] are has = absurd has
 of_ends table emission (p ∷ packets) are (inl e) = subst (IsOfEnds table) (sym e) are.0
 of_ends table emission (p ∷ packets) are (inr h) = of_ends table emission packets are.1 h
 
-no_content : (content : Content) (contents : List Content) → NoData contents → places.Has content contents → NoContent content
+no_content : (content : Content) (contents : List Content) → NoData contents → places.HasEntry content contents → NoContent content
 no_content content [] none has = absurd has
 no_content content (c ∷ contents) none (inl e) = subst NoContent (sym e) none.0
 no_content content (c ∷ contents) none (inr h) = no_content content contents none.1 h
 
 -- The association has this tag, if there is one.
 abbrev pub TagIs : ℕ → Endpoint → Type 0
-TagIs tag e = (link : Link) → link_in e.core ≡ Some link → link.my.tag ≡ tag
+TagIs tag e = (link : AssociationIdentity) → identity_in e.core ≡ Some link → link.my.tag ≡ tag
 
 -- The chunk has no data and asks for no reset of streams; or it is of this packet, which has the tag of the association.
 abbrev pub MayHandle : Emission → Endpoint → Content → Type 0
-MayHandle emission e content = NoContent content ⊎ (places.Has content emission.packet.contents × TagIs emission.packet.tag e)
+MayHandle emission e content = NoContent content ⊎ (places.HasEntry content emission.packet.contents × TagIs emission.packet.tag e)
 
-module _ (table : Ends) (emission : Emission) (is : IsOfEnds table emission) (e : Endpoint) (link : Link) (linked : link_in e.core ≡ Some link) (some : link.my.tag ≢ 0) where
+module _ (table : Ends) (emission : Emission) (is : IsOfEnds table emission) (e : Endpoint) (link : AssociationIdentity) (linked : identity_in e.core ≡ Some link) (some : link.my.tag ≢ 0) where
   was_in : (chunk : ChunkContent) → (NoContent (plain (unworked chunk)) → ⊥) → MayHandle emission e (plain (unworked chunk)) → WasIn (table.sends link.my.tag).sent chunk
   was_in chunk bears (inl none) = absurd (bears none)
   was_in chunk bears (inr (has, tag)) = go is
@@ -49,7 +49,7 @@ module _ (table : Ends) (emission : Emission) (is : IsOfEnds table emission) (e 
       go : IsOfEnds table emission → WasIn (table.sends link.my.tag).sent chunk
       go (inl none) = absurd (bears (no_content (plain (unworked chunk)) emission.packet.contents none has))
       go (inr (free, inl zero)) = absurd (some (tag link linked ∙ zero))
-      go (inr (free, inr was)) = record { emission = emission; was = subst (λ (t : ℕ). places.Has emission (table.sends t).sent) (sym (tag link linked)) was; holds = has }
+      go (inr (free, inr was)) = record { emission = emission; was = subst (λ (t : ℕ). places.HasEntry emission (table.sends t).sent) (sym (tag link linked)) was; holds = has }
 
   -- So was what asks for a reset of streams.
   was_asked : (parameters : List ResetParameter) → MayHandle emission e (re_config parameters) → NoRequests parameters ⊎ WasAsked (table.sends link.my.tag).sent parameters
@@ -59,7 +59,7 @@ module _ (table : Ends) (emission : Emission) (is : IsOfEnds table emission) (e 
       go : IsOfEnds table emission → NoRequests parameters ⊎ WasAsked (table.sends link.my.tag).sent parameters
       go (inl none) = inl (no_content (re_config parameters) emission.packet.contents none has)
       go (inr (free, inl zero)) = absurd (some (tag link linked ∙ zero))
-      go (inr (free, inr was)) = inr (record { emission = emission; was = subst (λ (t : ℕ). places.Has emission (table.sends t).sent) (sym (tag link linked)) was; holds = has })
+      go (inr (free, inr was)) = inr (record { emission = emission; was = subst (λ (t : ℕ). places.HasEntry emission (table.sends t).sent) (sym (tag link linked)) was; holds = has })
 
   pub was_sent : (content : Content) → MayHandle emission e content → WasSent (table.sends link.my.tag).sent (Some content)
   was_sent (plain (unworked (data_chunk chunk))) may = was_in (data_chunk chunk) (λ none. none) may
@@ -99,7 +99,7 @@ by_becomes : {to : ℕ} {adds : _} {taken : _} (tag : ℕ) (e : Endpoint) (came 
 by_becomes tag e came o not is (goes_on calm linked makes) = λ link there. is link (sym linked ∙ there)
 by_becomes tag e came o not is (works_resets linked between worked ended peer makes) = λ link there. is link (sym linked ∙ there)
 by_becomes tag e came o not is (renews calm linked alike unread own number emission kept out after packets goes contents) = λ link there. is link (sym linked ∙ there)
-by_becomes tag e came o not is (ends none unread last own makes below) = λ link there. (let clash : ◌≡◌ {A = Option Link} None (Some link) = sym none ∙ there in absurd (cc))
+by_becomes tag e came o not is (ends none unread last own makes below) = λ link there. (let clash : ◌≡◌ {A = Option AssociationIdentity} None (Some link) = sym none ∙ there in absurd (cc))
 by_becomes tag e came o not is (begins begun opening linked alike unread again makes) = absurd (not opening)
 
 -- A chunk that begins no association leaves its tag.
@@ -118,20 +118,20 @@ not_opening shutdown_ack may opening = opening
 not_opening (shutdown_complete reflected) may opening = opening
 not_opening (plain chunk) may opening = opening
 
-pub own_is : (core : Core) (tag : ℕ) → own_tag core ≡ tag → (link : Link) → link_in core ≡ Some link → link.my.tag ≡ tag
+pub own_is : (core : Core) (tag : ℕ) → own_tag core ≡ tag → (link : AssociationIdentity) → identity_in core ≡ Some link → link.my.tag ≡ tag
 own_is closed tag own link is = absurd (cc)
 own_is (cookie_wait my) tag own link is = absurd (cc)
-own_is (cookie_echoed my held cookie) tag own link is = (let same : link_of my held ≡ link = cc in ap (λ (l : Link). l.my.tag) (sym same) ∙ own)
-own_is (open_in phase my held) tag own link is = (let same : link_of my held ≡ link = cc in ap (λ (l : Link). l.my.tag) (sym same) ∙ own)
+own_is (cookie_echoed my held cookie) tag own link is = (let same : identity_of my held ≡ link = cc in ap (λ (l : AssociationIdentity). l.my.tag) (sym same) ∙ own)
+own_is (open_in phase my held) tag own link is = (let same : identity_of my held ≡ link = cc in ap (λ (l : AssociationIdentity). l.my.tag) (sym same) ∙ own)
 
 -- So does an INIT ACK: the association that it begins has the tag that the handshake had.
 echoed_link : (b : Bool) (e : Endpoint) (words : List Word) (tag : ℕ) (cookie : List ℕ) (answers : List Answer) → EchoAnswers b e tag cookie answers
-    → link_in (cond b (flush_answered answers e words [] true tag (cookie_echo cookie ∷ [])) (quiet e words [])).after.core ≡ link_in e.core
+    → identity_in (cond b (flush_answered answers e words [] true tag (cookie_echo cookie ∷ [])) (quiet e words [])).after.core ≡ identity_in e.core
 echoed_link true e words tag cookie answers allowed = flush_link e (echo_emission tag cookie) answers allowed
 echoed_link false e words tag cookie answers allowed = refl
 
 init_ack_link : (tag : ℕ) (e : Endpoint) (theirs : Introduction) (cookie : Option (List ℕ)) (core : Core) (word : ℕ) (answers : List Answer) → e.core ≡ core → own_tag core ≡ tag
-    → InitAckAnswers e theirs cookie core word answers → (link : Link) → link_in (init_ack_by (flush_answered answers) e theirs cookie core word).after.core ≡ Some link → link.my.tag ≡ tag
+    → InitAckAnswers e theirs cookie core word answers → (link : AssociationIdentity) → identity_in (init_ack_by (flush_answered answers) e theirs cookie core word).after.core ≡ Some link → link.my.tag ≡ tag
 init_ack_link tag e theirs cookie closed word answers at own allowed link is = own_is e.core tag (ap own_tag at ∙ own) link is
 init_ack_link tag e theirs cookie (cookie_echoed my held echoed) word answers at own allowed link is = own_is e.core tag (ap own_tag at ∙ own) link is
 init_ack_link tag e theirs cookie (open_in phase my held) word answers at own allowed link is = own_is e.core tag (ap own_tag at ∙ own) link is
@@ -142,4 +142,4 @@ init_ack_link tag e theirs (Some cookie) (cookie_wait my) word answers at own al
 
 pub init_ack_tag : (tag : ℕ) (e : Endpoint) (theirs : Introduction) (cookie : Option (List ℕ)) (o : Outcome) → own_tag e.core ≡ tag → InitAckTurn e theirs cookie o → TagIs tag o.after
 init_ack_tag tag e theirs cookie o own (word, answers, allowed, is) =
-    λ link there. init_ack_link tag e theirs cookie e.core word answers refl own allowed link (sym (ap (λ (x : Outcome). link_in x.after.core) is) ∙ there)
+    λ link there. init_ack_link tag e theirs cookie e.core word answers refl own allowed link (sym (ap (λ (x : Outcome). identity_in x.after.core) is) ∙ there)

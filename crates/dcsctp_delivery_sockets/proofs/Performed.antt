@@ -7,10 +7,10 @@ use Rattle.dcsctp_spec_lemmas.specs.types.declared.schedule.Side.{Side}
 use Rattle.dcsctp_spec_lemmas.specs.types.declared.schedule.Side.TheVariants as sides
 use Rattle.dcsctp_spec_lemmas.specs.types.Schedule.{AreHonest}
 use Rattle.dcsctp_spec_lemmas.specs.types.Offer.{Offer, offer_of}
-use Rattle.dcsctp_spec_lemmas.specs.spec.endpoint.CallTurns.{Turned, pairs_of}
+use Rattle.dcsctp_spec_lemmas.specs.spec.endpoint.CallTurns.{Transition, pairs_of}
 use Rattle.dcsctp_spec_runs.specs.Laws.{AnswerKeepsAgreement}
-use Rattle.dcsctp_spec_runs.specs.Past.{Has}
-use Rattle.dcsctp_spec_runs.specs.Sockets.{Worked, Both, with_turns, turns_after, SocketRun, acts_of}
+use Rattle.dcsctp_spec_runs.specs.Past.{HasEffect}
+use Rattle.dcsctp_spec_runs.specs.Sockets.{PerformedAct, Both, side_turns_added, turns_after, SocketRun, acts_of}
 use Rattle.dcsctp_spec_runs.specs.World.{SideState, World, world_after}
 use Rattle.dcsctp_spec_lemmas.specs.spec.association.Effect.{Effect, completes, performs, noted}
 use Rattle.dcsctp_spec_lemmas.proofs.TurnLists.{pairs_of-append}
@@ -29,25 +29,25 @@ use Rattle.dcsctp_delivery_sockets.proofs.NewLinks.{AllPerformed}
 -- ---- one side
 
 -- What was performed was noted.
-performs_noted : (peer : Pair) (number : ℕ) (past : List Effect) → Has (performs peer number) past → Has (performs peer number) (noted past)
+performs_noted : (peer : Pair) (number : ℕ) (past : List Effect) → HasEffect (performs peer number) past → HasEffect (performs peer number) (noted past)
 performs_noted peer number past has = (performed-noted past (completes peer number ∷ []) ((λ few. has), tt)).0 (omega arith)
 
-all_performed : (mine theirs : Options) (my_offer their_offer : Offer) (turns others : List Turned) (one other : SideState) → Followed mine turns one → Followed theirs others other
+all_performed : (mine theirs : Options) (my_offer their_offer : Offer) (turns others : List Transition) (one other : SideState) → Followed mine turns one → Followed theirs others other
     → TruePast my_offer their_offer one.past other.past → AllPerformed (noted_past turns) (noted_past others)
 all_performed mine theirs my_offer their_offer turns others one other h k is my number has =
-    let was : Has (completes my number) one.past = noted_happened (completes my number) one.past (subst (Has (completes my number)) (sym h.past) has) in
+    let was : HasEffect (completes my number) one.past = noted_happened (completes my number) one.past (subst (HasEffect (completes my number)) (sym h.past) has) in
     elim (true_of my_offer their_offer one.past other.past (completes my number) is was) [
-      | inl done ↦ inl (subst (Has (performs my number)) k.past (performs_noted my number other.past done))
+      | inl done ↦ inl (subst (HasEffect (performs my number)) k.past (performs_noted my number other.past done))
       | inr last ↦ inr last
     ]
 
 -- ---- both sides
 
-pub record BothPerformed (turns : Both (List Turned)) : Type 0 where
+pub record BothPerformed (turns : Both (List Transition)) : Type 0 where
   pub a : AllPerformed (noted_past turns.a) (noted_past turns.b)
   pub b : AllPerformed (noted_past turns.b) (noted_past turns.a)
 
-pub both_performed : Below → AnswerKeepsAgreement → (options : Both Options) (run : List Worked) → AreUsable options → SocketRun options run → AreHonest (acts_of run) → AreFresh (turns_after run)
+pub both_performed : Below → AnswerKeepsAgreement → (options : Both Options) (run : List PerformedAct) → AreUsable options → SocketRun options run → AreHonest (acts_of run) → AreFresh (turns_after run)
     → BothPerformed (turns_after run)
 both_performed law answers options run are runs honest fresh =
     let h : Joined options (turns_after run) = joined law options run are runs honest in
@@ -68,9 +68,9 @@ distinct_front : (pairs more : List Pair) → HasDistinctTags (pairs ++ more) �
 distinct_front [] more h = tt
 distinct_front (pair ∷ pairs) more h = (front_of (λ later. pair.tag ≢ later.tag) pairs more h.0, distinct_front pairs more h.1)
 
-distinct_before : (turns more : List Turned) → HasDistinctTags (pairs_of (turns ++ more)) → HasDistinctTags (pairs_of turns)
+distinct_before : (turns more : List Transition) → HasDistinctTags (pairs_of (turns ++ more)) → HasDistinctTags (pairs_of turns)
 distinct_before turns more h = distinct_front (pairs_of turns) (pairs_of more) (subst HasDistinctTags (pairs_of-append turns more) h)
 
-pub fresh_front : (turns : Both (List Turned)) (side : Side) (more : List Turned) → AreFresh (with_turns side more turns) → AreFresh turns
+pub fresh_front : (turns : Both (List Transition)) (side : Side) (more : List Transition) → AreFresh (side_turns_added side more turns) → AreFresh turns
 fresh_front turns sides.A more fresh = record { a = distinct_before turns.a more fresh.a; b = fresh.b }
 fresh_front turns sides.B more fresh = record { a = fresh.a; b = distinct_before turns.b more fresh.b }

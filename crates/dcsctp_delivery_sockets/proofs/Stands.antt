@@ -5,7 +5,7 @@ use Rattle.dcsctp_spec_lemmas.specs.wire.Format.{IsPacket}
 use Rattle.dcsctp_spec_lemmas.specs.types.declared.options.Options.{Options}
 use Rattle.dcsctp_spec_lemmas.specs.types.Schedule.{CallContent}
 use Rattle.dcsctp_spec_lemmas.specs.types.Settings.{wire_options}
-use Rattle.dcsctp_spec_lemmas.specs.spec.endpoint.CallTurns.{Turned, HandleInput, after_all, effects_of, events_of}
+use Rattle.dcsctp_spec_lemmas.specs.spec.endpoint.CallTurns.{Transition, HandleInput, after_all, effects_of, events_of}
 use Rattle.dcsctp_spec_lemmas.specs.spec.endpoint.Endpoint.{Endpoint, fresh_endpoint}
 use Rattle.dcsctp_spec_lemmas.specs.spec.endpoint.Event.{packets_in}
 use Rattle.dcsctp_spec_lemmas.specs.spec.Packet.{packet_in, Emission}
@@ -25,7 +25,7 @@ use Rattle.dcsctp_delivery_associations.specs.Laws.{AsksLittle, AreEnds}
 use Rattle.dcsctp_delivery_associations.specs.Reads.{reads_after}
 use Rattle.dcsctp_delivery_sockets.specs.Acts.{queued_through, AreNewPeers}
 use Rattle.dcsctp_delivery_sockets.specs.Packets.{reads_through, AreNewTags}
-use Rattle.dcsctp_delivery_sockets.specs.UserMessages.{sent_of}
+use Rattle.dcsctp_delivery_sockets.specs.UserMessages.{messages_sent_in}
 use Rattle.dcsctp_delivery_sockets.specs.Delivery.{IsOfNewTags, MatchByTags, SendsLittle}
 use Rattle.dcsctp_delivery_sockets.proofs.Acts.{senders_act, receivers_act, receivers_handle}
 use Rattle.dcsctp_delivery_sockets.proofs.Calls.{NoChunks, AreCalls, call_without}
@@ -35,37 +35,37 @@ use Rattle.dcsctp_delivery_sockets.proofs.UserMessages.{SaysSame, nothing_same, 
 
 -- ---- what two sockets have done
 
-abbrev pub queued_of : Options → List Turned → List Message
+abbrev pub queued_of : Options → List Transition → List Message
 queued_of options turns = queued_through (fresh_endpoint options) turns []
 
-abbrev pub packets_of : List Turned → List Emission
+abbrev pub packets_of : List Transition → List Emission
 packets_of turns = packets_in (events_of turns)
 
-abbrev pub reads_of : Options → List Turned → List MessageContent
+abbrev pub reads_of : Options → List Transition → List MessageContent
 reads_of options turns = reads_through (fresh_endpoint options) turns []
 
 -- the direction from the one to the other
-abbrev pub Stand : Options → Options → List Turned → List Turned → Type 0
+abbrev pub Stand : Options → Options → List Transition → List Transition → Type 0
 Stand mine theirs turns others =
     AreEnds theirs (endpoint_after mine turns) (queued_of mine turns) (noted_past turns) (packets_of turns) (endpoint_after theirs others) (noted_past others) (reads_of theirs others)
 
-queued_more : (e : Endpoint) (turns more : List Turned) (queued : List Message) → queued_through e (turns ++ more) queued ≡ queued_through (after_all e turns) more (queued_through e turns queued)
+queued_more : (e : Endpoint) (turns more : List Transition) (queued : List Message) → queued_through e (turns ++ more) queued ≡ queued_through (after_all e turns) more (queued_through e turns queued)
 queued_more e [] more queued = refl
 queued_more e (t ∷ turns) more queued = queued_more t.outcome.after turns more (queued_after e t.input queued)
 
-reads_more : (e : Endpoint) (turns more : List Turned) (reads : List MessageContent) → reads_through e (turns ++ more) reads ≡ reads_through (after_all e turns) more (reads_through e turns reads)
+reads_more : (e : Endpoint) (turns more : List Transition) (reads : List MessageContent) → reads_through e (turns ++ more) reads ≡ reads_through (after_all e turns) more (reads_through e turns reads)
 reads_more e [] more reads = refl
 reads_more e (t ∷ turns) more reads = reads_more t.outcome.after turns more (reads_after e t.input reads)
 
-packets_more : (turns more : List Turned) → packets_of (turns ++ more) ≡ packets_of turns ++ packets_of more
+packets_more : (turns more : List Transition) → packets_of (turns ++ more) ≡ packets_of turns ++ packets_of more
 packets_more turns more = ap packets_in (events_of-append turns more) ∙ packets_in-append (events_of turns) (events_of more)
 
 -- ---- little is sent
 
-pub queued_same : (options : Options) (turns : List Turned) → SaysSame (queued_of options turns) (sent_of (fresh_endpoint options) turns)
+pub queued_same : (options : Options) (turns : List Transition) → SaysSame (queued_of options turns) (messages_sent_in (fresh_endpoint options) turns)
 queued_same options turns = turns_same (fresh_endpoint options) turns [] [] nothing_same
 
-pub few_queued : (options : Options) (turns : List Turned) → SendsLittle options turns → length (queued_of options turns) < 2 ^ 64
+pub few_queued : (options : Options) (turns : List Transition) → SendsLittle options turns → length (queued_of options turns) < 2 ^ 64
 few_queued options turns little = (let same = queued_same options turns in let few = little.messages in omega (arith, same.size, few))
 
 -- ---- the sender acts
@@ -79,7 +79,7 @@ module _ (theirs : Options) (d : Endpoint) (their_past : List Effect) (reads : L
       (subst (λ (x : List Effect). AreEnds theirs e queued x packets' d their_past reads) same_past
       (subst (λ (x : List Emission). AreEnds theirs e queued past x d their_past reads) same_packets h)))
 
-pub sender_more : (mine theirs : Options) (turns others more : List Turned) → Stand mine theirs turns others → SideKnown mine (turns ++ more) → MatchByTags (noted_past (turns ++ more)) (noted_past others)
+pub sender_more : (mine theirs : Options) (turns others more : List Transition) → Stand mine theirs turns others → SideKnown mine (turns ++ more) → MatchByTags (noted_past (turns ++ more)) (noted_past others)
     → AllPerformed (noted_past (turns ++ more)) (noted_past others) → AreCalls more → AllOpenFitting more → Stand mine theirs (turns ++ more) others
 sender_more mine theirs turns others more h known matched performed calls opens =
     let e : Endpoint = endpoint_after mine turns in
@@ -106,7 +106,7 @@ module _ (theirs : Options) (e : Endpoint) (queued : List Message) (past : List 
       (subst (λ (x : List Effect). AreEnds theirs e queued past packets d x reads') same_past
       (subst (λ (x : List MessageContent). AreEnds theirs e queued past packets d their_past x) same_reads h))
 
-module _ (mine theirs : Options) (turns others more : List Turned) (h : Stand mine theirs turns others) (known : SideKnown theirs (others ++ more)) (matched : MatchByTags (noted_past turns) (noted_past (others ++ more)))
+module _ (mine theirs : Options) (turns others more : List Transition) (h : Stand mine theirs turns others) (known : SideKnown theirs (others ++ more)) (matched : MatchByTags (noted_past turns) (noted_past (others ++ more)))
     (little : SendsLittle mine turns) where
   their_tags : AllOpenFitting more → AreNewTags theirs (noted_past others) (noted_past turns) (endpoint_after theirs others) more
   their_tags opens =
@@ -126,7 +126,7 @@ module _ (mine theirs : Options) (turns others more : List Turned) (h : Stand mi
       now_stands (receivers_act theirs (endpoint_after mine turns) (queued_of mine turns) (noted_past turns) (packets_of turns) (few_queued mine turns little) little.requests more (endpoint_after theirs others) (noted_past others)
       (reads_of theirs others) h none (rest_turns theirs others more known) calls (their_tags (none_open more none)))
 
-  pub receiver_handles : (bytes : List ℕ) (emission : Emission) → places.Has emission (packets_of turns) → GoodPacket emission
+  pub receiver_handles : (bytes : List ℕ) (emission : Emission) → places.HasEntry emission (packets_of turns) → GoodPacket emission
       → ((packet : PacketContent) → IsPacket (wire_options (endpoint_after theirs others).options) packet bytes → packet_in packet ≡ emission.packet) → HandleInput (endpoint_after theirs others) bytes more → AllOpenFitting more
       → Stand mine theirs turns (others ++ more)
   receiver_handles bytes emission has good is taken opens =

@@ -2,7 +2,7 @@
 use Rattle.std.proofs.Common.{◌≡◌, ℕ, zero, suc, List, [], ◌∷◌, ◌++◌, length, refl, sym, ◌∙◌, ap, arith, subst, inl, inr, append_assoc}
 use Rattle.std.specs.Prelude.{Option, None, Some, slice_get}
 use Rattle.std.proofs.lemmas.List.{append-nil, length-append}
-use Rattle.dcsctp_spec_lemmas.specs.spec.endpoint.CallTurns.{Turned}
+use Rattle.dcsctp_spec_lemmas.specs.spec.endpoint.CallTurns.{Transition}
 use Rattle.dcsctp_spec_lemmas.specs.spec.endpoint.DataOutcomes.{ready_where}
 use Rattle.dcsctp_spec_lemmas.specs.spec.endpoint.Endpoint.{Endpoint}
 use Rattle.dcsctp_spec_lemmas.specs.spec.endpoint.Turn.{Input, arrival, refusal, packet_begins, chunk_input, packet_ends, act_input, user_sets, user_sends, user_resets, user_takes, timer_expires, time_passes, restores}
@@ -18,7 +18,7 @@ use Rattle.dcsctp_delivery_turns.specs.Actions.{queued_where, queued_together, q
 use Rattle.dcsctp_delivery_associations.specs.Reads.{reads_after}
 use Rattle.dcsctp_delivery_sockets.specs.Acts.{queued_through}
 use Rattle.dcsctp_delivery_sockets.specs.Packets.{reads_through}
-use Rattle.dcsctp_delivery_sockets.specs.UserMessages.{accepted_where, accepted, sent_in, sent_of, first_of, read_in, read_of, WereSent, IsDelivered}
+use Rattle.dcsctp_delivery_sockets.specs.UserMessages.{accepted_where, accepted_messages, sent_in, messages_sent_in, first_readable, read_in, read_of, WereSent, IsDelivered}
 
 -- ---- lists
 
@@ -63,7 +63,7 @@ where_then : (why : Option MessageRefusal) (message : MessageContent) (rest : Li
 where_then None message rest = refl
 where_then (Some why) message rest = refl
 
-together_same : (e : Endpoint) (sendings : List Sending) (queued : List Message) (sent : List MessageContent) → SaysSame queued sent → SaysSame (queued_together e sendings queued) (sent ++ accepted e sendings)
+together_same : (e : Endpoint) (sendings : List Sending) (queued : List Message) (sent : List MessageContent) → SaysSame queued sent → SaysSame (queued_together e sendings queued) (sent ++ accepted_messages e sendings)
 together_same e [] queued sent h = subst (SaysSame queued) (sym (append-nil sent)) h
 together_same e (sending ∷ sendings) queued sent h =
     let why : Option MessageRefusal = sending_refusal e sending in
@@ -71,7 +71,7 @@ together_same e (sending ∷ sendings) queued sent h =
     let one : List MessageContent = accepted_where why sending.message [] in
     let first : SaysSame (queued_where why sending queued) (sent ++ one) = where_same why sending queued sent h in
     subst (SaysSame (queued_together next sendings (queued_where why sending queued)))
-    (append_assoc sent one (accepted next sendings) ∙ ap (λ (l : List MessageContent). sent ++ l) (where_then why sending.message (accepted next sendings)))
+    (append_assoc sent one (accepted_messages next sendings) ∙ ap (λ (l : List MessageContent). sent ++ l) (where_then why sending.message (accepted_messages next sendings)))
     (together_same next sendings (queued_where why sending queued) (sent ++ one) first)
 
 none_same : (queued : List Message) (sent : List MessageContent) → SaysSame queued sent → SaysSame queued (sent ++ [])
@@ -92,20 +92,20 @@ input_same e (timer_expires timer) queued sent h = none_same queued sent h
 input_same e (time_passes moment) queued sent h = none_same queued sent h
 input_same e (restores state) queued sent h = none_same queued sent h
 
-pub turns_same : (e : Endpoint) (turns : List Turned) (queued : List Message) (sent : List MessageContent) → SaysSame queued sent → SaysSame (queued_through e turns queued) (sent ++ sent_of e turns)
+pub turns_same : (e : Endpoint) (turns : List Transition) (queued : List Message) (sent : List MessageContent) → SaysSame queued sent → SaysSame (queued_through e turns queued) (sent ++ messages_sent_in e turns)
 turns_same e [] queued sent h = none_same queued sent h
 turns_same e (turn ∷ turns) queued sent h =
-    subst (SaysSame (queued_through turn.outcome.after turns (queued_after e turn.input queued))) (append_assoc sent (sent_in e turn.input) (sent_of turn.outcome.after turns))
+    subst (SaysSame (queued_through turn.outcome.after turns (queued_after e turn.input queued))) (append_assoc sent (sent_in e turn.input) (messages_sent_in turn.outcome.after turns))
     (turns_same turn.outcome.after turns (queued_after e turn.input queued) (sent ++ sent_in e turn.input) (input_same e turn.input queued sent h))
 
 -- ---- read
 
-first_read : (ready reads : List MessageContent) → with_first ready reads ≡ reads ++ first_of ready
+first_read : (ready reads : List MessageContent) → with_first ready reads ≡ reads ++ first_readable ready
 first_read [] reads = sym (append-nil reads)
 first_read (message ∷ ready) reads = refl
 
 input_read : (e : Endpoint) (input : Input) (reads : List MessageContent) → reads_after e input reads ≡ reads ++ read_in e input
-input_read e user_takes reads = first_read (ready_where e.left e.below.transfer) reads
+input_read e user_takes reads = first_read (ready_where e.left e.queues.transfer) reads
 input_read e (user_sends sendings) reads = sym (append-nil reads)
 input_read e arrival reads = sym (append-nil reads)
 input_read e (refusal text) reads = sym (append-nil reads)
@@ -119,7 +119,7 @@ input_read e (timer_expires timer) reads = sym (append-nil reads)
 input_read e (time_passes moment) reads = sym (append-nil reads)
 input_read e (restores state) reads = sym (append-nil reads)
 
-pub turns_read : (e : Endpoint) (turns : List Turned) (reads : List MessageContent) → reads_through e turns reads ≡ reads ++ read_of e turns
+pub turns_read : (e : Endpoint) (turns : List Transition) (reads : List MessageContent) → reads_through e turns reads ≡ reads ++ read_of e turns
 turns_read e [] reads = sym (append-nil reads)
 turns_read e (turn ∷ turns) reads =
     turns_read turn.outcome.after turns (reads_after e turn.input reads) ∙ ap (λ (l : List MessageContent). l ++ read_of turn.outcome.after turns) (input_read e turn.input reads)

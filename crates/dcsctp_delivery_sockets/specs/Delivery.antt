@@ -4,18 +4,18 @@ use Rattle.std.specs.List.{AllByRecursion}
 use Rattle.dcsctp_spec_lemmas.specs.types.declared.options.Options.{Options}
 use Rattle.dcsctp_spec_lemmas.specs.types.declared.schedule.Side.{Side}
 use Rattle.dcsctp_spec_lemmas.specs.types.Schedule.{CallContent, send_call, send_many_call, StepContent, call_step, ActContent, step_act, AreHonest}
-use Rattle.dcsctp_spec_lemmas.specs.spec.endpoint.CallTurns.{Turned, AlongTurns, events_of}
+use Rattle.dcsctp_spec_lemmas.specs.spec.endpoint.CallTurns.{Transition, AlongTurns, events_of}
 use Rattle.dcsctp_spec_lemmas.specs.spec.endpoint.Endpoint.{Endpoint, fresh_endpoint}
 use Rattle.dcsctp_spec_lemmas.specs.spec.endpoint.Event.{packets_in}
-use Rattle.dcsctp_spec_runs.specs.Past.{Has, Each}
-use Rattle.dcsctp_spec_runs.specs.Sockets.{Worked, Both, of_side, of_other, turns_after, SocketRun, acts_of}
-use Rattle.dcsctp_spec_lemmas.specs.spec.association.Effect.{Link, Effect, holds}
+use Rattle.dcsctp_spec_runs.specs.Past.{HasEffect, Each}
+use Rattle.dcsctp_spec_runs.specs.Sockets.{PerformedAct, Both, of_side, of_other, turns_after, SocketRun, acts_of}
+use Rattle.dcsctp_spec_lemmas.specs.spec.association.Effect.{AssociationIdentity, Effect, holds}
 use Rattle.dcsctp_spec_lemmas.specs.types.queues.Messages.{MessageContent}
 use Rattle.dcsctp_theorem_sockets.specs.Agreement.{AreUsable, AreFresh, noted_past}
 use Rattle.dcsctp_delivery_sending.specs.ChunkCounts.{chunks_to}
 use Rattle.dcsctp_delivery_directions.specs.Requests.{requests_to}
 use Rattle.dcsctp_delivery_associations.specs.Laws.{RefusesNone}
-use Rattle.dcsctp_delivery_sockets.specs.UserMessages.{sent_of, read_of, IsDelivered}
+use Rattle.dcsctp_delivery_sockets.specs.UserMessages.{messages_sent_in, read_of, IsDelivered}
 
 -- ---- messages in memory
 
@@ -45,16 +45,16 @@ AreInMemory acts = AllByRecursion FitsAct acts
 
 -- An association that begins at a side has another own tag, and another peer's tag, than each earlier one of this side.
 abbrev pub IsOfNewTags : Effect → List Effect → Type 0
-IsOfNewTags (holds link) earlier = (old : Link) → Has (holds old) earlier → (old.my.tag ≢ link.my.tag) × (old.peer.tag ≢ link.peer.tag)
+IsOfNewTags (holds link) earlier = (old : AssociationIdentity) → HasEffect (holds old) earlier → (old.my.tag ≢ link.my.tag) × (old.peer.tag ≢ link.peer.tag)
 IsOfNewTags effect earlier = Unit {0}
 
 -- If an association of the one side and one of the other have a tag in common, they match.
 abbrev pub MatchByTags : List Effect → List Effect → Type 0
 MatchByTags mine theirs =
-    (link other : Link) → Has (holds link) mine → Has (holds other) theirs → (link.my.tag ≡ other.peer.tag) ⊎ (link.peer.tag ≡ other.my.tag)
+    (link other : AssociationIdentity) → HasEffect (holds link) mine → HasEffect (holds other) theirs → (link.my.tag ≡ other.peer.tag) ⊎ (link.peer.tag ≡ other.my.tag)
     → (link.my ≡ other.peer) × (link.peer ≡ other.my)
 
-pub record TagsServeOnce (turns : Both (List Turned)) : Type 0 where
+pub record TagsServeOnce (turns : Both (List Transition)) : Type 0 where
   pub a : Each IsOfNewTags (noted_past turns.a)
   pub b : Each IsOfNewTags (noted_past turns.b)
   pub matched : MatchByTags (noted_past turns.a) (noted_past turns.b)
@@ -64,37 +64,37 @@ pub record TagsServeOnce (turns : Both (List Turned)) : Type 0 where
 -- Fewer than 2^30 chunks of data, new or sent again, went to each verification tag: then an association assigns fewer than 2^31 TSNs, which
 -- are told apart (RFC 9260, section 1.6). Fewer than 2^32 - 1 requests to reset streams went to each, new or sent again. And fewer than
 -- 2^64 messages were sent.
-pub record SendsLittle (options : Options) (turns : List Turned) : Type 0 where
-  pub messages : length (sent_of (fresh_endpoint options) turns) < 2 ^ 64
+pub record SendsLittle (options : Options) (turns : List Transition) : Type 0 where
+  pub messages : length (messages_sent_in (fresh_endpoint options) turns) < 2 ^ 64
   pub chunks : (tag : ℕ) → chunks_to tag (packets_in (events_of turns)) < 2 ^ 30
   pub requests : (tag : ℕ) → requests_to tag (packets_in (events_of turns)) < 2 ^ 32 - 1
 
 -- ---- with interleaving
 
 -- In an association with interleaving no own request to reset streams fails in this turn (OnStreamsResetFailed).
-abbrev pub IsUnrefused : Endpoint → Turned → Type 0
+abbrev pub IsUnrefused : Endpoint → Transition → Type 0
 IsUnrefused e turn = RefusesNone e turn.outcome
 
 -- So it is of each turn of both sides.
-abbrev pub NoneRefused : Both Options → Both (List Turned) → Type 0
+abbrev pub NoneRefused : Both Options → Both (List Transition) → Type 0
 NoneRefused options turns = (side : Side) → AlongTurns IsUnrefused (fresh_endpoint (of_side side options)) (of_side side turns)
 
 -- ---- the theorem
 
 -- All that delivery asks of the turns of a run, beside what agreement asks.
-pub record TurnsAllowDelivery (options : Both Options) (turns : Both (List Turned)) : Type 0 where
+pub record TurnsAllowDelivery (options : Both Options) (turns : Both (List Transition)) : Type 0 where
   pub tags : TagsServeOnce turns
   pub little : (side : Side) → SendsLittle (of_side side options) (of_side side turns)
   pub refused : NoneRefused options turns
 
 -- What this side's user read is what the other's user sent, and no message was read twice, in any association or after it has ended.
-abbrev pub Delivers : Both Options → Both (List Turned) → Side → Type 0
+abbrev pub Delivers : Both Options → Both (List Transition) → Side → Type 0
 Delivers options turns side =
-    IsDelivered (sent_of (fresh_endpoint (of_other side options)) (of_other side turns)) (read_of (fresh_endpoint (of_side side options)) (of_side side turns))
+    IsDelivered (messages_sent_in (fresh_endpoint (of_other side options)) (of_other side turns)) (read_of (fresh_endpoint (of_side side options)) (of_side side turns))
 
 -- So it is at the end of a run that is honest, in which no tag was drawn twice, each served one association, little was sent, and with
 -- interleaving no request to reset streams failed.
 abbrev pub SocketsDeliver : Type 0
 SocketsDeliver =
-    (options : Both Options) (run : List Worked) → AreUsable options → AreInMemory (acts_of run) → SocketRun options run → AreHonest (acts_of run) → AreFresh (turns_after run) → TurnsAllowDelivery options (turns_after run)
+    (options : Both Options) (run : List PerformedAct) → AreUsable options → AreInMemory (acts_of run) → SocketRun options run → AreHonest (acts_of run) → AreFresh (turns_after run) → TurnsAllowDelivery options (turns_after run)
     → (side : Side) → Delivers options (turns_after run) side

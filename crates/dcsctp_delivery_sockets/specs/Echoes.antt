@@ -7,7 +7,7 @@ use Rattle.dcsctp_spec_lemmas.specs.spec.Cookie.{Cookie, cookie_at}
 use Rattle.dcsctp_spec_lemmas.specs.spec.Packet.{Content, re_config, cookie_echo, plain, Emission}
 use Rattle.dcsctp_spec_lemmas.specs.spec.endpoint.CallTurns.{events_of}
 use Rattle.dcsctp_spec_runs.specs.Fitting.{AllSent}
-use Rattle.dcsctp_spec_runs.specs.Sockets.{Worked, Both, of_side, turns_after, SocketRun, acts_of}
+use Rattle.dcsctp_spec_runs.specs.Sockets.{PerformedAct, Both, of_side, turns_after, SocketRun, acts_of}
 use Rattle.dcsctp_theorem_sockets.specs.Agreement.{AreUsable, AreFresh}
 
 -- The cookie reads back, and this is the tag that its maker had drawn.
@@ -42,5 +42,5 @@ GoesToMaker emission = ContentsGo emission.packet.tag emission.packet.contents
 -- So it is of each packet of either side, over every honest run with fresh tags.
 abbrev pub EchoesGoToMakers : Type 0
 EchoesGoToMakers =
-    (options : Both Options) (run : List Worked) → AreUsable options → SocketRun options run → AreHonest (acts_of run) → AreFresh (turns_after run) → (side : Side)
+    (options : Both Options) (run : List PerformedAct) → AreUsable options → SocketRun options run → AreHonest (acts_of run) → AreFresh (turns_after run) → (side : Side)
     → AllSent GoesToMaker (events_of (of_side side (turns_after run)))

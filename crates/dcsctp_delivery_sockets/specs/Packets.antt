@@ -3,13 +3,13 @@ use Rattle.std.specs.Prelude.{◌≢◌, ◌<◌, ◌^◌, List, [], ◌∷◌, 
 use Rattle.dcsctp_spec_lemmas.specs.types.declared.options.Options.{Options}
 use Rattle.dcsctp_spec_lemmas.specs.types.Settings.{SameOptions}
 use Rattle.dcsctp_spec_lemmas.specs.spec.Admission.{admits}
-use Rattle.dcsctp_spec_lemmas.specs.spec.endpoint.CallTurns.{Turned, AdmittedTurns, after_all, effects_of}
+use Rattle.dcsctp_spec_lemmas.specs.spec.endpoint.CallTurns.{Transition, AdmittedTurns, after_all, effects_of}
 use Rattle.dcsctp_spec_lemmas.specs.spec.endpoint.Endpoint.{Endpoint}
 use Rattle.dcsctp_spec_lemmas.specs.spec.Packet.{Emission}
 use Rattle.dcsctp_spec_lemmas.specs.types.queues.Messages.{MessageContent}
-use Rattle.dcsctp_spec_runs.specs.Past.{Has}
+use Rattle.dcsctp_spec_runs.specs.Past.{HasEffect}
 use Rattle.dcsctp_spec_runs.specs.World.{after_effects}
-use Rattle.dcsctp_spec_lemmas.specs.spec.association.Effect.{Link, Effect, holds, link_of, link_in}
+use Rattle.dcsctp_spec_lemmas.specs.spec.association.Effect.{AssociationIdentity, Effect, holds, identity_of, identity_in}
 use Rattle.dcsctp_delivery_sending.specs.Log.{Message}
 use Rattle.dcsctp_delivery_sending.specs.Places as places
 use Rattle.dcsctp_delivery_turns.specs.Actions.{came_by, IsOpening, Begun}
@@ -21,23 +21,23 @@ use Rattle.dcsctp_delivery_associations.specs.Reads.{Read, reads_after, messages
 use Rattle.dcsctp_delivery_sockets.specs.Echoes.{GoesToMaker}
 
 -- the messages that were read, with those that these turns read
-abbrev pub reads_through : Endpoint → List Turned → List MessageContent → List MessageContent
+abbrev pub reads_through : Endpoint → List Transition → List MessageContent → List MessageContent
 reads_through e [] reads = reads
 reads_through e (turn ∷ turns) reads = reads_through turn.outcome.after turns (reads_after e turn.input reads)
 
 -- Each turn starts with these options, and an association that begins in it is of new tags, and of the matching ones at the other side. The
 -- past knows the peer's requests, and each association that is noted is of a new own tag.
-abbrev pub AreNewTags : Options → List Effect → List Effect → Endpoint → List Turned → Type 0
+abbrev pub AreNewTags : Options → List Effect → List Effect → Endpoint → List Transition → Type 0
 AreNewTags options their_past past e [] = Unit {0}
 AreNewTags options their_past past e (turn ∷ turns) =
-    SameOptions options e.options × ((begun : Begun e turn.outcome) → IsOpening (came_by turn.input) → link_in turn.outcome.after.core ≡ Some (link_of begun.my begun.held) → NewTag their_past past (link_of begun.my begun.held))
-    × KnowsPeerIn their_past e.core × ((link old : Link) → Has (holds link) turn.outcome.effects → Has (holds old) their_past → old.my.tag ≢ link.my.tag)
+    SameOptions options e.options × ((begun : Begun e turn.outcome) → IsOpening (came_by turn.input) → identity_in turn.outcome.after.core ≡ Some (identity_of begun.my begun.held) → NewTag their_past past (identity_of begun.my begun.held))
+    × KnowsPeerIn their_past e.core × ((link old : AssociationIdentity) → HasEffect (holds link) turn.outcome.effects → HasEffect (holds old) their_past → old.my.tag ≢ link.my.tag)
     × AreNewTags options (after_effects turn.outcome.effects their_past) past turn.outcome.after turns
 
 -- The chunks of a packet that the sender sent leave what is known of all associations.
 abbrev pub PacketsKeepEnds : Type 0
 PacketsKeepEnds =
     (options : Options) (ends : Ends) (e : Endpoint) (queued : List Message) (past : List Effect) (packets : List Emission) (other : Endpoint) (their_past : List Effect) (reads : List Read) (emission : Emission)
-    (turns : List Turned) → Between options ends e queued past packets other their_past reads → AreAnswered ends e past other their_past → length queued < 2 ^ 64 → AsksLittle packets → places.Has emission packets
+    (turns : List Transition) → Between options ends e queued past packets other their_past reads → AreAnswered ends e past other their_past → length queued < 2 ^ 64 → AsksLittle packets → places.HasEntry emission packets
     → GoesToMaker emission → AreNewTags options their_past past other turns → AdmittedTurns other emission.packet (admits other.core emission.packet) turns
     → AreEnds options e queued past packets (after_all other turns) (after_effects (effects_of turns) their_past) (reads_through other turns (messages_of reads))

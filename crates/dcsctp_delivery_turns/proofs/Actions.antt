@@ -9,16 +9,16 @@ use Rattle.dcsctp_spec_lemmas.specs.spec.endpoint.Event.{Event, packets_in}
 use Rattle.dcsctp_spec_lemmas.specs.spec.endpoint.Outcome.{Outcome, quiet, sends, emits, fits, behind}
 use Rattle.dcsctp_spec_lemmas.specs.spec.Packet.{Content, Emission}
 use Rattle.dcsctp_spec_lemmas.specs.types.queues.Messages.{MessageContent}
-use Rattle.dcsctp_spec_lemmas.specs.spec.queues.Transfer.{Below}
+use Rattle.dcsctp_spec_lemmas.specs.spec.queues.Transfer.{EndpointQueues}
 use Rattle.dcsctp_spec_lemmas.specs.spec.endpoint.EndOutcomes.{ended_outcome, end_of}
 use Rattle.dcsctp_spec_lemmas.specs.spec.endpoint.FlushOutcomes.{Answer, FlushAnswers, flush_of}
 use Rattle.dcsctp_theorem_sockets.proofs.Bursts.{packets_in-append, emits_core}
 use Rattle.dcsctp_delivery_sending.specs.Log.{Message}
-use Rattle.dcsctp_delivery_sending.specs.Flushes.{NoData, begun_by}
+use Rattle.dcsctp_delivery_sending.specs.Flushes.{NoData, reset_begun_by}
 use Rattle.dcsctp_delivery_directions.specs.Directions.{Asking, asking_with}
 use Rattle.dcsctp_delivery_turns.specs.Asking.{own_of, AsksFit}
-use Rattle.dcsctp_delivery_turns.specs.Actions.{Ledger, ledger_of, Action, flushes, speaks, Actions, nothing, further, NoEnd, Inside, inside, Made, Makes, Becomes, ends}
-use Rattle.dcsctp_spec_lemmas.specs.spec.association.Effect.{link_in}
+use Rattle.dcsctp_delivery_turns.specs.Actions.{Ledger, ledger_of, Action, flushes, speaks, Actions, nothing, further, NoEnd, Inside, inside, Made, MakesPackets, Becomes, ends}
+use Rattle.dcsctp_spec_lemmas.specs.spec.association.Effect.{identity_in}
 use Rattle.dcsctp_delivery_turns.specs.Tags.{IsPeerTag}
 use Rattle.dcsctp_delivery_turns.proofs.Begun.{grows_then, grows_not, grows_by, flush_fits}
 
@@ -28,15 +28,15 @@ Goes came to e o = Becomes came to (λ queued. queued) (λ read. read) e o
 
 -- the outcome that goes on from what is inside
 abbrev pub MakesTo : Option Content → ℕ → Inside → Outcome → Type 0
-MakesTo came to old o = Makes came to old (packets_in o.events) (inside o.after)
+MakesTo came to old o = MakesPackets came to old (packets_in o.events) (inside o.after)
 
 -- the same, with this below it
-abbrev pub with_inside : Below → Inside → Inside
-with_inside below old = record old { below = below }
+abbrev pub with_inside : EndpointQueues → Inside → Inside
+with_inside below old = record old { queues = below }
 
 -- a packet leaves the association
-pub emits_link : (e : Endpoint) (words : List Word) (emission : Emission) → link_in (emits e words emission).after.core ≡ link_in e.core
-emits_link e words emission = ap link_in (emits_core e words emission)
+pub emits_link : (e : Endpoint) (words : List Word) (emission : Emission) → identity_in (emits e words emission).after.core ≡ identity_in e.core
+emits_link e words emission = ap identity_in (emits_core e words emission)
 
 -- and leaves what the socket keeps of its own requests
 emits_own_by : (b : Bool) (e : Endpoint) (words : List Word) (emission : Emission) → own_of (cond b (sends e words [] emission) (quiet e words [])).after ≡ own_of e
@@ -51,70 +51,70 @@ module _ (came : Option Content) (to : ℕ) where
   joined old between _ first nothing = first
   joined old between new first (further middle _ second last) = further middle new (joined old between middle first second) last
 
-  pub both : (old between new : Inside) (packets later : List Emission) → Makes came to old packets between → Makes came to between later new → Makes came to old (packets ++ later) new
+  pub both : (old between new : Inside) (packets later : List Emission) → MakesPackets came to old packets between → MakesPackets came to between later new → MakesPackets came to old (packets ++ later) new
   both old between new packets later first second = λ queued sent read tsn asking fit.
-      let one : Made came to (ledger_of queued old.below sent read asking) tsn between queued (sent ++ packets) read = first queued sent read tsn asking fit in
-      let two : Made came to (ledger_of queued between.below (sent ++ packets) read one.asking) tsn new queued ((sent ++ packets) ++ later) read = second queued (sent ++ packets) read tsn one.asking one.fits in
-      subst (λ (s : List Emission). Made came to (ledger_of queued old.below sent read asking) tsn new queued s read) (append_assoc sent packets later)
+      let one : Made came to (ledger_of queued old.queues sent read asking) tsn between queued (sent ++ packets) read = first queued sent read tsn asking fit in
+      let two : Made came to (ledger_of queued between.queues (sent ++ packets) read one.asking) tsn new queued ((sent ++ packets) ++ later) read = second queued (sent ++ packets) read tsn one.asking one.fits in
+      subst (λ (s : List Emission). Made came to (ledger_of queued old.queues sent read asking) tsn new queued s read) (append_assoc sent packets later)
       (record {
         asking = two.asking;
         grows = grows_then asking one.asking two.asking one.grows two.grows;
         fits = two.fits;
-        actions = joined (ledger_of queued old.below sent read asking) (ledger_of queued between.below (sent ++ packets) read one.asking) (ledger_of queued new.below ((sent ++ packets) ++ later) read two.asking) one.actions two.actions;
+        actions = joined (ledger_of queued old.queues sent read asking) (ledger_of queued between.queues (sent ++ packets) read one.asking) (ledger_of queued new.queues ((sent ++ packets) ++ later) read two.asking) one.actions two.actions;
       })
 
   -- actions without a packet that begin no request
-  pub made_of : (old : Inside) (new : Below) (queued later : List Message) (sent : List Emission) (read taken : List MessageContent) (tsn : ℕ) (asking : Asking) → AsksFit tsn old.own asking
-      → Actions came to (ledger_of queued old.below sent read asking) (ledger_of later new sent taken asking)
-      → Made came to (ledger_of queued old.below sent read asking) tsn (with_inside new old) later (sent ++ []) taken
+  pub made_of : (old : Inside) (new : EndpointQueues) (queued later : List Message) (sent : List Emission) (read taken : List MessageContent) (tsn : ℕ) (asking : Asking) → AsksFit tsn old.own asking
+      → Actions came to (ledger_of queued old.queues sent read asking) (ledger_of later new sent taken asking)
+      → Made came to (ledger_of queued old.queues sent read asking) tsn (with_inside new old) later (sent ++ []) taken
   made_of old new queued later sent read taken tsn asking fit does =
-      subst (λ (s : List Emission). Made came to (ledger_of queued old.below sent read asking) tsn (with_inside new old) later s taken) (sym (append-nil sent))
+      subst (λ (s : List Emission). Made came to (ledger_of queued old.queues sent read asking) tsn (with_inside new old) later s taken) (sym (append-nil sent))
       (record { asking = asking; grows = grows_not asking; fits = fit; actions = does })
 
   -- one action without a packet
-  pub action_of : (old : Inside) (new : Below)
-      → ((queued : List Message) (sent : List Emission) (read : List MessageContent) (asking : Asking) → Action came to (ledger_of queued old.below sent read asking) (ledger_of queued new sent read asking))
-      → Makes came to old [] (with_inside new old)
+  pub action_of : (old : Inside) (new : EndpointQueues)
+      → ((queued : List Message) (sent : List Emission) (read : List MessageContent) (asking : Asking) → Action came to (ledger_of queued old.queues sent read asking) (ledger_of queued new sent read asking))
+      → MakesPackets came to old [] (with_inside new old)
   action_of old new does = λ queued sent read tsn asking fit.
       made_of old new queued queued sent read read tsn asking fit
-      (further (ledger_of queued old.below sent read asking) (ledger_of queued new sent read asking) nothing (does queued sent read asking))
+      (further (ledger_of queued old.queues sent read asking) (ledger_of queued new sent read asking) nothing (does queued sent read asking))
 
   -- one action with a packet
-  pub emission_of : (old : Inside) (new : Below) (emission : Emission)
+  pub emission_of : (old : Inside) (new : EndpointQueues) (emission : Emission)
       → ((queued : List Message) (sent : List Emission) (read : List MessageContent) (tsn : ℕ) (asking : Asking) → AsksFit tsn old.own asking
-      → Action came to (ledger_of queued old.below sent read asking) (ledger_of queued new (sent ++ emission ∷ []) read asking))
-      → Makes came to old (emission ∷ []) (with_inside new old)
+      → Action came to (ledger_of queued old.queues sent read asking) (ledger_of queued new (sent ++ emission ∷ []) read asking))
+      → MakesPackets came to old (emission ∷ []) (with_inside new old)
   emission_of old new emission does = λ queued sent read tsn asking fit.
       record {
         asking = asking;
         grows = grows_not asking;
         fits = fit;
-        actions = further (ledger_of queued old.below sent read asking) (ledger_of queued new (sent ++ emission ∷ []) read asking) nothing (does queued sent read tsn asking fit);
+        actions = further (ledger_of queued old.queues sent read asking) (ledger_of queued new (sent ++ emission ∷ []) read asking) nothing (does queued sent read tsn asking fit);
       }
 
-  pub rests : (old : Inside) → Makes came to old [] old
-  rests old = λ queued sent read tsn asking fit. made_of old old.below queued queued sent read read tsn asking fit nothing
+  pub rests : (old : Inside) → MakesPackets came to old [] old
+  rests old = λ queued sent read tsn asking fit. made_of old old.queues queued queued sent read read tsn asking fit nothing
 
-  pub silent : (old : Inside) (packets : List Emission) → packets ≡ [] → Makes came to old packets old
-  silent old packets none = subst (λ (l : List Emission). Makes came to old l old) (sym none) (rests old)
+  pub silent : (old : Inside) (packets : List Emission) → packets ≡ [] → MakesPackets came to old packets old
+  silent old packets none = subst (λ (l : List Emission). MakesPackets came to old l old) (sym none) (rests old)
 
-  pub spoken : (old : Inside) (emission : Emission) → NoData emission.packet.contents → Makes came to old (emission ∷ []) old
-  spoken old emission no_data = emission_of old old.below emission (λ queued sent read tsn asking fit. speaks emission no_data)
+  pub spoken : (old : Inside) (emission : Emission) → NoData emission.packet.contents → MakesPackets came to old (emission ∷ []) old
+  spoken old emission no_data = emission_of old old.queues emission (λ queued sent read tsn asking fit. speaks emission no_data)
 
   pub flushed : (e : Endpoint) (draft : Emission) (answers : List Answer) → IsPeerTag e.core to → draft.packet.tag ≡ to → NoData draft.packet.contents → NoEnd draft.packet.contents → FlushAnswers e draft answers → MakesTo came to (inside e) (flush_of e draft answers)
   flushed e draft answers at same no_data no_end allowed = λ queued sent read tsn asking fit.
       record {
-        asking = asking_with (begun_by answers) asking;
-        grows = grows_by (begun_by answers) asking;
+        asking = asking_with (reset_begun_by answers) asking;
+        grows = grows_by (reset_begun_by answers) asking;
         fits = flush_fits tsn e draft answers asking allowed fit;
         actions =
-            further (ledger_of queued e.below sent read asking)
-            (ledger_of queued (flush_of e draft answers).after.below (sent ++ packets_in (flush_of e draft answers).events) read (asking_with (begun_by answers) asking)) nothing
+            further (ledger_of queued e.queues sent read asking)
+            (ledger_of queued (flush_of e draft answers).after.queues (sent ++ packets_in (flush_of e draft answers).events) read (asking_with (reset_begun_by answers) asking)) nothing
             (flushes e draft answers refl at same no_data no_end allowed);
       }
 
   -- a packet, if it fits
-  pub packet_if : (b : Bool) (e : Endpoint) (words : List Word) (emission : Emission) → Makes came to (inside e) (emission ∷ []) (inside e) → MakesTo came to (inside e) (cond b (sends e words [] emission) (quiet e words []))
+  pub packet_if : (b : Bool) (e : Endpoint) (words : List Word) (emission : Emission) → MakesPackets came to (inside e) (emission ∷ []) (inside e) → MakesTo came to (inside e) (cond b (sends e words [] emission) (quiet e words []))
   packet_if true e words emission makes = makes
   packet_if false e words emission makes = rests (inside e)
 
@@ -124,13 +124,13 @@ module _ (came : Option Content) (to : ℕ) where
   -- after events without a packet
   pub makes_behind : (old : Inside) (words : List Word) (events : List (Event Emission)) (o : Outcome) → packets_in events ≡ [] → MakesTo came to old o → MakesTo came to old (behind words events o)
   makes_behind old words events o none makes =
-      subst (λ (l : List Emission). Makes came to old l (inside o.after)) (sym (packets_in-append events o.events ∙ ap (λ (l : List Emission). l ++ packets_in o.events) none)) makes
+      subst (λ (l : List Emission). MakesPackets came to old l (inside o.after)) (sym (packets_in-append events o.events ∙ ap (λ (l : List Emission). l ++ packets_in o.events) none)) makes
 
   -- an end after this, which leaves the own requests
   pub ended : (e : Endpoint) (before : Outcome) (event : Event Emission) → packets_in (event ∷ []) ≡ [] → own_of before.after ≡ own_of e → MakesTo came to (inside e) before → Goes came to e (ended_outcome before event)
   ended e before event none kept makes =
       ends refl (λ read. refl) (inside before.after) kept
-      (subst (λ (l : List Emission). Makes came to (inside e) l (inside before.after))
+      (subst (λ (l : List Emission). MakesPackets came to (inside e) l (inside before.after))
       (sym (packets_in-append before.events (event ∷ []) ∙ ap (λ (l : List Emission). packets_in before.events ++ l) none ∙ append-nil (packets_in before.events))) makes)
       refl
 

@@ -7,7 +7,7 @@ use Rattle.dcsctp_spec_lemmas.specs.spec.endpoint.Event.{Event, sent, packets_in
 use Rattle.dcsctp_spec_lemmas.specs.spec.Packet.{Content, init, init_ack, cookie_echo, cookie_ack, re_config, abort, shutdown, shutdown_ack, shutdown_complete, plain, Plain, Packet, Emission}
 use Rattle.dcsctp_spec_lemmas.specs.spec.association.Choices.{plain_contents}
 use Rattle.dcsctp_spec_lemmas.specs.spec.endpoint.BegunResets.{BegunReset, request_contents}
-use Rattle.dcsctp_spec_lemmas.specs.spec.endpoint.FlushOutcomes.{Told, told_event, Answer, answer_contents, filled, goes_out, asked, next_draft, flush_of, Ask, first_ask, later_ask, Answers, at_limit, at_empty, after_packet, packets_allowed}
+use Rattle.dcsctp_spec_lemmas.specs.spec.endpoint.FlushOutcomes.{FillingEvent, filling_event, Answer, answer_contents, filled, goes_out, asked, next_draft, flush_of, Ask, first_ask, later_ask, AreFlushAnswers, at_limit, at_empty, after_packet, packets_allowed}
 use Rattle.dcsctp_theorem_sockets.proofs.Bursts.{packets_in-append, told_none}
 use Rattle.dcsctp_delivery_turns.specs.Actions.{Ledger, NoEnd, Action, queues, sets, prepares, flushes, resends, resends_nothing, speaks, asks_again, acknowledges, loses, receives, receives_interleaved, forwards, forwards_interleaved, tracks, takes, Actions, nothing, further}
 use Rattle.dcsctp_delivery_turns.specs.Addressed.{AreAddressed}
@@ -52,10 +52,10 @@ both_none : (one other : List Emission) → NoneEnds one → NoneEnds other → 
 both_none [] other free free' = free'
 both_none (emission ∷ one) other free free' = (free.0, both_none one other free.1 free')
 
-out_none : (e : Endpoint) (told : List Told) (with_checksum : Bool) (tag : ℕ) (contents : List Content) → NoEnd contents
-    → NoneEnds (packets_in (goes_out e (map told_event told) with_checksum tag contents).events)
+out_none : (e : Endpoint) (told : List FillingEvent) (with_checksum : Bool) (tag : ℕ) (contents : List Content) → NoEnd contents
+    → NoneEnds (packets_in (goes_out e (map filling_event told) with_checksum tag contents).events)
 out_none e told with_checksum tag [] free =
-    subst NoneEnds (sym (ap (λ (l : List (Event Emission)). packets_in l) (sym (append-nil (map told_event told))) ∙ told_none told [])) tt
+    subst NoneEnds (sym (ap (λ (l : List (Event Emission)). packets_in l) (sym (append-nil (map filling_event told))) ∙ told_none told [])) tt
 out_none e told with_checksum tag (content ∷ contents) free =
     subst NoneEnds (sym (told_none told (sent (record { with_checksum = with_checksum; packet = record { tag = tag; contents = content ∷ contents } }) ∷ []))) (free, tt)
 
@@ -73,7 +73,7 @@ next_none (open_in phase my held) draft = tt
 events_none : (events others : List (Event Emission)) → NoneEnds (packets_in events) → NoneEnds (packets_in others) → NoneEnds (packets_in (events ++ others))
 events_none events others free free' = subst NoneEnds (sym (packets_in-append events others)) (both_none (packets_in events) (packets_in others) free free')
 
-flush_none : (ask : Ask) (n : ℕ) (e : Endpoint) (draft : Emission) (answers : List Answer) → NoEnd draft.packet.contents → Answers ask n e draft answers → NoneEnds (packets_in (flush_of e draft answers).events)
+flush_none : (ask : Ask) (n : ℕ) (e : Endpoint) (draft : Emission) (answers : List Answer) → NoEnd draft.packet.contents → AreFlushAnswers ask n e draft answers → NoneEnds (packets_in (flush_of e draft answers).events)
 flush_none _ _ _ _ _ free (at_limit ask e draft) = tt
 flush_none _ _ _ _ _ free (at_empty ask more e draft answer is empty) = events_none (asked e draft answer).events [] (asked_none e draft answer free) tt
 flush_none _ _ _ _ _ free (after_packet ask more e draft answer answers is some rest) =

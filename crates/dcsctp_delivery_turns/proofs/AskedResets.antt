@@ -8,17 +8,17 @@ use Rattle.dcsctp_spec_lemmas.specs.types.declared.association.Held.{Held}
 use Rattle.dcsctp_spec_lemmas.specs.types.declared.association.Pair.{Pair}
 use Rattle.dcsctp_spec_lemmas.specs.spec.endpoint.Endpoint.{Endpoint}
 use Rattle.dcsctp_spec_lemmas.specs.spec.endpoint.Outcome.{Outcome}
-use Rattle.dcsctp_spec_runs.specs.Past.{Has, number_to_accept, number_to_perform}
+use Rattle.dcsctp_spec_runs.specs.Past.{HasEffect, number_to_accept, number_to_perform}
 use Rattle.dcsctp_spec_lemmas.specs.spec.Reconfiguration.{RequestedReset, outgoing_reset_request, reconfiguration_response}
 use Rattle.dcsctp_spec_lemmas.specs.spec.endpoint.Turn.{Input}
 use Rattle.dcsctp_spec_runs.specs.World.{after_effects}
-use Rattle.dcsctp_spec_lemmas.specs.spec.association.Effect.{Effect, link_of}
+use Rattle.dcsctp_spec_lemmas.specs.spec.association.Effect.{Effect, identity_of}
 use Rattle.dcsctp_spec_lemmas.specs.spec.association.FlushChanges.{next_number, reset_request}
-use Rattle.dcsctp_spec_lemmas.specs.spec.association.ResetChanges.{Place, again, next, astray, place_of, Answered, worked, repeated, outgoing_by, WorkedParameters}
+use Rattle.dcsctp_spec_lemmas.specs.spec.association.ResetChanges.{RequestPlace, again, next, astray, request_place, RequestOutcome, performed_request, repeated, outgoing_by, HandledParameters}
 use Rattle.dcsctp_spec_lemmas.specs.spec.queues.Reassembly.{DeferralModel, entered}
 use Rattle.dcsctp_spec_lemmas.specs.spec.queues.Transfer.{Transfer}
 use Rattle.dcsctp_spec_lemmas.specs.spec.endpoint.BegunResets.{BegunReset, begun_effects}
-use Rattle.dcsctp_spec_lemmas.specs.spec.endpoint.ResetOutcomes.{is_reached, has_reset, answers_in_progress, ResetsBelow, defers_reset, WorksResets}
+use Rattle.dcsctp_spec_lemmas.specs.spec.endpoint.ResetOutcomes.{is_request_reached, has_reset, answers_in_progress, ResetsInQueues, defers_reset, WorksResets}
 use Rattle.dcsctp_delivery_turns.specs.Actions.{came_by}
 use Rattle.dcsctp_delivery_turns.specs.PeerRequests.{NoneAsked, SameWaits, WaitsFor, KnowsPeer, IsDue, PeerTurns, asks_nothing, performs_it, defers_it}
 use Rattle.dcsctp_delivery_turns.proofs.PeerRequests.{works_of}
@@ -26,7 +26,7 @@ use Rattle.dcsctp_delivery_turns.proofs.Waiting.{begun_unasked, StillWaits}
 
 -- ---- which number
 
-abbrev Placed : Place → ℕ → ℕ → Type 0
+abbrev Placed : RequestPlace → ℕ → ℕ → Type 0
 Placed again last number = number ≡ last
 Placed next last number = number ≡ next_number last
 Placed astray last number = Unit {0}
@@ -36,25 +36,25 @@ placed_by last number true is_next a b = (Decides-eqb number last).0 a
 placed_by last number false true a b = (Decides-eqb number (next_number last)).0 b
 placed_by last number false false a b = tt
 
-placed : (last number : ℕ) → Placed (place_of last number) last number
+placed : (last number : ℕ) → Placed (request_place last number) last number
 placed last number = placed_by last number (number == last) (number == next_number last) refl refl
 
 -- ---- the past after it
 
 -- These effects perform the request of this number, and no other.
 pub record PerformsOne (past : List Effect) (peer : Pair) (number : ℕ) (happened : List Effect) : Type 0 where
-  pub alone : (other : Pair) (its : ℕ) → Has (effects.performs other its) happened → (other ≡ peer) × (its ≡ number)
-  pub has : Has (effects.performs peer number) happened
+  pub alone : (other : Pair) (its : ℕ) → HasEffect (effects.performs other its) happened → (other ≡ peer) × (its ≡ number)
+  pub has : HasEffect (effects.performs peer number) happened
   pub accepts : number_to_accept (after_effects happened past) ≡ Some (next_number number)
   pub performs : number_to_perform (after_effects happened past) ≡ None
 
 -- They leave it in progress.
 pub record DefersOne (past : List Effect) (number : ℕ) (happened : List Effect) : Type 0 where
-  pub none : (other : Pair) (its : ℕ) → Has (effects.performs other its) happened → ⊥
+  pub none : (other : Pair) (its : ℕ) → HasEffect (effects.performs other its) happened → ⊥
   pub accepts : number_to_accept (after_effects happened past) ≡ Some (next_number number)
   pub performs : number_to_perform (after_effects happened past) ≡ Some number
 
-none_begun : (begun : Option BegunReset) (other : Pair) (its : ℕ) → Has (effects.performs other its) (begun_effects begun) → ⊥
+none_begun : (begun : Option BegunReset) (other : Pair) (its : ℕ) → HasEffect (effects.performs other its) (begun_effects begun) → ⊥
 none_begun None other its has = has
 none_begun (Some begun) other its (inl is) = absurd (cc)
 none_begun (Some begun) other its (inr has) = has
@@ -67,7 +67,7 @@ begun_performs : (begun : Option BegunReset) (past : List Effect) → number_to_
 begun_performs None past = refl
 begun_performs (Some begun) past = refl
 
-performs_alone : (begun : Option BegunReset) (peer other : Pair) (number its : ℕ) → Has (effects.performs other its) (effects.performs peer number ∷ begun_effects begun) → (other ≡ peer) × (its ≡ number)
+performs_alone : (begun : Option BegunReset) (peer other : Pair) (number its : ℕ) → HasEffect (effects.performs other its) (effects.performs peer number ∷ begun_effects begun) → (other ≡ peer) × (its ≡ number)
 performs_alone begun peer other number its (inl is) = (cc, cc)
 performs_alone begun peer other number its (inr has) = absurd (none_begun begun other its has)
 
@@ -110,45 +110,45 @@ entered_waits reset (Some before) new waits = (waits.0, waits.1, inr (before, re
 -- ---- the request
 
 -- what the one parameter makes of the numbers
-abbrev worked_one : ℕ → Answered → WorkedParameters
+abbrev worked_one : ℕ → RequestOutcome → HandledParameters
 worked_one number first = record { held = first.held; effects = first.effects ++ []; answers = reconfiguration_response number first.result ∷ []; is_refused = false }
 
 module _ (past : List Effect) (my : Pair) (held : Held) (knows : KnowsPeer past held) (number : ℕ) (reset : RequestedReset) (transfer : Transfer) (e : Endpoint) (input : Input) (came : came_by input ≡ Some (reset_request number reset)) (o : Outcome) where
   -- whatever is left
   abbrev Turns : Type 0
-  Turns = (left : Transfer) → o.after.below.transfer ≡ Some left → PeerTurns (link_of my held) past e input o transfer.reassembly.deferral left.reassembly.deferral
+  Turns = (left : Transfer) → o.after.queues.transfer ≡ Some left → PeerTurns (identity_of my held) past e input o transfer.reassembly.deferral left.reassembly.deferral
 
   -- It was answered before, or isn't the next one.
-  quiet : (left : Option Transfer) (begun : Option BegunReset) → left ≡ Some transfer → o.effects ≡ begun_effects begun → StillWaits left o.after.below.transfer → Turns
+  quiet : (left : Option Transfer) (begun : Option BegunReset) → left ≡ Some transfer → o.effects ≡ begun_effects begun → StillWaits left o.after.queues.transfer → Turns
   quiet left begun same is waits =
-      λ after at. asks_nothing (subst NoneAsked (sym is) (begun_unasked begun)) (subst (λ (l : Option Transfer). StillWaits l o.after.below.transfer) same waits after at)
+      λ after at. asks_nothing (subst NoneAsked (sym is) (begun_unasked begun)) (subst (λ (l : Option Transfer). StillWaits l o.after.queues.transfer) same waits after at)
 
   -- It is performed.
   performed : (happened : List Effect) (left : Option Transfer) → IsDue past number → PerformsOne past held.peer number happened → o.effects ≡ happened
-      → ResetsBelow true false (Some reset) (Some transfer) left → StillWaits left o.after.below.transfer → Turns
+      → ResetsInQueues true false (Some reset) (Some transfer) left → StillWaits left o.after.queues.transfer → Turns
   performed happened left due performs is below waits = λ after at.
       let all : PerformsOne past held.peer number o.effects = subst (PerformsOne past held.peer number) (sym is) performs in
-      let kept : SameWaits below.0.reassembly.deferral after.reassembly.deferral = subst (λ (l : Option Transfer). StillWaits l o.after.below.transfer) below.1 waits after at in
+      let kept : SameWaits below.0.reassembly.deferral after.reassembly.deferral = subst (λ (l : Option Transfer). StillWaits l o.after.queues.transfer) below.1 waits after at in
       performs_it number reset came due all.alone all.has all.accepts all.performs
       (subst (λ (d : Option DeferralModel). SameWaits d after.reassembly.deferral) below.2.reassembly.deferral kept)
 
   -- It is in progress.
   deferred : (happened : List Effect) (left : Option Transfer) → IsDue past number → DefersOne past number happened → o.effects ≡ happened
-      → left ≡ Some (defers_reset reset transfer) → StillWaits left o.after.below.transfer → Turns
+      → left ≡ Some (defers_reset reset transfer) → StillWaits left o.after.queues.transfer → Turns
   deferred happened left due defers is below waits = λ after at.
       let all : DefersOne past number o.effects = subst (DefersOne past number) (sym is) defers in
-      let found = entered_waits reset transfer.reassembly.deferral after.reassembly.deferral (subst (λ (l : Option Transfer). StillWaits l o.after.below.transfer) below waits after at) in
+      let found = entered_waits reset transfer.reassembly.deferral after.reassembly.deferral (subst (λ (l : Option Transfer). StillWaits l o.after.queues.transfer) below waits after at) in
       defers_it number reset came due all.none all.accepts all.performs found.0 found.1 found.2
 
   -- by what is made of its number
-  abbrev Made : Answered → Type 0
-  Made first = (left : Option Transfer) (begun : Option BegunReset) → ResetsBelow (has_reset (worked_one number first).effects) (answers_in_progress (worked_one number first).answers) (Some reset) (Some transfer) left
-      → o.effects ≡ (worked_one number first).effects ++ begun_effects begun → StillWaits left o.after.below.transfer → Turns
+  abbrev Made : RequestOutcome → Type 0
+  Made first = (left : Option Transfer) (begun : Option BegunReset) → ResetsInQueues (has_reset (worked_one number first).effects) (answers_in_progress (worked_one number first).answers) (Some reset) (Some transfer) left
+      → o.effects ≡ (worked_one number first).effects ++ begun_effects begun → StillWaits left o.after.queues.transfer → Turns
 
   same_number : held.peer_last ≡ number → number_to_accept past ≡ Some (next_number number)
   same_number same = subst (λ (n : ℕ). number_to_accept past ≡ Some (next_number n)) same knows.accepts
 
-  again_works : (reached : Bool) → number ≡ held.peer_last → held.peer_result ≡ InProgress → Made (worked held held.peer_last reached)
+  again_works : (reached : Bool) → number ≡ held.peer_last → held.peer_result ≡ InProgress → Made (performed_request held held.peer_last reached)
   again_works true same result left begun below is waits =
       performed (effects.performs held.peer held.peer_last ∷ begun_effects begun) left (inr (knows.performs result ∙ ap (λ (n : ℕ). Some n) (sym same)))
       (subst (λ (n : ℕ). PerformsOne past held.peer n (effects.performs held.peer held.peer_last ∷ begun_effects begun)) (sym same) (again_performs past begun held.peer held.peer_last knows.accepts)) is below waits
@@ -168,18 +168,18 @@ module _ (past : List Effect) (my : Pair) (held : Held) (knows : KnowsPeer past 
   next_due : number ≡ next_number held.peer_last → IsDue past number
   next_due same = inl (knows.accepts ∙ ap (λ (n : ℕ). Some n) (sym same))
 
-  outgoing_works : (place : Place) (reached : Bool) → Placed place held.peer_last number → Made (outgoing_by held number reached place)
+  outgoing_works : (place : RequestPlace) (reached : Bool) → Placed place held.peer_last number → Made (outgoing_by held number reached place)
   outgoing_works again reached same left begun below is waits = repeated_works held.peer_result reached same refl left begun below is waits
   outgoing_works next true same left begun below is waits =
       performed (effects.accepts number ∷ effects.performs held.peer number ∷ begun_effects begun) left (next_due same) (next_performs past begun held.peer number) is below waits
   outgoing_works next false same left begun below is waits = deferred (effects.accepts number ∷ begun_effects begun) left (next_due same) (next_defers past begun number) is below waits
   outgoing_works astray reached same left begun below is waits = quiet left begun below is waits
 
-  pub request_turns : e.below.transfer ≡ Some transfer → WorksResets e my held (outgoing_reset_request number number reset ∷ []) o → Turns
+  pub request_turns : e.queues.transfer ≡ Some transfer → WorksResets e my held (outgoing_reset_request number number reset ∷ []) o → Turns
   request_turns known turn =
       let works = works_of e my held (outgoing_reset_request number number reset ∷ []) o turn in
-      let reached : Bool = is_reached e.below.transfer (Some reset) in
-      let place : Place = place_of held.peer_last number in
-      let w : WorkedParameters = worked_one number (outgoing_by held number reached place) in
+      let reached : Bool = is_request_reached e.queues.transfer (Some reset) in
+      let place : RequestPlace = request_place held.peer_last number in
+      let w : HandledParameters = worked_one number (outgoing_by held number reached place) in
       outgoing_works place reached (placed held.peer_last number) works.left works.begun
-      (subst (λ (t : Option Transfer). ResetsBelow (has_reset w.effects) (answers_in_progress w.answers) (Some reset) t works.left) known works.below) works.is works.waits
+      (subst (λ (t : Option Transfer). ResetsInQueues (has_reset w.effects) (answers_in_progress w.answers) (Some reset) t works.left) known works.below) works.is works.waits

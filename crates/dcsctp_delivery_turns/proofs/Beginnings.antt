@@ -5,11 +5,11 @@ use Rattle.std.specs.List.{AllByRecursion}
 use Rattle.dcsctp_spec_lemmas.specs.types.declared.options.Options.{Options}
 use Rattle.dcsctp_spec_lemmas.specs.spec.endpoint.Endpoint.{Endpoint, Core, closed, cookie_wait, cookie_echoed, open_in, OutstandingRequest}
 use Rattle.dcsctp_spec_lemmas.specs.spec.endpoint.Outcome.{Outcome}
-use Rattle.dcsctp_spec_lemmas.specs.spec.association.Effect.{link_in}
+use Rattle.dcsctp_spec_lemmas.specs.spec.association.Effect.{identity_in}
 use Rattle.dcsctp_spec_lemmas.specs.spec.Packet.{Content}
 use Rattle.dcsctp_spec_lemmas.specs.spec.endpoint.Turn.{Input, arrival, refusal, packet_begins, chunk_input, packet_ends, act_input, user_sets, user_sends, user_resets, user_takes, timer_expires, time_passes, restores}
-use Rattle.dcsctp_spec_lemmas.specs.spec.queues.SendQueue.{SendQueueState, restarted, empty_queue}
-use Rattle.dcsctp_spec_lemmas.specs.spec.queues.Transfer.{Below}
+use Rattle.dcsctp_spec_lemmas.specs.spec.queues.SendQueue.{SendQueueState, queue_restarted, empty_queue}
+use Rattle.dcsctp_spec_lemmas.specs.spec.queues.Transfer.{EndpointQueues}
 use Rattle.dcsctp_spec_lemmas.specs.spec.endpoint.MessageOutcomes.{MessageRefusal, Sending, sending_refusal, queue_one}
 use Rattle.dcsctp_delivery_sending.specs.Log.{Fits, Message, new_history}
 use Rattle.dcsctp_delivery_turns.specs.Actions.{Inside, OwnEnds, PeerResets, queued_where, queued_together, queued_after, Begun}
@@ -19,7 +19,7 @@ use Rattle.dcsctp_delivery_sending.specs.Queueing.{QueueWaits}
 use Rattle.dcsctp_delivery_sending.proofs.KeptQueues.{restarted_hold}
 use Rattle.dcsctp_delivery_sending.proofs.Renumbered.{numbered_hold, numbered_kind}
 use Rattle.dcsctp_delivery_turns.specs.Runs.{new_direction}
-use Rattle.dcsctp_delivery_directions.specs.Directions.{Asking, nothing_asked, Run}
+use Rattle.dcsctp_delivery_directions.specs.Directions.{Asking, nothing_asked, DirectionRun}
 use Rattle.dcsctp_spec_lemmas.specs.spec.Reconfiguration.{RequestedReset}
 use Rattle.dcsctp_delivery_turns.specs.Asking.{Own, own_in, AsksFit, SomeFit}
 use Rattle.dcsctp_delivery_turns.proofs.Fronts.{own_ends_fit, own_resets}
@@ -59,7 +59,7 @@ pub nothing_fits : (first : ℕ) (again : RequestedReset) → first < 2 ^ 32 →
 nothing_fits first again small = record { numbers = tt; next = omega arith; out = refl }
 
 -- So it is where there is no association.
-pub unlinked_fits : (core : Core) (request : Option OutstandingRequest) → link_in core ≡ None → SomeFit (own_in core request)
+pub unlinked_fits : (core : Core) (request : Option OutstandingRequest) → identity_in core ≡ None → SomeFit (own_in core request)
 unlinked_fits closed request none = record { first = 0; asking = nothing_asked; fits = tt }
 unlinked_fits (cookie_wait my) request none = record { first = 0; asking = nothing_asked; fits = tt }
 unlinked_fits (cookie_echoed my held cookie) request none = absurd (cc)
@@ -74,8 +74,8 @@ worked_fits came o old between worked own peer fits =
 
 -- ---- directions that begin
 
-pub anew_runs : (options : Options) (first size : ℕ) (queued : List Message) (below : Below) → AllByRecursion Fits queued → QueueWaits queued below.queue → directions.NoneInFlight first below.queue.is_interleaved below.transfer
-    → Run options first size (new_direction options first size queued below 0 [])
+pub anew_runs : (options : Options) (first size : ℕ) (queued : List Message) (below : EndpointQueues) → AllByRecursion Fits queued → QueueWaits queued below.queue → directions.NoneInFlight first below.queue.is_interleaved below.transfer
+    → DirectionRun options first size (new_direction options first size queued below 0 [])
 anew_runs options first size queued below fit queues none =
     directions.begins (new_direction options first size queued below 0 [])
     (record { fit = fit; queues = queues; flight = none; acknowledged = refl; sent = refl; tracker = refl; reassembly = refl; read = refl; asking = refl })
@@ -108,19 +108,19 @@ fresh_waits mine =
     none_ascend (suc q) = tt
 
 -- the queue of an association that begins
-pub begun_queues : (e : Endpoint) (o : Outcome) (begun : Begun e o) (queued : List Message) → QueueWaits queued e.below.queue → QueueWaits queued begun.queue
+pub begun_queues : (e : Endpoint) (o : Outcome) (begun : Begun e o) (queued : List Message) → QueueWaits queued e.queues.queue → QueueWaits queued begun.queue
 begun_queues e o begun queued queues =
     elim begun.keeps [
-      | inl is ↦ subst (λ (q : SendQueueState). QueueWaits queued q) (sym is) (numbered_hold queued begun.held.capabilities.message_interleaving e.below.queue queues)
+      | inl is ↦ subst (λ (q : SendQueueState). QueueWaits queued q) (sym is) (numbered_hold queued begun.held.capabilities.message_interleaving e.queues.queue queues)
       | inr is ↦
           subst (λ (q : SendQueueState). QueueWaits queued q) (sym is)
-          (numbered_hold queued begun.held.capabilities.message_interleaving (restarted e.below.queue) (restarted_hold queued (new_history queues.floors) e.below.queue queues.holds))
+          (numbered_hold queued begun.held.capabilities.message_interleaving (queue_restarted e.queues.queue) (restarted_hold queued (new_history queues.floors) e.queues.queue queues.holds))
     ]
 
 -- it numbers messages as what is in flight will be sent
 pub begun_kind : (e : Endpoint) (o : Outcome) (begun : Begun e o) → begun.queue.is_interleaved ≡ begun.held.capabilities.message_interleaving
 begun_kind e o begun =
     elim begun.keeps [
-      | inl is ↦ ap (λ (q : SendQueueState). q.is_interleaved) is ∙ numbered_kind begun.held.capabilities.message_interleaving e.below.queue
-      | inr is ↦ ap (λ (q : SendQueueState). q.is_interleaved) is ∙ numbered_kind begun.held.capabilities.message_interleaving (restarted e.below.queue)
+      | inl is ↦ ap (λ (q : SendQueueState). q.is_interleaved) is ∙ numbered_kind begun.held.capabilities.message_interleaving e.queues.queue
+      | inr is ↦ ap (λ (q : SendQueueState). q.is_interleaved) is ∙ numbered_kind begun.held.capabilities.message_interleaving (queue_restarted e.queues.queue)
     ]

@@ -12,10 +12,10 @@ use Rattle.dcsctp_spec_lemmas.specs.spec.queues.SendQueue.{SendQueueState}
 use Rattle.dcsctp_spec_lemmas.specs.spec.queues.Transfer.{Transfer, is_idle}
 use Rattle.dcsctp_spec_lemmas.specs.spec.association.FlushChanges.{held_asking}
 use Rattle.dcsctp_spec_lemmas.specs.spec.endpoint.BegunResets.{BegunReset, streams_within, last_assigned_tsn, stream_field, begun_where, begun_in, core_asking, after_begun}
-use Rattle.dcsctp_spec_lemmas.specs.spec.endpoint.FlushOutcomes.{told_event, Answer, answer_contents, filled, goes_out, asked, next_draft, flush_of, Ask, first_ask, later_ask, begun_at, GivesWhere, AnsweredBelow, Answered, Answers, at_limit, at_empty, after_packet, FlushAnswers, packets_allowed}
+use Rattle.dcsctp_spec_lemmas.specs.spec.endpoint.FlushOutcomes.{filling_event, Answer, answer_contents, filled, goes_out, asked, next_draft, flush_of, Ask, first_ask, later_ask, begun_at, GivesWhere, IsAnswerOfQueues, IsFlushAnswer, AreFlushAnswers, at_limit, at_empty, after_packet, FlushAnswers, packets_allowed}
 use Rattle.dcsctp_spec_lemmas.specs.spec.endpoint.ReconfigurationOutcomes.{reset_again}
 use Rattle.dcsctp_spec_lemmas.proofs.FlushKeeps.{later_begins}
-use Rattle.dcsctp_delivery_sending.specs.Flushes.{begun_by}
+use Rattle.dcsctp_delivery_sending.specs.Flushes.{reset_begun_by}
 use Rattle.dcsctp_delivery_directions.specs.Directions.{Asking, asking_with}
 use Rattle.dcsctp_delivery_turns.specs.Asking.{Own, own_with, own_in, own_of, OutIs, IsAsking, AsksFit, AskingGrows}
 
@@ -106,9 +106,9 @@ where_gives : (b : Bool) (ask : Ask) (e : Endpoint) (draft : Emission) (transfer
 where_gives true ask e draft transfer answer gives = subst (λ (a : Answer). MayBegin (held_in e.core) a.begun) (sym gives) tt
 where_gives false ask e draft transfer answer gives = subst (MayBegin (held_in e.core)) (sym gives.begins) (at_may ask (held_in e.core) _ gives.gave_up.queue gives.gave_up.waiting)
 
-below_gives : (ask : Ask) (e : Endpoint) (draft : Emission) (transfer : Option Transfer) (answer : Answer) → AnsweredBelow ask e draft answer transfer → MayBegin (held_in e.core) answer.begun
+below_gives : (ask : Ask) (e : Endpoint) (draft : Emission) (transfer : Option Transfer) (answer : Answer) → IsAnswerOfQueues ask e draft answer transfer → MayBegin (held_in e.core) answer.begun
 below_gives ask e draft None answer gives = subst (λ (a : Answer). MayBegin (held_in e.core) a.begun) (sym gives) tt
-below_gives ask e draft (Some transfer) answer gives = where_gives (is_idle e.below.queue transfer) ask e draft transfer answer gives
+below_gives ask e draft (Some transfer) answer gives = where_gives (is_idle e.queues.queue transfer) ask e draft transfer answer gives
 
 -- ---- what is kept then
 
@@ -144,29 +144,29 @@ out_own : (e : Endpoint) (told : List (Event Emission)) (with_checksum : Bool) (
 out_own e told with_checksum tag [] = refl
 out_own e told with_checksum tag (content ∷ contents) = refl
 
-asked_own : (ask : Ask) (e : Endpoint) (draft : Emission) (answer : Answer) → Answered ask e draft answer → own_of (asked e draft answer).after ≡ own_of (after_begun answer.begun e)
+asked_own : (ask : Ask) (e : Endpoint) (draft : Emission) (answer : Answer) → IsFlushAnswer ask e draft answer → own_of (asked e draft answer).after ≡ own_of (after_begun answer.begun e)
 asked_own ask e draft answer answered =
-    out_own answer.after (map told_event answer.told) draft.with_checksum draft.packet.tag (filled draft (answer_contents answer)).packet.contents ∙ ap own_of answered.kept
+    out_own answer.after (map filling_event answer.told) draft.with_checksum draft.packet.tag (filled draft (answer_contents answer)).packet.contents ∙ ap own_of answered.kept
 
-later_asked : (ask : Ask) (e : Endpoint) (draft : Emission) (answer : Answer) → ask ≡ later_ask → Answered ask e draft answer → own_of (asked e draft answer).after ≡ own_of e
+later_asked : (ask : Ask) (e : Endpoint) (draft : Emission) (answer : Answer) → ask ≡ later_ask → IsFlushAnswer ask e draft answer → own_of (asked e draft answer).after ≡ own_of e
 later_asked ask e draft answer is answered =
     asked_own ask e draft answer answered
-    ∙ ap (λ (b : Option BegunReset). own_of (after_begun b e)) (later_begins e draft answer (subst (λ (a : Ask). Answered a e draft answer) is answered))
+    ∙ ap (λ (b : Option BegunReset). own_of (after_begun b e)) (later_begins e draft answer (subst (λ (a : Ask). IsFlushAnswer a e draft answer) is answered))
 
-asked_fits : (first : ℕ) (ask : Ask) (e : Endpoint) (draft : Emission) (answer : Answer) (asking : Asking) → Answered ask e draft answer → AsksFit first (own_of e) asking
+asked_fits : (first : ℕ) (ask : Ask) (e : Endpoint) (draft : Emission) (answer : Answer) (asking : Asking) → IsFlushAnswer ask e draft answer → AsksFit first (own_of e) asking
     → AsksFit first (own_of (asked e draft answer).after) (asking_with answer.begun asking)
 asked_fits first ask e draft answer asking answered fit =
     subst (λ (o : Option Own). AsksFit first o (asking_with answer.begun asking)) (sym (asked_own ask e draft answer answered))
-    (begun_fits first e answer.begun asking (below_gives ask e draft e.below.transfer answer answered.by_transfer) fit)
+    (begun_fits first e answer.begun asking (below_gives ask e draft e.queues.transfer answer answered.by_transfer) fit)
 
-later_own : (ask : Ask) (n : ℕ) (e : Endpoint) (draft : Emission) (answers : List Answer) → ask ≡ later_ask → Answers ask n e draft answers → own_of (flush_of e draft answers).after ≡ own_of e
+later_own : (ask : Ask) (n : ℕ) (e : Endpoint) (draft : Emission) (answers : List Answer) → ask ≡ later_ask → AreFlushAnswers ask n e draft answers → own_of (flush_of e draft answers).after ≡ own_of e
 later_own _ _ _ _ _ is (at_limit ask e draft) = refl
 later_own _ _ _ _ _ is (at_empty ask more e draft answer answered empty) = later_asked ask e draft answer is answered
 later_own _ _ _ _ _ is (after_packet ask more e draft answer answers answered some rest) =
     later_own later_ask more (asked e draft answer).after (next_draft e.core draft) answers refl rest ∙ later_asked ask e draft answer is answered
 
-answers_fit : (first : ℕ) (ask : Ask) (n : ℕ) (e : Endpoint) (draft : Emission) (answers : List Answer) (asking : Asking) → Answers ask n e draft answers → AsksFit first (own_of e) asking
-    → AsksFit first (own_of (flush_of e draft answers).after) (asking_with (begun_by answers) asking)
+answers_fit : (first : ℕ) (ask : Ask) (n : ℕ) (e : Endpoint) (draft : Emission) (answers : List Answer) (asking : Asking) → AreFlushAnswers ask n e draft answers → AsksFit first (own_of e) asking
+    → AsksFit first (own_of (flush_of e draft answers).after) (asking_with (reset_begun_by answers) asking)
 answers_fit first _ _ _ _ _ asking (at_limit ask e draft) fit = fit
 answers_fit first _ _ _ _ _ asking (at_empty ask more e draft answer answered empty) fit = asked_fits first ask e draft answer asking answered fit
 answers_fit first _ _ _ _ _ asking (after_packet ask more e draft answer answers answered some rest) fit =
@@ -174,5 +174,5 @@ answers_fit first _ _ _ _ _ asking (after_packet ask more e draft answer answers
     (asked_fits first ask e draft answer asking answered fit)
 
 pub flush_fits : (first : ℕ) (e : Endpoint) (draft : Emission) (answers : List Answer) (asking : Asking) → FlushAnswers e draft answers → AsksFit first (own_of e) asking
-    → AsksFit first (own_of (flush_of e draft answers).after) (asking_with (begun_by answers) asking)
+    → AsksFit first (own_of (flush_of e draft answers).after) (asking_with (reset_begun_by answers) asking)
 flush_fits first e draft answers asking allowed fit = answers_fit first first_ask (packets_allowed e.options.max_burst e.core) e draft answers asking allowed fit

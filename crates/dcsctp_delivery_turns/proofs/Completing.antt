@@ -13,17 +13,17 @@ use Rattle.dcsctp_spec_lemmas.specs.spec.Packet.{Introduction, Content, init, in
 use Rattle.dcsctp_spec_lemmas.specs.spec.endpoint.Endpoint.{Endpoint, Core, closed, cookie_wait, cookie_echoed, open_in, established, shutdown_pending, shutdown_sent, shutdown_received, shutdown_ack_sent}
 use Rattle.dcsctp_spec_lemmas.specs.spec.endpoint.Event.{Event}
 use Rattle.dcsctp_spec_lemmas.specs.spec.endpoint.Outcome.{Outcome, quiet, sends, fits, emits, to_peer}
-use Rattle.dcsctp_spec_runs.specs.Past.{Has}
+use Rattle.dcsctp_spec_runs.specs.Past.{HasEffect}
 use Rattle.dcsctp_spec_lemmas.specs.spec.association.Controlled.{ControlledChunk, ControlledAct}
-use Rattle.dcsctp_spec_lemmas.specs.spec.endpoint.Turn.{Input, arrival, refusal, packet_begins, chunk_input, packet_ends, act_input, user_sets, user_sends, user_resets, user_takes, timer_expires, time_passes, restores, has_data, ContentTurn, Turn}
+use Rattle.dcsctp_spec_lemmas.specs.spec.endpoint.Turn.{Input, arrival, refusal, packet_begins, chunk_input, packet_ends, act_input, user_sets, user_sends, user_resets, user_takes, timer_expires, time_passes, restores, has_data_chunk, ContentTurn, Turn}
 use Rattle.dcsctp_spec_lemmas.specs.spec.association.Acts.{Act, shutdown_repeats, flushes}
-use Rattle.dcsctp_spec_lemmas.specs.spec.association.Effect.{Effect, Change, link_of, link_in}
-use Rattle.dcsctp_spec_lemmas.specs.spec.association.ResetChanges.{Place, again, next, astray, place_of, worked, repeated, outgoing_by, incoming_by, informed_where, is_outstanding, WorkedParameters, work_parameters, work_chunk}
+use Rattle.dcsctp_spec_lemmas.specs.spec.association.Effect.{Effect, Change, identity_of, identity_in}
+use Rattle.dcsctp_spec_lemmas.specs.spec.association.ResetChanges.{RequestPlace, again, next, astray, request_place, performed_request, repeated, outgoing_by, incoming_by, informed_where, is_outstanding, HandledParameters, work_parameters, work_chunk}
 use Rattle.dcsctp_spec_lemmas.specs.spec.endpoint.BegunResets.{BegunReset, begun_effects}
 use Rattle.dcsctp_spec_lemmas.specs.spec.endpoint.FlushOutcomes.{Answer, draft_to, first_ask, packets_allowed}
-use Rattle.dcsctp_spec_lemmas.specs.spec.endpoint.HandshakeOutcomes.{pair_from, renewed_pair, renewed_outcome, init_ack_emission, init_outcome}
+use Rattle.dcsctp_spec_lemmas.specs.spec.endpoint.HandshakeOutcomes.{pair_from, renewed_pair, renewed_pair_outcome, init_ack_emission, init_outcome}
 use Rattle.dcsctp_spec_lemmas.specs.spec.endpoint.OwnTimers.{timer_act}
-use Rattle.dcsctp_spec_lemmas.specs.spec.endpoint.ResetOutcomes.{requested_in, is_reached, worked_in, answered_in, told_of, resets_worked, responses_outcome, responses_by, ResponseAnswers, WorksResets, ResetTurn}
+use Rattle.dcsctp_spec_lemmas.specs.spec.endpoint.ResetOutcomes.{requested_in, is_request_reached, parameters_handled_in, answered_in, reset_events_of, resets_handled, responses_outcome, responses_by, ResponseAnswers, WorksResets, ResetTurn}
 use Rattle.dcsctp_spec_lemmas.proofs.ControlEcho.{cookie_echo_controlled}
 use Rattle.dcsctp_spec_lemmas.proofs.ControlHandshake.{init_ack_controlled, cookie_ack_controlled, abort_controlled}
 use Rattle.dcsctp_spec_laws.proofs.ControlLemmas.{begin_stands, acts_are_controlled}
@@ -43,7 +43,7 @@ use Rattle.dcsctp_delivery_turns.proofs.Performed.{outgoing_out, incoming_out}
 
 -- ---- effects one after another
 
-has_either : (effect : Effect) (first later : List Effect) → Has effect (first ++ later) → Has effect first ⊎ Has effect later
+has_either : (effect : Effect) (first later : List Effect) → HasEffect effect (first ++ later) → HasEffect effect first ⊎ HasEffect effect later
 has_either effect [] later has = inr has
 has_either effect (newest ∷ first) later (inl is) = inl (inl is)
 has_either effect (newest ∷ first) later (inr has) =
@@ -54,7 +54,7 @@ has_either effect (newest ∷ first) later (inr has) =
 
 module _ (my : Pair) (number : ℕ) where
   abbrev Completed : List Effect → Type 0
-  Completed happened = Has (effects.completes my number) happened
+  Completed happened = HasEffect (effects.completes my number) happened
 
   one_none : (effect : Effect) → (effects.completes my number ≡ effect → ⊥) → Completed (effect ∷ []) → ⊥
   one_none effect other (inl is) = other is
@@ -66,7 +66,7 @@ module _ (my : Pair) (number : ℕ) where
 
   -- ---- the peer's requests
 
-  worked_none : (held : Held) (asked : ℕ) (reached : Bool) → Completed (worked held asked reached).effects → ⊥
+  worked_none : (held : Held) (asked : ℕ) (reached : Bool) → Completed (performed_request held asked reached).effects → ⊥
   worked_none held asked true has = one_none (effects.performs held.peer asked) (λ is. absurd (cc)) has
   worked_none held asked false has = has
 
@@ -79,13 +79,13 @@ module _ (my : Pair) (number : ℕ) where
   repeated_none held ErrorBadSequenceNumber reached has = has
   repeated_none held InProgress reached has = worked_none held held.peer_last reached has
 
-  outgoing_none : (held : Held) (asked : ℕ) (reached : Bool) (place : Place) → Completed (outgoing_by held asked reached place).effects → ⊥
+  outgoing_none : (held : Held) (asked : ℕ) (reached : Bool) (place : RequestPlace) → Completed (outgoing_by held asked reached place).effects → ⊥
   outgoing_none held asked reached again has = repeated_none held held.peer_result reached has
   outgoing_none held asked reached next (inl is) = absurd (cc)
   outgoing_none held asked reached next (inr has) = worked_none held asked reached has
   outgoing_none held asked reached astray has = has
 
-  incoming_none : (held : Held) (asked : ℕ) (place : Place) → Completed (incoming_by held asked place).effects → ⊥
+  incoming_none : (held : Held) (asked : ℕ) (place : RequestPlace) → Completed (incoming_by held asked place).effects → ⊥
   incoming_none held asked again has = has
   incoming_none held asked next has = one_none (effects.accepts asked) (λ is. absurd (cc)) has
   incoming_none held asked astray has = has
@@ -135,20 +135,20 @@ module _ (my : Pair) (number : ℕ) where
   parameters_end own reached has_worked held [] has = absurd has
   parameters_end own reached true held (outgoing_reset_request asked answered reset ∷ parameters) has = absurd has
   parameters_end own reached false held (outgoing_reset_request asked answered reset ∷ parameters) has =
-      let first = outgoing_by held asked reached (place_of held.peer_last asked) in
+      let first = outgoing_by held asked reached (request_place held.peer_last asked) in
       elim (has_either (effects.completes my number) first.effects (work_parameters own reached true first.held parameters).effects has) [
-        | inl front ↦ absurd (outgoing_none held asked reached (place_of held.peer_last asked) front)
+        | inl front ↦ absurd (outgoing_none held asked reached (request_place held.peer_last asked) front)
         | inr behind ↦
             (let later : Ends own first.held.own_outstanding = parameters_end own reached true first.held parameters behind in
-            (later.0, sym (outgoing_out held asked reached (place_of held.peer_last asked)) ∙ later.1))
+            (later.0, sym (outgoing_out held asked reached (request_place held.peer_last asked)) ∙ later.1))
       ]
   parameters_end own reached has_worked held (incoming_reset_request asked streams ∷ parameters) has =
-      let first = incoming_by held asked (place_of held.peer_last asked) in
+      let first = incoming_by held asked (request_place held.peer_last asked) in
       elim (has_either (effects.completes my number) first.effects (work_parameters own reached has_worked first.held parameters).effects has) [
-        | inl front ↦ absurd (incoming_none held asked (place_of held.peer_last asked) front)
+        | inl front ↦ absurd (incoming_none held asked (request_place held.peer_last asked) front)
         | inr behind ↦
             (let later : Ends own first.held.own_outstanding = parameters_end own reached has_worked first.held parameters behind in
-            (later.0, sym (incoming_out held asked (place_of held.peer_last asked)) ∙ later.1))
+            (later.0, sym (incoming_out held asked (request_place held.peer_last asked)) ∙ later.1))
       ]
   parameters_end own reached has_worked held (reconfiguration_response answered result ∷ parameters) has =
       let first = informed_where own held answered result (is_outstanding answered held.own_outstanding) in
@@ -174,28 +174,28 @@ module _ (my : Pair) (number : ℕ) where
       let base : Endpoint = (responses_outcome e held responses).after in
       begun_none (begun_by answers) (subst Completed (flush_keeps first_ask (packets_allowed base.options.max_burst base.core) base (draft_to held) answers allowed).effects has)
 
-  works_ends : (e : Endpoint) (own : Pair) (held : Held) (parameters : List ResetParameter) (o : Outcome) → link_in e.core ≡ Some (link_of own held) → own_of e ≡ Some (own_with held e.outstanding)
+  works_ends : (e : Endpoint) (own : Pair) (held : Held) (parameters : List ResetParameter) (o : Outcome) → identity_in e.core ≡ Some (identity_of own held) → own_of e ≡ Some (own_with held e.outstanding)
       → WorksResets e own held parameters o → Completed o.effects → EndsOwn e my number
   works_ends e own held parameters o linked kept turn has =
-      let w : WorkedParameters = worked_in e own held parameters in
-      let reached : Bool = is_reached e.below.transfer (requested_in parameters) in
-      let base : Endpoint = resets_worked e (answered_in held w parameters) w.held turn.left in
-      let last : Outcome = responses_by w.is_refused base (told_of e parameters w.effects) w.held parameters w.answers turn.answers in
+      let w : HandledParameters = parameters_handled_in e own held parameters in
+      let reached : Bool = is_request_reached e.queues.transfer (requested_in parameters) in
+      let base : Endpoint = resets_handled e (answered_in held w parameters) w.held turn.left in
+      let last : Outcome = responses_by w.is_refused base (reset_events_of e parameters w.effects) w.held parameters w.answers turn.answers in
       let happened : Completed (w.effects ++ last.effects) = subst (λ (x : Outcome). Completed x.effects) turn.is has in
       let ends : Ends own held.own_outstanding =
       elim (has_either (effects.completes my number) w.effects last.effects happened) [
         | inl front ↦ chunk_ends own reached held parameters front
-        | inr behind ↦ absurd (sent_none w.is_refused base (told_of e parameters w.effects) w.held parameters w.answers turn.answers turn.allowed behind)
+        | inr behind ↦ absurd (sent_none w.is_refused base (reset_events_of e parameters w.effects) w.held parameters w.answers turn.answers turn.allowed behind)
       ] in
-      record { link = link_of own held; linked = linked; mine = ends.0; own = own_with held e.outstanding; kept = kept; outstanding = ends.1 }
+      record { link = identity_of own held; linked = linked; mine = ends.0; own = own_with held e.outstanding; kept = kept; outstanding = ends.1 }
 
   reset_ends : (e : Endpoint) (core : Core) (parameters : List ResetParameter) (o : Outcome) → e.core ≡ core → ResetTurn e core parameters o → Completed o.effects → EndsOwn e my number
   reset_ends e closed parameters o same turn has = absurd (subst (λ (x : Outcome). Completed x.effects) turn has)
   reset_ends e (cookie_wait own) parameters o same turn has = absurd (subst (λ (x : Outcome). Completed x.effects) turn has)
   reset_ends e (cookie_echoed own held cookie) parameters o same turn has =
-      works_ends e own held parameters o (ap link_in same) (ap (λ (c : Core). own_in c e.outstanding) same) turn has
+      works_ends e own held parameters o (ap identity_in same) (ap (λ (c : Core). own_in c e.outstanding) same) turn has
   reset_ends e (open_in phase own held) parameters o same turn has =
-      works_ends e own held parameters o (ap link_in same) (ap (λ (c : Core). own_in c e.outstanding) same) turn has
+      works_ends e own held parameters o (ap identity_in same) (ap (λ (c : Core). own_in c e.outstanding) same) turn has
 
   -- ---- the other turns
 
@@ -221,7 +221,7 @@ module _ (my : Pair) (number : ℕ) where
   emits_none : (e : Endpoint) (words : List Word) (emission : Emission) → Completed (emits e words emission).effects → ⊥
   emits_none e words emission has = packet_none (fits e emission) e words emission has
 
-  renewed_none : (e : Endpoint) (theirs : Introduction) (word : ℕ) → Completed (renewed_outcome e theirs word).effects → ⊥
+  renewed_none : (e : Endpoint) (theirs : Introduction) (word : ℕ) → Completed (renewed_pair_outcome e theirs word).effects → ⊥
   renewed_none e theirs word has = drawn_before _ _ (emits_none e (U32 word ∷ []) (init_ack_emission e theirs (renewed_pair e word) e.tie)) has
 
   init_none : (e : Endpoint) (theirs : Introduction) (core : Core) (word later : ℕ) → Completed (init_outcome e theirs core word later).effects → ⊥
@@ -250,17 +250,17 @@ module _ (my : Pair) (number : ℕ) where
   turn_ends e arrival o may turn has = absurd (same_none o _ turn (λ h. h) has)
   turn_ends e (refusal text) o may turn has = absurd (same_none o _ turn (λ h. h) has)
   turn_ends e (packet_begins contents) o may turn has =
-      elim (begin_stands e e.core (has_data contents) o refl turn) [
+      elim (begin_stands e e.core (has_data_chunk contents) o refl turn) [
         | inl stays ↦ absurd (same_none o _ stays (λ h. h) has)
         | inr acts ↦ absurd (by_act e shutdown_repeats o acts has)
       ]
   turn_ends e (chunk_input tag content) o may turn has = content_ends e tag content o turn has
-  turn_ends e packet_ends o may turn has = absurd (by_act e flushes o (flushed_act e o (end_at e e.below.transfer o turn)) has)
+  turn_ends e packet_ends o may turn has = absurd (by_act e flushes o (flushed_act e o (end_at e e.queues.transfer o turn)) has)
   turn_ends e (act_input act) o may turn has = absurd (by_act e act o (acts_are_controlled e act o turn) has)
   turn_ends e (user_sets setting) o may turn has = absurd (same_none o _ turn (λ h. h) has)
   turn_ends e (user_sends messages) o may turn has = absurd (by_act e flushes o (flushed_act e o (send_at e messages o turn)) has)
   turn_ends e (user_resets ids) o may turn has = absurd (by_act e flushes o (flushed_act e o (resets_at e ids o turn)) has)
-  turn_ends e user_takes o may turn has = absurd (by_act e flushes o (flushed_act e o (take_at e e.below.transfer o turn)) has)
+  turn_ends e user_takes o may turn has = absurd (by_act e flushes o (flushed_act e o (take_at e e.queues.transfer o turn)) has)
   turn_ends e (timer_expires timer) o may turn has = absurd (by_act e (timer_act e timer) o (timer_controlled e timer o turn) has)
   turn_ends e (time_passes moment) o may turn has = absurd (same_none o _ turn (λ h. h) has)
   turn_ends e (restores state) o may turn has = absurd may

@@ -10,14 +10,14 @@ use Rattle.dcsctp_spec_lemmas.specs.spec.Packet.{Content, unworked, Emission}
 use Rattle.dcsctp_spec_lemmas.specs.spec.endpoint.Endpoint.{Endpoint, Core, closed, cookie_wait, cookie_echoed, open_in, held_in}
 use Rattle.dcsctp_spec_lemmas.specs.spec.endpoint.Outcome.{Outcome}
 use Rattle.dcsctp_spec_lemmas.specs.spec.association.Choices.{plain_contents}
-use Rattle.dcsctp_spec_lemmas.specs.spec.queues.Acknowledging.{ends_delivery, told_by, delivered}
+use Rattle.dcsctp_spec_lemmas.specs.spec.queues.Acknowledging.{ends_delivery, lifecycle_events_by, delivered_events}
 use Rattle.dcsctp_spec_lemmas.specs.spec.queues.Items.{Item}
 use Rattle.dcsctp_spec_lemmas.specs.spec.queues.OwnResets.{prepare_all_events}
 use Rattle.dcsctp_spec_lemmas.specs.spec.queues.SendQueue.{SendQueueState}
 use Rattle.dcsctp_spec_lemmas.specs.spec.queues.Tracker.{TrackerState, delayed_from}
 use Rattle.dcsctp_spec_lemmas.specs.spec.queues.Transfer.{Transfer}
 use Rattle.dcsctp_spec_lemmas.specs.spec.endpoint.DataOutcomes.{with_transfer, FastRetransmits}
-use Rattle.dcsctp_spec_lemmas.specs.spec.endpoint.FlushOutcomes.{goes_out, draft_to, told_event}
+use Rattle.dcsctp_spec_lemmas.specs.spec.endpoint.FlushOutcomes.{goes_out, draft_to, filling_event}
 use Rattle.dcsctp_spec_lemmas.specs.spec.endpoint.MessageOutcomes.{MessageRefusal, refusal_events, sending_refusal, Sending, queue_by, queue_one, queue_all}
 use Rattle.dcsctp_spec_lemmas.proofs.SendEventLemmas.{told_prepared}
 use Rattle.dcsctp_theorem_sockets.proofs.Bursts.{packets_in-append, told_none}
@@ -28,21 +28,21 @@ use Rattle.dcsctp_delivery_sending.specs.Flushes.{NoData}
 
 -- ---- events that are no packets
 
-told_by_none : (name : Option ℕ) (over : Bool) → packets_in {P = Emission} (told_by name over) ≡ []
+told_by_none : (name : Option ℕ) (over : Bool) → packets_in {P = Emission} (lifecycle_events_by name over) ≡ []
 told_by_none None over = refl
 told_by_none (Some id) true = refl
 told_by_none (Some id) false = refl
 
-pub delivered_none : (items : List Item) → packets_in {P = Emission} (delivered items) ≡ []
+pub delivered_none : (items : List Item) → packets_in {P = Emission} (delivered_events items) ≡ []
 delivered_none [] = refl
 delivered_none (item ∷ items) =
-    packets_in-append (told_by item.fragment.lifecycle (ends_delivery item)) (delivered items)
-    ∙ ap (λ (l : List Emission). l ++ packets_in (delivered items)) (told_by_none item.fragment.lifecycle (ends_delivery item)) ∙ delivered_none items
+    packets_in-append (lifecycle_events_by item.fragment.lifecycle (ends_delivery item)) (delivered_events items)
+    ∙ ap (λ (l : List Emission). l ++ packets_in (delivered_events items)) (told_by_none item.fragment.lifecycle (ends_delivery item)) ∙ delivered_none items
 
 pub prepared_none : (ids : List ℕ) (queue : SendQueueState) → packets_in {P = Emission} (prepare_all_events ids queue) ≡ []
 prepared_none ids queue =
     let told = told_prepared ids queue in
-    ap (λ (l : List (Event Emission)). packets_in l) told.is ∙ ap (λ (l : List (Event Emission)). packets_in l) (sym (append-nil (map told_event told.told))) ∙ told_none told.told []
+    ap (λ (l : List (Event Emission)). packets_in l) told.is ∙ ap (λ (l : List (Event Emission)). packets_in l) (sym (append-nil (map filling_event told.told))) ∙ told_none told.told []
 
 pub refusal_none : (why : MessageRefusal) (name : Option ℕ) → packets_in (refusal_events why name) ≡ []
 refusal_none why None = refl

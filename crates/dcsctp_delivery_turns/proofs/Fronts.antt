@@ -6,15 +6,15 @@ use Rattle.dcsctp_spec_lemmas.specs.spec.Reconfiguration.{RequestedReset}
 use Rattle.dcsctp_spec_lemmas.specs.spec.association.Effect.{Effect}
 use Rattle.dcsctp_spec_lemmas.specs.spec.association.FlushChanges.{next_number}
 use Rattle.dcsctp_spec_lemmas.specs.spec.endpoint.BegunResets.{BegunReset}
-use Rattle.dcsctp_spec_lemmas.specs.spec.queues.Reassembly.{ReassemblyState, Leaves}
+use Rattle.dcsctp_spec_lemmas.specs.spec.queues.Reassembly.{ReassemblyState, EndsDeferral}
 use Rattle.dcsctp_spec_lemmas.specs.spec.queues.Transfer.{Transfer}
 use Rattle.dcsctp_spec_lemmas.specs.spec.endpoint.ResetOutcomes.{has_completed, has_reset}
 use Rattle.dcsctp_delivery_receiving.specs.Clear.{IsOwn}
-use Rattle.dcsctp_delivery_directions.specs.Directions.{Asking, asking_renewed, all_ended, is_reached, Direction}
+use Rattle.dcsctp_delivery_directions.specs.Directions.{Asking, asking_renewed, all_ended, is_reset_reached, Direction}
 use Rattle.dcsctp_delivery_turns.specs.Asking.{Own, renewed_own, AreNumbered, IsOut, OutIs, IsAsking, AsksFit, SomeFit}
 use Rattle.dcsctp_delivery_turns.specs.Actions.{Inside, ended_own, OwnEnds, unended, committed, rolled_back, PeerResets, unreset, absent, deferred, reset_now}
 use Rattle.dcsctp_delivery_turns.specs.Runs.{IsBetween, as_it_was, once_performed, once_refused, IsNewest, PerformsNewest, performed_where}
-use Rattle.dcsctp_delivery_turns.specs.Sides.{Steps, stays, receiving}
+use Rattle.dcsctp_delivery_turns.specs.Sides.{DirectionSteps, stays, receiving}
 use Rattle.dcsctp_delivery_turns.proofs.Begun.{next_again}
 use Rattle.dcsctp_delivery_turns.proofs.Sides.{one_step, all_steps}
 
@@ -82,7 +82,7 @@ own_resets came happened old _ (deferred none transfer last_tsn streams known) =
 own_resets came happened old _ (reset_now some parameters reset is wants transfer reassembly known reached leaves) = refl
 
 -- The peer's request leaves how messages are numbered.
-peer_resets_kind : (came : Option Content) (happened : List Effect) (old new : Inside) → PeerResets came happened old new → new.below.queue.is_interleaved ≡ old.below.queue.is_interleaved
+peer_resets_kind : (came : Option Content) (happened : List Effect) (old new : Inside) → PeerResets came happened old new → new.queues.queue.is_interleaved ≡ old.queues.queue.is_interleaved
 peer_resets_kind came happened old _ (unreset none) = refl
 peer_resets_kind came happened old _ (absent gone) = refl
 peer_resets_kind came happened old _ (deferred none transfer last_tsn streams known) = refl
@@ -92,18 +92,18 @@ peer_resets_kind came happened old _ (reset_now some parameters reset is wants t
 
 -- the direction, with this at its sender
 abbrev pub sending_by : Direction → Inside → Asking → Direction
-sending_by direction inside asking = record direction { below = inside.below; asking = asking }
+sending_by direction inside asking = record direction { queues = inside.queues; asking = asking }
 
 -- The socket comes there by steps; nothing was begun, and messages are numbered as before.
 pub record SendingFront (first : ℕ) (direction : Direction) (happened : List Effect) (old new : Inside) : Type 0 where
   pub asking : Asking
   pub between : IsBetween happened direction.asking asking
-  pub kind : new.below.queue.is_interleaved ≡ old.below.queue.is_interleaved
+  pub kind : new.queues.queue.is_interleaved ≡ old.queues.queue.is_interleaved
   pub fits : AsksFit first new.own asking
-  pub steps : Steps (sending_by direction old direction.asking) (sending_by direction new asking)
+  pub steps : DirectionSteps (sending_by direction old direction.asking) (sending_by direction new asking)
 
 own_ends_send : (first : ℕ) (direction : Direction) (happened : List Effect) (old new : Inside) → OwnEnds happened old new → AsksFit first old.own direction.asking
-    → (has_completed happened ≡ true → old.below.queue.is_interleaved ≡ true → direction.asking.is_performed ≡ true) → SendingFront first direction happened old new
+    → (has_completed happened ≡ true → old.queues.queue.is_interleaved ≡ true → direction.asking.is_performed ≡ true) → SendingFront first direction happened old new
 own_ends_send first direction happened old _ unended fits performed = record { asking = direction.asking; between = as_it_was; kind = refl; fits = fits; steps = stays }
 own_ends_send first direction happened old _ (committed completed own is) fits performed =
     let asks = is_asking first old.own own direction.asking is fits in
@@ -125,7 +125,7 @@ own_ends_send first direction happened old _ (rolled_back refused own is) fits p
     }
 
 peer_resets_send : (came : Option Content) (direction : Direction) (happened : List Effect) (old new : Inside) (asking : Asking) → PeerResets came happened old new
-    → Steps (sending_by direction old asking) (sending_by direction new asking)
+    → DirectionSteps (sending_by direction old asking) (sending_by direction new asking)
 peer_resets_send came direction happened old _ asking (unreset none) = stays
 peer_resets_send came direction happened old _ asking (absent gone) = stays
 peer_resets_send came direction happened old _ asking (deferred none transfer last_tsn streams known) = one_step (sending_by direction old asking) _ (directions.turns_aside transfer _ known refl)
@@ -133,7 +133,7 @@ peer_resets_send came direction happened old _ asking (reset_now some parameters
     one_step (sending_by direction old asking) _ (directions.turns_aside transfer _ known refl)
 
 pub front_sends : (came : Option Content) (first : ℕ) (direction : Direction) (happened : List Effect) (old between new : Inside) → OwnEnds happened old between → PeerResets came happened between new
-    → AsksFit first old.own direction.asking → (has_completed happened ≡ true → old.below.queue.is_interleaved ≡ true → direction.asking.is_performed ≡ true) → SendingFront first direction happened old new
+    → AsksFit first old.own direction.asking → (has_completed happened ≡ true → old.queues.queue.is_interleaved ≡ true → direction.asking.is_performed ≡ true) → SendingFront first direction happened old new
 front_sends came first direction happened old between new own peer fits performed =
     let ended = own_ends_send first direction happened old between own fits performed in
     record {
@@ -147,13 +147,13 @@ front_sends came first direction happened old between new own peer fits performe
 
 -- ---- the direction on which it receives
 
-own_ends_received : (happened : List Effect) (old new : Inside) → OwnEnds happened old new → new.below.transfer ≡ old.below.transfer
+own_ends_received : (happened : List Effect) (old new : Inside) → OwnEnds happened old new → new.queues.transfer ≡ old.queues.transfer
 own_ends_received happened old _ unended = refl
 own_ends_received happened old _ (committed completed own is) = refl
 own_ends_received happened old _ (rolled_back refused own is) = refl
 
 -- Nothing is received without an association.
-pub front_none : (came : Option Content) (happened : List Effect) (old between new : Inside) → OwnEnds happened old between → PeerResets came happened between new → old.below.transfer ≡ None → new.below.transfer ≡ None
+pub front_none : (came : Option Content) (happened : List Effect) (old between new : Inside) → OwnEnds happened old between → PeerResets came happened between new → old.queues.transfer ≡ None → new.queues.transfer ≡ None
 front_none came happened old between _ own (unreset none) nowhere = own_ends_received happened old between own ∙ nowhere
 front_none came happened old between _ own (absent gone) nowhere = gone
 front_none came happened old between _ own (deferred none transfer last_tsn streams known) nowhere = (let gone = own_ends_received happened old between own ∙ nowhere in absurd (cc))
@@ -166,19 +166,19 @@ resetting is_known direction transfer is_reset = record (receiving direction tra
 
 pub record ReceivingFront (is_known : Bool) (direction : Direction) (transfer : Transfer) (happened : List Effect) (new : Inside) : Type 0 where
   pub left : Transfer
-  pub is : new.below.transfer ≡ Some left
+  pub is : new.queues.transfer ≡ Some left
   pub is_reset : Bool
   pub none : is_reset ≡ false → has_reset happened ≡ false
   pub some : is_reset ≡ true → has_reset happened ≡ true
-  pub steps : Steps (receiving direction transfer direction.read) (resetting is_known direction left is_reset)
+  pub steps : DirectionSteps (receiving direction transfer direction.read) (resetting is_known direction left is_reset)
 
 pub unperformed : (is_known : Bool) (asking : Asking) → performed_where is_known false asking ≡ asking
 unperformed true asking = refl
 unperformed false asking = refl
 
 -- where no request is performed
-front_by : (is_known : Bool) (direction : Direction) (transfer left : Transfer) (happened : List Effect) (new : Inside) → new.below.transfer ≡ Some left → has_reset happened ≡ false
-    → Steps (receiving direction transfer direction.read) (receiving direction left direction.read) → ReceivingFront is_known direction transfer happened new
+front_by : (is_known : Bool) (direction : Direction) (transfer left : Transfer) (happened : List Effect) (new : Inside) → new.queues.transfer ≡ Some left → has_reset happened ≡ false
+    → DirectionSteps (receiving direction transfer direction.read) (receiving direction left direction.read) → ReceivingFront is_known direction transfer happened new
 front_by is_known direction transfer left happened new is none steps =
     record {
       left = left;
@@ -186,25 +186,25 @@ front_by is_known direction transfer left happened new is none steps =
       is_reset = false;
       none = λ no. none;
       some = λ is. absurd (cc);
-      steps = subst (λ (a : Asking). Steps (receiving direction transfer direction.read) (record (receiving direction left direction.read) { asking = a }))
+      steps = subst (λ (a : Asking). DirectionSteps (receiving direction transfer direction.read) (record (receiving direction left direction.read) { asking = a }))
           (sym (unperformed is_known direction.asking)) steps;
     }
 
 -- where one is performed: it may be known to be the newest
 performs_by : (direction : Direction) (transfer : Transfer) (reset : RequestedReset) (reassembly : ReassemblyState) (is_known : Bool) → (is_known ≡ true → IsNewest direction transfer reset)
-    → is_reached reset transfer.tracker ≡ true → Leaves reset.streams transfer.reassembly reassembly
-    → Steps (receiving direction transfer direction.read)
+    → is_reset_reached reset transfer.tracker ≡ true → EndsDeferral reset.streams transfer.reassembly reassembly
+    → DirectionSteps (receiving direction transfer direction.read)
     (record (receiving direction (record transfer { reassembly = reassembly }) direction.read) { asking = performed_where is_known true direction.asking })
 performs_by direction transfer reset reassembly true newest reached leaves =
     let found = newest refl in
     one_step (receiving direction transfer direction.read) _
-    (directions.performs found.newest found.earlier reassembly found.is (subst (λ (r : RequestedReset). is_reached r transfer.tracker ≡ true) (sym found.asks) reached)
+    (directions.performs found.newest found.earlier reassembly found.is (subst (λ (r : RequestedReset). is_reset_reached r transfer.tracker ≡ true) (sym found.asks) reached)
     (subst (λ (r : RequestedReset). IsOwn r transfer.reassembly.deferral) (sym found.asks) found.own)
-    (subst (λ (r : RequestedReset). Leaves r.streams transfer.reassembly reassembly) (sym found.asks) leaves))
+    (subst (λ (r : RequestedReset). EndsDeferral r.streams transfer.reassembly reassembly) (sym found.asks) leaves))
 performs_by direction transfer reset reassembly false newest reached leaves = one_step (receiving direction transfer direction.read) _ (directions.resets reset.streams reassembly leaves)
 
 peer_resets_receive : (is_known : Bool) (came : Option Content) (happened : List Effect) (direction : Direction) (transfer : Transfer) (old new : Inside) → (is_known ≡ true → PerformsNewest direction transfer came happened)
-    → old.below.transfer ≡ Some transfer → PeerResets came happened old new → ReceivingFront is_known direction transfer happened new
+    → old.queues.transfer ≡ Some transfer → PeerResets came happened old new → ReceivingFront is_known direction transfer happened new
 peer_resets_receive is_known came happened direction transfer old _ newest is (unreset none) = front_by is_known direction transfer transfer happened old is none stays
 peer_resets_receive is_known came happened direction transfer old _ newest is (absent gone) = absurd (cc)
 peer_resets_receive is_known came happened direction transfer old new newest is (deferred none found last_tsn streams known) =
@@ -219,12 +219,12 @@ peer_resets_receive is_known came happened direction transfer old new newest is 
       is_reset = true;
       none = λ no. absurd (cc);
       some = λ is. some;
-      steps = subst (λ (t : Transfer). Steps (receiving direction t direction.read) (resetting is_known direction (record found { reassembly = reassembly }) true)) (sym same)
+      steps = subst (λ (t : Transfer). DirectionSteps (receiving direction t direction.read) (resetting is_known direction (record found { reassembly = reassembly }) true)) (sym same)
           (performs_by direction found reset reassembly is_known
           (λ known_so. subst (λ (t : Transfer). IsNewest direction t reset) same (newest known_so some parameters reset came_is wants)) reached leaves);
     }
 
 pub front_receives : (is_known : Bool) (came : Option Content) (happened : List Effect) (direction : Direction) (transfer : Transfer) (old between new : Inside) → (is_known ≡ true → PerformsNewest direction transfer came happened)
-    → old.below.transfer ≡ Some transfer → OwnEnds happened old between → PeerResets came happened between new → ReceivingFront is_known direction transfer happened new
+    → old.queues.transfer ≡ Some transfer → OwnEnds happened old between → PeerResets came happened between new → ReceivingFront is_known direction transfer happened new
 front_receives is_known came happened direction transfer old between new newest is own peer =
     peer_resets_receive is_known came happened direction transfer between new newest (own_ends_received happened old between own ∙ is) peer

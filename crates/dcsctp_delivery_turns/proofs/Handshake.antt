@@ -9,7 +9,7 @@ use Rattle.dcsctp_spec_lemmas.specs.types.declared.ends.AbortReason.{AbortReason
 use Rattle.dcsctp_spec_lemmas.specs.spec.endpoint.Cause.{Cause}
 use Rattle.dcsctp_spec_lemmas.specs.spec.Cookie.{Cookie, is_stale}
 use Rattle.dcsctp_spec_lemmas.specs.spec.endpoint.Event.{Event, packets_in, connected, connection_restarted, aborted}
-use Rattle.dcsctp_spec_lemmas.specs.spec.queues.SendQueue.{restarted, numbered_for}
+use Rattle.dcsctp_spec_lemmas.specs.spec.queues.SendQueue.{queue_restarted, numbered_for}
 use Rattle.dcsctp_spec_lemmas.specs.spec.Packet.{Introduction, Content, cookie_echo, shutdown_ack, Emission}
 use Rattle.dcsctp_spec_lemmas.specs.spec.endpoint.Endpoint.{Endpoint, Core, closed, cookie_wait, cookie_echoed, open_in, established, shutdown_pending, shutdown_sent, shutdown_received, shutdown_ack_sent}
 use Rattle.dcsctp_spec_lemmas.specs.spec.endpoint.Outcome.{Outcome, quiet, emits, fits, to_peer}
@@ -18,15 +18,15 @@ use Rattle.dcsctp_spec_lemmas.specs.spec.endpoint.EndOutcomes.{abort_outcome, ab
 use Rattle.dcsctp_spec_lemmas.specs.spec.endpoint.HandoverOutcomes.{hand_over_outcome}
 use Rattle.dcsctp_spec_lemmas.specs.spec.endpoint.HandshakeOutcomes.{pair_from, renewed_pair, init_ack_emission, init_outcome, init_emission, awaits_init_ack, connect_outcome, awaits_cookie_ack, echo_emission, EchoAnswers, InitAckAnswers, accepted_init_ack_by, init_ack_by, connected_after, CookieAckAnswers, cookie_ack_by, abort_emission, no_cookie_text}
 use Rattle.dcsctp_spec_lemmas.specs.spec.endpoint.TimerOutcomes.{AgainAnswers, again_by, t1_gives_up_outcome}
-use Rattle.dcsctp_spec_lemmas.specs.spec.endpoint.CookieEchoOutcomes.{established_by, acknowledgement, EstablishAnswers, establish_by, interleaves, queue_where, queue_kept, queue_begun, RestartAnswers, restart_by_where, MaintainAnswers, maintain_by, ResolvedAnswers, resolved_by, EchoedAnswers, cookie_echo_by, resolved_now, shutting_down_emission, window_by_cookie}
+use Rattle.dcsctp_spec_lemmas.specs.spec.endpoint.CookieEchoOutcomes.{established_by, cookie_ack_emission, EstablishAnswers, establish_by, interleaves, queue_where, queue_kept, queue_begun, RestartAnswers, restart_by_where, MaintainAnswers, maintain_by, ResolvedAnswers, resolved_by, EchoedAnswers, cookie_echo_by, resolved_now, shutting_down_emission, window_by_cookie}
 use Rattle.dcsctp_spec_lemmas.specs.spec.association.CookieEchoChanges.{held_by_cookie, Resolution, establish_new, restart, simultaneous_init, discard, maintain_existing, invalid_tag, stale, aged, resolve, case_by}
 use Rattle.dcsctp_spec_lemmas.specs.spec.association.HandshakeChanges.{held_by_init_ack}
 use Rattle.std.proofs.lemmas.Bool.{eqb-true}
 use Rattle.dcsctp_delivery_turns.specs.Tags.{IsPeerTag}
-use Rattle.dcsctp_spec_lemmas.specs.spec.association.Effect.{link_in}
+use Rattle.dcsctp_spec_lemmas.specs.spec.association.Effect.{identity_in}
 use Rattle.dcsctp_delivery_turns.specs.Actions.{IsOpening, IsCalm, Inside, inside, goes_on, ends, begins}
 use Rattle.dcsctp_delivery_turns.specs.Asking.{Own, own_in, own_of}
-use Rattle.dcsctp_spec_lemmas.specs.spec.queues.Transfer.{Below}
+use Rattle.dcsctp_spec_lemmas.specs.spec.queues.Transfer.{EndpointQueues}
 use Rattle.dcsctp_spec_lemmas.specs.spec.endpoint.ReconfigurationOutcomes.{reset_again}
 use Rattle.dcsctp_delivery_turns.proofs.Tags.{flush_link}
 use Rattle.dcsctp_delivery_turns.proofs.Actions.{Goes, MakesTo, emits_link, emits_own, rests, spoken, emitted, flushed, makes_behind, ended, end_silent}
@@ -42,7 +42,7 @@ is_the_peer false false false zero e = absurd (cc)
 
 -- What waits to be sent is kept, or starts anew.
 pub kept_or_anew : (b : Bool) (e : Endpoint) (cookie : Cookie)
-    → (queue_where b e cookie ≡ numbered_for (interleaves e cookie) e.below.queue) ⊎ (queue_where b e cookie ≡ numbered_for (interleaves e cookie) (restarted e.below.queue))
+    → (queue_where b e cookie ≡ numbered_for (interleaves e cookie) e.queues.queue) ⊎ (queue_where b e cookie ≡ numbered_for (interleaves e cookie) (queue_restarted e.queues.queue))
 kept_or_anew true e cookie = inr refl
 kept_or_anew false e cookie = inl refl
 
@@ -50,10 +50,10 @@ module _ (came : Option Content) (calm : IsCalm came) (to : ℕ) where
   -- ---- the handshake
 
   -- the same from another endpoint that has the same inside
-  from_own : (e base : Endpoint) (o : Outcome) → base.below ≡ e.below → own_of e ≡ own_of base → MakesTo came to (inside base) o → MakesTo came to (inside e) o
+  from_own : (e base : Endpoint) (o : Outcome) → base.queues ≡ e.queues → own_of e ≡ own_of base → MakesTo came to (inside base) o → MakesTo came to (inside e) o
   from_own e base o same is makes =
       subst (λ (i : Inside). MakesTo came to i o)
-      (ap (λ (b : Below). record { below = b; own = own_of base }) same ∙ ap (λ (own : Option Own). record { below = e.below; own = own }) (sym is)) makes
+      (ap (λ (b : EndpointQueues). record { queues = b; own = own_of base }) same ∙ ap (λ (own : Option Own). record { queues = e.queues; own = own }) (sym is)) makes
 
   pub init_goes : (e : Endpoint) (theirs : Introduction) (core : Core) (word next : ℕ) → Goes came to e (init_outcome e theirs core word next)
   init_goes e theirs closed word next = goes_on calm (emits_link e (U32 word ∷ U32 next ∷ []) (init_ack_emission e theirs (pair_from word next) 0)) (emitted came to e (U32 word ∷ U32 next ∷ []) (init_ack_emission e theirs (pair_from word next) 0) (tt, tt))
@@ -68,7 +68,7 @@ module _ (came : Option Content) (calm : IsCalm came) (to : ℕ) where
   pub connect_goes : (e : Endpoint) (core : Core) (word next : ℕ) → e.core ≡ core → Goes came to e (connect_outcome e core word next)
   connect_goes e closed word next at =
       let awaiting : Endpoint = awaits_init_ack e (pair_from word next) in
-      goes_on calm (emits_link awaiting (U32 word ∷ U32 next ∷ []) (init_emission e (pair_from word next)) ∙ sym (ap link_in at))
+      goes_on calm (emits_link awaiting (U32 word ∷ U32 next ∷ []) (init_emission e (pair_from word next)) ∙ sym (ap identity_in at))
       (from_own e awaiting (emits awaiting (U32 word ∷ U32 next ∷ []) (init_emission e (pair_from word next))) refl (ap (λ (c : Core). own_in c e.outstanding) at)
       (emitted came to awaiting (U32 word ∷ U32 next ∷ []) (init_emission e (pair_from word next)) (tt, tt)))
   connect_goes e (cookie_wait my) word next at = goes_on calm refl (rests came to (inside e))
@@ -81,7 +81,7 @@ module _ (came : Option Content) (calm : IsCalm came) (to : ℕ) where
   echoed_makes false e words tag cookie answers at allowed = rests came tag (inside e)
 
   echoed_link : (b : Bool) (e : Endpoint) (words : List Word) (tag : ℕ) (cookie : List ℕ) (answers : List Answer) → EchoAnswers b e tag cookie answers
-      → link_in (cond b (flush_answered answers e words [] true tag (cookie_echo cookie ∷ [])) (quiet e words [])).after.core ≡ link_in e.core
+      → identity_in (cond b (flush_answered answers e words [] true tag (cookie_echo cookie ∷ [])) (quiet e words [])).after.core ≡ identity_in e.core
   echoed_link true e words tag cookie answers allowed = flush_link e (echo_emission tag cookie) answers allowed
   echoed_link false e words tag cookie answers allowed = refl
 
@@ -96,7 +96,7 @@ module _ (came : Option Content) (calm : IsCalm came) (to : ℕ) where
         window = theirs.window;
         later = _;
         noted = refl;
-        queue = numbered_for (held_by_init_ack e.options my theirs).capabilities.message_interleaving (restarted e.below.queue);
+        queue = numbered_for (held_by_init_ack e.options my theirs).capabilities.message_interleaving (queue_restarted e.queues.queue);
         keeps = inr refl;
       }) opening (echoed_link (fits awaiting (echo_emission theirs.pair.tag cookie)) awaiting (U64 word ∷ []) theirs.pair.tag cookie answers allowed) (λ queued. refl) (λ read. refl) (reset_again None) (echoed_makes (fits awaiting (echo_emission theirs.pair.tag cookie)) awaiting (U64 word ∷ []) theirs.pair.tag cookie answers refl allowed)
 
@@ -110,7 +110,7 @@ module _ (came : Option Content) (calm : IsCalm came) (to : ℕ) where
   pub cookie_ack_goes : (e : Endpoint) (core : Core) (answers : List Answer) → e.core ≡ core → IsPeerTag core to → CookieAckAnswers e core answers → Goes came to e (cookie_ack_by (flush_answered answers) e core)
   cookie_ack_goes e closed answers same is allowed = goes_on calm refl (rests came to (inside e))
   cookie_ack_goes e (cookie_wait my) answers same is allowed = goes_on calm refl (rests came to (inside e))
-  cookie_ack_goes e (cookie_echoed my held cookie) answers same is allowed = goes_on calm (flush_link (connected_after e my held) (draft_to held) answers allowed ∙ sym (ap link_in same))
+  cookie_ack_goes e (cookie_echoed my held cookie) answers same is allowed = goes_on calm (flush_link (connected_after e my held) (draft_to held) answers allowed ∙ sym (ap identity_in same))
       (from_own e (connected_after e my held) (flush_of (connected_after e my held) (draft_to held) answers) refl (ap (λ (c : Core). own_in c e.outstanding) same)
       (flushed came to (connected_after e my held) (draft_to held) answers is is tt tt allowed))
   cookie_ack_goes e (open_in phase my held) answers same is allowed = goes_on calm refl (rests came to (inside e))
@@ -128,7 +128,7 @@ module _ (came : Option Content) (calm : IsCalm came) (to : ℕ) where
         noted = refl;
         queue = queue_kept e cookie;
         keeps = kept_or_anew e.options.follow_rfc e cookie;
-      }) opening (flush_link (established_by e cookie (queue_kept e cookie) tie) (acknowledgement (held_by_cookie e.options cookie) cookie) answers allowed) (λ queued. refl) (λ read. refl) (reset_again None) (flushed came cookie.addressee.tag (established_by e cookie (queue_kept e cookie) tie) (acknowledgement (held_by_cookie e.options cookie) cookie) answers refl refl (tt, tt) tt allowed)
+      }) opening (flush_link (established_by e cookie (queue_kept e cookie) tie) (cookie_ack_emission (held_by_cookie e.options cookie) cookie) answers allowed) (λ queued. refl) (λ read. refl) (reset_again None) (flushed came cookie.addressee.tag (established_by e cookie (queue_kept e cookie) tie) (cookie_ack_emission (held_by_cookie e.options cookie) cookie) answers refl refl (tt, tt) tt allowed)
 
   anew_goes : IsOpening came → (e : Endpoint) (cookie : Cookie) (tie : ℕ) (told : List (Event Emission)) (answers : List Answer) → packets_in told ≡ [] → EstablishAnswers e cookie (queue_begun e cookie) tie answers
       → Goes came to e (establish_by (flush_answered answers) e cookie (queue_begun e cookie) tie told)
@@ -141,8 +141,8 @@ module _ (came : Option Content) (calm : IsCalm came) (to : ℕ) where
         noted = refl;
         queue = queue_begun e cookie;
         keeps = inr refl;
-      }) opening (flush_link (established_by e cookie (queue_begun e cookie) tie) (acknowledgement (held_by_cookie e.options cookie) cookie) answers allowed) (λ queued. refl) (λ read. refl) (reset_again None) (makes_behind came cookie.addressee.tag (inside (established_by e cookie (queue_begun e cookie) tie)) (U64 tie ∷ []) told (flush_of (established_by e cookie (queue_begun e cookie) tie) (acknowledgement (held_by_cookie e.options cookie) cookie) answers) none
-      (flushed came cookie.addressee.tag (established_by e cookie (queue_begun e cookie) tie) (acknowledgement (held_by_cookie e.options cookie) cookie) answers refl refl (tt, tt) tt allowed))
+      }) opening (flush_link (established_by e cookie (queue_begun e cookie) tie) (cookie_ack_emission (held_by_cookie e.options cookie) cookie) answers allowed) (λ queued. refl) (λ read. refl) (reset_again None) (makes_behind came cookie.addressee.tag (inside (established_by e cookie (queue_begun e cookie) tie)) (U64 tie ∷ []) told (flush_of (established_by e cookie (queue_begun e cookie) tie) (cookie_ack_emission (held_by_cookie e.options cookie) cookie) answers) none
+      (flushed came cookie.addressee.tag (established_by e cookie (queue_begun e cookie) tie) (cookie_ack_emission (held_by_cookie e.options cookie) cookie) answers refl refl (tt, tt) tt allowed))
 
   restarted_goes : IsOpening came → (e : Endpoint) (cookie : Cookie) (tie : ℕ) (core : Core) (answers : List Answer) → RestartAnswers e cookie tie core answers
       → Goes came to e (restart_by_where (flush_answered answers) e cookie tie core)
@@ -158,10 +158,10 @@ module _ (came : Option Content) (calm : IsCalm came) (to : ℕ) where
   maintained_goes : (e : Endpoint) (cookie : Cookie) (header : ℕ) (core : Core) (answers : List Answer) → e.core ≡ core → IsPeerTag e.core to → IsPeerTag core to → resolve core e.tie header cookie ≡ maintain_existing → MaintainAnswers e cookie core answers → Goes came to e (maintain_by (flush_answered answers) e cookie core)
   maintained_goes e cookie header closed answers same at is resolved allowed = goes_on calm refl (rests came to (inside e))
   maintained_goes e cookie header (cookie_wait my) answers same at is resolved allowed = goes_on calm refl (rests came to (inside e))
-  maintained_goes e cookie header (cookie_echoed my held echoed) answers same at is resolved allowed = goes_on calm (flush_link (connected_after e my held) (acknowledgement held cookie) answers allowed ∙ sym (ap link_in same))
-      (from_own e (connected_after e my held) (flush_of (connected_after e my held) (acknowledgement held cookie) answers) refl (ap (λ (c : Core). own_in c e.outstanding) same)
-      (flushed came to (connected_after e my held) (acknowledgement held cookie) answers is (eqb-true cookie.addressee.tag held.peer.tag (is_the_peer (header == my.tag) (cookie.addressee.tag == held.peer.tag) (cookie.tie == e.tie) (cookie.tie == 0) resolved) ∙ is) (tt, tt) tt allowed))
-  maintained_goes e cookie header (open_in phase my held) answers same at is resolved allowed = goes_on calm (flush_link e (acknowledgement held cookie) answers allowed) (flushed came to e (acknowledgement held cookie) answers at (eqb-true cookie.addressee.tag held.peer.tag (is_the_peer (header == my.tag) (cookie.addressee.tag == held.peer.tag) (cookie.tie == e.tie) (cookie.tie == 0) resolved) ∙ is) (tt, tt) tt allowed)
+  maintained_goes e cookie header (cookie_echoed my held echoed) answers same at is resolved allowed = goes_on calm (flush_link (connected_after e my held) (cookie_ack_emission held cookie) answers allowed ∙ sym (ap identity_in same))
+      (from_own e (connected_after e my held) (flush_of (connected_after e my held) (cookie_ack_emission held cookie) answers) refl (ap (λ (c : Core). own_in c e.outstanding) same)
+      (flushed came to (connected_after e my held) (cookie_ack_emission held cookie) answers is (eqb-true cookie.addressee.tag held.peer.tag (is_the_peer (header == my.tag) (cookie.addressee.tag == held.peer.tag) (cookie.tie == e.tie) (cookie.tie == 0) resolved) ∙ is) (tt, tt) tt allowed))
+  maintained_goes e cookie header (open_in phase my held) answers same at is resolved allowed = goes_on calm (flush_link e (cookie_ack_emission held cookie) answers allowed) (flushed came to e (cookie_ack_emission held cookie) answers at (eqb-true cookie.addressee.tag held.peer.tag (is_the_peer (header == my.tag) (cookie.addressee.tag == held.peer.tag) (cookie.tie == e.tie) (cookie.tie == 0) resolved) ∙ is) (tt, tt) tt allowed)
 
   resolved_goes : IsOpening came → (e : Endpoint) (cookie : Cookie) (header : ℕ) (core : Core) (word : ℕ) (old : Bool) (resolution : Resolution) (answers : List Answer) → e.core ≡ core → IsPeerTag e.core to → IsPeerTag core to → aged old (resolve core e.tie header cookie) ≡ resolution → ResolvedAnswers e cookie core word resolution answers
       → Goes came to e (resolved_by (flush_answered answers) e cookie core word resolution)
@@ -200,7 +200,7 @@ module _ (came : Option Content) (calm : IsCalm came) (to : ℕ) where
       (echoed_makes (fits e (echo_emission held.peer.tag cookie)) e [] held.peer.tag cookie answers (subst (λ (t : ℕ). IsPeerTag e.core t) (sym is) at) allowed)
   again_goes e (open_in phase my held) answers at is allowed = rests came to (inside e)
 
-  pub again_link : (e : Endpoint) (core : Core) (answers : List Answer) → AgainAnswers e core answers → link_in (again_by (flush_answered answers) e core).after.core ≡ link_in e.core
+  pub again_link : (e : Endpoint) (core : Core) (answers : List Answer) → AgainAnswers e core answers → identity_in (again_by (flush_answered answers) e core).after.core ≡ identity_in e.core
   again_link e closed answers allowed = refl
   again_link e (cookie_wait my) answers allowed = emits_link e [] (init_emission e my)
   again_link e (cookie_echoed my held cookie) answers allowed = echoed_link (fits e (echo_emission held.peer.tag cookie)) e [] held.peer.tag cookie answers allowed

@@ -4,7 +4,7 @@ use Rattle.dcsctp_spec_lemmas.specs.types.declared.association.Held.{Held}
 use Rattle.dcsctp_spec_lemmas.specs.types.declared.association.Pair.{Pair}
 use Rattle.dcsctp_spec_lemmas.specs.types.declared.options.Options.{Options}
 use Rattle.dcsctp_spec_lemmas.specs.spec.Packet.{Content}
-use Rattle.dcsctp_spec_lemmas.specs.spec.association.Effect.{link_in}
+use Rattle.dcsctp_spec_lemmas.specs.spec.association.Effect.{identity_in}
 use Rattle.dcsctp_spec_lemmas.specs.spec.endpoint.Endpoint.{Endpoint, Core, closed, cookie_wait, cookie_echoed, open_in, OpenPhase, shutdown_received}
 use Rattle.dcsctp_spec_lemmas.specs.spec.endpoint.HeardShutdown.{said_by_shutdown, may_have_sent, heeds_shutdown, ShutdownWhere, ShutdownBy, ShutdownTurn}
 use Rattle.dcsctp_spec_lemmas.specs.spec.endpoint.Outcome.{Outcome}
@@ -27,20 +27,20 @@ heeded_is_valid options phase transfer tsn heeds = go options.follow_rfc (may_ha
     go false b c is = absurd (cc)
 
 inside_with : Endpoint → Core → Inside
-inside_with e core = record { below = e.below; own = own_in core e.outstanding }
+inside_with e core = record { queues = e.queues; own = own_in core e.outstanding }
 
 module _ (came : Option Content) (calm : IsCalm came) (to : ℕ) where
-  where_goes : (b : Bool) (e : Endpoint) (phase : OpenPhase) (my : Pair) (held : Held) (transfer : Transfer) (tsn : ℕ) (o : Outcome) → e.core ≡ open_in phase my held → held.peer.tag ≡ to → e.below.transfer ≡ Some transfer
+  where_goes : (b : Bool) (e : Endpoint) (phase : OpenPhase) (my : Pair) (held : Held) (transfer : Transfer) (tsn : ℕ) (o : Outcome) → e.core ≡ open_in phase my held → held.peer.tag ≡ to → e.queues.transfer ≡ Some transfer
       → heeds_shutdown e.options phase transfer tsn ≡ b → ShutdownWhere b e phase my held transfer tsn o → Goes came to e o
   unfolding inside_with
   where_goes true e phase my held transfer tsn o at peer known heeds turn =
       let base : Endpoint = phase_at e shutdown_received my held in
       let on : Continues came calm to base o =
       acknowledged came calm to base held transfer (said_by_shutdown tsn transfer.retransmission) o peer refl known (heeded_is_valid e.options phase transfer tsn heeds) turn in
-      goes_on calm (on.linked ∙ sym (ap link_in at)) (subst (λ (i : Inside). MakesTo came to i o) (sym (ap (inside_with e) at)) on.makes)
+      goes_on calm (on.linked ∙ sym (ap identity_in at)) (subst (λ (i : Inside). MakesTo came to i o) (sym (ap (inside_with e) at)) on.makes)
   where_goes false e phase my held transfer tsn o at peer known heeds turn = subst (Goes came to e) (sym turn) (shutdown_goes came calm to e (open_in phase my held) at)
 
-  by_goes : (e : Endpoint) (phase : OpenPhase) (my : Pair) (held : Held) (found : Option Transfer) (tsn : ℕ) (o : Outcome) → e.core ≡ open_in phase my held → held.peer.tag ≡ to → e.below.transfer ≡ found
+  by_goes : (e : Endpoint) (phase : OpenPhase) (my : Pair) (held : Held) (found : Option Transfer) (tsn : ℕ) (o : Outcome) → e.core ≡ open_in phase my held → held.peer.tag ≡ to → e.queues.transfer ≡ found
       → ShutdownBy e phase my held found tsn o → Goes came to e o
   by_goes e phase my held None tsn o at peer known turn = subst (Goes came to e) (sym turn) (shutdown_goes came calm to e (open_in phase my held) at)
   by_goes e phase my held (Some transfer) tsn o at peer known turn = where_goes (heeds_shutdown e.options phase transfer tsn) e phase my held transfer tsn o at peer known refl turn
@@ -49,4 +49,4 @@ module _ (came : Option Content) (calm : IsCalm came) (to : ℕ) where
   heard_goes e closed tsn o at peer turn = subst (Goes came to e) (sym turn) (shutdown_goes came calm to e closed at)
   heard_goes e (cookie_wait my) tsn o at peer turn = subst (Goes came to e) (sym turn) (shutdown_goes came calm to e (cookie_wait my) at)
   heard_goes e (cookie_echoed my held cookie) tsn o at peer turn = subst (Goes came to e) (sym turn) (shutdown_goes came calm to e (cookie_echoed my held cookie) at)
-  heard_goes e (open_in phase my held) tsn o at peer turn = by_goes e phase my held e.below.transfer tsn o at peer refl turn
+  heard_goes e (open_in phase my held) tsn o at peer turn = by_goes e phase my held e.queues.transfer tsn o at peer refl turn

@@ -6,13 +6,13 @@ use Rattle.dcsctp_spec_lemmas.specs.types.declared.word.Word.TheVariants.{U32}
 use Rattle.dcsctp_spec_lemmas.specs.spec.Packet.{Introduction, Content, init, init_ack, cookie_echo, cookie_ack, re_config, abort, shutdown, shutdown_ack, shutdown_complete, plain, Emission}
 use Rattle.dcsctp_spec_lemmas.specs.spec.endpoint.Endpoint.{Endpoint, Core, closed, cookie_wait, cookie_echoed, open_in, established, shutdown_pending, shutdown_sent, shutdown_received, shutdown_ack_sent}
 use Rattle.dcsctp_spec_lemmas.specs.spec.endpoint.Outcome.{Outcome, quiet, sends, fits, emits, to_peer}
-use Rattle.dcsctp_spec_runs.specs.Past.{Has}
+use Rattle.dcsctp_spec_runs.specs.Past.{HasEffect}
 use Rattle.dcsctp_spec_lemmas.specs.spec.association.Controlled.{IsControlled, ControlledChunk, ControlledAct}
-use Rattle.dcsctp_spec_lemmas.specs.spec.endpoint.Turn.{Input, arrival, refusal, packet_begins, chunk_input, packet_ends, act_input, user_sets, user_sends, user_resets, user_takes, timer_expires, time_passes, restores, has_data, ContentTurn, Turn}
+use Rattle.dcsctp_spec_lemmas.specs.spec.endpoint.Turn.{Input, arrival, refusal, packet_begins, chunk_input, packet_ends, act_input, user_sets, user_sends, user_resets, user_takes, timer_expires, time_passes, restores, has_data_chunk, ContentTurn, Turn}
 use Rattle.dcsctp_spec_runs.specs.World.{ControlTurn, acted, worked}
 use Rattle.dcsctp_spec_lemmas.specs.spec.association.Acts.{Act, shutdown_repeats, flushes}
-use Rattle.dcsctp_spec_lemmas.specs.spec.association.Effect.{Effect, draws, holds, ends, Change, link_in}
-use Rattle.dcsctp_spec_lemmas.specs.spec.endpoint.HandshakeOutcomes.{pair_from, renewed_pair, renewed_outcome, init_ack_emission, init_outcome}
+use Rattle.dcsctp_spec_lemmas.specs.spec.association.Effect.{Effect, draws, holds, ends, Change, identity_in}
+use Rattle.dcsctp_spec_lemmas.specs.spec.endpoint.HandshakeOutcomes.{pair_from, renewed_pair, renewed_pair_outcome, init_ack_emission, init_outcome}
 use Rattle.dcsctp_spec_lemmas.specs.spec.endpoint.OwnTimers.{timer_act}
 use Rattle.dcsctp_spec_lemmas.proofs.ControlEcho.{cookie_echo_controlled}
 use Rattle.dcsctp_spec_lemmas.proofs.ControlHandshake.{init_ack_controlled, cookie_ack_controlled, abort_controlled}
@@ -31,9 +31,9 @@ use Rattle.dcsctp_delivery_turns.specs.Holding.{HoldsMean, EndsMean}
 
 -- an effect that says what the association is after a turn, and isn't a draw
 module _ (noted : Effect) (Is : Core → Type 0) (undrawn : (pair : Pair) → noted ≡ draws pair → ⊥)
-    (meant : (core : Core) (change : Change) → Means core change → Has noted change.effects → Is change.core) where
+    (meant : (core : Core) (change : Change) → Means core change → HasEffect noted change.effects → Is change.core) where
   abbrev Holds : List Effect → Type 0
-  Holds happened = Has noted happened
+  Holds happened = HasEffect noted happened
 
   -- This outcome leaves the association so if it has the effect.
   abbrev Stays : Outcome → Type 0
@@ -68,7 +68,7 @@ module _ (noted : Effect) (Is : Core → Type 0) (undrawn : (pair : Pair) → no
   emits_none : (e : Endpoint) (words : List Word) (emission : Emission) → Holds (emits e words emission).effects → ⊥
   emits_none e words emission has = packet_none (fits e emission) e words emission has
 
-  renewed_none : (e : Endpoint) (theirs : Introduction) (word : ℕ) → Holds (renewed_outcome e theirs word).effects → ⊥
+  renewed_none : (e : Endpoint) (theirs : Introduction) (word : ℕ) → Holds (renewed_pair_outcome e theirs word).effects → ⊥
   renewed_none e theirs word has = drawn_before _ _ (emits_none e (U32 word ∷ []) (init_ack_emission e theirs (renewed_pair e word) e.tie)) has
 
   init_none : (e : Endpoint) (theirs : Introduction) (core : Core) (word later : ℕ) → Holds (init_outcome e theirs core word later).effects → ⊥
@@ -101,24 +101,24 @@ module _ (noted : Effect) (Is : Core → Type 0) (undrawn : (pair : Pair) → no
   turn_stays e arrival o may turn has = same_none o _ turn (λ h. h) has
   turn_stays e (refusal text) o may turn has = same_none o _ turn (λ h. h) has
   turn_stays e (packet_begins contents) o may turn has =
-      elim (begin_stands e e.core (has_data contents) o refl turn) [
+      elim (begin_stands e e.core (has_data_chunk contents) o refl turn) [
         | inl stays ↦ same_none o _ stays (λ h. h) has
         | inr acts ↦ by_act e shutdown_repeats o acts has
       ]
   turn_stays e (chunk_input tag content) o may turn has = content_stays e tag content o turn has
-  turn_stays e packet_ends o may turn has = by_act e flushes o (flushed_act e o (end_at e e.below.transfer o turn)) has
+  turn_stays e packet_ends o may turn has = by_act e flushes o (flushed_act e o (end_at e e.queues.transfer o turn)) has
   turn_stays e (act_input act) o may turn has = by_act e act o (acts_are_controlled e act o turn) has
   turn_stays e (user_sets setting) o may turn has = same_none o _ turn (λ h. h) has
   turn_stays e (user_sends messages) o may turn has = by_act e flushes o (flushed_act e o (send_at e messages o turn)) has
   turn_stays e (user_resets ids) o may turn has = by_act e flushes o (flushed_act e o (resets_at e ids o turn)) has
-  turn_stays e user_takes o may turn has = by_act e flushes o (flushed_act e o (take_at e e.below.transfer o turn)) has
+  turn_stays e user_takes o may turn has = by_act e flushes o (flushed_act e o (take_at e e.queues.transfer o turn)) has
   turn_stays e (timer_expires timer) o may turn has = by_act e (timer_act e timer) o (timer_controlled e timer o turn) has
   turn_stays e (time_passes moment) o may turn has = same_none o _ turn (λ h. h) has
   turn_stays e (restores state) o may turn has = absurd may
 
 pub holds_mean : HoldsMean
 holds_mean e input o link may turn has =
-    turn_stays (holds link) (λ core. link_in core ≡ Some link) (λ pair is. absurd (cc)) (λ core change means there. means.held link there) e input o may turn has
+    turn_stays (holds link) (λ core. identity_in core ≡ Some link) (λ pair is. absurd (cc)) (λ core change means there. means.held link there) e input o may turn has
 
 pub ends_mean : EndsMean
 ends_mean e input o may turn has = turn_stays ends (λ core. core ≡ closed) (λ pair is. absurd (cc)) (λ core change means there. means.ended there) e input o may turn has

@@ -11,14 +11,14 @@ use Rattle.dcsctp_spec_lemmas.specs.types.queues.Messages.{MessageContent}
 use Rattle.dcsctp_spec_lemmas.specs.spec.queues.OwnResets.{prepared_all, prepare_all_events}
 use Rattle.dcsctp_spec_lemmas.specs.spec.queues.Tracker.{hastened}
 use Rattle.dcsctp_spec_lemmas.specs.spec.queues.Transfer.{Transfer}
-use Rattle.dcsctp_spec_lemmas.specs.spec.endpoint.DataOutcomes.{opens_window, told_open, with_messages, TakeWhere, TakeLeft, TakeTurn}
+use Rattle.dcsctp_spec_lemmas.specs.spec.endpoint.DataOutcomes.{opens_window, hastened_where_open, with_messages, TakeWhere, TakeLeft, TakeTurn}
 use Rattle.dcsctp_spec_lemmas.specs.spec.endpoint.FlushOutcomes.{Answer}
-use Rattle.dcsctp_spec_lemmas.specs.spec.endpoint.MessageOutcomes.{MessageRefusal, empty_payload, sending_refusal, Sending, name_of, queue_by, queue_one, queue_all, takes_any, SendAnswers, send_by, SendTurn}
-use Rattle.dcsctp_spec_lemmas.specs.spec.endpoint.PreparedResets.{ResetRefusal, reset_refusal, with_queue, OwnResetsWhere, OwnResetsTurn}
+use Rattle.dcsctp_spec_lemmas.specs.spec.endpoint.MessageOutcomes.{MessageRefusal, empty_payload, sending_refusal, Sending, lifecycle_name, queue_by, queue_one, queue_all, takes_any, SendAnswers, send_by, SendTurn}
+use Rattle.dcsctp_spec_lemmas.specs.spec.endpoint.PreparedResets.{ResetRefusal, reset_refusal, endpoint_with_queue, OwnResetsWhere, OwnResetsTurn}
 use Rattle.dcsctp_theorem_sockets.proofs.Bursts.{packets_in-append}
 use Rattle.dcsctp_delivery_sending.specs.Log.{Fits, Message}
-use Rattle.dcsctp_delivery_turns.specs.Actions.{IsCalm, Ledger, Inside, inside, ledger_of, with_below, Actions, nothing, further, Made, Makes, MakesAlso, Becomes, goes_on, queued_where, queued_together, with_first, read_where}
-use Rattle.dcsctp_spec_lemmas.specs.spec.association.Effect.{link_in}
+use Rattle.dcsctp_delivery_turns.specs.Actions.{IsCalm, Ledger, Inside, inside, ledger_of, queues_with_transfer, Actions, nothing, further, Made, MakesPackets, MakesAlso, Becomes, goes_on, queued_where, queued_together, with_first, read_where}
+use Rattle.dcsctp_spec_lemmas.specs.spec.association.Effect.{identity_in}
 use Rattle.dcsctp_delivery_turns.specs.Tags.{IsPeerTag}
 use Rattle.dcsctp_delivery_turns.specs.Asking.{Own, AsksFit}
 use Rattle.dcsctp_delivery_directions.specs.Directions.{Asking}
@@ -32,11 +32,11 @@ module _ (came : Option Content) (calm : IsCalm came) (to : ℕ) where
 
   resets_where_goes : (refusal : Option ResetRefusal) (e : Endpoint) (ids : List ℕ) (o : Outcome) → IsPeerTag e.core to → OwnResetsWhere refusal e ids o → Goes came to e o
   resets_where_goes None e ids o at turn =
-      let base : Endpoint = with_queue e (prepared_all ids e.below.queue) in
+      let base : Endpoint = endpoint_with_queue e (prepared_all ids e.queues.queue) in
       subst (Goes came to e) (sym turn.is)
-      (goes_on calm (turn_link base turn.flushed turn.flushes) (makes_behind came to (inside e) [] (prepare_all_events ids e.below.queue) turn.flushed (prepared_none ids e.below.queue)
+      (goes_on calm (turn_link base turn.flushed turn.flushes) (makes_behind came to (inside e) [] (prepare_all_events ids e.queues.queue) turn.flushed (prepared_none ids e.queues.queue)
       (both came to (inside e) (inside base) (inside turn.flushed.after) [] (packets_in turn.flushed.events)
-      (action_of came to (inside e) base.below (λ queued sent read asking. actions.prepares ids)) (flush_makes came calm to base turn.flushed at turn.flushes))))
+      (action_of came to (inside e) base.queues (λ queued sent read asking. actions.prepares ids)) (flush_makes came calm to base turn.flushed at turn.flushes))))
   resets_where_goes (Some refusal) e ids o at turn = subst (Goes came to e) (sym turn) (goes_on calm refl (rests came to (inside e)))
 
   pub own_resets_go : (e : Endpoint) (ids : List ℕ) (o : Outcome) → IsPeerTag e.core to → OwnResetsTurn e ids o → Goes came to e o
@@ -45,29 +45,29 @@ module _ (came : Option Content) (calm : IsCalm came) (to : ℕ) where
   -- ---- what the user takes and sends
 
   -- A message is taken, and an acknowledgement is due then if the window opens.
-  taken_told : (b : Bool) (moment : ℕ) (old : Ledger) (transfer : Transfer) (message : MessageContent) (messages : List MessageContent) → old.below.transfer ≡ Some transfer → transfer.reassembly.incoming.ready ≡ message ∷ messages
-      → Actions came to old (record old { below = with_below (told_open b moment (with_messages messages transfer)) old.below; read = old.read ++ message ∷ [] })
+  taken_told : (b : Bool) (moment : ℕ) (old : Ledger) (transfer : Transfer) (message : MessageContent) (messages : List MessageContent) → old.queues.transfer ≡ Some transfer → transfer.reassembly.incoming.ready ≡ message ∷ messages
+      → Actions came to old (record old { queues = queues_with_transfer (hastened_where_open b moment (with_messages messages transfer)) old.queues; read = old.read ++ message ∷ [] })
   taken_told true moment old transfer message messages known ready =
       let left : Transfer = with_messages messages transfer in
-      let taken : Ledger = record old { below = with_below left old.below; read = old.read ++ message ∷ [] } in
+      let taken : Ledger = record old { queues = queues_with_transfer left old.queues; read = old.read ++ message ∷ [] } in
       further taken _ (further old taken nothing (actions.takes transfer message messages known ready)) (actions.tracks left (hastened moment left.tracker) refl refl refl)
   taken_told false moment old transfer message messages known ready = further old _ nothing (actions.takes transfer message messages known ready)
 
-  take_where_goes : (e : Endpoint) (transfer : Transfer) (messages : List MessageContent) (o : Outcome) → e.below.transfer ≡ Some transfer → transfer.reassembly.incoming.ready ≡ messages
+  take_where_goes : (e : Endpoint) (transfer : Transfer) (messages : List MessageContent) (o : Outcome) → e.queues.transfer ≡ Some transfer → transfer.reassembly.incoming.ready ≡ messages
       → TakeWhere e transfer messages o → Becomes came to (λ queued. queued) (with_first messages) e o
   take_where_goes e transfer [] o known ready turn = subst (Becomes came to (λ queued. queued) (with_first []) e) (sym turn) (goes_on calm refl (rests came to (inside e)))
   take_where_goes e transfer (message ∷ messages) o known ready turn =
       subst (Becomes came to (λ queued. queued) (with_first (message ∷ messages)) e) (sym turn)
       (goes_on calm refl (λ queued sent read tsn asking fit.
       made_of came to (inside e) _ queued queued sent read (read ++ message ∷ []) tsn asking fit
-      (taken_told (opens_window e.options transfer (with_messages messages transfer)) e.moment (ledger_of queued e.below sent read asking) transfer message messages known ready)))
+      (taken_told (opens_window e.options transfer (with_messages messages transfer)) e.moment (ledger_of queued e.queues sent read asking) transfer message messages known ready)))
 
   -- What was left is none of an association's.
   take_left_goes : (e : Endpoint) (left : List MessageContent) (o : Outcome) → TakeLeft e left o → Becomes came to (λ queued. queued) (read_where None) e o
   take_left_goes e [] o turn = subst (Becomes came to (λ queued. queued) (read_where None) e) (sym turn) (goes_on calm refl (rests came to (inside e)))
   take_left_goes e (message ∷ messages) o turn = subst (Becomes came to (λ queued. queued) (read_where None) e) (sym turn) (goes_on calm refl (rests came to (inside e)))
 
-  pub take_goes : (e : Endpoint) (transfer : Option Transfer) (o : Outcome) → e.below.transfer ≡ transfer → TakeTurn e transfer o → Becomes came to (λ queued. queued) (read_where transfer) e o
+  pub take_goes : (e : Endpoint) (transfer : Option Transfer) (o : Outcome) → e.queues.transfer ≡ transfer → TakeTurn e transfer o → Becomes came to (λ queued. queued) (read_where transfer) e o
   take_goes e None o known turn = take_left_goes e e.left o turn
   take_goes e (Some transfer) o known turn = take_where_goes e transfer transfer.reassembly.incoming.ready o known refl turn
 
@@ -77,25 +77,25 @@ module _ (came : Option Content) (calm : IsCalm came) (to : ℕ) where
 
   queue_one_makes : (e : Endpoint) (sending : Sending) (refusal : Option MessageRefusal) → sending_refusal e sending ≡ refusal → Fits (message_of sending)
       → (queued : List Message) (sent : List Emission) (read : List MessageContent) (asking : Asking)
-      → Actions came to (ledger_of queued e.below sent read asking) (ledger_of (queued_where refusal sending queued) (queue_by e sending refusal).after.below sent read asking)
+      → Actions came to (ledger_of queued e.queues sent read asking) (ledger_of (queued_where refusal sending queued) (queue_by e sending refusal).after.queues sent read asking)
   queue_one_makes e sending None is fit queued sent read asking =
-      further (ledger_of queued e.below sent read asking) (ledger_of (message_of sending ∷ queued) (queue_by e sending None).after.below sent read asking) nothing
+      further (ledger_of queued e.queues sent read asking) (ledger_of (message_of sending ∷ queued) (queue_by e sending None).after.queues sent read asking) nothing
       (actions.queues e.moment sending fit (not_empty sending.message.payload _ is))
   queue_one_makes e sending (Some refusal) is fit queued sent read asking = nothing
 
   queue_all_makes : (e : Endpoint) (sendings : List Sending) → AllByRecursion (λ sending. Fits (message_of sending)) sendings
       → (queued : List Message) (sent : List Emission) (read : List MessageContent) (asking : Asking)
-      → Actions came to (ledger_of queued e.below sent read asking) (ledger_of (queued_together e sendings queued) (queue_all e sendings).after.below sent read asking)
+      → Actions came to (ledger_of queued e.queues sent read asking) (ledger_of (queued_together e sendings queued) (queue_all e sendings).after.queues sent read asking)
   queue_all_makes e [] fit queued sent read asking = nothing
   queue_all_makes e (sending ∷ sendings) fit queued sent read asking =
       let next : List Message = queued_where (sending_refusal e sending) sending queued in
-      joined came to (ledger_of queued e.below sent read asking) (ledger_of next (queue_one e sending).after.below sent read asking)
-      (ledger_of (queued_together (queue_one e sending).after sendings next) (queue_all (queue_one e sending).after sendings).after.below sent read asking)
+      joined came to (ledger_of queued e.queues sent read asking) (ledger_of next (queue_one e sending).after.queues sent read asking)
+      (ledger_of (queued_together (queue_one e sending).after sendings next) (queue_all (queue_one e sending).after sendings).after.queues sent read asking)
       (queue_one_makes e sending (sending_refusal e sending) refl fit.0 queued sent read asking) (queue_all_makes (queue_one e sending).after sendings fit.1 next sent read asking)
 
   queue_one_none : (e : Endpoint) (sending : Sending) (refusal : Option MessageRefusal) → packets_in (queue_by e sending refusal).events ≡ []
   queue_one_none e sending None = refl
-  queue_one_none e sending (Some refusal) = refusal_none refusal (name_of sending)
+  queue_one_none e sending (Some refusal) = refusal_none refusal (lifecycle_name sending)
 
   queue_all_none : (e : Endpoint) (sendings : List Sending) → packets_in (queue_all e sendings).events ≡ []
   queue_all_none e [] = refl
@@ -108,7 +108,7 @@ module _ (came : Option Content) (calm : IsCalm came) (to : ℕ) where
   send_where_makes false e answers at allowed = rests came to (inside e)
   send_where_makes true e answers at allowed = to_makes came calm to e (held_in e.core) answers at refl allowed
 
-  send_where_link : (b : Bool) (e : Endpoint) (answers : List Answer) → SendAnswers b e answers → link_in (send_by b e answers).after.core ≡ link_in e.core
+  send_where_link : (b : Bool) (e : Endpoint) (answers : List Answer) → SendAnswers b e answers → identity_in (send_by b e answers).after.core ≡ identity_in e.core
   send_where_link false e answers allowed = refl
   send_where_link true e answers allowed = to_link e (held_in e.core) answers allowed
 
@@ -120,16 +120,16 @@ module _ (came : Option Content) (calm : IsCalm came) (to : ℕ) where
       let is : packets_in (all.events ++ last.events) ≡ packets_in last.events =
       packets_in-append all.events last.events ∙ ap (λ (l : List Emission). l ++ packets_in last.events) (queue_all_none e sendings) in
       subst (Becomes came to (queued_together e sendings) (λ read. read) e) (sym turn.2)
-      (goes_on calm (send_where_link (takes_any e sendings) all.after turn.0 turn.1 ∙ ap link_in (queue_all_core e sendings)) (subst (λ (l : List Emission). MakesAlso came to (queued_together e sendings) (λ read. read) (inside e) l (inside last.after)) (sym is)
+      (goes_on calm (send_where_link (takes_any e sendings) all.after turn.0 turn.1 ∙ ap identity_in (queue_all_core e sendings)) (subst (λ (l : List Emission). MakesAlso came to (queued_together e sendings) (λ read. read) (inside e) l (inside last.after)) (sym is)
       (λ queued sent read tsn asking asks.
       let later : List Message = queued_together e sendings queued in
-      let made : Made came to (ledger_of later all.after.below sent read asking) tsn (inside last.after) later (sent ++ packets_in last.events) read =
+      let made : Made came to (ledger_of later all.after.queues sent read asking) tsn (inside last.after) later (sent ++ packets_in last.events) read =
       send_where_makes (takes_any e sendings) all.after turn.0 (subst (λ (c : Core). IsPeerTag c to) (sym (queue_all_core e sendings)) at) turn.1 later sent read tsn asking
       (subst (λ (own : Option Own). AsksFit tsn own asking) (sym (queue_all_own e sendings)) asks) in
       record {
         asking = made.asking;
         grows = made.grows;
         fits = made.fits;
-        actions = joined came to (ledger_of queued e.below sent read asking) (ledger_of later all.after.below sent read asking)
-            (ledger_of later last.after.below (sent ++ packets_in last.events) read made.asking) (queue_all_makes e sendings fit queued sent read asking) made.actions;
+        actions = joined came to (ledger_of queued e.queues sent read asking) (ledger_of later all.after.queues sent read asking)
+            (ledger_of later last.after.queues (sent ++ packets_in last.events) read made.asking) (queue_all_makes e sendings fit queued sent read asking) made.actions;
       })))

@@ -1,19 +1,19 @@
 -- The actions of a socket leave how its queue numbers messages.
 use Rattle.std.proofs.Common.{◌≡◌, ℕ, Option, refl, ◌∙◌, ap}
 use Rattle.dcsctp_spec_lemmas.specs.spec.Packet.{Content}
-use Rattle.dcsctp_spec_lemmas.specs.spec.queues.Transfer.{Below}
+use Rattle.dcsctp_spec_lemmas.specs.spec.queues.Transfer.{EndpointQueues}
 use Rattle.dcsctp_spec_lemmas.specs.spec.endpoint.FlushOutcomes.{first_ask, packets_allowed}
 use Rattle.dcsctp_delivery_sending.proofs.NextIdentifiers.{flush_kind}
 use Rattle.dcsctp_delivery_sending.proofs.Prepared.{preparing_kind}
 use Rattle.dcsctp_delivery_sending.proofs.Settings.{setting_kind}
 use Rattle.dcsctp_delivery_turns.specs.Actions.{Ledger, Action, queues, sets, prepares, flushes, resends, resends_nothing, speaks, asks_again, acknowledges, loses, receives, receives_interleaved, forwards, forwards_interleaved, tracks, takes, Actions, nothing, further}
 
-action_kind : (came : Option Content) (to : ℕ) (old new : Ledger) → Action came to old new → new.below.queue.is_interleaved ≡ old.below.queue.is_interleaved
+action_kind : (came : Option Content) (to : ℕ) (old new : Ledger) → Action came to old new → new.queues.queue.is_interleaved ≡ old.queues.queue.is_interleaved
 action_kind came to old _ (queues now sending fit some) = refl
-action_kind came to old _ (sets setting) = setting_kind setting old.below.queue
-action_kind came to old _ (prepares ids) = preparing_kind ids old.below.queue
+action_kind came to old _ (sets setting) = setting_kind setting old.queues.queue
+action_kind came to old _ (prepares ids) = preparing_kind ids old.queues.queue
 action_kind came to old _ (flushes e draft answers same at tag no_data no_end allowed) =
-    flush_kind first_ask (packets_allowed e.options.max_burst e.core) e draft answers allowed ∙ ap (λ (b : Below). b.queue.is_interleaved) same
+    flush_kind first_ask (packets_allowed e.options.max_burst e.core) e draft answers allowed ∙ ap (λ (b : EndpointQueues). b.queue.is_interleaved) same
 action_kind came to old _ (resends now room transfer left tsns chunks emission tag known does are contents) = refl
 action_kind came to old _ (resends_nothing now room transfer left tsns known does) = refl
 action_kind came to old _ (speaks emission no_data) = refl
@@ -27,6 +27,6 @@ action_kind came to old _ (forwards_interleaved tsn streams transfer new is know
 action_kind came to old _ (tracks transfer tracked known cumulative ranges) = refl
 action_kind came to old _ (takes transfer message messages known ready) = refl
 
-pub actions_kind : (came : Option Content) (to : ℕ) (old new : Ledger) → Actions came to old new → new.below.queue.is_interleaved ≡ old.below.queue.is_interleaved
+pub actions_kind : (came : Option Content) (to : ℕ) (old new : Ledger) → Actions came to old new → new.queues.queue.is_interleaved ≡ old.queues.queue.is_interleaved
 actions_kind came to old _ nothing = refl
 actions_kind came to old _ (further between new first last) = action_kind came to between new last ∙ actions_kind came to old between first

@@ -12,14 +12,14 @@ use Rattle.dcsctp_spec_lemmas.specs.spec.endpoint.Outcome.{Outcome, still, to_pe
 use Rattle.dcsctp_spec_lemmas.specs.spec.association.FlushChanges.{reset_request}
 use Rattle.dcsctp_spec_lemmas.specs.spec.endpoint.HeartbeatOutcomes.{heartbeat_outcome, info_in, counter_of, answered, heartbeat_ack_outcome, interval_expired, beating, heartbeat_emission, interval_outcome, is_exhausted}
 use Rattle.dcsctp_spec_lemmas.specs.spec.endpoint.OwnTimers.{OwnTimer, acknowledgement_delay, retransmission, heartbeat_interval, heartbeat_timeout, reconfiguration, TimerTurn}
-use Rattle.dcsctp_spec_lemmas.specs.spec.endpoint.PlainOutcomes.{PlainTurn, PlainTurnBy, violation_at, is_reported, after_unknown, unknown_bytes, unknown_told, unknown_report, error_outcome}
-use Rattle.dcsctp_spec_lemmas.specs.spec.endpoint.ReconfigurationOutcomes.{reset_again, request_emitted, renewed_where, request_renewed, is_renewed, request_repeated, request_unless, request_errors, request_expired, reconfiguration_outcome}
+use Rattle.dcsctp_spec_lemmas.specs.spec.endpoint.PlainOutcomes.{PlainTurn, PlainTurnBy, violation_at, is_reported, after_unknown, unknown_bytes, unknown_chunk_outcome, unknown_report, error_outcome}
+use Rattle.dcsctp_spec_lemmas.specs.spec.endpoint.ReconfigurationOutcomes.{reset_again, request_emitted, renewed_request_where, request_renewed, is_renewed, request_repeated, request_unless, request_errors, request_expired, reconfiguration_outcome}
 use Rattle.dcsctp_spec_lemmas.specs.wire.Content.{ParameterContent, data_chunk, sack_chunk, error_chunk, i_data_chunk, forward_tsn_chunk, i_forward_tsn_chunk}
 use Rattle.dcsctp_delivery_turns.specs.Actions.{IsCalm, Inside, inside, goes_on, renews}
 use Rattle.dcsctp_delivery_turns.specs.Asking.{own_with, own_in, own_of, renewed_own, IsAsking, AsksFit, IsOut, OutIs, Own}
-use Rattle.dcsctp_delivery_sending.specs.Places.{Has}
+use Rattle.dcsctp_delivery_sending.specs.Places.{HasEntry}
 use Rattle.dcsctp_spec_lemmas.specs.spec.endpoint.BegunResets.{BegunReset, core_asking}
-use Rattle.dcsctp_spec_lemmas.specs.spec.association.Effect.{link_in}
+use Rattle.dcsctp_spec_lemmas.specs.spec.association.Effect.{identity_in}
 use Rattle.dcsctp_delivery_turns.specs.Tags.{IsPeerTag}
 use Rattle.dcsctp_delivery_turns.proofs.Actions.{emits_link, Goes, MakesTo, rests, spoken, emitted, emission_of, packet_if}
 use Rattle.dcsctp_delivery_turns.proofs.Fixed.{held_tag}
@@ -31,7 +31,7 @@ module _ (came : Option Content) (calm : IsCalm came) (to : ℕ) where
   -- ---- chunks that speak of no association
 
   unknown_goes : (e : Endpoint) (core : Core) (type : ℕ) (chunk : List ℕ) (reported : Bool)
-      → Goes came to e (record (cond reported (unknown_told e core type chunk) (still e)) { following = after_unknown type })
+      → Goes came to e (record (cond reported (unknown_chunk_outcome e core type chunk) (still e)) { following = after_unknown type })
   unknown_goes e core type chunk false = goes_on calm refl (rests came to (inside e))
   unknown_goes e closed type chunk true = goes_on calm refl (rests came to (inside e))
   unknown_goes e (cookie_wait my) type chunk true = goes_on calm refl (rests came to (inside e))
@@ -74,12 +74,12 @@ module _ (came : Option Content) (calm : IsCalm came) (to : ℕ) where
       let begun : BegunReset = record { number = number; reset = reset_again e.outstanding } in
       let emission : Emission = to_peer held (reset_request number (reset_again e.outstanding)) in
       packet_if came to (fits e emission) e [] emission
-      (emission_of came to (inside e) e.below emission (λ queued sent read tsn asking fit.
+      (emission_of came to (inside e) e.queues emission (λ queued sent read tsn asking fit.
       let asks : IsAsking tsn (own_with held e.outstanding) asking = subst (λ (o : Option Own). AsksFit tsn o asking) own fit in
       let out : IsOut number (reset_again e.outstanding) asking = subst (λ (n : Option ℕ). OutIs n (reset_again e.outstanding) asking) is asks.out in
-      actions.asks_again emission begun tag (subst (Has begun) (sym out.is) (inl refl)) refl))
+      actions.asks_again emission begun tag (subst (HasEntry begun) (sym out.is) (inl refl)) refl))
 
-  request_link : (e : Endpoint) (held : Held) (number : Option ℕ) (reset : RequestedReset) → link_in (request_emitted e held number reset).after.core ≡ link_in e.core
+  request_link : (e : Endpoint) (held : Held) (number : Option ℕ) (reset : RequestedReset) → identity_in (request_emitted e held number reset).after.core ≡ identity_in e.core
   request_link e held None reset = refl
   request_link e held (Some number) reset = emits_link e [] (to_peer held (reset_request number reset))
 
@@ -103,17 +103,17 @@ module _ (came : Option Content) (calm : IsCalm came) (to : ℕ) where
   asking_own (open_in phase my held) request own is = (let same : own_with held request ≡ own = cc in ap (λ (o : Own). Some (renewed_own o)) same)
 
   -- An endpoint at which the timer has expired has the same below it, and keeps the same of its request.
-  module _ (e base : Endpoint) (held : Held) (same : inside base ≡ inside e) (linked : link_in base.core ≡ link_in e.core) (tag : held.peer.tag ≡ to) (own : own_of base ≡ Some (own_with held base.outstanding)) where
-    makes_goes : (o : Outcome) → link_in o.after.core ≡ link_in base.core → MakesTo came to (inside base) o → Goes came to e o
+  module _ (e base : Endpoint) (held : Held) (same : inside base ≡ inside e) (linked : identity_in base.core ≡ identity_in e.core) (tag : held.peer.tag ≡ to) (own : own_of base ≡ Some (own_with held base.outstanding)) where
+    makes_goes : (o : Outcome) → identity_in o.after.core ≡ identity_in base.core → MakesTo came to (inside base) o → Goes came to e o
     makes_goes o kept makes = goes_on calm (kept ∙ linked) (subst (λ (i : Inside). MakesTo came to i o) same makes)
 
-    renewed_goes : (b : Bool) (number : ℕ) → held.own_outstanding ≡ Some number → Goes came to e (renewed_where b base held number (reset_request held.own_next (reset_again base.outstanding)))
+    renewed_goes : (b : Bool) (number : ℕ) → held.own_outstanding ≡ Some number → Goes came to e (renewed_request_where b base held number (reset_request held.own_next (reset_again base.outstanding)))
     renewed_goes false number out = makes_goes (still base) refl (rests came to (inside base))
     renewed_goes true number out =
         let kept : Own = own_with held base.outstanding in
         renews calm (asking_link base.core ∙ linked) (λ queued. refl) (λ read. refl) kept number (to_peer held (reset_request held.own_next (reset_again base.outstanding))) (sym (ap (λ (i : Inside). i.own) same) ∙ own) out
-        (ap (λ (k : Option Own). record { below = base.below; own = k }) (asking_own base.core base.outstanding kept own)
-        ∙ ap (λ (i : Inside). record { below = i.below; own = Some (renewed_own kept) }) same) refl tag refl
+        (ap (λ (k : Option Own). record { queues = base.queues; own = k }) (asking_own base.core base.outstanding kept own)
+        ∙ ap (λ (i : Inside). record { queues = i.queues; own = Some (renewed_own kept) }) same) refl tag refl
 
     renewing_goes : (number : Option ℕ) → held.own_outstanding ≡ number → Goes came to e (request_renewed base held number (reset_again base.outstanding))
     renewing_goes None out = makes_goes (still base) refl (rests came to (inside base))
@@ -134,14 +134,14 @@ module _ (came : Option Content) (calm : IsCalm came) (to : ℕ) where
   reconfiguration_goes e (Some held) None at holds is = goes_on calm refl (rests came to (inside e))
   reconfiguration_goes e (Some held) (Some request) at holds is =
       let base : Endpoint = request_expired e request in
-      let same : inside base ≡ inside e = ap (λ (own : Option Own). record { below = e.below; own = own }) (own_waits e.core request ∙ sym (ap (λ (r : Option OutstandingRequest). own_in e.core r) is)) in
+      let same : inside base ≡ inside e = ap (λ (own : Option Own). record { queues = e.queues; own = own }) (own_waits e.core request ∙ sym (ap (λ (r : Option OutstandingRequest). own_in e.core r) is)) in
       unless_goes e base held same refl (held_tag e.core held to holds at) (own_held e.core base.outstanding held holds) (is_exhausted e.options.max_retransmissions (request_errors e request)) (is_renewed e (Some request))
 
   -- ---- each timer, and each chunk
 
   pub timer_goes : (e : Endpoint) (timer : OwnTimer) (o : Outcome) → IsPeerTag e.core to → TimerTurn e timer o → Goes came to e o
-  timer_goes e acknowledgement_delay o at turn = subst (Goes came to e) (sym turn) (delay_goes came calm to e e.below.transfer refl)
-  timer_goes e retransmission o at turn = loss_goes came calm to e e.below.transfer o refl turn
+  timer_goes e acknowledgement_delay o at turn = subst (Goes came to e) (sym turn) (delay_goes came calm to e e.queues.transfer refl)
+  timer_goes e retransmission o at turn = loss_goes came calm to e e.queues.transfer o refl turn
   timer_goes e heartbeat_interval o at turn = subst (Goes came to e) (sym turn) (interval_goes e e.core)
   timer_goes e heartbeat_timeout o at turn = subst (Goes came to e) (sym turn) (goes_on calm refl (rests came to (inside e)))
   timer_goes e reconfiguration o at turn = subst (Goes came to e) (sym turn) (reconfiguration_goes e (held_in e.core) e.outstanding at refl refl)
@@ -157,7 +157,7 @@ plain_by_goes to e (heartbeat parameters) None o at turn = subst (Goes _ to e) (
 plain_by_goes to e (heartbeat_ack parameters) None o at turn = subst (Goes _ to e) (sym turn) (heartbeat_ack_goes _ (plain_calm _) to e (counter_of (info_in parameters)))
 plain_by_goes to e (unworked (data_chunk chunk)) None o at turn = data_goes _ (plain_calm _) to e chunk o refl turn
 plain_by_goes to e (unworked (i_data_chunk chunk)) None o at turn = i_data_goes _ (plain_calm _) to e chunk o refl turn
-plain_by_goes to e (unworked (sack_chunk chunk)) None o at turn = sack_goes _ (plain_calm _) to e e.below.transfer chunk o at refl turn
+plain_by_goes to e (unworked (sack_chunk chunk)) None o at turn = sack_goes _ (plain_calm _) to e e.queues.transfer chunk o at refl turn
 plain_by_goes to e (unworked (forward_tsn_chunk tsn streams)) None o at turn = forward_goes _ (plain_calm _) to e tsn streams o refl turn
 plain_by_goes to e (unworked (i_forward_tsn_chunk tsn streams)) None o at turn = i_forward_goes _ (plain_calm _) to e tsn streams o refl turn
 plain_by_goes to e (unworked (error_chunk causes)) None o at turn = subst (Goes _ to e) (sym turn) (error_goes _ (plain_calm _) to e e.core causes)

@@ -10,11 +10,11 @@ use Rattle.dcsctp_spec_lemmas.specs.spec.endpoint.Outcome.{Outcome, quiet, sends
 use Rattle.dcsctp_spec_lemmas.specs.spec.Packet.{Emission, re_config}
 use Rattle.dcsctp_spec_lemmas.specs.spec.Reconfiguration.{RequestedReset, ResetParameter, outgoing_reset_request, incoming_reset_request, reconfiguration_response, other_reset_parameter}
 use Rattle.dcsctp_spec_lemmas.specs.spec.association.Effect.{Effect}
-use Rattle.dcsctp_spec_lemmas.specs.spec.association.ResetChanges.{informed_where, is_outstanding, WorkedParameters, work_parameters, work_chunk}
+use Rattle.dcsctp_spec_lemmas.specs.spec.association.ResetChanges.{informed_where, is_outstanding, HandledParameters, work_parameters, work_chunk}
 use Rattle.dcsctp_spec_lemmas.specs.spec.queues.Transfer.{Transfer}
 use Rattle.dcsctp_spec_lemmas.specs.spec.endpoint.BegunResets.{BegunReset, begun_effects}
 use Rattle.dcsctp_spec_lemmas.specs.spec.endpoint.FlushOutcomes.{Answer, draft_to, flush_of, first_ask, packets_allowed}
-use Rattle.dcsctp_spec_lemmas.specs.spec.endpoint.ResetOutcomes.{requested_in, is_reached, worked_in, has_reset, answers_in_progress, ResetsBelow, defers_reset, answered_in, resets_worked, told_of, responses_outcome, responses_by, ResponseAnswers, WorksResets}
+use Rattle.dcsctp_spec_lemmas.specs.spec.endpoint.ResetOutcomes.{requested_in, is_request_reached, parameters_handled_in, has_reset, answers_in_progress, ResetsInQueues, defers_reset, answered_in, resets_handled, reset_events_of, responses_outcome, responses_by, ResponseAnswers, WorksResets}
 use Rattle.dcsctp_spec_lemmas.proofs.FlushKeeps.{begun_by, flush_keeps}
 use Rattle.dcsctp_delivery_sending.specs.Flushes.{NoRequests}
 use Rattle.dcsctp_delivery_turns.specs.PeerRequests.{NoneAsked}
@@ -31,30 +31,30 @@ sent_behind false e told held parameters responses answers allowed =
     let base : Endpoint = (responses_outcome e held responses).after in
     (begun_by answers, (flush_keeps first_ask (packets_allowed base.options.max_burst base.core) base (draft_to held) answers allowed).effects)
 
-answered_waits : (e : Endpoint) (held : Held) (responses : List ResetParameter) → StillWaits e.below.transfer (responses_outcome e held responses).after.below.transfer
-answered_waits e held [] = all_wait e.below.transfer
+answered_waits : (e : Endpoint) (held : Held) (responses : List ResetParameter) → StillWaits e.queues.transfer (responses_outcome e held responses).after.queues.transfer
+answered_waits e held [] = all_wait e.queues.transfer
 answered_waits e held (response ∷ responses) = (emitted e [] (to_peer held (re_config (response ∷ responses)))).waits
 
 sent_waits : (refused : Bool) (e : Endpoint) (told : List (Event Emission)) (held : Held) (parameters responses : List ResetParameter) (answers : List Answer) → ResponseAnswers refused e held responses answers
-    → StillWaits e.below.transfer (responses_by refused e told held parameters responses answers).after.below.transfer
-sent_waits true e told held parameters responses answers allowed = all_wait e.below.transfer
+    → StillWaits e.queues.transfer (responses_by refused e told held parameters responses answers).after.queues.transfer
+sent_waits true e told held parameters responses answers allowed = all_wait e.queues.transfer
 sent_waits false e told held parameters responses answers allowed =
     let base : Endpoint = (responses_outcome e held responses).after in
-    wait_then e.below.transfer base.below.transfer (flush_of base (draft_to held) answers).after.below.transfer (answered_waits e held responses) (flushed base (draft_to held) answers allowed).waits
+    wait_then e.queues.transfer base.queues.transfer (flush_of base (draft_to held) answers).after.queues.transfer (answered_waits e held responses) (flushed base (draft_to held) answers allowed).waits
 
 -- What it leaves: effects with these in front, and what waits from here on.
-pub record Works (e : Endpoint) (w : WorkedParameters) (reset : Option RequestedReset) (o : Outcome) : Type 0 where
+pub record Works (e : Endpoint) (w : HandledParameters) (reset : Option RequestedReset) (o : Outcome) : Type 0 where
   pub left : Option Transfer
-  pub below : ResetsBelow (has_reset w.effects) (answers_in_progress w.answers) reset e.below.transfer left
+  pub below : ResetsInQueues (has_reset w.effects) (answers_in_progress w.answers) reset e.queues.transfer left
   pub begun : Option BegunReset
   pub is : o.effects ≡ w.effects ++ begun_effects begun
-  pub waits : StillWaits left o.after.below.transfer
+  pub waits : StillWaits left o.after.queues.transfer
 
-pub works_of : (e : Endpoint) (my : Pair) (held : Held) (parameters : List ResetParameter) (o : Outcome) → WorksResets e my held parameters o → Works e (worked_in e my held parameters) (requested_in parameters) o
+pub works_of : (e : Endpoint) (my : Pair) (held : Held) (parameters : List ResetParameter) (o : Outcome) → WorksResets e my held parameters o → Works e (parameters_handled_in e my held parameters) (requested_in parameters) o
 works_of e my held parameters o turn =
-    let w : WorkedParameters = worked_in e my held parameters in
-    let base : Endpoint = resets_worked e (answered_in held w parameters) w.held turn.left in
-    let told : List (Event Emission) = told_of e parameters w.effects in
+    let w : HandledParameters = parameters_handled_in e my held parameters in
+    let base : Endpoint = resets_handled e (answered_in held w parameters) w.held turn.left in
+    let told : List (Event Emission) = reset_events_of e parameters w.effects in
     let behind = sent_behind w.is_refused base told w.held parameters w.answers turn.answers turn.allowed in
     subst (Works e w (requested_in parameters)) (sym turn.is)
     (record {
@@ -98,27 +98,27 @@ none_requested (incoming_reset_request number streams ∷ parameters) none = abs
 none_requested (reconfiguration_response number result ∷ parameters) none = none_requested parameters none
 none_requested (other_reset_parameter parameter ∷ parameters) none = none_requested parameters none
 
-none_below : (performed in_progress : Bool) (old new : Option Transfer) → ResetsBelow performed in_progress None old new → new ≡ old
+none_below : (performed in_progress : Bool) (old new : Option Transfer) → ResetsInQueues performed in_progress None old new → new ≡ old
 none_below true in_progress old new below = below
 none_below false true old new below = below
 none_below false false old new below = below
 
-pub answers_ask : (e : Endpoint) (my : Pair) (held : Held) (parameters : List ResetParameter) (o : Outcome) → NoRequests parameters → WorksResets e my held parameters o → AsksNothing e.below.transfer o
+pub answers_ask : (e : Endpoint) (my : Pair) (held : Held) (parameters : List ResetParameter) (o : Outcome) → NoRequests parameters → WorksResets e my held parameters o → AsksNothing e.queues.transfer o
 answers_ask e my held parameters o none turn =
-    let w : WorkedParameters = worked_in e my held parameters in
+    let w : HandledParameters = parameters_handled_in e my held parameters in
     let works = works_of e my held parameters o turn in
-    let same : works.left ≡ e.below.transfer =
-    none_below (has_reset w.effects) (answers_in_progress w.answers) e.below.transfer works.left
-    (subst (λ (r : Option RequestedReset). ResetsBelow (has_reset w.effects) (answers_in_progress w.answers) r e.below.transfer works.left) (none_requested parameters none) works.below) in
+    let same : works.left ≡ e.queues.transfer =
+    none_below (has_reset w.effects) (answers_in_progress w.answers) e.queues.transfer works.left
+    (subst (λ (r : Option RequestedReset). ResetsInQueues (has_reset w.effects) (answers_in_progress w.answers) r e.queues.transfer works.left) (none_requested parameters none) works.below) in
     record {
-      none = subst NoneAsked (sym works.is) (unasked_append w.effects (begun_effects works.begun) (chunk_unasked my (is_reached e.below.transfer (requested_in parameters)) held parameters none) (begun_unasked works.begun));
-      waits = subst (λ (l : Option Transfer). StillWaits l o.after.below.transfer) same works.waits;
+      none = subst NoneAsked (sym works.is) (unasked_append w.effects (begun_effects works.begun) (chunk_unasked my (is_request_reached e.queues.transfer (requested_in parameters)) held parameters none) (begun_unasked works.begun));
+      waits = subst (λ (l : Option Transfer). StillWaits l o.after.queues.transfer) same works.waits;
     }
 
 -- ---- where an association ends
 
 -- Whatever is asked, there is still something below.
-below_some : (performed in_progress : Bool) (reset : Option RequestedReset) (old : Transfer) (new : Option Transfer) → ResetsBelow performed in_progress reset (Some old) new → (left : Transfer) × (new ≡ Some left)
+below_some : (performed in_progress : Bool) (reset : Option RequestedReset) (old : Transfer) (new : Option Transfer) → ResetsInQueues performed in_progress reset (Some old) new → (left : Transfer) × (new ≡ Some left)
 below_some true in_progress (Some reset) old new below = (below.0, below.1)
 below_some true in_progress None old new below = (old, below)
 below_some false true (Some reset) old new below = (defers_reset reset old, below)
@@ -127,8 +127,8 @@ below_some false false (Some reset) old new below = (old, below)
 below_some false false None old new below = (old, below)
 
 -- What is sent leaves it.
-sent_left : (refused : Bool) (e : Endpoint) (told : List (Event Emission)) (held : Held) (parameters responses : List ResetParameter) (answers : List Answer) (transfer : Transfer) → e.below.transfer ≡ Some transfer
-    → ResponseAnswers refused e held responses answers → Left transfer (responses_by refused e told held parameters responses answers).after.below.transfer
+sent_left : (refused : Bool) (e : Endpoint) (told : List (Event Emission)) (held : Held) (parameters responses : List ResetParameter) (answers : List Answer) (transfer : Transfer) → e.queues.transfer ≡ Some transfer
+    → ResponseAnswers refused e held responses answers → Left transfer (responses_by refused e told held parameters responses answers).after.queues.transfer
 sent_left true e told held parameters responses answers transfer known allowed = record { left = transfer; is = known; same = alike transfer }
 sent_left false e told held parameters [] answers transfer known allowed = flush_left first_ask (packets_allowed e.options.max_burst e.core) e (draft_to held) answers transfer known allowed
 sent_left false e told held parameters (response ∷ responses) answers transfer known allowed =
@@ -138,18 +138,18 @@ sent_left false e told held parameters (response ∷ responses) answers transfer
     emission : Emission
     emission = to_peer held (re_config (response ∷ responses))
 
-    emits_transfer : (b : Bool) (x : Endpoint) (said : Emission) → (cond b (sends x [] [] said) (quiet x [] [])).after.below.transfer ≡ x.below.transfer
+    emits_transfer : (b : Bool) (x : Endpoint) (said : Emission) → (cond b (sends x [] [] said) (quiet x [] [])).after.queues.transfer ≡ x.queues.transfer
     emits_transfer true x said = refl
     emits_transfer false x said = refl
 
 -- So no association ends by a RE-CONFIG.
-pub none_ends : (e : Endpoint) (my : Pair) (held : Held) (parameters : List ResetParameter) (o : Outcome) (transfer : Transfer) → e.below.transfer ≡ Some transfer → WorksResets e my held parameters o
-    → o.after.below.transfer ≡ None → ⊥
+pub none_ends : (e : Endpoint) (my : Pair) (held : Held) (parameters : List ResetParameter) (o : Outcome) (transfer : Transfer) → e.queues.transfer ≡ Some transfer → WorksResets e my held parameters o
+    → o.after.queues.transfer ≡ None → ⊥
 none_ends e my held parameters o transfer known turn none =
-    let w : WorkedParameters = worked_in e my held parameters in
-    let base : Endpoint = resets_worked e (answered_in held w parameters) w.held turn.left in
+    let w : HandledParameters = parameters_handled_in e my held parameters in
+    let base : Endpoint = resets_handled e (answered_in held w parameters) w.held turn.left in
     let found = below_some (has_reset w.effects) (answers_in_progress w.answers) (requested_in parameters) transfer turn.left
-    (subst (λ (t : Option Transfer). ResetsBelow (has_reset w.effects) (answers_in_progress w.answers) (requested_in parameters) t turn.left) known turn.below) in
-    let kept = sent_left w.is_refused base (told_of e parameters w.effects) w.held parameters w.answers turn.answers found.0 found.1 turn.allowed in
-    let is : o.after.below.transfer ≡ Some kept.left = ap (λ (x : Outcome). x.after.below.transfer) turn.is ∙ kept.is in
+    (subst (λ (t : Option Transfer). ResetsInQueues (has_reset w.effects) (answers_in_progress w.answers) (requested_in parameters) t turn.left) known turn.below) in
+    let kept = sent_left w.is_refused base (reset_events_of e parameters w.effects) w.held parameters w.answers turn.answers found.0 found.1 turn.allowed in
+    let is : o.after.queues.transfer ≡ Some kept.left = ap (λ (x : Outcome). x.after.queues.transfer) turn.is ∙ kept.is in
     absurd (cc)

@@ -7,7 +7,7 @@ use Rattle.dcsctp_spec_lemmas.specs.spec.endpoint.Outcome.{Outcome}
 use Rattle.dcsctp_spec_lemmas.specs.spec.Packet.{Content, init, init_ack, cookie_echo, cookie_ack, re_config, abort, shutdown, shutdown_ack, shutdown_complete, plain}
 use Rattle.dcsctp_spec_lemmas.specs.spec.Reconfiguration.{ResetParameter, RequestedReset}
 use Rattle.dcsctp_spec_lemmas.specs.spec.endpoint.Turn.{Input, arrival, refusal, packet_begins, chunk_input, packet_ends, act_input, user_sets, user_sends, user_resets, user_takes, timer_expires, time_passes, restores, Turn}
-use Rattle.dcsctp_spec_lemmas.specs.spec.association.Effect.{Effect, Link, link_of, link_in}
+use Rattle.dcsctp_spec_lemmas.specs.spec.association.Effect.{Effect, AssociationIdentity, identity_of, identity_in}
 use Rattle.dcsctp_spec_lemmas.specs.spec.queues.Transfer.{Transfer}
 use Rattle.dcsctp_spec_lemmas.specs.spec.endpoint.ResetOutcomes.{WorksResets, ResetTurn}
 use Rattle.dcsctp_delivery_turns.specs.Actions.{came_by, IsCalm, IsCall}
@@ -63,13 +63,13 @@ calm_asks_nothing e input o calm may turn = calm_none (came_by input) e o (calm_
 
 -- ---- in an association
 
-calm_peer : (link : Link) (past : List Effect) (e : Endpoint) (input : Input) (o : Outcome) (transfer left : Transfer) → e.below.transfer ≡ Some transfer → o.after.below.transfer ≡ Some left → CalmTurns (came_by input) e o
+calm_peer : (link : AssociationIdentity) (past : List Effect) (e : Endpoint) (input : Input) (o : Outcome) (transfer left : Transfer) → e.queues.transfer ≡ Some transfer → o.after.queues.transfer ≡ Some left → CalmTurns (came_by input) e o
     → PeerTurns link past e input o transfer.reassembly.deferral left.reassembly.deferral
 calm_peer link past e input o transfer left known at (goes_on asks) = asks_nothing asks.none (subst (λ (t : Option Transfer). WaitedIn t left) known (asks.waits left at))
 calm_peer link past e input o transfer left known at (begins begun opening linked asks) = begins_anew begun opening linked asks.none (asks.waits left at)
 
-works_peer : (link : Link) (past : List Effect) (e : Endpoint) (tag : ℕ) (my : Pair) (held : Held) (parameters : List ResetParameter) (o : Outcome) (transfer left : Transfer) → KnowsPeer past held → link ≡ link_of my held
-    → IsPlainRequest (Some (re_config parameters)) → e.below.transfer ≡ Some transfer → o.after.below.transfer ≡ Some left → WorksResets e my held parameters o
+works_peer : (link : AssociationIdentity) (past : List Effect) (e : Endpoint) (tag : ℕ) (my : Pair) (held : Held) (parameters : List ResetParameter) (o : Outcome) (transfer left : Transfer) → KnowsPeer past held → link ≡ identity_of my held
+    → IsPlainRequest (Some (re_config parameters)) → e.queues.transfer ≡ Some transfer → o.after.queues.transfer ≡ Some left → WorksResets e my held parameters o
     → PeerTurns link past e (chunk_input tag (re_config parameters)) o transfer.reassembly.deferral left.reassembly.deferral
 works_peer link past e tag my held parameters o transfer left knows linked (inl none) known at turn =
     let asks = answers_ask e my held parameters o none turn in
@@ -77,20 +77,20 @@ works_peer link past e tag my held parameters o transfer left knows linked (inl 
 works_peer link past e tag my held parameters o transfer left knows linked (inr asked) known at turn =
     let number : ℕ = asked.0 in
     let reset : RequestedReset = asked.1 in
-    subst (λ (l : Link). PeerTurns l past e (chunk_input tag (re_config parameters)) o transfer.reassembly.deferral left.reassembly.deferral) (sym linked)
+    subst (λ (l : AssociationIdentity). PeerTurns l past e (chunk_input tag (re_config parameters)) o transfer.reassembly.deferral left.reassembly.deferral) (sym linked)
     (request_turns past my held knows number reset transfer e (chunk_input tag (re_config parameters)) (ap (λ (p : List ResetParameter). Some (re_config p)) asked.2) o known
     (subst (λ (p : List ResetParameter). WorksResets e my held p o) asked.2 turn) left at)
 
-reset_peer : (link : Link) (past : List Effect) (e : Endpoint) (tag : ℕ) (core : Core) (parameters : List ResetParameter) (o : Outcome) (transfer left : Transfer) → KnowsPeerIn past core → link_in core ≡ Some link
-    → IsPlainRequest (Some (re_config parameters)) → e.below.transfer ≡ Some transfer → o.after.below.transfer ≡ Some left → ResetTurn e core parameters o
+reset_peer : (link : AssociationIdentity) (past : List Effect) (e : Endpoint) (tag : ℕ) (core : Core) (parameters : List ResetParameter) (o : Outcome) (transfer left : Transfer) → KnowsPeerIn past core → identity_in core ≡ Some link
+    → IsPlainRequest (Some (re_config parameters)) → e.queues.transfer ≡ Some transfer → o.after.queues.transfer ≡ Some left → ResetTurn e core parameters o
     → PeerTurns link past e (chunk_input tag (re_config parameters)) o transfer.reassembly.deferral left.reassembly.deferral
 reset_peer link past e tag closed parameters o transfer left knows linked plainly known at turn = absurd (cc)
 reset_peer link past e tag (cookie_wait my) parameters o transfer left knows linked plainly known at turn = absurd (cc)
 reset_peer link past e tag (cookie_echoed my held cookie) parameters o transfer left knows linked plainly known at turn = works_peer link past e tag my held parameters o transfer left knows (cc) plainly known at turn
 reset_peer link past e tag (open_in phase my held) parameters o transfer left knows linked plainly known at turn = works_peer link past e tag my held parameters o transfer left knows (cc) plainly known at turn
 
-peer_by : (input : Input) → Handles input → (e : Endpoint) (o : Outcome) (past : List Effect) (link : Link) (transfer left : Transfer) → KnowsPeerIn past e.core → IsPlainRequest (came_by input) → IsCall input → Turn e input o
-    → link_in e.core ≡ Some link → e.below.transfer ≡ Some transfer → o.after.below.transfer ≡ Some left → PeerTurns link past e input o transfer.reassembly.deferral left.reassembly.deferral
+peer_by : (input : Input) → Handles input → (e : Endpoint) (o : Outcome) (past : List Effect) (link : AssociationIdentity) (transfer left : Transfer) → KnowsPeerIn past e.core → IsPlainRequest (came_by input) → IsCall input → Turn e input o
+    → identity_in e.core ≡ Some link → e.queues.transfer ≡ Some transfer → o.after.queues.transfer ≡ Some left → PeerTurns link past e input o transfer.reassembly.deferral left.reassembly.deferral
 peer_by input (calmly calm) e o past link transfer left knows plainly may turn linked known at = calm_peer link past e input o transfer left known at (calm_turns e input o calm may turn)
 peer_by input (handles tag parameters is) e o past link transfer left knows plainly may turn linked known at =
     subst (λ (i : Input). PeerTurns link past e i o transfer.reassembly.deferral left.reassembly.deferral) (sym is)
@@ -103,22 +103,22 @@ peers_turn e input o past link transfer left knows plainly may turn linked known
 
 -- what is below after it waits for no reset, if nothing was before
 abbrev WaitsNot : Endpoint → Outcome → Type 0
-WaitsNot e o = (left : Transfer) → e.below.transfer ≡ None → o.after.below.transfer ≡ Some left → left.reassembly.deferral ≡ None
+WaitsNot e o = (left : Transfer) → e.queues.transfer ≡ None → o.after.queues.transfer ≡ Some left → left.reassembly.deferral ≡ None
 
-waits_not : (e : Endpoint) (o : Outcome) → AsksNothing e.below.transfer o → WaitsNot e o
+waits_not : (e : Endpoint) (o : Outcome) → AsksNothing e.queues.transfer o → WaitsNot e o
 waits_not e o asks = λ left none at. absurd (subst (λ (t : Option Transfer). WaitedIn t left) none (asks.waits left at))
 
 calm_unlinked : (came : Option Content) (e : Endpoint) (o : Outcome) → CalmTurns came e o → NoneAsked o.effects × WaitsNot e o
 calm_unlinked came e o (goes_on asks) = (asks.none, waits_not e o asks)
 calm_unlinked came e o (begins begun opening linked asks) = (asks.none, λ left none at. asks.waits left at)
 
-reset_unlinked : (e : Endpoint) (core : Core) (parameters : List ResetParameter) (o : Outcome) → link_in core ≡ None → ResetTurn e core parameters o → AsksNothing e.below.transfer o
-reset_unlinked e closed parameters o none turn = as_this e.below.transfer o _ turn (rests e)
-reset_unlinked e (cookie_wait my) parameters o none turn = as_this e.below.transfer o _ turn (rests e)
+reset_unlinked : (e : Endpoint) (core : Core) (parameters : List ResetParameter) (o : Outcome) → identity_in core ≡ None → ResetTurn e core parameters o → AsksNothing e.queues.transfer o
+reset_unlinked e closed parameters o none turn = as_this e.queues.transfer o _ turn (rests e)
+reset_unlinked e (cookie_wait my) parameters o none turn = as_this e.queues.transfer o _ turn (rests e)
 reset_unlinked e (cookie_echoed my held cookie) parameters o none turn = absurd (cc)
 reset_unlinked e (open_in phase my held) parameters o none turn = absurd (cc)
 
-unlinked_by : (input : Input) → Handles input → (e : Endpoint) (o : Outcome) → IsCall input → Turn e input o → link_in e.core ≡ None → NoneAsked o.effects × WaitsNot e o
+unlinked_by : (input : Input) → Handles input → (e : Endpoint) (o : Outcome) → IsCall input → Turn e input o → identity_in e.core ≡ None → NoneAsked o.effects × WaitsNot e o
 unlinked_by input (calmly calm) e o may turn none = calm_unlinked (came_by input) e o (calm_turns e input o calm may turn)
 unlinked_by input (handles tag parameters is) e o may turn none =
     let asks = reset_unlinked e e.core parameters o none (subst (λ (i : Input). Turn e i o) is turn) in
@@ -129,13 +129,13 @@ unlinked_asks_nothing e input o may turn none = unlinked_by input (input_handles
 
 -- ---- where one ends
 
-reset_ends : (e : Endpoint) (core : Core) (parameters : List ResetParameter) (o : Outcome) (transfer : Transfer) → ResetTurn e core parameters o → e.below.transfer ≡ Some transfer → o.after.below.transfer ≡ None → NoneAsked o.effects
+reset_ends : (e : Endpoint) (core : Core) (parameters : List ResetParameter) (o : Outcome) (transfer : Transfer) → ResetTurn e core parameters o → e.queues.transfer ≡ Some transfer → o.after.queues.transfer ≡ None → NoneAsked o.effects
 reset_ends e closed parameters o transfer turn known none = subst (λ (x : Outcome). NoneAsked x.effects) (sym turn) tt
 reset_ends e (cookie_wait my) parameters o transfer turn known none = subst (λ (x : Outcome). NoneAsked x.effects) (sym turn) tt
 reset_ends e (cookie_echoed my held cookie) parameters o transfer turn known none = absurd (none_ends e my held parameters o transfer known turn none)
 reset_ends e (open_in phase my held) parameters o transfer turn known none = absurd (none_ends e my held parameters o transfer known turn none)
 
-ends_by : (input : Input) → Handles input → (e : Endpoint) (o : Outcome) (transfer : Transfer) → IsCall input → Turn e input o → e.below.transfer ≡ Some transfer → o.after.below.transfer ≡ None → NoneAsked o.effects
+ends_by : (input : Input) → Handles input → (e : Endpoint) (o : Outcome) (transfer : Transfer) → IsCall input → Turn e input o → e.queues.transfer ≡ Some transfer → o.after.queues.transfer ≡ None → NoneAsked o.effects
 ends_by input (calmly calm) e o transfer may turn known none = calm_asks_nothing e input o calm may turn
 ends_by input (handles tag parameters is) e o transfer may turn known none = reset_ends e e.core parameters o transfer (subst (λ (i : Input). Turn e i o) is turn) known none
 

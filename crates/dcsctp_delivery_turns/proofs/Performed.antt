@@ -7,7 +7,7 @@ use Rattle.dcsctp_spec_lemmas.specs.types.declared.association.Pair.{Pair}
 use Rattle.dcsctp_spec_lemmas.specs.types.declared.association.Held.{Held}
 use Rattle.dcsctp_spec_lemmas.specs.spec.Reconfiguration.{RequestedReset, ResetParameter, outgoing_reset_request, incoming_reset_request, reconfiguration_response, other_reset_parameter}
 use Rattle.dcsctp_spec_lemmas.specs.spec.association.Effect.{Effect}
-use Rattle.dcsctp_spec_lemmas.specs.spec.association.ResetChanges.{Place, again, next, astray, place_of, worked, repeated, outgoing_by, incoming_by, informed_where, is_outstanding, work_parameters, work_chunk}
+use Rattle.dcsctp_spec_lemmas.specs.spec.association.ResetChanges.{RequestPlace, again, next, astray, request_place, performed_request, repeated, outgoing_by, incoming_by, informed_where, is_outstanding, work_parameters, work_chunk}
 use Rattle.dcsctp_spec_lemmas.specs.spec.endpoint.BegunResets.{BegunReset, begun_effects}
 use Rattle.dcsctp_spec_lemmas.specs.spec.endpoint.ResetOutcomes.{requested_in, OwnAnswer, unanswered, retried, was_performed, has_failed, own_answer, has_completed, has_reset}
 use Rattle.dcsctp_delivery_sending.specs.Flushes.{NoRequests}
@@ -60,7 +60,7 @@ begun_none (Some begun) = refl
 
 -- ---- what is performed
 
-worked_none : (held : Held) (number : ℕ) (reached : Bool) → has_reset (worked held number reached).effects ≡ true → reached ≡ true
+worked_none : (held : Held) (number : ℕ) (reached : Bool) → has_reset (performed_request held number reached).effects ≡ true → reached ≡ true
 worked_none held number true is = refl
 worked_none held number false is = absurd (cc)
 
@@ -73,12 +73,12 @@ repeated_reached held ErrorWrongSSN reached is = absurd (cc)
 repeated_reached held ErrorRequestAlreadyInProgress reached is = absurd (cc)
 repeated_reached held ErrorBadSequenceNumber reached is = absurd (cc)
 
-outgoing_reached : (held : Held) (number : ℕ) (reached : Bool) (place : Place) → has_reset (outgoing_by held number reached place).effects ≡ true → reached ≡ true
+outgoing_reached : (held : Held) (number : ℕ) (reached : Bool) (place : RequestPlace) → has_reset (outgoing_by held number reached place).effects ≡ true → reached ≡ true
 outgoing_reached held number reached again is = repeated_reached held held.peer_result reached is
 outgoing_reached held number reached next is = worked_none held number reached is
 outgoing_reached held number reached astray is = absurd (cc)
 
-incoming_none : (held : Held) (number : ℕ) (place : Place) → has_reset (incoming_by held number place).effects ≡ false
+incoming_none : (held : Held) (number : ℕ) (place : RequestPlace) → has_reset (incoming_by held number place).effects ≡ false
 incoming_none held number again = refl
 incoming_none held number next = refl
 incoming_none held number astray = refl
@@ -105,16 +105,16 @@ parameters_perform : (my : Pair) (reached has_worked : Bool) (held : Held) (para
 parameters_perform my reached has_worked held [] is = absurd (cc)
 parameters_perform my reached true held (outgoing_reset_request number answered reset ∷ parameters) is = absurd (cc)
 parameters_perform my reached false held (outgoing_reset_request number answered reset ∷ parameters) is =
-    let first = outgoing_by held number reached (place_of held.peer_last number) in
+    let first = outgoing_by held number reached (request_place held.peer_last number) in
     elim (reset_in first.effects (work_parameters my reached true first.held parameters).effects is) [
-      | inl at ↦ record { first = refl; all = outgoing_reached held number reached (place_of held.peer_last number) at; reset = reset; asked = refl }
+      | inl at ↦ record { first = refl; all = outgoing_reached held number reached (request_place held.peer_last number) at; reset = reset; asked = refl }
       | inr later ↦ (let none : true ≡ false = (parameters_perform my reached true first.held parameters later).first in absurd (cc))
     ]
 parameters_perform my reached has_worked held (incoming_reset_request number streams ∷ parameters) is =
-    let first = incoming_by held number (place_of held.peer_last number) in
+    let first = incoming_by held number (request_place held.peer_last number) in
     let rest = work_parameters my reached has_worked first.held parameters in
     let later : Performs reached has_worked parameters =
-    parameters_perform my reached has_worked first.held parameters (sym (reset_behind first.effects rest.effects (incoming_none held number (place_of held.peer_last number))) ∙ is) in
+    parameters_perform my reached has_worked first.held parameters (sym (reset_behind first.effects rest.effects (incoming_none held number (request_place held.peer_last number))) ∙ is) in
     record { first = later.first; all = later.all; reset = later.reset; asked = later.asked }
 parameters_perform my reached has_worked held (reconfiguration_response number result ∷ parameters) is =
     let first = informed_where my held number result (is_outstanding number held.own_outstanding) in
@@ -137,9 +137,9 @@ parameters_answer : (my : Pair) (reached has_worked : Bool) (held : Held) (param
 parameters_answer my reached has_worked held [] = tt
 parameters_answer my reached true held (outgoing_reset_request number answered reset ∷ parameters) = tt
 parameters_answer my reached false held (outgoing_reset_request number answered reset ∷ parameters) =
-    parameters_answer my reached true (outgoing_by held number reached (place_of held.peer_last number)).held parameters
+    parameters_answer my reached true (outgoing_by held number reached (request_place held.peer_last number)).held parameters
 parameters_answer my reached has_worked held (incoming_reset_request number streams ∷ parameters) =
-    parameters_answer my reached has_worked (incoming_by held number (place_of held.peer_last number)).held parameters
+    parameters_answer my reached has_worked (incoming_by held number (request_place held.peer_last number)).held parameters
 parameters_answer my reached has_worked held (reconfiguration_response number result ∷ parameters) =
     parameters_answer my reached has_worked (informed_where my held number result (is_outstanding number held.own_outstanding)).held parameters
 parameters_answer my reached has_worked held (other_reset_parameter parameter ∷ parameters) = parameters_answer my reached has_worked held parameters
@@ -161,7 +161,7 @@ said_then before between after first rest (inl same) (inl alike) = inl (alike �
 said_then before between after first rest (inl same) (inr (inl completed)) = inr (inl (completed_behind first rest completed))
 said_then before between after first rest (inl same) (inr (inr refused)) = inr (inr (refused_behind first rest refused))
 
-worked_out : (held : Held) (number : ℕ) (reached : Bool) → (worked held number reached).held.own_outstanding ≡ held.own_outstanding
+worked_out : (held : Held) (number : ℕ) (reached : Bool) → (performed_request held number reached).held.own_outstanding ≡ held.own_outstanding
 worked_out held number true = refl
 worked_out held number false = refl
 
@@ -174,12 +174,12 @@ repeated_out held ErrorRequestAlreadyInProgress reached = refl
 repeated_out held ErrorBadSequenceNumber reached = refl
 repeated_out held InProgress reached = worked_out held held.peer_last reached
 
-pub outgoing_out : (held : Held) (number : ℕ) (reached : Bool) (place : Place) → (outgoing_by held number reached place).held.own_outstanding ≡ held.own_outstanding
+pub outgoing_out : (held : Held) (number : ℕ) (reached : Bool) (place : RequestPlace) → (outgoing_by held number reached place).held.own_outstanding ≡ held.own_outstanding
 outgoing_out held number reached again = repeated_out held held.peer_result reached
 outgoing_out held number reached next = worked_out held number reached
 outgoing_out held number reached astray = refl
 
-pub incoming_out : (held : Held) (number : ℕ) (place : Place) → (incoming_by held number place).held.own_outstanding ≡ held.own_outstanding
+pub incoming_out : (held : Held) (number : ℕ) (place : RequestPlace) → (incoming_by held number place).held.own_outstanding ≡ held.own_outstanding
 incoming_out held number again = refl
 incoming_out held number next = refl
 incoming_out held number astray = refl
@@ -200,12 +200,12 @@ parameters_say : (my : Pair) (reached has_worked : Bool) (held : Held) (paramete
 parameters_say my reached has_worked held [] = inl refl
 parameters_say my reached true held (outgoing_reset_request number answered reset ∷ parameters) = inl refl
 parameters_say my reached false held (outgoing_reset_request number answered reset ∷ parameters) =
-    let first = outgoing_by held number reached (place_of held.peer_last number) in
-    said_then held.own_outstanding first.held.own_outstanding _ first.effects _ (inl (outgoing_out held number reached (place_of held.peer_last number)))
+    let first = outgoing_by held number reached (request_place held.peer_last number) in
+    said_then held.own_outstanding first.held.own_outstanding _ first.effects _ (inl (outgoing_out held number reached (request_place held.peer_last number)))
     (parameters_say my reached true first.held parameters)
 parameters_say my reached has_worked held (incoming_reset_request number streams ∷ parameters) =
-    let first = incoming_by held number (place_of held.peer_last number) in
-    said_then held.own_outstanding first.held.own_outstanding _ first.effects _ (inl (incoming_out held number (place_of held.peer_last number)))
+    let first = incoming_by held number (request_place held.peer_last number) in
+    said_then held.own_outstanding first.held.own_outstanding _ first.effects _ (inl (incoming_out held number (request_place held.peer_last number)))
     (parameters_say my reached has_worked first.held parameters)
 parameters_say my reached has_worked held (reconfiguration_response number result ∷ parameters) =
     let first = informed_where my held number result (is_outstanding number held.own_outstanding) in

@@ -4,8 +4,8 @@ use Rattle.std.specs.Prelude.{◌&&◌}
 use Rattle.dcsctp_spec_lemmas.specs.spec.endpoint.Endpoint.{Endpoint}
 use Rattle.dcsctp_spec_lemmas.specs.spec.Packet.{Plain, Emission}
 use Rattle.dcsctp_spec_lemmas.specs.spec.queues.Tracker.{TrackerState, is_valid_tsn}
-use Rattle.dcsctp_spec_lemmas.specs.spec.queues.Transfer.{Transfer, Below, is_idle}
-use Rattle.dcsctp_spec_lemmas.specs.spec.endpoint.FlushOutcomes.{Answer, answer_contents, filled, asked, next_draft, flush_of, Ask, later_ask, room_in, wants_sack, Acknowledges, GivesWhere, AnsweredBelow, Answered, Answers, at_limit, at_empty, after_packet}
+use Rattle.dcsctp_spec_lemmas.specs.spec.queues.Transfer.{Transfer, EndpointQueues, is_idle}
+use Rattle.dcsctp_spec_lemmas.specs.spec.endpoint.FlushOutcomes.{Answer, answer_contents, filled, asked, next_draft, flush_of, Ask, later_ask, room_in, wants_sack, Acknowledges, GivesWhere, IsAnswerOfQueues, IsFlushAnswer, AreFlushAnswers, at_limit, at_empty, after_packet}
 use Rattle.dcsctp_spec_lemmas.specs.spec.endpoint.TransferMoves.{dropping, ReceivesWhere, MovesWhere, timed_by}
 use Rattle.dcsctp_delivery_sending.proofs.Packets.{out_below}
 
@@ -55,36 +55,36 @@ acknowledged_alike false room transfer tracker chunks retransmission does =
 acknowledged_alike true room transfer tracker chunks retransmission does =
     record { cumulative = ap (λ (t : TrackerState). t.cumulative) does.0; ranges = ap (λ (t : TrackerState). t.ranges) does.0; reassembly = refl }
 
-gives_left : (b : Bool) (ask : Ask) (e : Endpoint) (draft : Emission) (transfer : Transfer) (answer : Answer) → e.below.transfer ≡ Some transfer → GivesWhere b ask e draft transfer answer
-    → Left transfer answer.after.below.transfer
+gives_left : (b : Bool) (ask : Ask) (e : Endpoint) (draft : Emission) (transfer : Transfer) (answer : Answer) → e.queues.transfer ≡ Some transfer → GivesWhere b ask e draft transfer answer
+    → Left transfer answer.after.queues.transfer
 gives_left true ask e draft transfer answer known does =
-    record { left = transfer; is = ap (λ (a : Answer). a.after.below.transfer) does ∙ known; same = alike transfer }
+    record { left = transfer; is = ap (λ (a : Answer). a.after.queues.transfer) does ∙ known; same = alike transfer }
 gives_left false ask e draft transfer answer known does =
     record {
       left = record transfer { retransmission = does.sent.queue; tracker = does.tracker };
-      is = ap (λ (b : Below). b.transfer) does.below;
-      same = acknowledged_alike (wants_sack ask e.below.queue transfer) (room_in e draft) transfer does.tracker does.sacks does.sent.queue does.acknowledges;
+      is = ap (λ (b : EndpointQueues). b.transfer) does.below;
+      same = acknowledged_alike (wants_sack ask e.queues.queue transfer) (room_in e draft) transfer does.tracker does.sacks does.sent.queue does.acknowledges;
     }
 
-answered_left : (ask : Ask) (e : Endpoint) (draft : Emission) (found : Option Transfer) (transfer : Transfer) (answer : Answer) → e.below.transfer ≡ found → found ≡ Some transfer → AnsweredBelow ask e draft answer found
-    → Left transfer answer.after.below.transfer
+answered_left : (ask : Ask) (e : Endpoint) (draft : Emission) (found : Option Transfer) (transfer : Transfer) (answer : Answer) → e.queues.transfer ≡ found → found ≡ Some transfer → IsAnswerOfQueues ask e draft answer found
+    → Left transfer answer.after.queues.transfer
 answered_left ask e draft None transfer answer known is does = absurd (cc)
 answered_left ask e draft (Some other) transfer answer known is does =
     let same : other ≡ transfer = cc in
-    subst (λ (t : Transfer). Left t answer.after.below.transfer) same (gives_left (is_idle e.below.queue other) ask e draft other answer known does)
+    subst (λ (t : Transfer). Left t answer.after.queues.transfer) same (gives_left (is_idle e.queues.queue other) ask e draft other answer known does)
 
-asked_left : (ask : Ask) (e : Endpoint) (draft : Emission) (transfer : Transfer) (answer : Answer) → e.below.transfer ≡ Some transfer → Answered ask e draft answer
-    → Left transfer (asked e draft answer).after.below.transfer
+asked_left : (ask : Ask) (e : Endpoint) (draft : Emission) (transfer : Transfer) (answer : Answer) → e.queues.transfer ≡ Some transfer → IsFlushAnswer ask e draft answer
+    → Left transfer (asked e draft answer).after.queues.transfer
 asked_left ask e draft transfer answer known does =
-    let left = answered_left ask e draft e.below.transfer transfer answer refl known does.by_transfer in
+    let left = answered_left ask e draft e.queues.transfer transfer answer refl known does.by_transfer in
     record {
       left = left.left;
-      is = ap (λ (b : Below). b.transfer) (out_below answer.after _ draft.with_checksum draft.packet.tag (filled draft (answer_contents answer)).packet.contents) ∙ left.is;
+      is = ap (λ (b : EndpointQueues). b.transfer) (out_below answer.after _ draft.with_checksum draft.packet.tag (filled draft (answer_contents answer)).packet.contents) ∙ left.is;
       same = left.same;
     }
 
-pub flush_left : (ask : Ask) (n : ℕ) (e : Endpoint) (draft : Emission) (answers : List Answer) (transfer : Transfer) → e.below.transfer ≡ Some transfer → Answers ask n e draft answers
-    → Left transfer (flush_of e draft answers).after.below.transfer
+pub flush_left : (ask : Ask) (n : ℕ) (e : Endpoint) (draft : Emission) (answers : List Answer) (transfer : Transfer) → e.queues.transfer ≡ Some transfer → AreFlushAnswers ask n e draft answers
+    → Left transfer (flush_of e draft answers).after.queues.transfer
 flush_left _ _ _ _ _ transfer known (at_limit ask e draft) = record { left = transfer; is = known; same = alike transfer }
 flush_left _ _ _ _ _ transfer known (at_empty ask more e draft answer does empty) = asked_left ask e draft transfer answer known does
 flush_left _ _ _ _ _ transfer known (after_packet ask more e draft answer answers does some rest) =

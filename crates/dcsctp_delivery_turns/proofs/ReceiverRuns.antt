@@ -6,13 +6,13 @@ use Rattle.dcsctp_spec_lemmas.specs.spec.endpoint.Event.{packets_in}
 use Rattle.dcsctp_spec_lemmas.specs.spec.endpoint.Outcome.{Outcome}
 use Rattle.dcsctp_spec_lemmas.specs.spec.endpoint.Turn.{Input}
 use Rattle.dcsctp_spec_lemmas.specs.spec.queues.SendQueue.{empty_queue}
-use Rattle.dcsctp_spec_lemmas.specs.spec.queues.Transfer.{Transfer, Below}
-use Rattle.dcsctp_delivery_turns.specs.Actions.{ledger_of, Inside, inside, Made, Makes, MakesAlso, IsOpening, begun_transfer, came_by, queued_after, read_after, peer_tag, Begun, begun_below, Becomes, goes_on, works_resets, renews, ends, begins, IsCalm}
+use Rattle.dcsctp_spec_lemmas.specs.spec.queues.Transfer.{Transfer, EndpointQueues}
+use Rattle.dcsctp_delivery_turns.specs.Actions.{ledger_of, Inside, inside, Made, MakesPackets, MakesAlso, IsOpening, begun_transfer, came_by, queued_after, read_after, peer_tag, Begun, opening_queues, Becomes, goes_on, works_resets, renews, ends, begins, IsCalm}
 use Rattle.dcsctp_delivery_turns.specs.Sides.{WasSent, receiving, ReceivingSteps}
-use Rattle.dcsctp_spec_lemmas.specs.spec.association.Effect.{link_of, link_in}
+use Rattle.dcsctp_spec_lemmas.specs.spec.association.Effect.{identity_of, identity_in}
 use Rattle.dcsctp_spec_lemmas.specs.types.queues.Messages.{MessageContent}
-use Rattle.dcsctp_delivery_turns.specs.Runs.{new_direction, OpensSmall, PerformsNewest, performed_where, ReceiverTurns, receiver_goes_on, receiver_ends, receiver_begins, Opens, IdleTurns, idle_stays, idle_begins}
-use Rattle.dcsctp_delivery_directions.specs.Directions.{Asking, nothing_asked, Direction, Run}
+use Rattle.dcsctp_delivery_turns.specs.Runs.{new_direction, OpensSmall, PerformsNewest, performed_where, ReceiverTurns, receiver_goes_on, receiver_ends, receiver_begins, OpensAssociation, IdleTurns, idle_stays, idle_begins}
+use Rattle.dcsctp_delivery_directions.specs.Directions.{Asking, nothing_asked, Direction, DirectionRun}
 use Rattle.dcsctp_delivery_turns.proofs.Sides.{steps_go_on, actions_receive}
 use Rattle.dcsctp_delivery_turns.proofs.Idle.{actions_none, read_none, opening_sent}
 use Rattle.dcsctp_spec_lemmas.specs.spec.Reconfiguration.{RequestedReset}
@@ -27,10 +27,10 @@ empty_direction options = new_direction options 0 0 [] (record { queue = empty_q
 module _ (e : Endpoint) (input : Input) (o : Outcome) (small : OpensSmall e input o) where
   -- An association that begins, with nothing begun to be reset.
   abbrev started : Begun e o → RequestedReset → Inside
-  started begun again = record { below = begun_below e o begun; own = Some (record { number = None; next = begun.my.first_tsn; again = again }) }
+  started begun again = record { queues = opening_queues e o begun; own = Some (record { number = None; next = begun.my.first_tsn; again = again }) }
 
-  opens : (begun : Begun e o) → IsOpening (came_by input) → link_in o.after.core ≡ Some (link_of begun.my begun.held) → ((read : List MessageContent) → read_after e input read ≡ read)
-      → (again : RequestedReset) → Makes (came_by input) begun.held.peer.tag (started begun again) (packets_in o.events) (inside o.after) → Opens e input o
+  opens : (begun : Begun e o) → IsOpening (came_by input) → identity_in o.after.core ≡ Some (identity_of begun.my begun.held) → ((read : List MessageContent) → read_after e input read ≡ read)
+      → (again : RequestedReset) → MakesPackets (came_by input) begun.held.peer.tag (started begun again) (packets_in o.events) (inside o.after) → OpensAssociation e input o
   opens begun opening linked unread again makes =
       record {
         begun = begun;
@@ -39,74 +39,74 @@ module _ (e : Endpoint) (input : Input) (o : Outcome) (small : OpensSmall e inpu
         unread = unread;
         left = got.left;
         is = got.is;
-        runs = λ options first size direction run. subst (λ (t : Transfer). Run options first size (receiving direction t direction.read)) (same_left (received direction).left got.left (received direction).is got.is)
+        runs = λ options first size direction run. subst (λ (t : Transfer). DirectionRun options first size (receiving direction t direction.read)) (same_left (received direction).left got.left (received direction).is got.is)
             (steps_go_on options first size (receiving direction (begun_transfer e o begun) direction.read) (receiving direction (received direction).left direction.read) run (received direction).steps);
         fits = record { first = begun.my.first_tsn; asking = (made []).asking; fits = (made []).fits };
         empty = got.waits;
       }
     where
-      made : (read : List MessageContent) → Made (came_by input) begun.held.peer.tag (ledger_of [] (begun_below e o begun) [] read nothing_asked) begun.my.first_tsn (inside o.after) [] ([] ++ packets_in o.events) read
+      made : (read : List MessageContent) → Made (came_by input) begun.held.peer.tag (ledger_of [] (opening_queues e o begun) [] read nothing_asked) begun.my.first_tsn (inside o.after) [] ([] ++ packets_in o.events) read
       made read = makes [] [] read begun.my.first_tsn nothing_asked (nothing_fits begun.my.first_tsn again (small begun opening linked))
 
-      received : (direction : Direction) → ReceivingSteps direction (begun_transfer e o begun) (ledger_of [] (begun_below e o begun) [] direction.read nothing_asked)
-          (ledger_of [] o.after.below ([] ++ packets_in o.events) direction.read (made direction.read).asking)
+      received : (direction : Direction) → ReceivingSteps direction (begun_transfer e o begun) (ledger_of [] (opening_queues e o begun) [] direction.read nothing_asked)
+          (ledger_of [] o.after.queues ([] ++ packets_in o.events) direction.read (made direction.read).asking)
       received direction =
-          actions_receive (came_by input) begun.held.peer.tag (ledger_of [] (begun_below e o begun) [] direction.read nothing_asked)
-          (ledger_of [] o.after.below ([] ++ packets_in o.events) direction.read (made direction.read).asking) direction (begun_transfer e o begun)
+          actions_receive (came_by input) begun.held.peer.tag (ledger_of [] (opening_queues e o begun) [] direction.read nothing_asked)
+          (ledger_of [] o.after.queues ([] ++ packets_in o.events) direction.read (made direction.read).asking) direction (begun_transfer e o begun)
           (opening_sent direction.sent (came_by input) opening) refl (made direction.read).actions
 
-      got : ReceivingSteps (empty_direction e.options) (begun_transfer e o begun) (ledger_of [] (begun_below e o begun) [] [] nothing_asked) (ledger_of [] o.after.below ([] ++ packets_in o.events) [] (made []).asking)
+      got : ReceivingSteps (empty_direction e.options) (begun_transfer e o begun) (ledger_of [] (opening_queues e o begun) [] [] nothing_asked) (ledger_of [] o.after.queues ([] ++ packets_in o.events) [] (made []).asking)
       got = received (empty_direction e.options)
 
-      same_left : (one other : Transfer) → o.after.below.transfer ≡ Some one → o.after.below.transfer ≡ Some other → one ≡ other
+      same_left : (one other : Transfer) → o.after.queues.transfer ≡ Some one → o.after.queues.transfer ≡ Some other → one ≡ other
       same_left one other first second = cc
 
-  idle_goes : link_in o.after.core ≡ link_in e.core → (worked : Inside) → SomeFit worked.own → worked.below.transfer ≡ None
+  idle_goes : identity_in o.after.core ≡ identity_in e.core → (worked : Inside) → SomeFit worked.own → worked.queues.transfer ≡ None
       → MakesAlso (came_by input) (peer_tag e.core) (queued_after e input) (read_after e input) worked (packets_in o.events) (inside o.after) → ((read : List MessageContent) → read_after e input read ≡ read) → IdleTurns e input o
   idle_goes linked worked fits none makes unread =
       let made = makes [] [] [] fits.first fits.asking fits.fits in
       idle_stays (inr linked) (actions_none (came_by input) (peer_tag e.core) _ _ made.actions none) (record { first = fits.first; asking = made.asking; fits = made.fits }) unread
 
-  pub idle_becomes : e.below.transfer ≡ None → SomeFit (own_of e) → Becomes (came_by input) (peer_tag e.core) (queued_after e input) (read_after e input) e o → IdleTurns e input o
+  pub idle_becomes : e.queues.transfer ≡ None → SomeFit (own_of e) → Becomes (came_by input) (peer_tag e.core) (queued_after e input) (read_after e input) e o → IdleTurns e input o
   idle_becomes none fits (goes_on calm linked makes) = idle_goes linked (inside e) fits none makes (λ read. read_none e input read none)
   idle_becomes none fits (works_resets linked between worked own peer makes) =
       idle_goes linked worked (worked_fits (came_by input) o (inside e) between worked own peer fits) (front_none (came_by input) o.effects (inside e) between worked own peer none) makes
       (λ read. read_none e input read none)
   idle_becomes none fits (renews calm linked alike unread own number emission kept out is packets tag contents) =
-      idle_stays (inr linked) (ap (λ (i : Inside). i.below.transfer) is ∙ none) (renewed_fit (own_of e) (own_of o.after) own number kept out (ap (λ (i : Inside). i.own) is) fits) (λ read. read_none e input read none)
-  idle_becomes none fits (ends gone unread last kept makes is) = idle_stays (inl gone) (ap (λ (b : Below). b.transfer) is) (unlinked_fits o.after.core o.after.outstanding gone) (λ read. read_none e input read none)
+      idle_stays (inr linked) (ap (λ (i : Inside). i.queues.transfer) is ∙ none) (renewed_fit (own_of e) (own_of o.after) own number kept out (ap (λ (i : Inside). i.own) is) fits) (λ read. read_none e input read none)
+  idle_becomes none fits (ends gone unread last kept makes is) = idle_stays (inl gone) (ap (λ (b : EndpointQueues). b.transfer) is) (unlinked_fits o.after.core o.after.outstanding gone) (λ read. read_none e input read none)
   idle_becomes none fits (begins begun opening linked alike unread again makes) = idle_begins (opens begun opening linked unread again makes)
 
-module _ (is_known : Bool) (options : Options) (first size : ℕ) (direction : Direction) (transfer : Transfer) (e : Endpoint) (input : Input) (o : Outcome) (run : Run options first size (receiving direction transfer direction.read))
-    (known : e.below.transfer ≡ Some transfer) (was : WasSent direction.sent (came_by input)) (newest : is_known ≡ true → PerformsNewest direction transfer (came_by input) o.effects) (fits : SomeFit (own_of e)) (small : OpensSmall e input o) where
+module _ (is_known : Bool) (options : Options) (first size : ℕ) (direction : Direction) (transfer : Transfer) (e : Endpoint) (input : Input) (o : Outcome) (run : DirectionRun options first size (receiving direction transfer direction.read))
+    (known : e.queues.transfer ≡ Some transfer) (was : WasSent direction.sent (came_by input)) (newest : is_known ≡ true → PerformsNewest direction transfer (came_by input) o.effects) (fits : SomeFit (own_of e)) (small : OpensSmall e input o) where
   -- the direction, once a request was performed in this turn or not
   abbrev worked_direction : Bool → Direction
   worked_direction is_reset = record direction { asking = performed_where is_known is_reset direction.asking }
 
-  goes_further : link_in o.after.core ≡ link_in e.core → (is_reset : Bool) → (is_reset ≡ false → (has_reset o.effects ≡ false) ⊎ IsCalm (came_by input)) → (is_reset ≡ true → has_reset o.effects ≡ true) → (worked : Inside) (between : Transfer)
-      → worked.below.transfer ≡ Some between → (asked : SomeFit worked.own) → Run options first size (resetting is_known direction between is_reset)
+  goes_further : identity_in o.after.core ≡ identity_in e.core → (is_reset : Bool) → (is_reset ≡ false → (has_reset o.effects ≡ false) ⊎ IsCalm (came_by input)) → (is_reset ≡ true → has_reset o.effects ≡ true) → (worked : Inside) (between : Transfer)
+      → worked.queues.transfer ≡ Some between → (asked : SomeFit worked.own) → DirectionRun options first size (resetting is_known direction between is_reset)
       → MakesAlso (came_by input) (peer_tag e.core) (queued_after e input) (read_after e input) worked (packets_in o.events) (inside o.after) → ReceiverTurns is_known options first size direction transfer e input o
   goes_further linked is_reset none some worked between there asked start makes =
       let made = makes [] [] direction.read asked.first asked.asking asked.fits in
-      let got = actions_receive (came_by input) (peer_tag e.core) (ledger_of [] worked.below [] direction.read asked.asking)
-      (ledger_of (queued_after e input []) o.after.below ([] ++ packets_in o.events) (read_after e input direction.read) made.asking) (worked_direction is_reset) between was there made.actions in
+      let got = actions_receive (came_by input) (peer_tag e.core) (ledger_of [] worked.queues [] direction.read asked.asking)
+      (ledger_of (queued_after e input []) o.after.queues ([] ++ packets_in o.events) (read_after e input direction.read) made.asking) (worked_direction is_reset) between was there made.actions in
       receiver_goes_on linked got.left got.is (record { first = asked.first; asking = made.asking; fits = made.fits }) (performed_where is_known is_reset direction.asking) (is_reset, none, some, refl)
       (steps_go_on options first size (receiving (worked_direction is_reset) between direction.read) (receiving (worked_direction is_reset) got.left (read_after e input direction.read)) start got.steps)
 
   pub receiver_becomes : Becomes (came_by input) (peer_tag e.core) (queued_after e input) (read_after e input) e o → ReceiverTurns is_known options first size direction transfer e input o
   receiver_becomes (goes_on calm linked makes) =
       goes_further linked false (λ no. inr calm) (λ is. absurd (cc)) (inside e) transfer known fits
-      (subst (λ (a : Asking). Run options first size (record (receiving direction transfer direction.read) { asking = a })) (sym (unperformed is_known direction.asking)) run) makes
+      (subst (λ (a : Asking). DirectionRun options first size (record (receiving direction transfer direction.read) { asking = a })) (sym (unperformed is_known direction.asking)) run) makes
   receiver_becomes (works_resets linked between worked own peer makes) =
       let front = front_receives is_known (came_by input) o.effects direction transfer (inside e) between worked newest known own peer in
       goes_further linked front.is_reset (λ no. inl (front.none no)) front.some worked front.left front.is (worked_fits (came_by input) o (inside e) between worked own peer fits)
       (steps_go_on options first size (receiving direction transfer direction.read) (resetting is_known direction front.left front.is_reset) run front.steps) makes
   receiver_becomes (renews calm linked alike unread own number emission kept out is packets tag contents) =
       let asking : Asking = performed_where is_known false direction.asking in
-      let stays : Run options first size (record (receiving direction transfer direction.read) { asking = asking }) =
-      subst (λ (a : Asking). Run options first size (record (receiving direction transfer direction.read) { asking = a })) (sym (unperformed is_known direction.asking)) run in
-      receiver_goes_on linked transfer (ap (λ (i : Inside). i.below.transfer) is ∙ known) (renewed_fit (own_of e) (own_of o.after) own number kept out (ap (λ (i : Inside). i.own) is) fits) asking
+      let stays : DirectionRun options first size (record (receiving direction transfer direction.read) { asking = asking }) =
+      subst (λ (a : Asking). DirectionRun options first size (record (receiving direction transfer direction.read) { asking = a })) (sym (unperformed is_known direction.asking)) run in
+      receiver_goes_on linked transfer (ap (λ (i : Inside). i.queues.transfer) is ∙ known) (renewed_fit (own_of e) (own_of o.after) own number kept out (ap (λ (i : Inside). i.own) is) fits) asking
       (false, λ no. inr calm, λ some. absurd (cc), refl)
-      (subst (λ (l : List MessageContent). Run options first size (record (receiving direction transfer l) { asking = asking })) (sym (unread direction.read)) stays)
-  receiver_becomes (ends none unread last kept makes is) = receiver_ends none (ap (λ (b : Below). b.transfer) is) unread
+      (subst (λ (l : List MessageContent). DirectionRun options first size (record (receiving direction transfer l) { asking = asking })) (sym (unread direction.read)) stays)
+  receiver_becomes (ends none unread last kept makes is) = receiver_ends none (ap (λ (b : EndpointQueues). b.transfer) is) unread
   receiver_becomes (begins begun opening linked alike unread again makes) = receiver_begins (opens e input o small begun opening linked unread again makes)

@@ -10,20 +10,20 @@ use Rattle.dcsctp_spec_lemmas.specs.spec.Reconfiguration.{RequestedReset, ResetP
 use Rattle.dcsctp_spec_lemmas.specs.spec.endpoint.Endpoint.{Endpoint, Core, closed, cookie_wait, cookie_echoed, open_in, OutstandingRequest}
 use Rattle.dcsctp_spec_lemmas.specs.spec.endpoint.Outcome.{Outcome, still, to_peer}
 use Rattle.dcsctp_spec_lemmas.specs.spec.association.Effect.{Effect}
-use Rattle.dcsctp_spec_lemmas.specs.spec.association.ResetChanges.{WorkedParameters}
-use Rattle.dcsctp_spec_lemmas.specs.spec.queues.Transfer.{Transfer, Below}
+use Rattle.dcsctp_spec_lemmas.specs.spec.association.ResetChanges.{HandledParameters}
+use Rattle.dcsctp_spec_lemmas.specs.spec.queues.Transfer.{Transfer, EndpointQueues}
 use Rattle.dcsctp_spec_lemmas.specs.spec.endpoint.FlushOutcomes.{Answer, draft_to, flush_of, first_ask, packets_allowed}
 use Rattle.dcsctp_spec_lemmas.specs.spec.endpoint.ReconfigurationOutcomes.{reset_again}
-use Rattle.dcsctp_spec_lemmas.specs.spec.endpoint.ResetOutcomes.{own_moved, waiting, has_completed, requested_in, worked_in, has_reset, answers_in_progress, ResetsBelow, OwnAnswer, unanswered, retried, was_performed, has_failed, answered_in, own_streams, their_streams, reset_events, told_of, resets_worked, reset_refusal_text, responses_outcome, responses_by, ResponseAnswers, WorksResets, ResetTurn, is_reached, core_with}
+use Rattle.dcsctp_spec_lemmas.specs.spec.endpoint.ResetOutcomes.{own_moved, waiting, has_completed, requested_in, parameters_handled_in, has_reset, answers_in_progress, ResetsInQueues, OwnAnswer, unanswered, retried, was_performed, has_failed, answered_in, own_streams, their_streams, reset_events, reset_events_of, resets_handled, reset_refusal_text, responses_outcome, responses_by, ResponseAnswers, WorksResets, ResetTurn, is_request_reached, core_with}
 use Rattle.dcsctp_theorem_sockets.proofs.Bursts.{packets_in-append, emits_core}
-use Rattle.dcsctp_delivery_turns.specs.Actions.{Inside, inside, Makes, has_refused, OwnEnds, unended, committed, rolled_back, PeerResets, unreset, absent, deferred, reset_now, works_resets}
+use Rattle.dcsctp_delivery_turns.specs.Actions.{Inside, inside, MakesPackets, has_refused, OwnEnds, unended, committed, rolled_back, PeerResets, unreset, absent, deferred, reset_now, works_resets}
 use Rattle.dcsctp_delivery_turns.specs.Asking.{Own, own_with, own_in, own_of}
 use Rattle.std.specs.Option.{option_map}
 use Rattle.dcsctp_spec_lemmas.proofs.FlushKeeps.{begun_by, flush_keeps}
 use Rattle.dcsctp_delivery_sending.specs.Flushes.{NoRequests}
 use Rattle.dcsctp_spec_laws.proofs.ResetLemmas.{KeepsPeer, chunk_brings, worked_keeps}
 use Rattle.dcsctp_spec_lemmas.specs.types.declared.capabilities.Capabilities.{Capabilities}
-use Rattle.dcsctp_spec_lemmas.specs.spec.association.Effect.{Link, link_of, link_in}
+use Rattle.dcsctp_spec_lemmas.specs.spec.association.Effect.{AssociationIdentity, identity_of, identity_in}
 use Rattle.dcsctp_delivery_turns.proofs.Tags.{flush_link}
 use Rattle.dcsctp_delivery_turns.specs.Tags.{IsPeerTag}
 use Rattle.dcsctp_delivery_turns.proofs.Actions.{emits_link, Goes, MakesTo, both, rests, silent, emitted, flushed}
@@ -44,13 +44,13 @@ events_none theirs own (effects.accepts number ∷ happened) = events_none their
 events_none theirs own (effects.performs peer number ∷ happened) = events_none theirs own happened
 events_none theirs own (effects.resumes link first last ∷ happened) = events_none theirs own happened
 
-abbrev the_link : Link → Option Link
+abbrev the_link : AssociationIdentity → Option AssociationIdentity
 the_link link = Some link
 
-with_peer_link : (own my : Pair) (before old held : Held) → the_link (link_of own before) ≡ Some (link_of my old) → KeepsPeer old held → the_link (link_of own held) ≡ Some (link_of my old)
+with_peer_link : (own my : Pair) (before old held : Held) → the_link (identity_of own before) ≡ Some (identity_of my old) → KeepsPeer old held → the_link (identity_of own held) ≡ Some (identity_of my old)
 with_peer_link own my before old held is keeps =
-    let same : link_of own before ≡ link_of my old = cc in
-    let mine : own ≡ my = ap (λ (l : Link). l.my) same in
+    let same : identity_of own before ≡ identity_of my old = cc in
+    let mine : own ≡ my = ap (λ (l : AssociationIdentity). l.my) same in
     ap (λ (p : Pair). the_link (record { my = p; peer = held.peer; capabilities = held.capabilities })) mine
     ∙ ap (λ (p : Pair). the_link (record { my = my; peer = p; capabilities = held.capabilities })) keeps.peer
     ∙ ap (λ (c : Capabilities). the_link (record { my = my; peer = old.peer; capabilities = c })) keeps.capabilities
@@ -59,7 +59,7 @@ with_peer_link own my before old held is keeps =
 
 -- the inside of an endpoint once its own request got this answer, with this known of the peer
 abbrev moved_inside : OwnAnswer → Endpoint → Held → Inside
-moved_inside answer e held = record { below = (own_moved answer e).below; own = Some (own_with held (own_moved answer e).outstanding) }
+moved_inside answer e held = record { queues = (own_moved answer e).queues; own = Some (own_with held (own_moved answer e).outstanding) }
 
 waits_same : (request : Option OutstandingRequest) → reset_again (option_map waiting request) ≡ reset_again request
 waits_same None = refl
@@ -78,21 +78,21 @@ own_ended : (old new : Held) → new.own_outstanding ≡ None → new.own_next �
 own_ended old new none next =
     sym (ap (λ (n : Option ℕ). some_own n new.own_next (reset_again None)) none ∙ ap (λ (n : ℕ). some_own None n (reset_again None)) next)
 
-ends_to : (happened : List Effect) (old : Inside) (below : Below) (own other : Option Own) → own ≡ other → OwnEnds happened old (record { below = below; own = own }) → OwnEnds happened old (record { below = below; own = other })
-ends_to happened old below own other is ends = subst (λ (o : Option Own). OwnEnds happened old (record { below = below; own = o })) is ends
+ends_to : (happened : List Effect) (old : Inside) (below : EndpointQueues) (own other : Option Own) → own ≡ other → OwnEnds happened old (record { queues = below; own = own }) → OwnEnds happened old (record { queues = below; own = other })
+ends_to happened old below own other is ends = subst (λ (o : Option Own). OwnEnds happened old (record { queues = below; own = o })) is ends
 
 own_ends : (answer : OwnAnswer) (e : Endpoint) (old new : Held) (performed refused : Bool) (happened : List Effect) → Stays answer old.own_outstanding new.own_outstanding performed refused → new.own_next ≡ old.own_next
     → own_of e ≡ Some (own_with old e.outstanding) → (performed ≡ true → has_completed happened ≡ true) → (refused ≡ true → has_refused happened ≡ true) → OwnEnds happened (inside e) (moved_inside answer e new)
 own_ends unanswered e old new performed refused happened stays next is completes refuses =
-    ends_to happened (inside e) e.below _ _ (is ∙ own_same old new (reset_again e.outstanding) (reset_again e.outstanding) stays next refl) unended
+    ends_to happened (inside e) e.queues _ _ (is ∙ own_same old new (reset_again e.outstanding) (reset_again e.outstanding) stays next refl) unended
 own_ends retried e old new performed refused happened stays next is completes refuses =
-    ends_to happened (inside e) e.below _ _ (is ∙ own_same old new (reset_again (option_map waiting e.outstanding)) (reset_again e.outstanding) stays next (waits_same e.outstanding)) unended
+    ends_to happened (inside e) e.queues _ _ (is ∙ own_same old new (reset_again (option_map waiting e.outstanding)) (reset_again e.outstanding) stays next (waits_same e.outstanding)) unended
 own_ends was_performed e old new performed refused happened stays next is completes refuses =
     ends_to happened (inside e) _ _ _ (own_ended old new stays.0 next) (committed (completes stays.1) (own_with old e.outstanding) is)
 own_ends has_failed e old new performed refused happened stays next is completes refuses =
     ends_to happened (inside e) _ _ _ (own_ended old new stays.0 next) (rolled_back (refuses stays.1) (own_with old e.outstanding) is)
 
-moved_transfer : (answer : OwnAnswer) (e : Endpoint) → (own_moved answer e).below.transfer ≡ e.below.transfer
+moved_transfer : (answer : OwnAnswer) (e : Endpoint) → (own_moved answer e).queues.transfer ≡ e.queues.transfer
 moved_transfer unanswered e = refl
 moved_transfer retried e = refl
 moved_transfer was_performed e = refl
@@ -102,18 +102,18 @@ moved_transfer has_failed e = refl
 
 -- with that in flight and received
 abbrev with_left : Option Transfer → Inside → Inside
-with_left left old = record old { below = record old.below { transfer = left } }
+with_left left old = record old { queues = record old.queues { transfer = left } }
 
-same_left : (came : Option Content) (happened : List Effect) (old : Inside) (left : Option Transfer) → left ≡ old.below.transfer → PeerResets came happened old old → PeerResets came happened old (with_left left old)
+same_left : (came : Option Content) (happened : List Effect) (old : Inside) (left : Option Transfer) → left ≡ old.queues.transfer → PeerResets came happened old old → PeerResets came happened old (with_left left old)
 same_left came happened old left is resets = subst (λ (l : Option Transfer). PeerResets came happened old (with_left l old)) (sym is) resets
 
-no_reset : (came : Option Content) (happened : List Effect) (old : Inside) (transfer left : Option Transfer) → has_reset happened ≡ false → old.below.transfer ≡ transfer → left ≡ transfer
+no_reset : (came : Option Content) (happened : List Effect) (old : Inside) (transfer left : Option Transfer) → has_reset happened ≡ false → old.queues.transfer ≡ transfer → left ≡ transfer
     → PeerResets came happened old (with_left left old)
 no_reset came happened old transfer left none known same = same_left came happened old left (same ∙ sym known) (unreset none)
 
 peer_resets : (parameters : List ResetParameter) (happened : List Effect) (performed in_progress : Bool) (reset : Option RequestedReset) (transfer left : Option Transfer) (old : Inside) → has_reset happened ≡ performed → requested_in parameters ≡ reset
-    → old.below.transfer ≡ transfer → (performed ≡ true → (is_reached transfer reset ≡ true) × ((one : RequestedReset) × (reset ≡ Some one)))
-    → ResetsBelow performed in_progress reset transfer left → PeerResets (Some (re_config parameters)) happened old (with_left left old)
+    → old.queues.transfer ≡ transfer → (performed ≡ true → (is_request_reached transfer reset ≡ true) × ((one : RequestedReset) × (reset ≡ Some one)))
+    → ResetsInQueues performed in_progress reset transfer left → PeerResets (Some (re_config parameters)) happened old (with_left left old)
 peer_resets parameters happened true in_progress (Some reset) (Some transfer) left old has asked known reached below =
     subst (λ (l : Option Transfer). PeerResets (Some (re_config parameters)) happened old (with_left l old)) (sym (below.1 ∙ ap (λ (t : Transfer). Some t) below.2.rest))
     (reset_now has parameters reset refl asked transfer below.0.reassembly known (reached refl).0 below.2.reassembly)
@@ -154,22 +154,22 @@ module _ (came : Option Content) (to : ℕ) where
       let first : Outcome = responses_outcome e held responses in
       let last : Outcome = flush_of first.after (draft_to held) answers in
       let fronts : packets_in (told ++ first.events) ≡ packets_in first.events = packets_in-append told first.events ∙ ap (λ (l : List Emission). l ++ packets_in first.events) none in
-      subst (λ (l : List Emission). Makes came to (inside e) l (inside last.after))
+      subst (λ (l : List Emission). MakesPackets came to (inside e) l (inside last.after))
       (sym (packets_in-append (told ++ first.events) last.events ∙ ap (λ (l : List Emission). l ++ packets_in last.events) fronts))
       (both came to (inside e) (inside first.after) (inside last.after) (packets_in first.events) (packets_in last.events) (responses_make e held responses no_request) (flushed came to first.after (draft_to held) answers (responses_peer e held responses at) tag tt tt allowed))
 
-  responses_link : (e : Endpoint) (held : Held) (responses : List ResetParameter) → link_in (responses_outcome e held responses).after.core ≡ link_in e.core
+  responses_link : (e : Endpoint) (held : Held) (responses : List ResetParameter) → identity_in (responses_outcome e held responses).after.core ≡ identity_in e.core
   responses_link e held [] = refl
   responses_link e held (response ∷ responses) = emits_link e [] (to_peer held (re_config (response ∷ responses)))
 
   sent_link : (refused : Bool) (e : Endpoint) (told : List (Event Emission)) (held : Held) (parameters responses : List ResetParameter) (answers : List Answer) → ResponseAnswers refused e held responses answers
-      → link_in (responses_by refused e told held parameters responses answers).after.core ≡ link_in e.core
+      → identity_in (responses_by refused e told held parameters responses answers).after.core ≡ identity_in e.core
   sent_link true e told held parameters responses answers allowed = refl
   sent_link false e told held parameters responses answers allowed =
       flush_link (responses_outcome e held responses).after (draft_to held) answers allowed ∙ responses_link e held responses
 
   -- What is known of the peer changes, but not the association.
-  with_link : (core : Core) (my : Pair) (old held : Held) → link_in core ≡ Some (link_of my old) → KeepsPeer old held → link_in (core_with core held) ≡ Some (link_of my old)
+  with_link : (core : Core) (my : Pair) (old held : Held) → identity_in core ≡ Some (identity_of my old) → KeepsPeer old held → identity_in (core_with core held) ≡ Some (identity_of my old)
   with_link closed my old held is keeps = absurd (cc)
   with_link (cookie_wait own) my old held is keeps = absurd (cc)
   with_link (cookie_echoed own before cookie) my old held is keeps = with_peer_link own my before old held is keeps
@@ -186,17 +186,17 @@ module _ (came : Option Content) (to : ℕ) where
 -- ---- the turn
 
 module _ (to : ℕ) where
-  works_goes : (e : Endpoint) (my : Pair) (held : Held) (parameters : List ResetParameter) (o : Outcome) → link_in e.core ≡ Some (link_of my held) → IsPeerTag e.core to → held.peer.tag ≡ to → own_of e ≡ Some (own_with held e.outstanding)
+  works_goes : (e : Endpoint) (my : Pair) (held : Held) (parameters : List ResetParameter) (o : Outcome) → identity_in e.core ≡ Some (identity_of my held) → IsPeerTag e.core to → held.peer.tag ≡ to → own_of e ≡ Some (own_with held e.outstanding)
       → ((new : Held) (request : Option OutstandingRequest) → own_in (core_with e.core new) request ≡ Some (own_with new request)) → WorksResets e my held parameters o → Goes (Some (re_config parameters)) to e o
   works_goes e my held parameters o linked at is own own_later turn =
-      let w : WorkedParameters = worked_in e my held parameters in
-      let reached : Bool = is_reached e.below.transfer (requested_in parameters) in
+      let w : HandledParameters = parameters_handled_in e my held parameters in
+      let reached : Bool = is_request_reached e.queues.transfer (requested_in parameters) in
       let brought = chunk_brings my reached held parameters in
       let answer : OwnAnswer = answered_in held w parameters in
       let tag : w.held.peer.tag ≡ to = ap (λ (p : Pair). p.tag) brought.keeps.peer ∙ is in
-      let base : Endpoint = resets_worked e answer w.held turn.left in
+      let base : Endpoint = resets_handled e answer w.held turn.left in
       let kept = (worked_keeps e answer w.held turn.left).core in
-      let told : List (Event Emission) = told_of e parameters w.effects in
+      let told : List (Event Emission) = reset_events_of e parameters w.effects in
       let last : Outcome = responses_by w.is_refused base told w.held parameters w.answers turn.answers in
       let between : Inside = moved_inside answer e w.held in
       let silent_end : has_reset (w.effects ++ last.effects) ≡ has_reset w.effects = reset_in_front w.effects last.effects (sent_none (Some (re_config parameters)) to w.is_refused base told w.held parameters w.answers turn.answers turn.allowed) in
@@ -205,16 +205,16 @@ module _ (to : ℕ) where
       (own_stays held.own_outstanding w.held.own_outstanding _ w.effects brought.keeps.own_outstanding (chunk_says my reached held parameters)) brought.keeps.own_next own
       (completed_among w.effects last.effects) (refused_among w.effects last.effects) in
       let asks : PeerResets (Some (re_config parameters)) (w.effects ++ last.effects) between (with_left turn.left between) =
-      peer_resets parameters (w.effects ++ last.effects) (has_reset w.effects) (answers_in_progress w.answers) (requested_in parameters) e.below.transfer turn.left between silent_end refl
+      peer_resets parameters (w.effects ++ last.effects) (has_reset w.effects) (answers_in_progress w.answers) (requested_in parameters) e.queues.transfer turn.left between silent_end refl
       (moved_transfer answer e)
       (λ performed. ((chunk_performs my reached held parameters performed).all, ((chunk_performs my reached held parameters performed).reset, (chunk_performs my reached held parameters performed).asked))) turn.below in
-      let later : inside base ≡ with_left turn.left between = ap (λ (i : Option Own). record { below = base.below; own = i }) (own_later w.held (own_moved answer e).outstanding) in
+      let later : inside base ≡ with_left turn.left between = ap (λ (i : Option Own). record { queues = base.queues; own = i }) (own_later w.held (own_moved answer e).outstanding) in
       subst (Goes (Some (re_config parameters)) to e) (sym turn.is)
       (works_resets
       (sent_link (Some (re_config parameters)) to w.is_refused base told w.held parameters w.answers turn.answers turn.allowed
-      ∙ ap link_in kept ∙ with_link (Some (re_config parameters)) to e.core my held w.held linked brought.keeps ∙ sym linked)
+      ∙ ap identity_in kept ∙ with_link (Some (re_config parameters)) to e.core my held w.held linked brought.keeps ∙ sym linked)
       between (with_left turn.left between) ends asks
-      (subst (λ (i : Inside). Makes (Some (re_config parameters)) to i (packets_in last.events) (inside last.after)) later
+      (subst (λ (i : Inside). MakesPackets (Some (re_config parameters)) to i (packets_in last.events) (inside last.after)) later
       (sent_makes (Some (re_config parameters)) to w.is_refused base told w.held parameters w.answers turn.answers
       (subst (λ (c : Core). IsPeerTag c to) (sym kept) (with_peer (Some (re_config parameters)) to e.core w.held at tag)) tag
       (events_none (their_streams (requested_in parameters)) (own_streams e.outstanding) w.effects) (chunk_answers my reached held parameters) turn.allowed)))
@@ -226,6 +226,6 @@ module _ (to : ℕ) where
   reset_goes e closed parameters o same at is turn = subst (Goes (Some (re_config parameters)) to e) (sym turn) (idle_goes e parameters)
   reset_goes e (cookie_wait my) parameters o same at is turn = subst (Goes (Some (re_config parameters)) to e) (sym turn) (idle_goes e parameters)
   reset_goes e (cookie_echoed my held cookie) parameters o same at is turn =
-      works_goes e my held parameters o (ap link_in same) at is (ap (λ (c : Core). own_in c e.outstanding) same) (λ new request. ap (λ (c : Core). own_in (core_with c new) request) same) turn
+      works_goes e my held parameters o (ap identity_in same) at is (ap (λ (c : Core). own_in c e.outstanding) same) (λ new request. ap (λ (c : Core). own_in (core_with c new) request) same) turn
   reset_goes e (open_in phase my held) parameters o same at is turn =
-      works_goes e my held parameters o (ap link_in same) at is (ap (λ (c : Core). own_in c e.outstanding) same) (λ new request. ap (λ (c : Core). own_in (core_with c new) request) same) turn
+      works_goes e my held parameters o (ap identity_in same) at is (ap (λ (c : Core). own_in c e.outstanding) same) (λ new request. ap (λ (c : Core). own_in (core_with c new) request) same) turn

@@ -8,15 +8,15 @@ use Rattle.dcsctp_spec_lemmas.specs.spec.endpoint.Event.{packets_in}
 use Rattle.dcsctp_spec_lemmas.specs.spec.endpoint.Outcome.{Outcome}
 use Rattle.dcsctp_spec_lemmas.specs.spec.Packet.{Emission}
 use Rattle.dcsctp_spec_lemmas.specs.spec.endpoint.Turn.{Input}
-use Rattle.dcsctp_spec_lemmas.specs.spec.queues.Transfer.{Below}
+use Rattle.dcsctp_spec_lemmas.specs.spec.queues.Transfer.{EndpointQueues}
 use Rattle.dcsctp_delivery_sending.specs.Log.{Fits, Message}
-use Rattle.dcsctp_delivery_turns.specs.Actions.{ledger_of, Inside, inside, Made, MakesAlso, came_by, queued_after, read_after, peer_tag, begun_below, Becomes, goes_on, works_resets, renews, ends, begins, NoEnd}
+use Rattle.dcsctp_delivery_turns.specs.Actions.{ledger_of, Inside, inside, Made, MakesAlso, came_by, queued_after, read_after, peer_tag, opening_queues, Becomes, goes_on, works_resets, renews, ends, begins, NoEnd}
 use Rattle.dcsctp_delivery_sending.specs.Queueing.{QueueWaits}
 use Rattle.dcsctp_delivery_turns.specs.Addressed.{AreAddressed}
-use Rattle.dcsctp_spec_lemmas.specs.spec.association.Effect.{link_in}
+use Rattle.dcsctp_spec_lemmas.specs.spec.association.Effect.{identity_in}
 use Rattle.dcsctp_spec_lemmas.specs.types.queues.Messages.{MessageContent}
 use Rattle.dcsctp_delivery_turns.specs.Runs.{sender_at, IsBetween, as_it_was, once_renewed, OpensSmall, EndsPerformed, SenderTurns, run_goes_on, run_ends, run_begins}
-use Rattle.dcsctp_delivery_directions.specs.Directions.{Asking, nothing_asked, asking_renewed, Direction, Run, IsAwaited}
+use Rattle.dcsctp_delivery_directions.specs.Directions.{Asking, nothing_asked, asking_renewed, Direction, DirectionRun, IsAwaited}
 use Rattle.dcsctp_delivery_turns.proofs.Sides.{steps_go_on, actions_send}
 use Rattle.dcsctp_spec_lemmas.specs.spec.Reconfiguration.{RequestedReset}
 use Rattle.dcsctp_spec_lemmas.specs.spec.association.FlushChanges.{reset_request}
@@ -28,34 +28,34 @@ use Rattle.dcsctp_delivery_turns.proofs.Addressed.{data_goes_to_peer}
 use Rattle.dcsctp_delivery_turns.proofs.Begun.{grows_not}
 use Rattle.dcsctp_delivery_turns.proofs.Beginnings.{input_more, nothing_fits, begun_queues, begun_kind}
 
-module _ (options : Options) (first size : ℕ) (direction : Direction) (e : Endpoint) (input : Input) (o : Outcome) (run : Run options first size direction) (small : first < 2 ^ 32) (same : direction.below ≡ e.below)
+module _ (options : Options) (first size : ℕ) (direction : Direction) (e : Endpoint) (input : Input) (o : Outcome) (run : DirectionRun options first size direction) (small : first < 2 ^ 32) (same : direction.queues ≡ e.queues)
     (fits : AsksFit first (own_of e) direction.asking) (performed : EndsPerformed e o direction.asking) (opens : OpensSmall e input o) (few : length (queued_after e input direction.queued) < 2 ^ 64) where
-  both : QueueWaits direction.queued direction.below.queue × AllByRecursion Fits direction.queued
+  both : QueueWaits direction.queued direction.queues.queue × AllByRecursion Fits direction.queued
   both = direction_queues options first size direction run small (let more = input_more e input direction.queued in omega (arith, few, more))
 
   -- the direction after the turn
-  abbrev after_turn : Below → ℕ → Asking → Direction
+  abbrev after_turn : EndpointQueues → ℕ → Asking → Direction
   after_turn last acknowledged asking = sender_at direction (queued_after e input direction.queued) last acknowledged (direction.sent ++ packets_in o.events) asking
 
   -- Actions lead on from where a run is.
-  moved : (old : Inside) (asking : Asking) → Run options first size (sending_by direction old asking) → (last : Inside)
-      → (made : Made (came_by input) (peer_tag e.core) (ledger_of direction.queued old.below direction.sent [] asking) first last (queued_after e input direction.queued) (direction.sent ++ packets_in o.events) (read_after e input []))
-      → (acknowledged : ℕ) × Run options first size (after_turn last.below acknowledged made.asking)
+  moved : (old : Inside) (asking : Asking) → DirectionRun options first size (sending_by direction old asking) → (last : Inside)
+      → (made : Made (came_by input) (peer_tag e.core) (ledger_of direction.queued old.queues direction.sent [] asking) first last (queued_after e input direction.queued) (direction.sent ++ packets_in o.events) (read_after e input []))
+      → (acknowledged : ℕ) × DirectionRun options first size (after_turn last.queues acknowledged made.asking)
   moved old asking start last made =
-      let sends = actions_send (came_by input) (peer_tag e.core) (ledger_of direction.queued old.below direction.sent [] asking)
-      (ledger_of (queued_after e input direction.queued) last.below (direction.sent ++ packets_in o.events) (read_after e input []) made.asking) direction.acknowledged direction.tracker direction.reassembly direction.read made.actions in
-      (sends.later, steps_go_on options first size (sending_by direction old asking) (after_turn last.below sends.later made.asking) start sends.steps)
+      let sends = actions_send (came_by input) (peer_tag e.core) (ledger_of direction.queued old.queues direction.sent [] asking)
+      (ledger_of (queued_after e input direction.queued) last.queues (direction.sent ++ packets_in o.events) (read_after e input []) made.asking) direction.acknowledged direction.tracker direction.reassembly direction.read made.actions in
+      (sends.later, steps_go_on options first size (sending_by direction old asking) (after_turn last.queues sends.later made.asking) start sends.steps)
 
-  starts : Run options first size (sending_by direction (inside e) direction.asking)
-  starts = subst (λ (b : Below). Run options first size (record direction { below = b })) same run
+  starts : DirectionRun options first size (sending_by direction (inside e) direction.asking)
+  starts = subst (λ (b : EndpointQueues). DirectionRun options first size (record direction { queues = b })) same run
 
   addressed : (to : ℕ) (old : Inside) (asking : Asking) (start : ℕ) (last : Inside) (queued : List Message) (read : List MessageContent)
-      → Made (came_by input) to (ledger_of direction.queued old.below [] [] asking) start last queued ([] ++ packets_in o.events) read → AreAddressed to (packets_in o.events)
+      → Made (came_by input) to (ledger_of direction.queued old.queues [] [] asking) start last queued ([] ++ packets_in o.events) read → AreAddressed to (packets_in o.events)
   addressed to old asking start last queued read made = data_goes_to_peer (came_by input) to _ _ tt made.actions
 
   -- The turn goes on after these steps.
-  goes_further : link_in o.after.core ≡ link_in e.core → (worked : Inside) (asking : Asking) → IsBetween o.effects direction.asking asking → worked.below.queue.is_interleaved ≡ e.below.queue.is_interleaved
-      → AsksFit first worked.own asking → Run options first size (sending_by direction worked asking)
+  goes_further : identity_in o.after.core ≡ identity_in e.core → (worked : Inside) (asking : Asking) → IsBetween o.effects direction.asking asking → worked.queues.queue.is_interleaved ≡ e.queues.queue.is_interleaved
+      → AsksFit first worked.own asking → DirectionRun options first size (sending_by direction worked asking)
       → MakesAlso (came_by input) (peer_tag e.core) (queued_after e input) (read_after e input) worked (packets_in o.events) (inside o.after) → SenderTurns options first size direction e input o
   goes_further linked worked asking between kind fit start makes =
       let made = makes direction.queued direction.sent [] first asking fit in
@@ -72,53 +72,53 @@ module _ (options : Options) (first size : ℕ) (direction : Direction) (e : End
   sender_becomes (renews calm linked alike unread own number emission kept out is packets tag contents) =
       let r = own_renews first own number direction.asking out (is_asking first (own_of e) own direction.asking kept fits) in
       let asking : Asking = asking_renewed own.next r.newest direction.asking in
-      let sends : Run options first size (sender_at direction direction.queued direction.below direction.acknowledged (direction.sent ++ emission ∷ []) asking) =
+      let sends : DirectionRun options first size (sender_at direction direction.queued direction.queues direction.acknowledged (direction.sent ++ emission ∷ []) asking) =
       directions.goes_on direction _ run
       (directions.renews emission r.newest r.earlier own.next r.is r.one (contents ∙ ap (λ (reset : RequestedReset). reset_request own.next reset ∷ []) (sym r.again))) in
-      let queues : Run options first size (sender_at direction (queued_after e input direction.queued) direction.below direction.acknowledged (direction.sent ++ emission ∷ []) asking) =
-      subst (λ (l : List Message). Run options first size (sender_at direction l direction.below direction.acknowledged (direction.sent ++ emission ∷ []) asking)) (sym (alike direction.queued)) sends in
-      let holds : Run options first size (sender_at direction (queued_after e input direction.queued) o.after.below direction.acknowledged (direction.sent ++ emission ∷ []) asking) =
-      subst (λ (b : Below). Run options first size (sender_at direction (queued_after e input direction.queued) b direction.acknowledged (direction.sent ++ emission ∷ []) asking))
-      (same ∙ ap (λ (i : Inside). i.below) (sym is)) queues in
-      run_goes_on linked (subst (AreAddressed (peer_tag e.core)) (sym packets) (inr (tag, subst NoEnd (sym contents) tt), tt)) (ap (λ (i : Inside). i.below.queue.is_interleaved) is)
+      let queues : DirectionRun options first size (sender_at direction (queued_after e input direction.queued) direction.queues direction.acknowledged (direction.sent ++ emission ∷ []) asking) =
+      subst (λ (l : List Message). DirectionRun options first size (sender_at direction l direction.queues direction.acknowledged (direction.sent ++ emission ∷ []) asking)) (sym (alike direction.queued)) sends in
+      let holds : DirectionRun options first size (sender_at direction (queued_after e input direction.queued) o.after.queues direction.acknowledged (direction.sent ++ emission ∷ []) asking) =
+      subst (λ (b : EndpointQueues). DirectionRun options first size (sender_at direction (queued_after e input direction.queued) b direction.acknowledged (direction.sent ++ emission ∷ []) asking))
+      (same ∙ ap (λ (i : Inside). i.queues) (sym is)) queues in
+      run_goes_on linked (subst (AreAddressed (peer_tag e.core)) (sym packets) (inr (tag, subst NoEnd (sym contents) tt), tt)) (ap (λ (i : Inside). i.queues.queue.is_interleaved) is)
       direction.acknowledged asking asking (once_renewed r.newest r.earlier own.next r.is r.one r.next) (grows_not asking)
       (subst (λ (k : Option Own). AsksFit first k asking) (sym (ap (λ (i : Inside). i.own) is)) r.fits)
-      (subst (λ (l : List Emission). Run options first size (sender_at direction (queued_after e input direction.queued) o.after.below direction.acknowledged (direction.sent ++ l) asking)) (sym packets) holds)
+      (subst (λ (l : List Emission). DirectionRun options first size (sender_at direction (queued_after e input direction.queued) o.after.queues direction.acknowledged (direction.sent ++ l) asking)) (sym packets) holds)
   sender_becomes (ends none unread last kept makes is) =
       let made = makes direction.queued direction.sent [] first direction.asking fits in
       let after = moved (inside e) direction.asking starts last made in
-      let left = direction_queues options first size (after_turn last.below after.0 made.asking) after.1 small few in
-      run_ends none (addressed (peer_tag e.core) (inside e) direction.asking first last _ _ (makes direction.queued [] [] first direction.asking fits)) last.below
+      let left = direction_queues options first size (after_turn last.queues after.0 made.asking) after.1 small few in
+      run_ends none (addressed (peer_tag e.core) (inside e) direction.asking first last _ _ (makes direction.queued [] [] first direction.asking fits)) last.queues
       (actions_kind (came_by input) (peer_tag e.core) _ _ made.actions) after.0 made.asking made.grows (subst (λ (o : Option Own). AsksFit first o made.asking) kept made.fits) after.1 is left.0 left.1
   sender_becomes (begins begun opening linked alike unread again makes) =
-      let waits = subst (λ (b : Below). QueueWaits direction.queued b.queue) same both.0 in
+      let waits = subst (λ (b : EndpointQueues). QueueWaits direction.queued b.queue) same both.0 in
       run_begins begun opening linked
       (addressed begun.held.peer.tag (started again) nothing_asked begun.my.first_tsn (inside o.after) _ _
       (makes direction.queued [] [] begun.my.first_tsn nothing_asked (nothing_fits begun.my.first_tsn again (opens begun opening linked))))
       (alike direction.queued) waits both.1 later
     where
       started : RequestedReset → Inside
-      started reset = record { below = begun_below e o begun; own = Some (record { number = None; next = begun.my.first_tsn; again = reset }) }
+      started reset = record { queues = opening_queues e o begun; own = Some (record { number = None; next = begun.my.first_tsn; again = reset }) }
 
-      later : (other : Options) (room : ℕ) (awaiting : Direction) (queued : List Message) → QueueWaits queued e.below.queue → AllByRecursion Fits queued → Run other begun.my.first_tsn room awaiting → IsAwaited awaiting
+      later : (other : Options) (room : ℕ) (awaiting : Direction) (queued : List Message) → QueueWaits queued e.queues.queue → AllByRecursion Fits queued → DirectionRun other begun.my.first_tsn room awaiting → IsAwaited awaiting
           → (acknowledged : ℕ) × (asking : Asking) × AskingGrows nothing_asked asking × AsksFit begun.my.first_tsn (own_of o.after) asking
-          × Run other begun.my.first_tsn room (sender_at awaiting queued o.after.below acknowledged (packets_in o.events) asking)
+          × DirectionRun other begun.my.first_tsn room (sender_at awaiting queued o.after.queues acknowledged (packets_in o.events) asking)
       later other room awaiting queued shown fit waits awaited =
-          let start : Run other begun.my.first_tsn room (sender_at awaiting queued (begun_below e o begun) awaiting.acknowledged awaiting.sent awaiting.asking) =
-          directions.starts awaiting queued (begun_below e o begun) waits awaited fit (begun_queues e o begun queued shown) (refl, refl, sym (begun_kind e o begun)) in
-          let numbered : Run other begun.my.first_tsn room (sender_at awaiting queued (begun_below e o begun) 0 awaiting.sent awaiting.asking) =
-          subst (λ (g : ℕ). Run other begun.my.first_tsn room (sender_at awaiting queued (begun_below e o begun) g awaiting.sent awaiting.asking)) awaited.acknowledged start in
-          let unsent : Run other begun.my.first_tsn room (sender_at awaiting queued (begun_below e o begun) 0 [] awaiting.asking) =
-          subst (λ (l : List Emission). Run other begun.my.first_tsn room (sender_at awaiting queued (begun_below e o begun) 0 l awaiting.asking)) awaited.sent numbered in
-          let here : Run other begun.my.first_tsn room (sender_at awaiting queued (begun_below e o begun) 0 [] nothing_asked) =
-          subst (λ (a : Asking). Run other begun.my.first_tsn room (sender_at awaiting queued (begun_below e o begun) 0 [] a)) awaited.asking unsent in
+          let start : DirectionRun other begun.my.first_tsn room (sender_at awaiting queued (opening_queues e o begun) awaiting.acknowledged awaiting.sent awaiting.asking) =
+          directions.starts awaiting queued (opening_queues e o begun) waits awaited fit (begun_queues e o begun queued shown) (refl, refl, sym (begun_kind e o begun)) in
+          let numbered : DirectionRun other begun.my.first_tsn room (sender_at awaiting queued (opening_queues e o begun) 0 awaiting.sent awaiting.asking) =
+          subst (λ (g : ℕ). DirectionRun other begun.my.first_tsn room (sender_at awaiting queued (opening_queues e o begun) g awaiting.sent awaiting.asking)) awaited.acknowledged start in
+          let unsent : DirectionRun other begun.my.first_tsn room (sender_at awaiting queued (opening_queues e o begun) 0 [] awaiting.asking) =
+          subst (λ (l : List Emission). DirectionRun other begun.my.first_tsn room (sender_at awaiting queued (opening_queues e o begun) 0 l awaiting.asking)) awaited.sent numbered in
+          let here : DirectionRun other begun.my.first_tsn room (sender_at awaiting queued (opening_queues e o begun) 0 [] nothing_asked) =
+          subst (λ (a : Asking). DirectionRun other begun.my.first_tsn room (sender_at awaiting queued (opening_queues e o begun) 0 [] a)) awaited.asking unsent in
           let made = makes queued [] [] begun.my.first_tsn nothing_asked (nothing_fits begun.my.first_tsn again (opens begun opening linked)) in
-          let sends = actions_send (came_by input) begun.held.peer.tag (ledger_of queued (begun_below e o begun) [] [] nothing_asked) (ledger_of queued o.after.below (packets_in o.events) [] made.asking) 0
+          let sends = actions_send (came_by input) begun.held.peer.tag (ledger_of queued (opening_queues e o begun) [] [] nothing_asked) (ledger_of queued o.after.queues (packets_in o.events) [] made.asking) 0
           awaiting.tracker awaiting.reassembly awaiting.read made.actions in (
             sends.later,
             made.asking,
             made.grows,
             made.fits,
-            steps_go_on other begun.my.first_tsn room (sender_at awaiting queued (begun_below e o begun) 0 [] nothing_asked)
-                (sender_at awaiting queued o.after.below sends.later (packets_in o.events) made.asking) here sends.steps,
+            steps_go_on other begun.my.first_tsn room (sender_at awaiting queued (opening_queues e o begun) 0 [] nothing_asked)
+                (sender_at awaiting queued o.after.queues sends.later (packets_in o.events) made.asking) here sends.steps,
           )

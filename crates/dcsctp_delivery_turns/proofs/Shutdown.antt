@@ -8,18 +8,18 @@ use Rattle.dcsctp_spec_lemmas.specs.spec.endpoint.Endpoint.{Endpoint, Core, clos
 use Rattle.dcsctp_spec_lemmas.specs.spec.endpoint.Outcome.{Outcome, sends, to_peer}
 use Rattle.dcsctp_spec_lemmas.specs.spec.endpoint.Turn.{BeginTurn}
 use Rattle.dcsctp_spec_lemmas.specs.spec.endpoint.EndOutcomes.{reflected_outcome}
-use Rattle.dcsctp_spec_lemmas.specs.spec.endpoint.ShutdownOutcomes.{phase_at, received_tsn, may_go_on, step_by, step_outcome, t1_stopped, shut_down_outcome, shutdown_outcome, shutdown_ack_outcome, completed_outcome, shutdown_complete_outcome, t2_goes_on, sent_again, t2_again_outcome}
-use Rattle.dcsctp_spec_lemmas.specs.spec.association.Effect.{link_of, link_in}
+use Rattle.dcsctp_spec_lemmas.specs.spec.endpoint.ShutdownOutcomes.{phase_at, received_tsn, may_go_on, step_by, step_outcome, t1_stopped, shut_down_outcome, shutdown_outcome, shutdown_ack_outcome, completed_outcome, shutdown_complete_outcome, t2_goes_on, shutdown_sent_again, t2_again_outcome}
+use Rattle.dcsctp_spec_lemmas.specs.spec.association.Effect.{identity_of, identity_in}
 use Rattle.dcsctp_delivery_turns.specs.Tags.{IsPeerTag}
-use Rattle.dcsctp_delivery_turns.specs.Actions.{IsCalm, Inside, inside, Makes, goes_on, ends}
+use Rattle.dcsctp_delivery_turns.specs.Actions.{IsCalm, Inside, inside, MakesPackets, goes_on, ends}
 use Rattle.dcsctp_delivery_turns.specs.Asking.{Own, own_with, own_in, own_of}
-use Rattle.dcsctp_spec_lemmas.specs.spec.queues.Transfer.{Below}
+use Rattle.dcsctp_spec_lemmas.specs.spec.queues.Transfer.{EndpointQueues}
 use Rattle.dcsctp_spec_lemmas.specs.spec.Packet.{Emission}
 use Rattle.std.proofs.Common.{List}
 use Rattle.dcsctp_delivery_turns.proofs.Actions.{Goes, MakesTo, rests, spoken, ended}
 
 -- a step changes nothing below
-step_by_below : (b : Bool) (e : Endpoint) (phase : OpenPhase) (my : Pair) (held : Held) → (step_by b e phase my held).after.below ≡ e.below
+step_by_below : (b : Bool) (e : Endpoint) (phase : OpenPhase) (my : Pair) (held : Held) → (step_by b e phase my held).after.queues ≡ e.queues
 step_by_below false e phase my held = refl
 step_by_below true e established my held = refl
 step_by_below true e shutdown_pending my held = refl
@@ -27,7 +27,7 @@ step_by_below true e shutdown_sent my held = refl
 step_by_below true e shutdown_received my held = refl
 step_by_below true e shutdown_ack_sent my held = refl
 
-pub step_below : (e : Endpoint) (core : Core) → (step_outcome e core).after.below ≡ e.below
+pub step_below : (e : Endpoint) (core : Core) → (step_outcome e core).after.queues ≡ e.queues
 step_below e closed = refl
 step_below e (cookie_wait my) = refl
 step_below e (cookie_echoed my held cookie) = refl
@@ -49,7 +49,7 @@ step_peer e (cookie_echoed my held cookie) to at is = at
 step_peer e (open_in phase my held) to at is = step_by_peer (may_go_on e) e phase my held to at is
 
 -- and so does the association
-pub step_by_link : (b : Bool) (e : Endpoint) (phase : OpenPhase) (my : Pair) (held : Held) → link_in e.core ≡ Some (link_of my held) → link_in (step_by b e phase my held).after.core ≡ Some (link_of my held)
+pub step_by_link : (b : Bool) (e : Endpoint) (phase : OpenPhase) (my : Pair) (held : Held) → identity_in e.core ≡ Some (identity_of my held) → identity_in (step_by b e phase my held).after.core ≡ Some (identity_of my held)
 step_by_link false e phase my held is = is
 step_by_link true e established my held is = is
 step_by_link true e shutdown_pending my held is = refl
@@ -57,24 +57,24 @@ step_by_link true e shutdown_sent my held is = is
 step_by_link true e shutdown_received my held is = refl
 step_by_link true e shutdown_ack_sent my held is = is
 
-pub step_link : (e : Endpoint) (core : Core) → e.core ≡ core → link_in (step_outcome e core).after.core ≡ link_in e.core
+pub step_link : (e : Endpoint) (core : Core) → e.core ≡ core → identity_in (step_outcome e core).after.core ≡ identity_in e.core
 step_link e closed at = refl
 step_link e (cookie_wait my) at = refl
 step_link e (cookie_echoed my held cookie) at = refl
-step_link e (open_in phase my held) at = step_by_link (may_go_on e) e phase my held (ap link_in at) ∙ sym (ap link_in at)
+step_link e (open_in phase my held) at = step_by_link (may_go_on e) e phase my held (ap identity_in at) ∙ sym (ap identity_in at)
 
 module _ (came : Option Content) (calm : IsCalm came) (to : ℕ) where
-  says_shutdown : (old : Inside) (e : Endpoint) (held : Held) → Makes came to old (to_peer held (shutdown (received_tsn e.below.transfer)) ∷ []) old
-  says_shutdown old e held = spoken came to old (to_peer held (shutdown (received_tsn e.below.transfer))) (tt, tt)
+  says_shutdown : (old : Inside) (e : Endpoint) (held : Held) → MakesPackets came to old (to_peer held (shutdown (received_tsn e.queues.transfer)) ∷ []) old
+  says_shutdown old e held = spoken came to old (to_peer held (shutdown (received_tsn e.queues.transfer))) (tt, tt)
 
-  says_ack : (old : Inside) (held : Held) → Makes came to old (to_peer held shutdown_ack ∷ []) old
+  says_ack : (old : Inside) (held : Held) → MakesPackets came to old (to_peer held shutdown_ack ∷ []) old
   says_ack old held = spoken came to old (to_peer held shutdown_ack) (tt, tt)
 
   -- ---- a step of it
 
   -- once another phase has begun
-  phase_makes : (e : Endpoint) (packets : List Emission) (own : Option Own) → own_of e ≡ own → Makes came to (inside e) packets (inside e) → Makes came to (inside e) packets (record { below = e.below; own = own })
-  phase_makes e packets own is makes = subst (λ (o : Option Own). Makes came to (inside e) packets (record { below = e.below; own = o })) is makes
+  phase_makes : (e : Endpoint) (packets : List Emission) (own : Option Own) → own_of e ≡ own → MakesPackets came to (inside e) packets (inside e) → MakesPackets came to (inside e) packets (record { queues = e.queues; own = own })
+  phase_makes e packets own is makes = subst (λ (o : Option Own). MakesPackets came to (inside e) packets (record { queues = e.queues; own = o })) is makes
 
   step_by_makes : (b : Bool) (e : Endpoint) (phase : OpenPhase) (my : Pair) (held : Held) → own_of e ≡ Some (own_with held e.outstanding) → MakesTo came to (inside e) (step_by b e phase my held)
   step_by_makes false e phase my held is = rests came to (inside e)
@@ -92,24 +92,24 @@ module _ (came : Option Content) (calm : IsCalm came) (to : ℕ) where
 
   -- ---- the user's call
 
-  step_from_makes : (e base : Endpoint) (phase : OpenPhase) (my : Pair) (held : Held) → base.below ≡ e.below → own_of e ≡ Some (own_with held base.outstanding)
-      → Makes came to (inside e) (events.packets_in (step_by (may_go_on base) (phase_at base phase my held) phase my held).events) (inside (step_by (may_go_on base) (phase_at base phase my held) phase my held).after)
+  step_from_makes : (e base : Endpoint) (phase : OpenPhase) (my : Pair) (held : Held) → base.queues ≡ e.queues → own_of e ≡ Some (own_with held base.outstanding)
+      → MakesPackets came to (inside e) (events.packets_in (step_by (may_go_on base) (phase_at base phase my held) phase my held).events) (inside (step_by (may_go_on base) (phase_at base phase my held) phase my held).after)
   step_from_makes e base phase my held same is =
       let at : Endpoint = phase_at base phase my held in
       let o : Outcome = step_by (may_go_on base) at phase my held in
-      subst (λ (i : Inside). Makes came to i (events.packets_in o.events) (inside o.after))
-      (ap (λ (b : Below). record { below = b; own = Some (own_with held base.outstanding) }) same ∙ ap (λ (o : Option Own). record { below = e.below; own = o }) (sym is))
+      subst (λ (i : Inside). MakesPackets came to i (events.packets_in o.events) (inside o.after))
+      (ap (λ (b : EndpointQueues). record { queues = b; own = Some (own_with held base.outstanding) }) same ∙ ap (λ (o : Option Own). record { queues = e.queues; own = o }) (sym is))
       (step_by_makes (may_go_on base) at phase my held refl)
 
   from_link : (base : Endpoint) (phase : OpenPhase) (my : Pair) (held : Held)
-      → link_in (step_by (may_go_on base) (phase_at base phase my held) phase my held).after.core ≡ Some (link_of my held)
+      → identity_in (step_by (may_go_on base) (phase_at base phase my held) phase my held).after.core ≡ Some (identity_of my held)
   from_link base phase my held = step_by_link (may_go_on base) (phase_at base phase my held) phase my held refl
 
   pub shut_down_goes : (e : Endpoint) (core : Core) → e.core ≡ core → Goes came to e (shut_down_outcome e core)
   shut_down_goes e closed at = goes_on calm refl (rests came to (inside e))
   shut_down_goes e (cookie_wait my) at = ends refl (λ read. refl) (inside e) refl (rests came to (inside e)) refl
-  shut_down_goes e (cookie_echoed my held cookie) at = goes_on calm (from_link (t1_stopped e) shutdown_pending my held ∙ sym (ap link_in at)) (step_from_makes e (t1_stopped e) shutdown_pending my held refl (ap (λ (c : Core). own_in c e.outstanding) at))
-  shut_down_goes e (open_in established my held) at = goes_on calm (from_link e shutdown_pending my held ∙ sym (ap link_in at)) (step_from_makes e e shutdown_pending my held refl (ap (λ (c : Core). own_in c e.outstanding) at))
+  shut_down_goes e (cookie_echoed my held cookie) at = goes_on calm (from_link (t1_stopped e) shutdown_pending my held ∙ sym (ap identity_in at)) (step_from_makes e (t1_stopped e) shutdown_pending my held refl (ap (λ (c : Core). own_in c e.outstanding) at))
+  shut_down_goes e (open_in established my held) at = goes_on calm (from_link e shutdown_pending my held ∙ sym (ap identity_in at)) (step_from_makes e e shutdown_pending my held refl (ap (λ (c : Core). own_in c e.outstanding) at))
   shut_down_goes e (open_in shutdown_pending my held) at = goes_on calm refl (rests came to (inside e))
   shut_down_goes e (open_in shutdown_sent my held) at = goes_on calm refl (rests came to (inside e))
   shut_down_goes e (open_in shutdown_received my held) at = goes_on calm refl (rests came to (inside e))
@@ -121,11 +121,11 @@ module _ (came : Option Content) (calm : IsCalm came) (to : ℕ) where
   shutdown_goes e closed at = goes_on calm refl (rests came to (inside e))
   shutdown_goes e (cookie_wait my) at = goes_on calm refl (rests came to (inside e))
   shutdown_goes e (cookie_echoed my held cookie) at = goes_on calm refl (rests came to (inside e))
-  shutdown_goes e (open_in established my held) at = goes_on calm (from_link e shutdown_received my held ∙ sym (ap link_in at)) (step_from_makes e e shutdown_received my held refl (ap (λ (c : Core). own_in c e.outstanding) at))
-  shutdown_goes e (open_in shutdown_pending my held) at = goes_on calm (from_link e shutdown_received my held ∙ sym (ap link_in at)) (step_from_makes e e shutdown_received my held refl (ap (λ (c : Core). own_in c e.outstanding) at))
-  shutdown_goes e (open_in shutdown_sent my held) at = goes_on calm (sym (ap link_in at)) (phase_makes e _ _ (ap (λ (c : Core). own_in c e.outstanding) at) (says_ack (inside e) held))
+  shutdown_goes e (open_in established my held) at = goes_on calm (from_link e shutdown_received my held ∙ sym (ap identity_in at)) (step_from_makes e e shutdown_received my held refl (ap (λ (c : Core). own_in c e.outstanding) at))
+  shutdown_goes e (open_in shutdown_pending my held) at = goes_on calm (from_link e shutdown_received my held ∙ sym (ap identity_in at)) (step_from_makes e e shutdown_received my held refl (ap (λ (c : Core). own_in c e.outstanding) at))
+  shutdown_goes e (open_in shutdown_sent my held) at = goes_on calm (sym (ap identity_in at)) (phase_makes e _ _ (ap (λ (c : Core). own_in c e.outstanding) at) (says_ack (inside e) held))
   shutdown_goes e (open_in shutdown_received my held) at = goes_on calm refl (rests came to (inside e))
-  shutdown_goes e (open_in shutdown_ack_sent my held) at = goes_on calm (sym (ap link_in at)) (phase_makes e _ _ (ap (λ (c : Core). own_in c e.outstanding) at) (says_ack (inside e) held))
+  shutdown_goes e (open_in shutdown_ack_sent my held) at = goes_on calm (sym (ap identity_in at)) (phase_makes e _ _ (ap (λ (c : Core). own_in c e.outstanding) at) (says_ack (inside e) held))
 
   completed_goes : (e : Endpoint) (held : Held) → Goes came to e (completed_outcome e held)
   completed_goes e held = ended came to e (sends e [] [] (to_peer held (shutdown_complete false))) events.closed refl refl (spoken came to (inside e) (to_peer held (shutdown_complete false)) (tt, tt))
@@ -155,7 +155,7 @@ module _ (came : Option Content) (calm : IsCalm came) (to : ℕ) where
 
   -- ---- T2, and data while a SHUTDOWN waits for its answer
 
-  again_makes : (e : Endpoint) (core : Core) → MakesTo came to (inside e) (sent_again e core)
+  again_makes : (e : Endpoint) (core : Core) → MakesTo came to (inside e) (shutdown_sent_again e core)
   again_makes e closed = rests came to (inside e)
   again_makes e (cookie_wait my) = rests came to (inside e)
   again_makes e (cookie_echoed my held cookie) = rests came to (inside e)
@@ -165,7 +165,7 @@ module _ (came : Option Content) (calm : IsCalm came) (to : ℕ) where
   again_makes e (open_in shutdown_received my held) = rests came to (inside e)
   again_makes e (open_in shutdown_ack_sent my held) = says_ack (inside e) held
 
-  again_link : (e : Endpoint) (core : Core) → link_in (sent_again e core).after.core ≡ link_in e.core
+  again_link : (e : Endpoint) (core : Core) → identity_in (shutdown_sent_again e core).after.core ≡ identity_in e.core
   again_link e closed = refl
   again_link e (cookie_wait my) = refl
   again_link e (cookie_echoed my held cookie) = refl

@@ -5,35 +5,35 @@ use Rattle.dcsctp_spec_lemmas.specs.wire.Content.{data_chunk, i_data_chunk, forw
 use Rattle.dcsctp_spec_lemmas.specs.types.declared.options.Options.{Options}
 use Rattle.dcsctp_spec_lemmas.specs.spec.Packet.{Content}
 use Rattle.dcsctp_spec_lemmas.specs.types.queues.Messages.{MessageContent}
-use Rattle.dcsctp_spec_lemmas.specs.spec.queues.Outstanding.{acknowledged_by}
+use Rattle.dcsctp_spec_lemmas.specs.spec.queues.Outstanding.{acknowledged_count}
 use Rattle.dcsctp_spec_lemmas.specs.spec.queues.Reassembly.{ReassemblyState}
 use Rattle.dcsctp_spec_lemmas.specs.spec.queues.Tracker.{TrackerState}
-use Rattle.dcsctp_spec_lemmas.specs.spec.queues.Transfer.{Transfer, Below}
+use Rattle.dcsctp_spec_lemmas.specs.spec.queues.Transfer.{Transfer, EndpointQueues}
 use Rattle.dcsctp_spec_lemmas.specs.spec.endpoint.FlushOutcomes.{first_ask, packets_allowed}
 use Rattle.dcsctp_spec_lemmas.specs.spec.endpoint.TransferMoves.{timed_by, lost_all}
 use Rattle.dcsctp_delivery_turns.specs.Actions.{Ledger, Action, queues, sets, prepares, flushes, resends, resends_nothing, speaks, asks_again, acknowledges, loses, receives, receives_interleaved, forwards, forwards_interleaved, tracks, takes, Actions, nothing, further}
-use Rattle.dcsctp_delivery_turns.specs.Sides.{Steps, stays, moves, sending, SendingSteps, WasIn, WasSent, receiving, ReceivingSteps}
-use Rattle.dcsctp_delivery_directions.specs.Directions.{Direction, Step, Run, goes_on}
+use Rattle.dcsctp_delivery_turns.specs.Sides.{DirectionSteps, stays, moves, sending, SendingSteps, WasIn, WasSent, receiving, ReceivingSteps}
+use Rattle.dcsctp_delivery_directions.specs.Directions.{Direction, DirectionStep, DirectionRun, goes_on}
 use Rattle.dcsctp_spec_lemmas.specs.spec.queues.Arrivals.{data_arrival, i_data_arrival, skipped_in, messages_skipped_in}
 use Rattle.dcsctp_delivery_turns.specs.PeerRequests.{SameWaits}
 use Rattle.dcsctp_delivery_turns.proofs.Waiting.{same_waits, waits_by, waits_then, receives_wait, moves_wait}
 use Rattle.dcsctp_delivery_turns.proofs.Received.{data_where, forward_where, Alike, alike, alike_then, timed_alike, flush_left}
 
-pub steps_go_on : (options : Options) (first size : ℕ) (old new : Direction) → Run options first size old → Steps old new → Run options first size new
+pub steps_go_on : (options : Options) (first size : ℕ) (old new : Direction) → DirectionRun options first size old → DirectionSteps old new → DirectionRun options first size new
 steps_go_on options first size old _ run stays = run
 steps_go_on options first size old _ run (moves between new first_steps step) = goes_on between new (steps_go_on options first size old between run first_steps) step
 
-pub all_steps : (old between new : Direction) → Steps old between → Steps between new → Steps old new
+pub all_steps : (old between new : Direction) → DirectionSteps old between → DirectionSteps between new → DirectionSteps old new
 all_steps old between _ first stays = first
 all_steps old between _ first (moves middle new second step) = moves middle new (all_steps old between middle first second) step
 
-pub one_step : (old new : Direction) → Step old new → Steps old new
+pub one_step : (old new : Direction) → DirectionStep old new → DirectionSteps old new
 one_step old new step = moves old new stays step
 
 -- ---- the direction on which it sends
 
 module _ (came : Option Content) (to : ℕ) (tracker : TrackerState) (reassembly : ReassemblyState) (read : List MessageContent) where
-  by : (old new : Ledger) (acknowledged later : ℕ) → Step (sending old acknowledged tracker reassembly read) (sending new later tracker reassembly read) → SendingSteps old new acknowledged tracker reassembly read
+  by : (old new : Ledger) (acknowledged later : ℕ) → DirectionStep (sending old acknowledged tracker reassembly read) (sending new later tracker reassembly read) → SendingSteps old new acknowledged tracker reassembly read
   by old new acknowledged later step = record { later = later; steps = one_step (sending old acknowledged tracker reassembly read) (sending new later tracker reassembly read) step }
 
   action_sends : (old new : Ledger) (acknowledged : ℕ) → Action came to old new → SendingSteps old new acknowledged tracker reassembly read
@@ -47,7 +47,7 @@ module _ (came : Option Content) (to : ℕ) (tracker : TrackerState) (reassembly
   action_sends old _ acknowledged (speaks emission no_data) = by old _ acknowledged acknowledged (directions.speaks emission no_data)
   action_sends old _ acknowledged (asks_again emission begun tag was contents) = by old _ acknowledged acknowledged (directions.asks_again emission begun was contents)
   action_sends old _ acknowledged (acknowledges now sack transfer new known valid does) =
-      by old _ acknowledged (acknowledged + acknowledged_by transfer.retransmission.outstanding sack.cumulative_tsn_ack) (directions.acknowledges now sack transfer new known valid does)
+      by old _ acknowledged (acknowledged + acknowledged_count transfer.retransmission.outstanding sack.cumulative_tsn_ack) (directions.acknowledges now sack transfer new known valid does)
   action_sends old _ acknowledged (loses now transfer known) = by old _ acknowledged acknowledged (directions.loses now transfer known)
   action_sends old _ acknowledged (receives chunk transfer new is some known does) = by old _ acknowledged acknowledged (directions.turns_aside transfer new known (data_where _ _ transfer new does))
   action_sends old _ acknowledged (receives_interleaved chunk transfer new is some known does) = by old _ acknowledged acknowledged (directions.turns_aside transfer new known (data_where _ _ transfer new does))
@@ -74,45 +74,45 @@ actions_send came to old new acknowledged tracker reassembly read actions = all_
 
 module _ (came : Option Content) (to : ℕ) (direction : Direction) (was : WasSent direction.sent came) where
   -- where the same was received
-  alike_receives : (old new : Ledger) (transfer left : Transfer) → new.below.transfer ≡ Some left → new.read ≡ old.read → Alike transfer left → ReceivingSteps direction transfer old new
+  alike_receives : (old new : Ledger) (transfer left : Transfer) → new.queues.transfer ≡ Some left → new.read ≡ old.read → Alike transfer left → ReceivingSteps direction transfer old new
   alike_receives old new transfer left is same like =
       record {
         left = left;
         is = is;
         waits = waits_by transfer.reassembly.deferral left.reassembly.deferral (ap (λ (r : ReassemblyState). r.deferral) like.reassembly);
-        steps = subst (λ (l : List MessageContent). Steps (receiving direction transfer old.read) (receiving direction left l)) (sym same)
-            (subst (λ (r : ReassemblyState). Steps (receiving direction transfer old.read) (record direction { tracker = left.tracker; reassembly = r; read = old.read })) (sym like.reassembly)
+        steps = subst (λ (l : List MessageContent). DirectionSteps (receiving direction transfer old.read) (receiving direction left l)) (sym same)
+            (subst (λ (r : ReassemblyState). DirectionSteps (receiving direction transfer old.read) (record direction { tracker = left.tracker; reassembly = r; read = old.read })) (sym like.reassembly)
             (one_step (receiving direction transfer old.read) (record direction { tracker = left.tracker; reassembly = transfer.reassembly; read = old.read }) (directions.tracks left.tracker like.cumulative like.ranges)));
       }
 
-  by_step : (old new : Ledger) (transfer left : Transfer) → new.below.transfer ≡ Some left → Step (receiving direction transfer old.read) (receiving direction left new.read)
+  by_step : (old new : Ledger) (transfer left : Transfer) → new.queues.transfer ≡ Some left → DirectionStep (receiving direction transfer old.read) (receiving direction left new.read)
       → SameWaits transfer.reassembly.deferral left.reassembly.deferral → ReceivingSteps direction transfer old new
   by_step old new transfer left is step waits = record { left = left; is = is; waits = waits; steps = one_step (receiving direction transfer old.read) (receiving direction left new.read) step }
 
   same_transfer : (found : Option Transfer) (one other : Transfer) → found ≡ Some one → found ≡ Some other → one ≡ other
   same_transfer found one other first second = cc
 
-  action_receives : (old new : Ledger) (transfer : Transfer) → old.below.transfer ≡ Some transfer → Action came to old new → ReceivingSteps direction transfer old new
+  action_receives : (old new : Ledger) (transfer : Transfer) → old.queues.transfer ≡ Some transfer → Action came to old new → ReceivingSteps direction transfer old new
   action_receives old _ transfer is (queues now message fits some) = alike_receives old _ transfer transfer is refl (alike transfer)
   action_receives old _ transfer is (sets setting) = alike_receives old _ transfer transfer is refl (alike transfer)
   action_receives old _ transfer is (prepares ids) = alike_receives old _ transfer transfer is refl (alike transfer)
   action_receives old _ transfer is (speaks emission no_data) = alike_receives old _ transfer transfer is refl (alike transfer)
   action_receives old _ transfer is (asks_again emission begun tag has contents) = alike_receives old _ transfer transfer is refl (alike transfer)
   action_receives old _ transfer is (flushes e draft answers same at tag no_data no_end allowed) =
-      let left = flush_left first_ask (packets_allowed e.options.max_burst e.core) e draft answers transfer (ap (λ (b : Below). b.transfer) same ∙ is) allowed in
+      let left = flush_left first_ask (packets_allowed e.options.max_burst e.core) e draft answers transfer (ap (λ (b : EndpointQueues). b.transfer) same ∙ is) allowed in
       alike_receives old _ transfer left.left left.is refl left.same
   action_receives old _ transfer is (resends now room found left tsns chunks emission tag known sends are contents) =
-      alike_receives old _ transfer _ refl refl (like (same_transfer old.below.transfer found transfer known is))
+      alike_receives old _ transfer _ refl refl (like (same_transfer old.queues.transfer found transfer known is))
     where
       like : found ≡ transfer → Alike transfer (record found { retransmission = left })
       like same = subst (λ (t : Transfer). Alike t (record found { retransmission = left })) same (record { cumulative = refl; ranges = refl; reassembly = refl })
   action_receives old _ transfer is (resends_nothing now room found left tsns known sends) =
-      alike_receives old _ transfer _ refl refl (like (same_transfer old.below.transfer found transfer known is))
+      alike_receives old _ transfer _ refl refl (like (same_transfer old.queues.transfer found transfer known is))
     where
       like : found ≡ transfer → Alike transfer (record found { retransmission = left })
       like same = subst (λ (t : Transfer). Alike t (record found { retransmission = left })) same (record { cumulative = refl; ranges = refl; reassembly = refl })
   action_receives old _ transfer is (acknowledges now sack found new known valid does) =
-      alike_receives old _ transfer new refl refl (like (same_transfer old.below.transfer found transfer known is))
+      alike_receives old _ transfer new refl refl (like (same_transfer old.queues.transfer found transfer known is))
     where
       like : found ≡ transfer → Alike transfer new
       like same =
@@ -121,44 +121,44 @@ module _ (came : Option Content) (to : ℕ) (direction : Direction) (was : WasSe
           (alike_then found (record found { retransmission = does.left }) (timed_by does.round_trip (record found { retransmission = does.left }))
           (record { cumulative = refl; ranges = refl; reassembly = refl }) (timed_alike does.round_trip (record found { retransmission = does.left }))))
   action_receives old _ transfer is (loses now found known) =
-      alike_receives old _ transfer _ refl refl (like (same_transfer old.below.transfer found transfer known is))
+      alike_receives old _ transfer _ refl refl (like (same_transfer old.queues.transfer found transfer known is))
     where
       like : found ≡ transfer → Alike transfer (lost_all now found)
       like same = subst (λ (t : Transfer). Alike t (lost_all now found)) same (record { cumulative = refl; ranges = refl; reassembly = refl })
   action_receives old _ transfer is (receives chunk found new came_is some known does) =
-      let same : found ≡ transfer = same_transfer old.below.transfer found transfer known is in
+      let same : found ≡ transfer = same_transfer old.queues.transfer found transfer known is in
       let sent : WasIn direction.sent (data_chunk chunk) = subst (λ (c : Option Content). WasSent direction.sent c) came_is was in
       by_step old _ transfer new refl
       (directions.receives sent.emission chunk found new sent.was sent.holds some (ap (λ (t : Transfer). t.tracker) same) (ap (λ (t : Transfer). t.reassembly) same) does)
       (subst (λ (t : Transfer). SameWaits t.reassembly.deferral new.reassembly.deferral) same (receives_wait (data_arrival chunk) found new does))
   action_receives old _ transfer is (receives_interleaved chunk found new came_is some known does) =
-      let same : found ≡ transfer = same_transfer old.below.transfer found transfer known is in
+      let same : found ≡ transfer = same_transfer old.queues.transfer found transfer known is in
       let sent : WasIn direction.sent (i_data_chunk chunk) = subst (λ (c : Option Content). WasSent direction.sent c) came_is was in
       by_step old _ transfer new refl
       (directions.receives_interleaved sent.emission chunk found new sent.was sent.holds some (ap (λ (t : Transfer). t.tracker) same) (ap (λ (t : Transfer). t.reassembly) same) does)
       (subst (λ (t : Transfer). SameWaits t.reassembly.deferral new.reassembly.deferral) same (receives_wait (i_data_arrival chunk) found new does))
   action_receives old _ transfer is (forwards tsn streams found new came_is known does) =
-      let same : found ≡ transfer = same_transfer old.below.transfer found transfer known is in
+      let same : found ≡ transfer = same_transfer old.queues.transfer found transfer known is in
       let sent : WasIn direction.sent (forward_tsn_chunk tsn streams) = subst (λ (c : Option Content). WasSent direction.sent c) came_is was in
       by_step old _ transfer new refl
       (directions.forwards sent.emission tsn streams found new sent.was sent.holds (ap (λ (t : Transfer). t.tracker) same) (ap (λ (t : Transfer). t.reassembly) same) does)
       (subst (λ (t : Transfer). SameWaits t.reassembly.deferral new.reassembly.deferral) same (moves_wait tsn (skipped_in streams) found new does))
   action_receives old _ transfer is (forwards_interleaved tsn streams found new came_is known does) =
-      let same : found ≡ transfer = same_transfer old.below.transfer found transfer known is in
+      let same : found ≡ transfer = same_transfer old.queues.transfer found transfer known is in
       let sent : WasIn direction.sent (i_forward_tsn_chunk tsn streams) = subst (λ (c : Option Content). WasSent direction.sent c) came_is was in
       by_step old _ transfer new refl
       (directions.forwards_interleaved sent.emission tsn streams found new sent.was sent.holds (ap (λ (t : Transfer). t.tracker) same) (ap (λ (t : Transfer). t.reassembly) same) does)
       (subst (λ (t : Transfer). SameWaits t.reassembly.deferral new.reassembly.deferral) same (moves_wait tsn (messages_skipped_in streams) found new does))
   action_receives old _ transfer is (tracks found tracked known cumulative ranges) =
-      alike_receives old _ transfer _ refl refl (like (same_transfer old.below.transfer found transfer known is))
+      alike_receives old _ transfer _ refl refl (like (same_transfer old.queues.transfer found transfer known is))
     where
       like : found ≡ transfer → Alike transfer (record found { tracker = tracked })
       like same = subst (λ (t : Transfer). Alike t (record found { tracker = tracked })) same (record { cumulative = cumulative; ranges = ranges; reassembly = refl })
   action_receives old new transfer is (takes found message messages known ready) =
-      subst (λ (t : Transfer). ReceivingSteps direction t old new) (same_transfer old.below.transfer found transfer known is)
+      subst (λ (t : Transfer). ReceivingSteps direction t old new) (same_transfer old.queues.transfer found transfer known is)
       (by_step old new found _ refl (directions.takes message messages ready) (same_waits found.reassembly.deferral))
 
-  all_receive : (old new : Ledger) (transfer : Transfer) → old.below.transfer ≡ Some transfer → Actions came to old new → ReceivingSteps direction transfer old new
+  all_receive : (old new : Ledger) (transfer : Transfer) → old.queues.transfer ≡ Some transfer → Actions came to old new → ReceivingSteps direction transfer old new
   all_receive old _ transfer is nothing = record { left = transfer; is = is; steps = stays; waits = same_waits transfer.reassembly.deferral }
   all_receive old _ transfer is (further between new first last) =
       let before = all_receive old between transfer is first in
@@ -170,6 +170,6 @@ module _ (came : Option Content) (to : ℕ) (direction : Direction) (was : WasSe
         waits = waits_then transfer.reassembly.deferral before.left.reassembly.deferral after.left.reassembly.deferral before.waits after.waits;
       }
 
-pub actions_receive : (came : Option Content) (to : ℕ) (old new : Ledger) (direction : Direction) (transfer : Transfer) → WasSent direction.sent came → old.below.transfer ≡ Some transfer → Actions came to old new
+pub actions_receive : (came : Option Content) (to : ℕ) (old new : Ledger) (direction : Direction) (transfer : Transfer) → WasSent direction.sent came → old.queues.transfer ≡ Some transfer → Actions came to old new
     → ReceivingSteps direction transfer old new
 actions_receive came to old new direction transfer was is actions = all_receive came to direction was old new transfer is actions

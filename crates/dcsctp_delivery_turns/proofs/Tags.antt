@@ -13,9 +13,9 @@ use Rattle.dcsctp_spec_lemmas.specs.spec.endpoint.Outcome.{Outcome}
 use Rattle.dcsctp_spec_lemmas.specs.spec.association.CookieEchoChanges.{Resolution, establish_new, restart, simultaneous_init, discard, maintain_existing, invalid_tag, stale, aged, case_by, case_without_peer, resolve, held_by_cookie}
 use Rattle.dcsctp_spec_lemmas.specs.spec.queues.SendQueue.{SendQueueState}
 use Rattle.dcsctp_spec_lemmas.specs.spec.endpoint.BegunResets.{BegunReset, core_asking, after_begun}
-use Rattle.dcsctp_spec_lemmas.specs.spec.endpoint.CookieEchoOutcomes.{established_by, acknowledgement, EstablishAnswers, establish_by, queue_kept, queue_begun, RestartAnswers, restart_by_where, MaintainAnswers, maintain_by, ResolvedAnswers, resolved_by, EchoedAnswers, cookie_echo_by, resolved_now, CookieEchoTurn}
-use Rattle.dcsctp_spec_lemmas.specs.spec.association.Effect.{link_in}
-use Rattle.dcsctp_spec_lemmas.specs.spec.endpoint.FlushOutcomes.{Told, amount_is_low, total_amount_is_low, message_is_sent, message_may_have_expired, message_has_expired, message_ends, told_event, Answer, answer_contents, filled, goes_out, asked, next_draft, Ask, Answered, first_ask, later_ask, Answers, at_limit, at_empty, after_packet, FlushAnswers, flush_of, flush_answered, packets_allowed}
+use Rattle.dcsctp_spec_lemmas.specs.spec.endpoint.CookieEchoOutcomes.{established_by, cookie_ack_emission, EstablishAnswers, establish_by, queue_kept, queue_begun, RestartAnswers, restart_by_where, MaintainAnswers, maintain_by, ResolvedAnswers, resolved_by, EchoedAnswers, cookie_echo_by, resolved_now, CookieEchoTurn}
+use Rattle.dcsctp_spec_lemmas.specs.spec.association.Effect.{identity_in}
+use Rattle.dcsctp_spec_lemmas.specs.spec.endpoint.FlushOutcomes.{FillingEvent, amount_is_low, total_amount_is_low, message_is_sent, message_may_have_expired, message_has_expired, message_ends, filling_event, Answer, answer_contents, filled, goes_out, asked, next_draft, Ask, IsFlushAnswer, first_ask, later_ask, AreFlushAnswers, at_limit, at_empty, after_packet, FlushAnswers, flush_of, flush_answered, packets_allowed}
 use Rattle.dcsctp_delivery_turns.specs.Tags.{IsPeerTag, AllTo}
 use Rattle.dcsctp_spec_lemmas.specs.spec.endpoint.HandshakeOutcomes.{connected_after}
 use Rattle.dcsctp_spec_lemmas.proofs.FlushKeeps.{begun_by, asked_keeps, flush_keeps}
@@ -78,7 +78,7 @@ flushed_tag e draft answers allowed =
 
 established_tag : (e : Endpoint) (cookie : Cookie) (queue : SendQueueState) (tie : ℕ) (events : List (Event Emission)) (answers : List Answer) → EstablishAnswers e cookie queue tie answers
     → own_tag (establish_by (flush_answered answers) e cookie queue tie events).after.core ≡ cookie.maker.tag
-established_tag e cookie queue tie events answers allowed = flushed_tag (established_by e cookie queue tie) (acknowledgement (held_by_cookie e.options cookie) cookie) answers allowed
+established_tag e cookie queue tie events answers allowed = flushed_tag (established_by e cookie queue tie) (cookie_ack_emission (held_by_cookie e.options cookie) cookie) answers allowed
 
 not_next : dropped_rest ≡ next_chunk → ⊥
 not_next e = absurd (cc)
@@ -111,10 +111,10 @@ maintained_tag : (e : Endpoint) (cookie : Cookie) (header : ℕ) (core : Core) (
 maintained_tag e cookie header closed answers is resolved allowed = absurd (not_existing (header == cookie.maker.tag) resolved)
 maintained_tag e cookie header (cookie_wait my) answers is resolved allowed = absurd (not_existing (header == cookie.maker.tag) resolved)
 maintained_tag e cookie header (cookie_echoed my held echoed) answers is resolved allowed =
-    flushed_tag (connected_after e my held) (acknowledgement held cookie) answers allowed
+    flushed_tag (connected_after e my held) (cookie_ack_emission held cookie) answers allowed
     ∙ sym (eqb-true header my.tag (is_existing (header == my.tag) (cookie.addressee.tag == held.peer.tag) (cookie.tie == e.tie) (cookie.tie == 0) resolved))
 maintained_tag e cookie header (open_in phase my held) answers is resolved allowed =
-    flushed_tag e (acknowledgement held cookie) answers allowed ∙ ap own_tag is
+    flushed_tag e (cookie_ack_emission held cookie) answers allowed ∙ ap own_tag is
     ∙ sym (eqb-true header my.tag (is_existing (header == my.tag) (cookie.addressee.tag == held.peer.tag) (cookie.tie == e.tie) (cookie.tie == 0) resolved))
 
 resolved_tag : (e : Endpoint) (cookie : Cookie) (header : ℕ) (core : Core) (word : ℕ) (old : Bool) (resolution : Resolution) (answers : List Answer) → e.core ≡ core → header ≡ cookie.maker.tag → aged old (resolve core e.tie header cookie) ≡ resolution
@@ -138,7 +138,7 @@ echoes_own e header bytes cookie o read bears (word, answers, allowed, is) next 
 
 -- ---- where packets go
 
-both_to : (tag : ℕ) (told : List Told) (rest : List (Event Emission)) → AllTo tag (packets_in rest) → AllTo tag (packets_in (map told_event told ++ rest))
+both_to : (tag : ℕ) (told : List FillingEvent) (rest : List (Event Emission)) → AllTo tag (packets_in rest) → AllTo tag (packets_in (map filling_event told ++ rest))
 both_to tag [] rest to = to
 both_to tag (amount_is_low stream ∷ told) rest to = both_to tag told rest to
 both_to tag (total_amount_is_low ∷ told) rest to = both_to tag told rest to
@@ -151,8 +151,8 @@ no_rest : (events : List (Event Emission)) → events ++ [] ≡ events
 no_rest [] = refl
 no_rest (event ∷ events) = ap (λ (l : List (Event Emission)). event ∷ l) (no_rest events)
 
-out_to : (e : Endpoint) (told : List Told) (with_checksum : Bool) (tag : ℕ) (contents : List Content) → AllTo tag (packets_in (goes_out e (map told_event told) with_checksum tag contents).events)
-out_to e told with_checksum tag [] = subst (λ (l : List (Event Emission)). AllTo tag (packets_in l)) (no_rest (map told_event told)) (both_to tag told [] tt)
+out_to : (e : Endpoint) (told : List FillingEvent) (with_checksum : Bool) (tag : ℕ) (contents : List Content) → AllTo tag (packets_in (goes_out e (map filling_event told) with_checksum tag contents).events)
+out_to e told with_checksum tag [] = subst (λ (l : List (Event Emission)). AllTo tag (packets_in l)) (no_rest (map filling_event told)) (both_to tag told [] tt)
 out_to e told with_checksum tag (c ∷ contents) = both_to tag told (sent (record { with_checksum = with_checksum; packet = record { tag = tag; contents = c ∷ contents } }) ∷ []) (refl, tt)
 
 events_to : (tag : ℕ) (events others : List (Event Emission)) → AllTo tag (packets_in events) → AllTo tag (packets_in others) → AllTo tag (packets_in (events ++ others))
@@ -194,7 +194,7 @@ asked_to : (e : Endpoint) (draft : Emission) (answer : Answer) (tag : ℕ) → d
 asked_to e draft answer tag same =
     subst (λ (t : ℕ). AllTo t (packets_in (asked e draft answer).events)) same (out_to answer.after answer.told draft.with_checksum draft.packet.tag (filled draft (answer_contents answer)).packet.contents)
 
-answers_to : (tag : ℕ) (ask : Ask) (n : ℕ) (e : Endpoint) (draft : Emission) (answers : List Answer) → IsPeerTag e.core tag → draft.packet.tag ≡ tag → Answers ask n e draft answers → AllTo tag (packets_in (flush_of e draft answers).events)
+answers_to : (tag : ℕ) (ask : Ask) (n : ℕ) (e : Endpoint) (draft : Emission) (answers : List Answer) → IsPeerTag e.core tag → draft.packet.tag ≡ tag → AreFlushAnswers ask n e draft answers → AllTo tag (packets_in (flush_of e draft answers).events)
 answers_to tag _ _ _ _ _ is same (at_limit ask e draft) = tt
 answers_to tag _ _ _ _ _ is same (at_empty ask more e draft answer answered empty) = events_to tag (asked e draft answer).events [] (asked_to e draft answer tag same) tt
 answers_to tag _ _ _ _ _ is same (after_packet ask more e draft answer answers answered some rest) =
@@ -207,24 +207,24 @@ flushes_to e draft answers is allowed = answers_to draft.packet.tag first_ask (p
 
 -- ---- a flush leaves the association
 
-pub asking_link : (core : Core) → link_in (core_asking core) ≡ link_in core
+pub asking_link : (core : Core) → identity_in (core_asking core) ≡ identity_in core
 asking_link closed = refl
 asking_link (cookie_wait my) = refl
 asking_link (cookie_echoed my held cookie) = refl
 asking_link (open_in phase my held) = refl
 
-begun_link : (begun : Option BegunReset) (e : Endpoint) → link_in (after_begun begun e).core ≡ link_in e.core
+begun_link : (begun : Option BegunReset) (e : Endpoint) → identity_in (after_begun begun e).core ≡ identity_in e.core
 begun_link None e = refl
 begun_link (Some begun) e = asking_link e.core
 
-asked_link : (ask : Ask) (e : Endpoint) (draft : Emission) (answer : Answer) → Answered ask e draft answer → link_in (asked e draft answer).after.core ≡ link_in e.core
-asked_link ask e draft answer answered = ap link_in (asked_keeps ask e draft answer answered).core ∙ begun_link answer.begun e
+asked_link : (ask : Ask) (e : Endpoint) (draft : Emission) (answer : Answer) → IsFlushAnswer ask e draft answer → identity_in (asked e draft answer).after.core ≡ identity_in e.core
+asked_link ask e draft answer answered = ap identity_in (asked_keeps ask e draft answer answered).core ∙ begun_link answer.begun e
 
-answers_link : (ask : Ask) (n : ℕ) (e : Endpoint) (draft : Emission) (answers : List Answer) → Answers ask n e draft answers → link_in (flush_of e draft answers).after.core ≡ link_in e.core
+answers_link : (ask : Ask) (n : ℕ) (e : Endpoint) (draft : Emission) (answers : List Answer) → AreFlushAnswers ask n e draft answers → identity_in (flush_of e draft answers).after.core ≡ identity_in e.core
 answers_link _ _ _ _ _ (at_limit ask e draft) = refl
 answers_link _ _ _ _ _ (at_empty ask more e draft answer answered empty) = asked_link ask e draft answer answered
 answers_link _ _ _ _ _ (after_packet ask more e draft answer answers answered some rest) =
     answers_link later_ask more (asked e draft answer).after (next_draft e.core draft) answers rest ∙ asked_link ask e draft answer answered
 
-pub flush_link : (e : Endpoint) (draft : Emission) (answers : List Answer) → FlushAnswers e draft answers → link_in (flush_of e draft answers).after.core ≡ link_in e.core
+pub flush_link : (e : Endpoint) (draft : Emission) (answers : List Answer) → FlushAnswers e draft answers → identity_in (flush_of e draft answers).after.core ≡ identity_in e.core
 flush_link e draft answers allowed = answers_link first_ask (packets_allowed e.options.max_burst e.core) e draft answers allowed

@@ -5,7 +5,7 @@ use Rattle.dcsctp_spec_lemmas.specs.spec.Cookie.{cookie_at}
 use Rattle.dcsctp_spec_lemmas.specs.spec.Packet.{Content, init, init_ack, cookie_echo, cookie_ack, re_config, abort, shutdown, shutdown_ack, shutdown_complete, plain}
 use Rattle.dcsctp_spec_lemmas.specs.spec.endpoint.Endpoint.{Endpoint, Core, closed, cookie_wait, cookie_echoed, open_in}
 use Rattle.dcsctp_spec_lemmas.specs.spec.endpoint.Outcome.{Outcome}
-use Rattle.dcsctp_spec_lemmas.specs.spec.endpoint.Turn.{Input, arrival, refusal, packet_begins, chunk_input, packet_ends, act_input, user_sets, user_sends, user_resets, user_takes, timer_expires, time_passes, restores, has_data, ContentTurn, ActTurn, Turn}
+use Rattle.dcsctp_spec_lemmas.specs.spec.endpoint.Turn.{Input, arrival, refusal, packet_begins, chunk_input, packet_ends, act_input, user_sets, user_sends, user_resets, user_takes, timer_expires, time_passes, restores, has_data_chunk, ContentTurn, ActTurn, Turn}
 use Rattle.dcsctp_spec_lemmas.specs.spec.association.Acts.{Act, connect, t1_expires, shut_down, step_of_shutdown, shutdown_repeats, abort_with, hands_over, flushes, request_again, request_renewed}
 use Rattle.dcsctp_spec_lemmas.specs.spec.endpoint.TimerOutcomes.{t1_goes_on}
 use Rattle.dcsctp_delivery_turns.specs.Actions.{IsCalm, inside, Becomes, goes_on, came_by, queued_after, read_after, IsCall, peer_tag}
@@ -57,14 +57,14 @@ act_goes e (request_renewed reset) o may turn = absurd may
 pub turns_are_actions : (e : Endpoint) (input : Input) (o : Outcome) → IsCall input → Turn e input o → Becomes (came_by input) (peer_tag e.core) (queued_after e input) (read_after e input) e o
 turns_are_actions e arrival o may turn = subst (Goes None (peer_tag e.core) e) (sym turn) (goes_on none_calm refl (rests None (peer_tag e.core) (inside e)))
 turns_are_actions e (refusal text) o may turn = subst (Goes None (peer_tag e.core) e) (sym turn) (goes_on none_calm refl (rests None (peer_tag e.core) (inside e)))
-turns_are_actions e (packet_begins contents) o may turn = begin_goes None none_calm (peer_tag e.core) e e.core (has_data contents) o turn
+turns_are_actions e (packet_begins contents) o may turn = begin_goes None none_calm (peer_tag e.core) e e.core (has_data_chunk contents) o turn
 turns_are_actions e (chunk_input tag content) o may turn = content_goes e tag content o turn
-turns_are_actions e packet_ends o may turn = end_goes None none_calm (peer_tag e.core) e e.below.transfer o (own_peer e.core) refl turn
+turns_are_actions e packet_ends o may turn = end_goes None none_calm (peer_tag e.core) e e.queues.transfer o (own_peer e.core) refl turn
 turns_are_actions e (act_input act) o may turn = act_goes e act o may turn
 turns_are_actions e (user_sets setting) o may turn = subst (Goes None (peer_tag e.core) e) (sym turn) (goes_on none_calm refl (action_of None (peer_tag e.core) (inside e) _ (λ queued sent read asking. actions.sets setting)))
 turns_are_actions e (user_sends messages) o may turn = send_goes None none_calm (peer_tag e.core) e messages o (own_peer e.core) may turn
 turns_are_actions e (user_resets ids) o may turn = own_resets_go None none_calm (peer_tag e.core) e ids o (own_peer e.core) turn
-turns_are_actions e user_takes o may turn = take_goes None none_calm (peer_tag e.core) e e.below.transfer o refl turn
+turns_are_actions e user_takes o may turn = take_goes None none_calm (peer_tag e.core) e e.queues.transfer o refl turn
 turns_are_actions e (timer_expires timer) o may turn = timer_goes None none_calm (peer_tag e.core) e timer o (own_peer e.core) turn
 turns_are_actions e (time_passes moment) o may turn = subst (Goes None (peer_tag e.core) e) (sym turn) (goes_on none_calm refl (rests None (peer_tag e.core) (inside e)))
 turns_are_actions e (restores state) o may turn = absurd may

@@ -14,11 +14,11 @@ use Rattle.dcsctp_spec_lemmas.specs.spec.queues.OwnResets.{prepared_all}
 use Rattle.dcsctp_spec_lemmas.specs.spec.queues.Reassembly.{ReassemblyState}
 use Rattle.dcsctp_spec_lemmas.specs.spec.queues.Retransmission.{has_fast_retransmit}
 use Rattle.dcsctp_spec_lemmas.specs.spec.queues.Tracker.{TrackerState, after_packet_end, is_acknowledgement_due, sacked}
-use Rattle.dcsctp_spec_lemmas.specs.spec.queues.Transfer.{Transfer, Below}
-use Rattle.dcsctp_spec_lemmas.specs.spec.endpoint.DataOutcomes.{with_transfer, with_tracker, flush_by, AnswersTo, FlushTurn, no_user_data_outcome, ReceiveTurn, DataWhere, ForwardTurn, FastRetransmits, sack_taken, AcknowledgesBy, SackWhere, SackBy, SackTurn, acknowledging, EndWhere, EndsBy, opens_window, told_open, with_messages, taken_to, TakeWhere, TakeLeft, TakeTurn, delay_outcome, LossTurn}
+use Rattle.dcsctp_spec_lemmas.specs.spec.queues.Transfer.{Transfer, EndpointQueues}
+use Rattle.dcsctp_spec_lemmas.specs.spec.endpoint.DataOutcomes.{with_transfer, endpoint_with_tracker, flush_by, AnswersTo, FlushTurn, no_user_data_outcome, ReceiveTurn, DataWhere, ForwardTurn, FastRetransmits, sack_taken, AcknowledgesBy, SackWhere, SackBy, SackTurn, acknowledging, EndWhere, EndsBy, opens_window, hastened_where_open, with_messages, taken_to, TakeWhere, TakeLeft, TakeTurn, delay_outcome, LossTurn}
 use Rattle.dcsctp_spec_lemmas.specs.spec.endpoint.FlushOutcomes.{own_sack, Answer, draft_to}
 use Rattle.dcsctp_spec_lemmas.specs.spec.endpoint.MessageOutcomes.{MessageRefusal, Sending, sending_refusal, queue_by, queue_one, queue_all, takes_any, SendAnswers, send_by, SendTurn}
-use Rattle.dcsctp_spec_lemmas.specs.spec.endpoint.PreparedResets.{ResetRefusal, reset_refusal, with_queue, OwnResetsWhere, OwnResetsTurn}
+use Rattle.dcsctp_spec_lemmas.specs.spec.endpoint.PreparedResets.{ResetRefusal, reset_refusal, endpoint_with_queue, OwnResetsWhere, OwnResetsTurn}
 use Rattle.dcsctp_delivery_sending.proofs.Packets.{out_below}
 use Rattle.dcsctp_delivery_turns.specs.PeerRequests.{SameWaits}
 use Rattle.dcsctp_delivery_turns.proofs.Received.{timed_alike}
@@ -27,159 +27,159 @@ use Rattle.dcsctp_delivery_turns.proofs.Waiting.{unasked_append, same_waits, wai
 
 -- ---- a flush by itself
 
-to_asks : (e : Endpoint) (peer : Option Held) (answers : List Answer) → AnswersTo e peer answers → AsksNothing e.below.transfer (flush_by e peer answers)
+to_asks : (e : Endpoint) (peer : Option Held) (answers : List Answer) → AnswersTo e peer answers → AsksNothing e.queues.transfer (flush_by e peer answers)
 to_asks e None answers allowed = rests e
 to_asks e (Some held) answers allowed = flushed e (draft_to held) answers allowed
 
-pub flush_asks : (e : Endpoint) (o : Outcome) → FlushTurn e o → AsksNothing e.below.transfer o
-flush_asks e o turn = as_this e.below.transfer o _ turn.2 (to_asks e (held_in e.core) turn.0 turn.1)
+pub flush_asks : (e : Endpoint) (o : Outcome) → FlushTurn e o → AsksNothing e.queues.transfer o
+flush_asks e o turn = as_this e.queues.transfer o _ turn.2 (to_asks e (held_in e.core) turn.0 turn.1)
 
 -- ---- data
 
 -- this is below from here on
-module _ (e : Endpoint) (transfer new : Transfer) (known : e.below.transfer ≡ Some transfer) (waits : SameWaits transfer.reassembly.deferral new.reassembly.deferral) where
-  turns_to : AsksNothing e.below.transfer (still (with_transfer e new))
-  turns_to = record { none = tt; waits = some_wait e.below.transfer transfer new known waits }
+module _ (e : Endpoint) (transfer new : Transfer) (known : e.queues.transfer ≡ Some transfer) (waits : SameWaits transfer.reassembly.deferral new.reassembly.deferral) where
+  turns_to : AsksNothing e.queues.transfer (still (with_transfer e new))
+  turns_to = record { none = tt; waits = some_wait e.queues.transfer transfer new known waits }
 
-no_data_asks : (e : Endpoint) (peer : Option Held) (tsn : ℕ) → AsksNothing e.below.transfer (no_user_data_outcome e peer tsn)
-no_data_asks e None tsn = record { none = tt; waits = all_wait e.below.transfer }
+no_data_asks : (e : Endpoint) (peer : Option Held) (tsn : ℕ) → AsksNothing e.queues.transfer (no_user_data_outcome e peer tsn)
+no_data_asks e None tsn = record { none = tt; waits = all_wait e.queues.transfer }
 no_data_asks e (Some held) tsn = (let sent = emitted e [] (to_peer held (plain (error_of (no_user_data tsn ∷ [])))) in record { none = sent.none; waits = sent.waits })
 
-receive_asks : (e : Endpoint) (transfer : Option Transfer) (arrival : Arrival) (o : Outcome) → e.below.transfer ≡ transfer → ReceiveTurn e transfer arrival o → AsksNothing e.below.transfer o
-receive_asks e None arrival o known turn = as_this e.below.transfer o _ turn (record { none = tt; waits = all_wait e.below.transfer })
-receive_asks e (Some transfer) arrival o known turn = as_this e.below.transfer o _ turn.2 (turns_to e transfer turn.0 known (receives_wait arrival transfer turn.0 turn.1))
+receive_asks : (e : Endpoint) (transfer : Option Transfer) (arrival : Arrival) (o : Outcome) → e.queues.transfer ≡ transfer → ReceiveTurn e transfer arrival o → AsksNothing e.queues.transfer o
+receive_asks e None arrival o known turn = as_this e.queues.transfer o _ turn (record { none = tt; waits = all_wait e.queues.transfer })
+receive_asks e (Some transfer) arrival o known turn = as_this e.queues.transfer o _ turn.2 (turns_to e transfer turn.0 known (receives_wait arrival transfer turn.0 turn.1))
 
-pub data_asks : (e : Endpoint) (arrival : Arrival) (payload : List ℕ) (o : Outcome) → DataWhere e arrival payload o → AsksNothing e.below.transfer o
-data_asks e arrival [] o turn = as_this e.below.transfer o _ turn (no_data_asks e (held_in e.core) arrival.tsn)
-data_asks e arrival (byte ∷ bytes) o turn = receive_asks e e.below.transfer arrival o refl turn
+pub data_asks : (e : Endpoint) (arrival : Arrival) (payload : List ℕ) (o : Outcome) → DataWhere e arrival payload o → AsksNothing e.queues.transfer o
+data_asks e arrival [] o turn = as_this e.queues.transfer o _ turn (no_data_asks e (held_in e.core) arrival.tsn)
+data_asks e arrival (byte ∷ bytes) o turn = receive_asks e e.queues.transfer arrival o refl turn
 
-pub forward_asks : (e : Endpoint) (transfer : Option Transfer) (tsn : ℕ) (entries : List SkippedTo) (o : Outcome) → e.below.transfer ≡ transfer → ForwardTurn e transfer tsn entries o → AsksNothing e.below.transfer o
-forward_asks e None tsn entries o known turn = as_this e.below.transfer o _ turn (rests e)
-forward_asks e (Some transfer) tsn entries o known turn = as_this e.below.transfer o _ turn.2 (turns_to e transfer turn.0 known (moves_wait tsn entries transfer turn.0 turn.1))
+pub forward_asks : (e : Endpoint) (transfer : Option Transfer) (tsn : ℕ) (entries : List SkippedTo) (o : Outcome) → e.queues.transfer ≡ transfer → ForwardTurn e transfer tsn entries o → AsksNothing e.queues.transfer o
+forward_asks e None tsn entries o known turn = as_this e.queues.transfer o _ turn (rests e)
+forward_asks e (Some transfer) tsn entries o known turn = as_this e.queues.transfer o _ turn.2 (turns_to e transfer turn.0 known (moves_wait tsn entries transfer turn.0 turn.1))
 
 -- ---- SACK
 
-fast_waits : (b : Bool) (e : Endpoint) (held : Held) (transfer : Transfer) (o : Outcome) → e.below.transfer ≡ Some transfer → FastRetransmits b e held transfer o → StillWaits (Some transfer) o.after.below.transfer
+fast_waits : (b : Bool) (e : Endpoint) (held : Held) (transfer : Transfer) (o : Outcome) → e.queues.transfer ≡ Some transfer → FastRetransmits b e held transfer o → StillWaits (Some transfer) o.after.queues.transfer
 fast_waits false e held transfer o known turn =
-    subst (λ (x : Outcome). StillWaits (Some transfer) x.after.below.transfer) (sym turn) (subst (StillWaits (Some transfer)) (sym known) (all_wait (Some transfer)))
+    subst (λ (x : Outcome). StillWaits (Some transfer) x.after.queues.transfer) (sym turn) (subst (StillWaits (Some transfer)) (sym known) (all_wait (Some transfer)))
 fast_waits true e held transfer o known turn =
     let base : Endpoint = with_transfer e (record transfer { retransmission = turn.left }) in
-    subst (λ (x : Outcome). StillWaits (Some transfer) x.after.below.transfer) (sym turn.is)
-    (subst (λ (b : Below). StillWaits (Some transfer) b.transfer) (sym (out_below base [] (draft_to held).with_checksum (draft_to held).packet.tag (plain_contents turn.chunks)))
+    subst (λ (x : Outcome). StillWaits (Some transfer) x.after.queues.transfer) (sym turn.is)
+    (subst (λ (b : EndpointQueues). StillWaits (Some transfer) b.transfer) (sym (out_below base [] (draft_to held).with_checksum (draft_to held).packet.tag (plain_contents turn.chunks)))
     (some_wait (Some transfer) transfer (record transfer { retransmission = turn.left }) refl (same_waits transfer.reassembly.deferral)))
 
-pub acknowledges_asks : (e : Endpoint) (held : Held) (transfer : Transfer) (sack : SackContent) (o : Outcome) → e.below.transfer ≡ Some transfer → AcknowledgesBy e held transfer sack o → AsksNothing e.below.transfer o
+pub acknowledges_asks : (e : Endpoint) (held : Held) (transfer : Transfer) (sack : SackContent) (o : Outcome) → e.queues.transfer ≡ Some transfer → AcknowledgesBy e held transfer sack o → AsksNothing e.queues.transfer o
 acknowledges_asks e held transfer sack o known turn =
     let taken : Endpoint = sack_taken e transfer turn.left in
-    let same : turn.stepped.after.below ≡ taken.below = ap (λ (x : Outcome). x.after.below) turn.steps ∙ step_below taken e.core in
+    let same : turn.stepped.after.queues ≡ taken.queues = ap (λ (x : Outcome). x.after.queues) turn.steps ∙ step_below taken e.core in
     let timed = timed_alike turn.takes.round_trip (record transfer { retransmission = turn.takes.left }) in
     let reassembly : turn.left.reassembly ≡ transfer.reassembly = ap (λ (t : Transfer). t.reassembly) turn.takes.is ∙ timed.reassembly in
-    let first : StillWaits e.below.transfer (Some turn.left) =
-    some_wait e.below.transfer transfer turn.left known (waits_by transfer.reassembly.deferral turn.left.reassembly.deferral (ap (λ (r : ReassemblyState). r.deferral) reassembly)) in
-    let second : StillWaits (Some turn.left) turn.fast.after.below.transfer =
-    fast_waits (has_fast_retransmit turn.left.retransmission) turn.stepped.after held turn.left turn.fast (ap (λ (b : Below). b.transfer) same) turn.resends in
+    let first : StillWaits e.queues.transfer (Some turn.left) =
+    some_wait e.queues.transfer transfer turn.left known (waits_by transfer.reassembly.deferral turn.left.reassembly.deferral (ap (λ (r : ReassemblyState). r.deferral) reassembly)) in
+    let second : StillWaits (Some turn.left) turn.fast.after.queues.transfer =
+    fast_waits (has_fast_retransmit turn.left.retransmission) turn.stepped.after held turn.left turn.fast (ap (λ (b : EndpointQueues). b.transfer) same) turn.resends in
     let last = flushed turn.fast.after (draft_to held) turn.answers turn.allowed in
-    as_this e.below.transfer o _ turn.is
+    as_this e.queues.transfer o _ turn.is
     (record {
       none = last.none;
-      waits = wait_then e.below.transfer turn.fast.after.below.transfer _ (wait_then e.below.transfer (Some turn.left) turn.fast.after.below.transfer first second) last.waits;
+      waits = wait_then e.queues.transfer turn.fast.after.queues.transfer _ (wait_then e.queues.transfer (Some turn.left) turn.fast.after.queues.transfer first second) last.waits;
     })
 
-sack_where_asks : (b : Bool) (e : Endpoint) (held : Held) (transfer : Transfer) (sack : SackContent) (o : Outcome) → e.below.transfer ≡ Some transfer → SackWhere b e held transfer sack o → AsksNothing e.below.transfer o
-sack_where_asks false e held transfer sack o known turn = as_this e.below.transfer o _ turn (rests e)
+sack_where_asks : (b : Bool) (e : Endpoint) (held : Held) (transfer : Transfer) (sack : SackContent) (o : Outcome) → e.queues.transfer ≡ Some transfer → SackWhere b e held transfer sack o → AsksNothing e.queues.transfer o
+sack_where_asks false e held transfer sack o known turn = as_this e.queues.transfer o _ turn (rests e)
 sack_where_asks true e held transfer sack o known turn = acknowledges_asks e held transfer sack o known turn
 
-sack_by_asks : (e : Endpoint) (peer : Option Held) (transfer : Transfer) (sack : SackContent) (o : Outcome) → e.below.transfer ≡ Some transfer → SackBy e peer transfer sack o → AsksNothing e.below.transfer o
-sack_by_asks e None transfer sack o known turn = as_this e.below.transfer o _ turn (rests e)
+sack_by_asks : (e : Endpoint) (peer : Option Held) (transfer : Transfer) (sack : SackContent) (o : Outcome) → e.queues.transfer ≡ Some transfer → SackBy e peer transfer sack o → AsksNothing e.queues.transfer o
+sack_by_asks e None transfer sack o known turn = as_this e.queues.transfer o _ turn (rests e)
 sack_by_asks e (Some held) transfer sack o known turn = sack_where_asks (is_sack_valid transfer.retransmission sack.cumulative_tsn_ack) e held transfer sack o known turn
 
-pub sack_asks : (e : Endpoint) (transfer : Option Transfer) (sack : SackContent) (o : Outcome) → e.below.transfer ≡ transfer → SackTurn e transfer sack o → AsksNothing e.below.transfer o
-sack_asks e None sack o known turn = as_this e.below.transfer o _ turn (record { none = tt; waits = all_wait e.below.transfer })
+pub sack_asks : (e : Endpoint) (transfer : Option Transfer) (sack : SackContent) (o : Outcome) → e.queues.transfer ≡ transfer → SackTurn e transfer sack o → AsksNothing e.queues.transfer o
+sack_asks e None sack o known turn = as_this e.queues.transfer o _ turn (record { none = tt; waits = all_wait e.queues.transfer })
 sack_asks e (Some transfer) sack o known turn = sack_by_asks e (held_in e.core) transfer sack o known turn
 
 -- ---- the end of a packet, what the user takes, and the timers of both
 
-end_where_asks : (b : Bool) (e : Endpoint) (peer : Option Held) (transfer : Transfer) (tracker : TrackerState) (o : Outcome) → e.below.transfer ≡ Some transfer → EndWhere b e peer transfer tracker o → AsksNothing e.below.transfer o
+end_where_asks : (b : Bool) (e : Endpoint) (peer : Option Held) (transfer : Transfer) (tracker : TrackerState) (o : Outcome) → e.queues.transfer ≡ Some transfer → EndWhere b e peer transfer tracker o → AsksNothing e.queues.transfer o
 end_where_asks true e (Some held) transfer tracker o known turn =
-    let base : Endpoint = with_tracker e transfer (sacked tracker) in
+    let base : Endpoint = endpoint_with_tracker e transfer (sacked tracker) in
     let last = flushed base (acknowledging e held (own_sack (record transfer { tracker = tracker }))) turn.answers turn.allowed in
-    as_this e.below.transfer o _ turn.is
+    as_this e.queues.transfer o _ turn.is
     (record {
       none = last.none;
-      waits = wait_then e.below.transfer base.below.transfer _ (some_wait e.below.transfer transfer (record transfer { tracker = sacked tracker }) known (same_waits transfer.reassembly.deferral)) last.waits;
+      waits = wait_then e.queues.transfer base.queues.transfer _ (some_wait e.queues.transfer transfer (record transfer { tracker = sacked tracker }) known (same_waits transfer.reassembly.deferral)) last.waits;
     })
-end_where_asks true e None transfer tracker o known turn = as_this e.below.transfer o _ turn (turns_to e transfer (record transfer { tracker = tracker }) known (same_waits transfer.reassembly.deferral))
-end_where_asks false e peer transfer tracker o known turn = as_this e.below.transfer o _ turn (turns_to e transfer (record transfer { tracker = tracker }) known (same_waits transfer.reassembly.deferral))
+end_where_asks true e None transfer tracker o known turn = as_this e.queues.transfer o _ turn (turns_to e transfer (record transfer { tracker = tracker }) known (same_waits transfer.reassembly.deferral))
+end_where_asks false e peer transfer tracker o known turn = as_this e.queues.transfer o _ turn (turns_to e transfer (record transfer { tracker = tracker }) known (same_waits transfer.reassembly.deferral))
 
-pub end_asks : (e : Endpoint) (transfer : Option Transfer) (o : Outcome) → e.below.transfer ≡ transfer → EndsBy e transfer o → AsksNothing e.below.transfer o
-end_asks e None o known turn = as_this e.below.transfer o _ turn (rests e)
+pub end_asks : (e : Endpoint) (transfer : Option Transfer) (o : Outcome) → e.queues.transfer ≡ transfer → EndsBy e transfer o → AsksNothing e.queues.transfer o
+end_asks e None o known turn = as_this e.queues.transfer o _ turn (rests e)
 end_asks e (Some transfer) o known turn =
     let tracker = after_packet_end e.moment transfer.tracker in end_where_asks (is_acknowledgement_due tracker) e (held_in e.core) transfer tracker o known turn
 
 -- An acknowledgement that is due leaves what waits.
-told_waits : (b : Bool) (moment : ℕ) (transfer : Transfer) → SameWaits transfer.reassembly.deferral (told_open b moment transfer).reassembly.deferral
+told_waits : (b : Bool) (moment : ℕ) (transfer : Transfer) → SameWaits transfer.reassembly.deferral (hastened_where_open b moment transfer).reassembly.deferral
 told_waits true moment transfer = same_waits transfer.reassembly.deferral
 told_waits false moment transfer = same_waits transfer.reassembly.deferral
 
-take_where_asks : (e : Endpoint) (transfer : Transfer) (messages : List MessageContent) (o : Outcome) → e.below.transfer ≡ Some transfer → TakeWhere e transfer messages o → AsksNothing e.below.transfer o
-take_where_asks e transfer [] o known turn = as_this e.below.transfer o _ turn (rests e)
+take_where_asks : (e : Endpoint) (transfer : Transfer) (messages : List MessageContent) (o : Outcome) → e.queues.transfer ≡ Some transfer → TakeWhere e transfer messages o → AsksNothing e.queues.transfer o
+take_where_asks e transfer [] o known turn = as_this e.queues.transfer o _ turn (rests e)
 take_where_asks e transfer (message ∷ messages) o known turn =
     let left : Transfer = with_messages messages transfer in
-    as_this e.below.transfer o _ turn (turns_to e transfer (taken_to e.options e.moment messages transfer) known (told_waits (opens_window e.options transfer left) e.moment left))
+    as_this e.queues.transfer o _ turn (turns_to e transfer (taken_to e.options e.moment messages transfer) known (told_waits (opens_window e.options transfer left) e.moment left))
 
-take_left_asks : (e : Endpoint) (left : List MessageContent) (o : Outcome) → TakeLeft e left o → AsksNothing e.below.transfer o
-take_left_asks e [] o turn = as_this e.below.transfer o _ turn (rests e)
-take_left_asks e (message ∷ messages) o turn = as_this e.below.transfer o _ turn (record { none = tt; waits = all_wait e.below.transfer })
+take_left_asks : (e : Endpoint) (left : List MessageContent) (o : Outcome) → TakeLeft e left o → AsksNothing e.queues.transfer o
+take_left_asks e [] o turn = as_this e.queues.transfer o _ turn (rests e)
+take_left_asks e (message ∷ messages) o turn = as_this e.queues.transfer o _ turn (record { none = tt; waits = all_wait e.queues.transfer })
 
-pub take_asks : (e : Endpoint) (transfer : Option Transfer) (o : Outcome) → e.below.transfer ≡ transfer → TakeTurn e transfer o → AsksNothing e.below.transfer o
+pub take_asks : (e : Endpoint) (transfer : Option Transfer) (o : Outcome) → e.queues.transfer ≡ transfer → TakeTurn e transfer o → AsksNothing e.queues.transfer o
 take_asks e None o known turn = take_left_asks e e.left o turn
 take_asks e (Some transfer) o known turn = take_where_asks e transfer transfer.reassembly.incoming.ready o known turn
 
-pub delay_asks : (e : Endpoint) (transfer : Option Transfer) → e.below.transfer ≡ transfer → AsksNothing e.below.transfer (delay_outcome e transfer)
+pub delay_asks : (e : Endpoint) (transfer : Option Transfer) → e.queues.transfer ≡ transfer → AsksNothing e.queues.transfer (delay_outcome e transfer)
 delay_asks e None known = rests e
 delay_asks e (Some transfer) known = turns_to e transfer _ known (same_waits transfer.reassembly.deferral)
 
-pub loss_asks : (e : Endpoint) (transfer : Option Transfer) (o : Outcome) → e.below.transfer ≡ transfer → LossTurn e transfer o → AsksNothing e.below.transfer o
-loss_asks e None o known turn = as_this e.below.transfer o _ turn (rests e)
+pub loss_asks : (e : Endpoint) (transfer : Option Transfer) (o : Outcome) → e.queues.transfer ≡ transfer → LossTurn e transfer o → AsksNothing e.queues.transfer o
+loss_asks e None o known turn = as_this e.queues.transfer o _ turn (rests e)
 loss_asks e (Some transfer) o known turn =
-    as_this e.below.transfer o _ turn (record { none = tt; waits = some_wait e.below.transfer transfer _ known (same_waits transfer.reassembly.deferral) })
+    as_this e.queues.transfer o _ turn (record { none = tt; waits = some_wait e.queues.transfer transfer _ known (same_waits transfer.reassembly.deferral) })
 
 -- ---- what the user sends and resets
 
-queue_by_asks : (e : Endpoint) (sending : Sending) (refusal : Option MessageRefusal) → AsksNothing e.below.transfer (queue_by e sending refusal)
-queue_by_asks e sending None = record { none = tt; waits = all_wait e.below.transfer }
-queue_by_asks e sending (Some refusal) = record { none = tt; waits = all_wait e.below.transfer }
+queue_by_asks : (e : Endpoint) (sending : Sending) (refusal : Option MessageRefusal) → AsksNothing e.queues.transfer (queue_by e sending refusal)
+queue_by_asks e sending None = record { none = tt; waits = all_wait e.queues.transfer }
+queue_by_asks e sending (Some refusal) = record { none = tt; waits = all_wait e.queues.transfer }
 
-queue_all_asks : (e : Endpoint) (sendings : List Sending) → AsksNothing e.below.transfer (queue_all e sendings)
+queue_all_asks : (e : Endpoint) (sendings : List Sending) → AsksNothing e.queues.transfer (queue_all e sendings)
 queue_all_asks e [] = rests e
 queue_all_asks e (sending ∷ sendings) =
-    let first : AsksNothing e.below.transfer (queue_one e sending) = queue_by_asks e sending (sending_refusal e sending) in
+    let first : AsksNothing e.queues.transfer (queue_one e sending) = queue_by_asks e sending (sending_refusal e sending) in
     let rest = queue_all_asks (queue_one e sending).after sendings in
     record {
       none = unasked_append (queue_one e sending).effects (queue_all (queue_one e sending).after sendings).effects first.none rest.none;
-      waits = wait_then e.below.transfer (queue_one e sending).after.below.transfer _ first.waits rest.waits;
+      waits = wait_then e.queues.transfer (queue_one e sending).after.queues.transfer _ first.waits rest.waits;
     }
 
-send_by_asks : (b : Bool) (e : Endpoint) (answers : List Answer) → SendAnswers b e answers → AsksNothing e.below.transfer (send_by b e answers)
+send_by_asks : (b : Bool) (e : Endpoint) (answers : List Answer) → SendAnswers b e answers → AsksNothing e.queues.transfer (send_by b e answers)
 send_by_asks false e answers allowed = rests e
 send_by_asks true e answers allowed = to_asks e (held_in e.core) answers allowed
 
-pub send_asks : (e : Endpoint) (sendings : List Sending) (o : Outcome) → SendTurn e sendings o → AsksNothing e.below.transfer o
+pub send_asks : (e : Endpoint) (sendings : List Sending) (o : Outcome) → SendTurn e sendings o → AsksNothing e.queues.transfer o
 send_asks e sendings o turn =
     let all : Outcome = queue_all e sendings in
     let first = queue_all_asks e sendings in
     let last = send_by_asks (takes_any e sendings) all.after turn.0 turn.1 in
-    as_this e.below.transfer o _ turn.2
+    as_this e.queues.transfer o _ turn.2
     (record {
       none = unasked_append all.effects (send_by (takes_any e sendings) all.after turn.0).effects first.none last.none;
-      waits = wait_then e.below.transfer all.after.below.transfer _ first.waits last.waits;
+      waits = wait_then e.queues.transfer all.after.queues.transfer _ first.waits last.waits;
     })
 
-resets_where_ask : (refusal : Option ResetRefusal) (e : Endpoint) (ids : List ℕ) (o : Outcome) → OwnResetsWhere refusal e ids o → AsksNothing e.below.transfer o
+resets_where_ask : (refusal : Option ResetRefusal) (e : Endpoint) (ids : List ℕ) (o : Outcome) → OwnResetsWhere refusal e ids o → AsksNothing e.queues.transfer o
 resets_where_ask None e ids o turn =
-    let last = flush_asks (with_queue e (prepared_all ids e.below.queue)) turn.flushed turn.flushes in
-    as_this e.below.transfer o _ turn.is (record { none = last.none; waits = last.waits })
-resets_where_ask (Some refusal) e ids o turn = as_this e.below.transfer o _ turn (rests e)
+    let last = flush_asks (endpoint_with_queue e (prepared_all ids e.queues.queue)) turn.flushed turn.flushes in
+    as_this e.queues.transfer o _ turn.is (record { none = last.none; waits = last.waits })
+resets_where_ask (Some refusal) e ids o turn = as_this e.queues.transfer o _ turn (rests e)
 
-pub own_resets_ask : (e : Endpoint) (ids : List ℕ) (o : Outcome) → OwnResetsTurn e ids o → AsksNothing e.below.transfer o
+pub own_resets_ask : (e : Endpoint) (ids : List ℕ) (o : Outcome) → OwnResetsTurn e ids o → AsksNothing e.queues.transfer o
 own_resets_ask e ids o turn = resets_where_ask (reset_refusal e) e ids o turn

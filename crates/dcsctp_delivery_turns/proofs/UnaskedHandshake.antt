@@ -9,10 +9,10 @@ use Rattle.dcsctp_spec_lemmas.specs.spec.endpoint.Event.{Event, connected, conne
 use Rattle.dcsctp_spec_lemmas.specs.spec.endpoint.Outcome.{Outcome, quiet, emits, fits, drawing, to_peer}
 use Rattle.dcsctp_spec_lemmas.specs.spec.Packet.{Introduction, Content, cookie_echo, shutdown_ack, Emission}
 use Rattle.dcsctp_spec_lemmas.specs.spec.association.CookieEchoChanges.{held_by_cookie, Resolution, establish_new, restart, simultaneous_init, discard, maintain_existing, invalid_tag, stale}
-use Rattle.dcsctp_spec_lemmas.specs.spec.association.Effect.{link_of, link_in}
+use Rattle.dcsctp_spec_lemmas.specs.spec.association.Effect.{identity_of, identity_in}
 use Rattle.dcsctp_spec_lemmas.specs.spec.association.HandshakeChanges.{held_by_init_ack}
-use Rattle.dcsctp_spec_lemmas.specs.spec.queues.SendQueue.{SendQueueState, restarted, numbered_for}
-use Rattle.dcsctp_spec_lemmas.specs.spec.endpoint.CookieEchoOutcomes.{acknowledgement, EstablishAnswers, establish_by, established_by, interleaves, queue_kept, queue_begun, RestartAnswers, restart_by_where, MaintainAnswers, maintain_by, ResolvedAnswers, resolved_by, EchoedAnswers, cookie_echo_by, resolved_now, window_by_cookie}
+use Rattle.dcsctp_spec_lemmas.specs.spec.queues.SendQueue.{SendQueueState, queue_restarted, numbered_for}
+use Rattle.dcsctp_spec_lemmas.specs.spec.endpoint.CookieEchoOutcomes.{cookie_ack_emission, EstablishAnswers, establish_by, established_by, interleaves, queue_kept, queue_begun, RestartAnswers, restart_by_where, MaintainAnswers, maintain_by, ResolvedAnswers, resolved_by, EchoedAnswers, cookie_echo_by, resolved_now, window_by_cookie}
 use Rattle.dcsctp_spec_lemmas.specs.spec.endpoint.FlushOutcomes.{Answer, draft_to, flush_answered}
 use Rattle.dcsctp_spec_lemmas.specs.spec.endpoint.HandshakeOutcomes.{pair_from, renewed_pair, init_ack_emission, init_outcome, init_emission, awaits_init_ack, connect_outcome, awaits_cookie_ack, echo_emission, EchoAnswers, InitAckAnswers, accepted_init_ack_by, init_ack_by, connected_after, CookieAckAnswers, cookie_ack_by, abort_emission, no_cookie_text}
 use Rattle.dcsctp_spec_lemmas.specs.spec.endpoint.TimerOutcomes.{AgainAnswers, again_by}
@@ -23,16 +23,16 @@ use Rattle.dcsctp_delivery_turns.proofs.Waiting.{AsksNothing, rests, said, emitt
 
 -- No request of the peer is accepted or performed, and the association goes on or ends; or another one begins.
 pub data CalmTurns (came : Option Content) (e : Endpoint) (o : Outcome) : Type 0 where
-  goes_on : AsksNothing e.below.transfer o → CalmTurns came e o
-  begins : (begun : Begun e o) → IsOpening came → link_in o.after.core ≡ Some (link_of begun.my begun.held) → AsksNothing (Some (begun_transfer e o begun)) o → CalmTurns came e o
+  goes_on : AsksNothing e.queues.transfer o → CalmTurns came e o
+  begins : (begun : Begun e o) → IsOpening came → identity_in o.after.core ≡ Some (identity_of begun.my begun.held) → AsksNothing (Some (begun_transfer e o begun)) o → CalmTurns came e o
 
 -- ---- the handshake
 
 -- a pair is drawn before
-drawn_asks : (e : Endpoint) (words : List Word) (pair : Pair) (emission : Emission) → AsksNothing e.below.transfer (drawing pair (emits e words emission))
+drawn_asks : (e : Endpoint) (words : List Word) (pair : Pair) (emission : Emission) → AsksNothing e.queues.transfer (drawing pair (emits e words emission))
 drawn_asks e words pair emission = (let sent = emitted e words emission in record { none = sent.none; waits = sent.waits })
 
-pub init_asks : (e : Endpoint) (theirs : Introduction) (core : Core) (word next : ℕ) → AsksNothing e.below.transfer (init_outcome e theirs core word next)
+pub init_asks : (e : Endpoint) (theirs : Introduction) (core : Core) (word next : ℕ) → AsksNothing e.queues.transfer (init_outcome e theirs core word next)
 init_asks e theirs closed word next = drawn_asks e (U32 word ∷ U32 next ∷ []) (pair_from word next) (init_ack_emission e theirs (pair_from word next) 0)
 init_asks e theirs (cookie_wait my) word next = emitted e [] (init_ack_emission e theirs my 0)
 init_asks e theirs (cookie_echoed my held cookie) word next = emitted e [] (init_ack_emission e theirs my 0)
@@ -42,29 +42,29 @@ init_asks e theirs (open_in shutdown_sent my held) word next = drawn_asks e (U32
 init_asks e theirs (open_in shutdown_received my held) word next = drawn_asks e (U32 word ∷ []) (renewed_pair e word) (init_ack_emission e theirs (renewed_pair e word) e.tie)
 init_asks e theirs (open_in shutdown_ack_sent my held) word next = emitted e [] (to_peer held shutdown_ack)
 
-pub connect_asks : (e : Endpoint) (core : Core) (word next : ℕ) → AsksNothing e.below.transfer (connect_outcome e core word next)
+pub connect_asks : (e : Endpoint) (core : Core) (word next : ℕ) → AsksNothing e.queues.transfer (connect_outcome e core word next)
 connect_asks e closed word next = drawn_asks (awaits_init_ack e (pair_from word next)) (U32 word ∷ U32 next ∷ []) (pair_from word next) (init_emission e (pair_from word next))
 connect_asks e (cookie_wait my) word next = rests e
 connect_asks e (cookie_echoed my held cookie) word next = rests e
 connect_asks e (open_in phase my held) word next = rests e
 
 echoed_asks : (b : Bool) (e : Endpoint) (words : List Word) (tag : ℕ) (cookie : List ℕ) (answers : List Answer) → EchoAnswers b e tag cookie answers
-    → AsksNothing e.below.transfer (cond b (flush_answered answers e words [] true tag (cookie_echo cookie ∷ [])) (quiet e words []))
+    → AsksNothing e.queues.transfer (cond b (flush_answered answers e words [] true tag (cookie_echo cookie ∷ [])) (quiet e words []))
 echoed_asks true e words tag cookie answers allowed = flushed_behind e words [] (echo_emission tag cookie) answers allowed
 echoed_asks false e words tag cookie answers allowed = said e _ tt refl
 
 echoed_link : (b : Bool) (e : Endpoint) (words : List Word) (tag : ℕ) (cookie : List ℕ) (answers : List Answer) → EchoAnswers b e tag cookie answers
-    → link_in (cond b (flush_answered answers e words [] true tag (cookie_echo cookie ∷ [])) (quiet e words [])).after.core ≡ link_in e.core
+    → identity_in (cond b (flush_answered answers e words [] true tag (cookie_echo cookie ∷ [])) (quiet e words [])).after.core ≡ identity_in e.core
 echoed_link true e words tag cookie answers allowed = flush_link e (echo_emission tag cookie) answers allowed
 echoed_link false e words tag cookie answers allowed = refl
 
-pub again_asks : (e : Endpoint) (core : Core) (answers : List Answer) → AgainAnswers e core answers → AsksNothing e.below.transfer (again_by (flush_answered answers) e core)
+pub again_asks : (e : Endpoint) (core : Core) (answers : List Answer) → AgainAnswers e core answers → AsksNothing e.queues.transfer (again_by (flush_answered answers) e core)
 again_asks e closed answers allowed = rests e
 again_asks e (cookie_wait my) answers allowed = emitted e [] (init_emission e my)
 again_asks e (cookie_echoed my held cookie) answers allowed = echoed_asks (fits e (echo_emission held.peer.tag cookie)) e [] held.peer.tag cookie answers allowed
 again_asks e (open_in phase my held) answers allowed = rests e
 
-pub cookie_ack_asks : (e : Endpoint) (core : Core) (answers : List Answer) → CookieAckAnswers e core answers → AsksNothing e.below.transfer (cookie_ack_by (flush_answered answers) e core)
+pub cookie_ack_asks : (e : Endpoint) (core : Core) (answers : List Answer) → CookieAckAnswers e core answers → AsksNothing e.queues.transfer (cookie_ack_by (flush_answered answers) e core)
 cookie_ack_asks e closed answers allowed = rests e
 cookie_ack_asks e (cookie_wait my) answers allowed = rests e
 cookie_ack_asks e (cookie_echoed my held cookie) answers allowed = (let last = flushed (connected_after e my held) (draft_to held) answers allowed in record { none = last.none; waits = last.waits })
@@ -74,7 +74,7 @@ module _ (came : Option Content) (opening : IsOpening came) (e : Endpoint) where
   accepted_calm : (my : Pair) (theirs : Introduction) (cookie : Option (List ℕ)) (word : ℕ) (answers : List Answer) → InitAckAnswers e theirs cookie (cookie_wait my) word answers
       → CalmTurns came e (accepted_init_ack_by (flush_answered answers) e my theirs cookie word)
   accepted_calm my theirs None word answers allowed =
-      goes_on (ended e.below.transfer (emits e [] (abort_emission theirs.pair.tag)) (aborted _ no_cookie_text) (emitted e [] (abort_emission theirs.pair.tag)).none)
+      goes_on (ended e.queues.transfer (emits e [] (abort_emission theirs.pair.tag)) (aborted _ no_cookie_text) (emitted e [] (abort_emission theirs.pair.tag)).none)
   accepted_calm my theirs (Some cookie) word answers allowed =
       let awaiting : Endpoint = awaits_cookie_ack e my theirs cookie word in
       let is_short : Bool = fits awaiting (echo_emission theirs.pair.tag cookie) in
@@ -85,7 +85,7 @@ module _ (came : Option Content) (opening : IsOpening came) (e : Endpoint) where
         window = theirs.window;
         later = _;
         noted = refl;
-        queue = numbered_for (held_by_init_ack e.options my theirs).capabilities.message_interleaving (restarted e.below.queue);
+        queue = numbered_for (held_by_init_ack e.options my theirs).capabilities.message_interleaving (queue_restarted e.queues.queue);
         keeps = inr refl;
       }) opening (echoed_link is_short awaiting (U64 word ∷ []) theirs.pair.tag cookie answers allowed) (record { none = last.none; waits = last.waits })
 
@@ -99,11 +99,11 @@ module _ (came : Option Content) (opening : IsOpening came) (e : Endpoint) where
   -- ---- COOKIE ECHO
 
   established_calm : (cookie : Cookie) (queue : SendQueueState) (tie : ℕ) (told : List (Event Emission)) (answers : List Answer)
-      → (queue ≡ numbered_for (interleaves e cookie) e.below.queue) ⊎ (queue ≡ numbered_for (interleaves e cookie) (restarted e.below.queue)) → EstablishAnswers e cookie queue tie answers
+      → (queue ≡ numbered_for (interleaves e cookie) e.queues.queue) ⊎ (queue ≡ numbered_for (interleaves e cookie) (queue_restarted e.queues.queue)) → EstablishAnswers e cookie queue tie answers
       → CalmTurns came e (establish_by (flush_answered answers) e cookie queue tie told)
   established_calm cookie queue tie told answers keeps allowed =
       let base : Endpoint = established_by e cookie queue tie in
-      let last = flushed base (acknowledgement (held_by_cookie e.options cookie) cookie) answers allowed in
+      let last = flushed base (cookie_ack_emission (held_by_cookie e.options cookie) cookie) answers allowed in
       begins (record {
         my = cookie.maker;
         held = held_by_cookie e.options cookie;
@@ -112,7 +112,7 @@ module _ (came : Option Content) (opening : IsOpening came) (e : Endpoint) where
         noted = refl;
         queue = queue;
         keeps = keeps;
-      }) opening (flush_link base (acknowledgement (held_by_cookie e.options cookie) cookie) answers allowed) (record { none = last.none; waits = last.waits })
+      }) opening (flush_link base (cookie_ack_emission (held_by_cookie e.options cookie) cookie) answers allowed) (record { none = last.none; waits = last.waits })
 
   anew_calm : (cookie : Cookie) (tie : ℕ) (told : List (Event Emission)) (answers : List Answer) → EstablishAnswers e cookie (queue_begun e cookie) tie answers
       → CalmTurns came e (establish_by (flush_answered answers) e cookie (queue_begun e cookie) tie told)
@@ -128,12 +128,12 @@ module _ (came : Option Content) (opening : IsOpening came) (e : Endpoint) where
   restarted_calm cookie tie (open_in shutdown_received my held) answers allowed = anew_calm cookie tie (connection_restarted ∷ connected ∷ []) answers allowed
   restarted_calm cookie tie (open_in shutdown_ack_sent my held) answers allowed = goes_on (said e _ tt refl)
 
-  maintained_asks : (cookie : Cookie) (core : Core) (answers : List Answer) → MaintainAnswers e cookie core answers → AsksNothing e.below.transfer (maintain_by (flush_answered answers) e cookie core)
+  maintained_asks : (cookie : Cookie) (core : Core) (answers : List Answer) → MaintainAnswers e cookie core answers → AsksNothing e.queues.transfer (maintain_by (flush_answered answers) e cookie core)
   maintained_asks cookie closed answers allowed = rests e
   maintained_asks cookie (cookie_wait my) answers allowed = rests e
   maintained_asks cookie (cookie_echoed my held echoed) answers allowed =
-      (let last = flushed (connected_after e my held) (acknowledgement held cookie) answers allowed in record { none = last.none; waits = last.waits })
-  maintained_asks cookie (open_in phase my held) answers allowed = flushed_behind e [] [] (acknowledgement held cookie) answers allowed
+      (let last = flushed (connected_after e my held) (cookie_ack_emission held cookie) answers allowed in record { none = last.none; waits = last.waits })
+  maintained_asks cookie (open_in phase my held) answers allowed = flushed_behind e [] [] (cookie_ack_emission held cookie) answers allowed
 
   resolved_calm : (cookie : Cookie) (core : Core) (word : ℕ) (resolution : Resolution) (answers : List Answer) → ResolvedAnswers e cookie core word resolution answers
       → CalmTurns came e (resolved_by (flush_answered answers) e cookie core word resolution)

@@ -10,12 +10,12 @@ use Rattle.dcsctp_spec_lemmas.specs.spec.Packet.{Emission}
 use Rattle.dcsctp_spec_lemmas.specs.spec.association.Effect.{Effect}
 use Rattle.dcsctp_spec_lemmas.specs.spec.queues.Arrivals.{Arrival}
 use Rattle.dcsctp_spec_lemmas.specs.spec.queues.IncomingStreams.{ChunkModel}
-use Rattle.dcsctp_spec_lemmas.specs.spec.queues.Reassembly.{DeferralModel, WaitingModel, ReassemblyState, can_count, is_deferred, is_forward_deferred, with_waiting, AddsData, SkipsData}
+use Rattle.dcsctp_spec_lemmas.specs.spec.queues.Reassembly.{DeferralModel, WaitingModel, ReassemblyState, can_count, is_data_deferred, is_forward_deferred, with_waiting, AddsData, SkipsData}
 use Rattle.dcsctp_spec_lemmas.specs.spec.queues.Tracker.{is_new_tsn, is_forward, is_valid_tsn}
-use Rattle.dcsctp_spec_lemmas.specs.spec.queues.Transfer.{Transfer, Below}
+use Rattle.dcsctp_spec_lemmas.specs.spec.queues.Transfer.{Transfer, EndpointQueues}
 use Rattle.dcsctp_spec_lemmas.specs.spec.endpoint.BegunResets.{BegunReset, begun_effects}
 use Rattle.dcsctp_spec_lemmas.specs.spec.endpoint.EndOutcomes.{ended_outcome}
-use Rattle.dcsctp_spec_lemmas.specs.spec.endpoint.FlushOutcomes.{Answer, answer_contents, filled, asked, next_draft, flush_of, FlushAnswers, Ask, first_ask, later_ask, AnsweredBelow, Answered, Answers, at_limit, at_empty, after_packet, packets_allowed}
+use Rattle.dcsctp_spec_lemmas.specs.spec.endpoint.FlushOutcomes.{Answer, answer_contents, filled, asked, next_draft, flush_of, FlushAnswers, Ask, first_ask, later_ask, IsAnswerOfQueues, IsFlushAnswer, AreFlushAnswers, at_limit, at_empty, after_packet, packets_allowed}
 use Rattle.dcsctp_spec_lemmas.specs.spec.endpoint.TransferMoves.{AddsWhere, has_room, ReceivesWhere, ReceivesData, SkipsWhere, MovesWhere, MovesForward}
 use Rattle.dcsctp_spec_lemmas.proofs.FlushKeeps.{begun_by, flush_keeps}
 use Rattle.dcsctp_delivery_sending.proofs.Packets.{out_below}
@@ -66,13 +66,13 @@ Waits old new = SameWaits old.deferral new.deferral
 waits_as : (old between new : ReassemblyState) → new ≡ between → Waits old between → Waits old new
 waits_as old between new is waits = subst (Waits old) (sym is) waits
 
-adds_wait : (tsn : ℕ) (chunk : ChunkModel) (old new : ReassemblyState) (counts defers : Bool) → can_count (length chunk.payload) old ≡ counts → is_deferred tsn chunk.stream old.deferral ≡ defers → AddsData tsn chunk old new → Waits old new
+adds_wait : (tsn : ℕ) (chunk : ChunkModel) (old new : ReassemblyState) (counts defers : Bool) → can_count (length chunk.payload) old ≡ counts → is_data_deferred tsn chunk.stream old.deferral ≡ defers → AddsData tsn chunk old new → Waits old new
 adds_wait tsn chunk old new true true counts defers does = waits_as old _ new (does.deferred counts defers) (more_waits (record { tsn = tsn; chunk = chunk }) old.deferral)
 adds_wait tsn chunk old new true false counts defers does = waits_by old.deferral new.deferral (does.taken counts defers).deferral
 adds_wait tsn chunk old new false defers counts is does = waits_as old old new (does.too_much counts) (same_waits old.deferral)
 
 adds_where_wait : (b : Bool) (tsn : ℕ) (chunk : ChunkModel) (old new : ReassemblyState) → AddsWhere b tsn chunk old new → Waits old new
-adds_where_wait true tsn chunk old new does = adds_wait tsn chunk old new (can_count (length chunk.payload) old) (is_deferred tsn chunk.stream old.deferral) refl refl does
+adds_where_wait true tsn chunk old new does = adds_wait tsn chunk old new (can_count (length chunk.payload) old) (is_data_deferred tsn chunk.stream old.deferral) refl refl does
 adds_where_wait false tsn chunk old new does = waits_as old old new does (same_waits old.deferral)
 
 receives_where_wait : (b : Bool) (arrival : Arrival) (old new : Transfer) → ReceivesWhere b arrival old new → Waits old.reassembly new.reassembly
@@ -137,24 +137,24 @@ wait_then old (Some between) new first second = λ left is. waited_in old betwee
 -- ---- a flush
 
 -- Without an association it leaves none.
-answered_none : (ask : Ask) (e : Endpoint) (draft : Emission) (found : Option Transfer) (answer : Answer) → e.below.transfer ≡ None → found ≡ None → AnsweredBelow ask e draft answer found → answer.after.below.transfer ≡ None
-answered_none ask e draft None answer none is does = ap (λ (a : Answer). a.after.below.transfer) does ∙ none
+answered_none : (ask : Ask) (e : Endpoint) (draft : Emission) (found : Option Transfer) (answer : Answer) → e.queues.transfer ≡ None → found ≡ None → IsAnswerOfQueues ask e draft answer found → answer.after.queues.transfer ≡ None
+answered_none ask e draft None answer none is does = ap (λ (a : Answer). a.after.queues.transfer) does ∙ none
 answered_none ask e draft (Some transfer) answer none is does = absurd (cc)
 
-asked_none : (ask : Ask) (e : Endpoint) (draft : Emission) (answer : Answer) → e.below.transfer ≡ None → Answered ask e draft answer → (asked e draft answer).after.below.transfer ≡ None
+asked_none : (ask : Ask) (e : Endpoint) (draft : Emission) (answer : Answer) → e.queues.transfer ≡ None → IsFlushAnswer ask e draft answer → (asked e draft answer).after.queues.transfer ≡ None
 asked_none ask e draft answer none does =
-    ap (λ (b : Below). b.transfer) (out_below answer.after _ draft.with_checksum draft.packet.tag (filled draft (answer_contents answer)).packet.contents)
-    ∙ answered_none ask e draft e.below.transfer answer none none does.by_transfer
+    ap (λ (b : EndpointQueues). b.transfer) (out_below answer.after _ draft.with_checksum draft.packet.tag (filled draft (answer_contents answer)).packet.contents)
+    ∙ answered_none ask e draft e.queues.transfer answer none none does.by_transfer
 
-flush_none : (ask : Ask) (n : ℕ) (e : Endpoint) (draft : Emission) (answers : List Answer) → e.below.transfer ≡ None → Answers ask n e draft answers → (flush_of e draft answers).after.below.transfer ≡ None
+flush_none : (ask : Ask) (n : ℕ) (e : Endpoint) (draft : Emission) (answers : List Answer) → e.queues.transfer ≡ None → AreFlushAnswers ask n e draft answers → (flush_of e draft answers).after.queues.transfer ≡ None
 flush_none _ _ _ _ _ none (at_limit ask e draft) = none
 flush_none _ _ _ _ _ none (at_empty ask more e draft answer does empty) = asked_none ask e draft answer none does
 flush_none _ _ _ _ _ none (after_packet ask more e draft answer answers does some rest) =
     flush_none later_ask more (asked e draft answer).after (next_draft e.core draft) answers (asked_none ask e draft answer none does) rest
 
-flush_waits : (found : Option Transfer) (e : Endpoint) (draft : Emission) (answers : List Answer) → e.below.transfer ≡ found → FlushAnswers e draft answers → StillWaits found (flush_of e draft answers).after.below.transfer
+flush_waits : (found : Option Transfer) (e : Endpoint) (draft : Emission) (answers : List Answer) → e.queues.transfer ≡ found → FlushAnswers e draft answers → StillWaits found (flush_of e draft answers).after.queues.transfer
 flush_waits None e draft answers known allowed =
-    λ left is. let none : (flush_of e draft answers).after.below.transfer ≡ None = flush_none first_ask (packets_allowed e.options.max_burst e.core) e draft answers known allowed in absurd (cc)
+    λ left is. let none : (flush_of e draft answers).after.queues.transfer ≡ None = flush_none first_ask (packets_allowed e.options.max_burst e.core) e draft answers known allowed in absurd (cc)
 flush_waits (Some transfer) e draft answers known allowed =
     let kept = flush_left first_ask (packets_allowed e.options.max_burst e.core) e draft answers transfer known allowed in
     subst (StillWaits (Some transfer)) (sym kept.is)
@@ -165,35 +165,35 @@ flush_waits (Some transfer) e draft answers known allowed =
 -- No request of the peer is accepted or performed, and what waits for one in this waits for it still.
 pub record AsksNothing (found : Option Transfer) (o : Outcome) : Type 0 where
   pub none : NoneAsked o.effects
-  pub waits : StillWaits found o.after.below.transfer
+  pub waits : StillWaits found o.after.queues.transfer
 
 -- as this outcome
 pub as_this : (found : Option Transfer) (o this : Outcome) → o ≡ this → AsksNothing found this → AsksNothing found o
 as_this found o this is asks = subst (AsksNothing found) (sym is) asks
 
-pub rests : (e : Endpoint) → AsksNothing e.below.transfer (still e)
-rests e = record { none = tt; waits = all_wait e.below.transfer }
+pub rests : (e : Endpoint) → AsksNothing e.queues.transfer (still e)
+rests e = record { none = tt; waits = all_wait e.queues.transfer }
 
 -- Nothing is asked, and what is below stays.
-pub said : (e : Endpoint) (o : Outcome) → NoneAsked o.effects → o.after.below ≡ e.below → AsksNothing e.below.transfer o
-said e o none same = record { none = none; waits = subst (λ (b : Below). StillWaits e.below.transfer b.transfer) (sym same) (all_wait e.below.transfer) }
+pub said : (e : Endpoint) (o : Outcome) → NoneAsked o.effects → o.after.queues ≡ e.queues → AsksNothing e.queues.transfer o
+said e o none same = record { none = none; waits = subst (λ (b : EndpointQueues). StillWaits e.queues.transfer b.transfer) (sym same) (all_wait e.queues.transfer) }
 
-packet_if : (b : Bool) (e : Endpoint) (words : List Word) (emission : Emission) → AsksNothing e.below.transfer (cond b (sends e words [] emission) (quiet e words []))
-packet_if true e words emission = record { none = tt; waits = all_wait e.below.transfer }
-packet_if false e words emission = record { none = tt; waits = all_wait e.below.transfer }
+packet_if : (b : Bool) (e : Endpoint) (words : List Word) (emission : Emission) → AsksNothing e.queues.transfer (cond b (sends e words [] emission) (quiet e words []))
+packet_if true e words emission = record { none = tt; waits = all_wait e.queues.transfer }
+packet_if false e words emission = record { none = tt; waits = all_wait e.queues.transfer }
 
-pub emitted : (e : Endpoint) (words : List Word) (emission : Emission) → AsksNothing e.below.transfer (emits e words emission)
+pub emitted : (e : Endpoint) (words : List Word) (emission : Emission) → AsksNothing e.queues.transfer (emits e words emission)
 emitted e words emission = packet_if (fits e emission) e words emission
 
-pub flushed : (e : Endpoint) (draft : Emission) (answers : List Answer) → FlushAnswers e draft answers → AsksNothing e.below.transfer (flush_of e draft answers)
+pub flushed : (e : Endpoint) (draft : Emission) (answers : List Answer) → FlushAnswers e draft answers → AsksNothing e.queues.transfer (flush_of e draft answers)
 flushed e draft answers allowed =
     record {
       none = subst NoneAsked (sym (flush_keeps first_ask (packets_allowed e.options.max_burst e.core) e draft answers allowed).effects) (begun_unasked (begun_by answers));
-      waits = flush_waits e.below.transfer e draft answers refl allowed;
+      waits = flush_waits e.queues.transfer e draft answers refl allowed;
     }
 
 pub flushed_behind : (e : Endpoint) (words : List Word) (told : List (Event Emission)) (draft : Emission) (answers : List Answer) → FlushAnswers e draft answers
-    → AsksNothing e.below.transfer (behind words told (flush_of e draft answers))
+    → AsksNothing e.queues.transfer (behind words told (flush_of e draft answers))
 flushed_behind e words told draft answers allowed = (let last = flushed e draft answers allowed in record { none = last.none; waits = last.waits })
 
 pub ended : (found : Option Transfer) (before : Outcome) (event : Event Emission) → NoneAsked before.effects → AsksNothing found (ended_outcome before event)

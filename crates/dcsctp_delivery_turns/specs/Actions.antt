@@ -12,18 +12,18 @@ use Rattle.dcsctp_spec_lemmas.specs.spec.Packet.{Content, re_config, init, init_
 use Rattle.dcsctp_spec_lemmas.specs.spec.endpoint.Turn.{Input, chunk_input, act_input, user_sends, user_takes, restores, Turn}
 use Rattle.dcsctp_spec_lemmas.specs.spec.association.Acts.{request_again, request_renewed}
 use Rattle.dcsctp_spec_lemmas.specs.spec.association.Choices.{plain_contents}
-use Rattle.dcsctp_spec_lemmas.specs.spec.association.Effect.{Effect, holds, fails, link_of, link_in}
+use Rattle.dcsctp_spec_lemmas.specs.spec.association.Effect.{Effect, holds, fails, identity_of, identity_in}
 use Rattle.dcsctp_spec_lemmas.specs.spec.queues.Acknowledging.{is_sack_valid}
 use Rattle.dcsctp_spec_lemmas.specs.spec.queues.Arrivals.{data_arrival, i_data_arrival, skipped_in, messages_skipped_in}
 use Rattle.dcsctp_spec_lemmas.specs.spec.queues.AtOnce.{SendsAtOnce}
-use Rattle.dcsctp_spec_lemmas.specs.spec.queues.Chunks.{AreChunks}
+use Rattle.dcsctp_spec_lemmas.specs.spec.queues.Chunks.{AreChunksOfTsns}
 use Rattle.dcsctp_spec_lemmas.specs.types.queues.Messages.{MessageContent}
 use Rattle.dcsctp_spec_lemmas.specs.spec.queues.OwnResets.{prepared_all, queue_committed, queue_rolled_back}
-use Rattle.dcsctp_spec_lemmas.specs.spec.queues.Reassembly.{ReassemblyState, with_ready, deferring, Leaves}
+use Rattle.dcsctp_spec_lemmas.specs.spec.queues.Reassembly.{ReassemblyState, with_ready, deferring, EndsDeferral}
 use Rattle.dcsctp_spec_lemmas.specs.spec.queues.Retransmission.{RetransmissionState}
-use Rattle.dcsctp_spec_lemmas.specs.spec.queues.SendQueue.{SendQueueState, restarted, numbered_for}
+use Rattle.dcsctp_spec_lemmas.specs.spec.queues.SendQueue.{SendQueueState, queue_restarted, numbered_for}
 use Rattle.dcsctp_spec_lemmas.specs.spec.queues.Tracker.{TrackerState}
-use Rattle.dcsctp_spec_lemmas.specs.spec.queues.Transfer.{Transfer, Below, new_transfer}
+use Rattle.dcsctp_spec_lemmas.specs.spec.queues.Transfer.{Transfer, EndpointQueues, new_transfer}
 use Rattle.dcsctp_spec_lemmas.specs.spec.endpoint.FlushOutcomes.{Answer, FlushAnswers, flush_of}
 use Rattle.dcsctp_spec_lemmas.specs.spec.endpoint.MessageOutcomes.{MessageRefusal, Sending, sending_queued, sending_refusal, queue_one}
 use Rattle.dcsctp_spec_lemmas.specs.spec.endpoint.ResetOutcomes.{has_completed, has_reset, requested_in}
@@ -31,14 +31,14 @@ use Rattle.dcsctp_spec_lemmas.specs.types.Setting.{Setting}
 use Rattle.dcsctp_spec_lemmas.specs.spec.endpoint.SettingOutcomes.{set_in_queue}
 use Rattle.dcsctp_spec_lemmas.specs.spec.endpoint.TransferMoves.{ReceivesData, MovesForward, TakesSack, lost_all}
 use Rattle.dcsctp_delivery_sending.specs.Log.{Fits, Message}
-use Rattle.dcsctp_delivery_sending.specs.Flushes.{NoData, begun_by}
+use Rattle.dcsctp_delivery_sending.specs.Flushes.{NoData, reset_begun_by}
 use Rattle.dcsctp_delivery_sending.specs.Queueing.{message_of}
 use Rattle.dcsctp_spec_lemmas.specs.spec.Reconfiguration.{RequestedReset, ResetParameter}
 use Rattle.dcsctp_spec_lemmas.specs.spec.association.FlushChanges.{reset_request}
 use Rattle.dcsctp_spec_lemmas.specs.spec.endpoint.BegunResets.{BegunReset}
 use Rattle.dcsctp_spec_lemmas.specs.spec.endpoint.ReconfigurationOutcomes.{reset_again}
-use Rattle.dcsctp_delivery_sending.specs.Places.{Has}
-use Rattle.dcsctp_delivery_directions.specs.Directions.{Asking, asking_with, is_reached}
+use Rattle.dcsctp_delivery_sending.specs.Places.{HasEntry}
+use Rattle.dcsctp_delivery_directions.specs.Directions.{Asking, asking_with, is_reset_reached}
 use Rattle.dcsctp_delivery_turns.specs.Asking.{Own, own_of, renewed_own, AsksFit, AskingGrows}
 use Rattle.dcsctp_delivery_turns.specs.Tags.{IsPeerTag}
 
@@ -46,17 +46,17 @@ use Rattle.dcsctp_delivery_turns.specs.Tags.{IsPeerTag}
 -- has read in it, oldest first; and the requests to reset streams that it has begun in it.
 pub record Ledger : Type 0 where
   pub queued : List Message
-  pub below : Below
+  pub queues : EndpointQueues
   pub sent : List Emission
   pub read : List MessageContent
   pub asking : Asking
 
-abbrev pub ledger_of : List Message → Below → List Emission → List MessageContent → Asking → Ledger
-ledger_of queued below sent read asking = record { queued = queued; below = below; sent = sent; read = read; asking = asking }
+abbrev pub ledger_of : List Message → EndpointQueues → List Emission → List MessageContent → Asking → Ledger
+ledger_of queued sender_queues sent read asking = record { queued = queued; queues = sender_queues; sent = sent; read = read; asking = asking }
 
 -- with this in place of what the association has
-abbrev pub with_below : Transfer → Below → Below
-with_below transfer below = record below { transfer = Some transfer }
+abbrev pub queues_with_transfer : Transfer → EndpointQueues → EndpointQueues
+queues_with_transfer transfer sender_queues = record sender_queues { transfer = Some transfer }
 
 -- None of these is an ABORT, a SHUTDOWN COMPLETE or an INIT.
 abbrev pub NoEnd : List Content → Type 0
@@ -69,35 +69,35 @@ NoEnd (content ∷ contents) = NoEnd contents
 -- One action of a turn in which the chunk `came` is handled, if one is, and in whose association the peer has the tag `to`.
 pub data Action (came : Option Content) (to : ℕ) (old : Ledger) : Ledger → Type 0 where
   queues : (now : ℕ) (sending : Sending) → Fits (message_of sending) → 0 < length sending.message.payload
-      → Action came to old (record old { queued = message_of sending ∷ old.queued; below = record old.below { queue = sending_queued now sending old.below.queue } })
-  sets : (setting : Setting) → Action came to old (record old { below = record old.below { queue = set_in_queue setting old.below.queue } })
-  prepares : (ids : List ℕ) → Action came to old (record old { below = record old.below { queue = prepared_all ids old.below.queue } })
-  flushes : (e : Endpoint) (draft : Emission) (answers : List Answer) → e.below ≡ old.below → IsPeerTag e.core to → draft.packet.tag ≡ to → NoData draft.packet.contents → NoEnd draft.packet.contents → FlushAnswers e draft answers
-      → Action came to old (record old { below = (flush_of e draft answers).after.below; sent = old.sent ++ packets_in (flush_of e draft answers).events; asking = asking_with (begun_by answers) old.asking })
-  resends : (now room : ℕ) (transfer : Transfer) (left : RetransmissionState) (tsns : List ℕ) (chunks : List Plain) (emission : Emission) → emission.packet.tag ≡ to → old.below.transfer ≡ Some transfer
-      → SendsAtOnce now room old.below.queue transfer.retransmission left tsns → AreChunks left.outstanding tsns chunks → emission.packet.contents ≡ plain_contents chunks
-      → Action came to old (record old { below = with_below (record transfer { retransmission = left }) old.below; sent = old.sent ++ emission ∷ [] })
-  resends_nothing : (now room : ℕ) (transfer : Transfer) (left : RetransmissionState) (tsns : List ℕ) → old.below.transfer ≡ Some transfer
-      → SendsAtOnce now room old.below.queue transfer.retransmission left tsns → Action came to old (record old { below = with_below (record transfer { retransmission = left }) old.below })
+      → Action came to old (record old { queued = message_of sending ∷ old.queued; queues = record old.queues { queue = sending_queued now sending old.queues.queue } })
+  sets : (setting : Setting) → Action came to old (record old { queues = record old.queues { queue = set_in_queue setting old.queues.queue } })
+  prepares : (ids : List ℕ) → Action came to old (record old { queues = record old.queues { queue = prepared_all ids old.queues.queue } })
+  flushes : (e : Endpoint) (draft : Emission) (answers : List Answer) → e.queues ≡ old.queues → IsPeerTag e.core to → draft.packet.tag ≡ to → NoData draft.packet.contents → NoEnd draft.packet.contents → FlushAnswers e draft answers
+      → Action came to old (record old { queues = (flush_of e draft answers).after.queues; sent = old.sent ++ packets_in (flush_of e draft answers).events; asking = asking_with (reset_begun_by answers) old.asking })
+  resends : (now room : ℕ) (transfer : Transfer) (left : RetransmissionState) (tsns : List ℕ) (chunks : List Plain) (emission : Emission) → emission.packet.tag ≡ to → old.queues.transfer ≡ Some transfer
+      → SendsAtOnce now room old.queues.queue transfer.retransmission left tsns → AreChunksOfTsns left.outstanding tsns chunks → emission.packet.contents ≡ plain_contents chunks
+      → Action came to old (record old { queues = queues_with_transfer (record transfer { retransmission = left }) old.queues; sent = old.sent ++ emission ∷ [] })
+  resends_nothing : (now room : ℕ) (transfer : Transfer) (left : RetransmissionState) (tsns : List ℕ) → old.queues.transfer ≡ Some transfer
+      → SendsAtOnce now room old.queues.queue transfer.retransmission left tsns → Action came to old (record old { queues = queues_with_transfer (record transfer { retransmission = left }) old.queues })
   speaks : (emission : Emission) → NoData emission.packet.contents → Action came to old (record old { sent = old.sent ++ emission ∷ [] })
-  asks_again : (emission : Emission) (begun : BegunReset) → emission.packet.tag ≡ to → Has begun old.asking.requests → emission.packet.contents ≡ reset_request begun.number begun.reset ∷ []
+  asks_again : (emission : Emission) (begun : BegunReset) → emission.packet.tag ≡ to → HasEntry begun old.asking.requests → emission.packet.contents ≡ reset_request begun.number begun.reset ∷ []
       → Action came to old (record old { sent = old.sent ++ emission ∷ [] })
-  acknowledges : (now : ℕ) (sack : SackContent) (transfer new : Transfer) → old.below.transfer ≡ Some transfer → is_sack_valid transfer.retransmission sack.cumulative_tsn_ack ≡ true
-      → TakesSack now sack transfer new → Action came to old (record old { below = with_below new old.below })
-  loses : (now : ℕ) (transfer : Transfer) → old.below.transfer ≡ Some transfer → Action came to old (record old { below = with_below (lost_all now transfer) old.below })
-  receives : (chunk : DataContent) (transfer new : Transfer) → came ≡ Some (plain (unworked (data_chunk chunk))) → chunk.payload ≢ [] → old.below.transfer ≡ Some transfer
-      → ReceivesData (data_arrival chunk) transfer new → Action came to old (record old { below = with_below new old.below })
-  receives_interleaved : (chunk : IDataContent) (transfer new : Transfer) → came ≡ Some (plain (unworked (i_data_chunk chunk))) → chunk.payload ≢ [] → old.below.transfer ≡ Some transfer
-      → ReceivesData (i_data_arrival chunk) transfer new → Action came to old (record old { below = with_below new old.below })
-  forwards : (tsn : ℕ) (streams : List ℕ) (transfer new : Transfer) → came ≡ Some (plain (unworked (forward_tsn_chunk tsn streams))) → old.below.transfer ≡ Some transfer
-      → MovesForward tsn (skipped_in streams) transfer new → Action came to old (record old { below = with_below new old.below })
-  forwards_interleaved : (tsn : ℕ) (streams : List ℕ) (transfer new : Transfer) → came ≡ Some (plain (unworked (i_forward_tsn_chunk tsn streams))) → old.below.transfer ≡ Some transfer
-      → MovesForward tsn (messages_skipped_in streams) transfer new → Action came to old (record old { below = with_below new old.below })
+  acknowledges : (now : ℕ) (sack : SackContent) (transfer new : Transfer) → old.queues.transfer ≡ Some transfer → is_sack_valid transfer.retransmission sack.cumulative_tsn_ack ≡ true
+      → TakesSack now sack transfer new → Action came to old (record old { queues = queues_with_transfer new old.queues })
+  loses : (now : ℕ) (transfer : Transfer) → old.queues.transfer ≡ Some transfer → Action came to old (record old { queues = queues_with_transfer (lost_all now transfer) old.queues })
+  receives : (chunk : DataContent) (transfer new : Transfer) → came ≡ Some (plain (unworked (data_chunk chunk))) → chunk.payload ≢ [] → old.queues.transfer ≡ Some transfer
+      → ReceivesData (data_arrival chunk) transfer new → Action came to old (record old { queues = queues_with_transfer new old.queues })
+  receives_interleaved : (chunk : IDataContent) (transfer new : Transfer) → came ≡ Some (plain (unworked (i_data_chunk chunk))) → chunk.payload ≢ [] → old.queues.transfer ≡ Some transfer
+      → ReceivesData (i_data_arrival chunk) transfer new → Action came to old (record old { queues = queues_with_transfer new old.queues })
+  forwards : (tsn : ℕ) (streams : List ℕ) (transfer new : Transfer) → came ≡ Some (plain (unworked (forward_tsn_chunk tsn streams))) → old.queues.transfer ≡ Some transfer
+      → MovesForward tsn (skipped_in streams) transfer new → Action came to old (record old { queues = queues_with_transfer new old.queues })
+  forwards_interleaved : (tsn : ℕ) (streams : List ℕ) (transfer new : Transfer) → came ≡ Some (plain (unworked (i_forward_tsn_chunk tsn streams))) → old.queues.transfer ≡ Some transfer
+      → MovesForward tsn (messages_skipped_in streams) transfer new → Action came to old (record old { queues = queues_with_transfer new old.queues })
   -- When an acknowledgement is due may change.
-  tracks : (transfer : Transfer) (tracker : TrackerState) → old.below.transfer ≡ Some transfer → tracker.cumulative ≡ transfer.tracker.cumulative → tracker.ranges ≡ transfer.tracker.ranges
-      → Action came to old (record old { below = with_below (record transfer { tracker = tracker }) old.below })
-  takes : (transfer : Transfer) (message : MessageContent) (messages : List MessageContent) → old.below.transfer ≡ Some transfer → transfer.reassembly.incoming.ready ≡ message ∷ messages
-      → Action came to old (record old { below = with_below (record transfer { reassembly = with_ready messages transfer.reassembly }) old.below; read = old.read ++ message ∷ [] })
+  tracks : (transfer : Transfer) (tracker : TrackerState) → old.queues.transfer ≡ Some transfer → tracker.cumulative ≡ transfer.tracker.cumulative → tracker.ranges ≡ transfer.tracker.ranges
+      → Action came to old (record old { queues = queues_with_transfer (record transfer { tracker = tracker }) old.queues })
+  takes : (transfer : Transfer) (message : MessageContent) (messages : List MessageContent) → old.queues.transfer ≡ Some transfer → transfer.reassembly.incoming.ready ≡ message ∷ messages
+      → Action came to old (record old { queues = queues_with_transfer (record transfer { reassembly = with_ready messages transfer.reassembly }) old.queues; read = old.read ++ message ∷ [] })
 
 -- one after another
 pub data Actions (came : Option Content) (to : ℕ) (old : Ledger) : Ledger → Type 0 where
@@ -141,35 +141,35 @@ read_where None read = read
 read_where (Some transfer) read = with_first transfer.reassembly.incoming.ready read
 
 abbrev pub read_after : Endpoint → Input → List MessageContent → List MessageContent
-read_after e user_takes read = read_where e.below.transfer read
+read_after e user_takes read = read_where e.queues.transfer read
 read_after e input read = read
 
 -- the queues and trackers of a socket, and what it keeps of its own requests
 pub record Inside : Type 0 where
-  pub below : Below
+  pub queues : EndpointQueues
   pub own : Option Own
 
 abbrev pub inside : Endpoint → Inside
-inside e = record { below = e.below; own = own_of e }
+inside e = record { queues = e.queues; own = own_of e }
 
 -- Actions lead from the ledger to this one; what the socket keeps of its requests is of those that were begun.
 pub record Made (came : Option Content) (to : ℕ) (old : Ledger) (first : ℕ) (new : Inside) (queued : List Message) (sent : List Emission) (read : List MessageContent) : Type 0 where
   pub asking : Asking
   pub grows : AskingGrows old.asking asking
   pub fits : AsksFit first new.own asking
-  pub actions : Actions came to old (ledger_of queued new.below sent read asking)
+  pub actions : Actions came to old (ledger_of queued new.queues sent read asking)
 
 -- Whatever was queued, sent, read and begun before, actions lead from the queues before to those after, with these packets.
-abbrev pub Makes : Option Content → ℕ → Inside → List Emission → Inside → Type 0
-Makes came to old packets new =
+abbrev pub MakesPackets : Option Content → ℕ → Inside → List Emission → Inside → Type 0
+MakesPackets came to old packets new =
     (queued : List Message) (sent : List Emission) (read : List MessageContent) (first : ℕ) (asking : Asking) → AsksFit first old.own asking
-    → Made came to (ledger_of queued old.below sent read asking) first new queued (sent ++ packets) read
+    → Made came to (ledger_of queued old.queues sent read asking) first new queued (sent ++ packets) read
 
 -- So they do, with what a turn queues and reads.
 abbrev pub MakesAlso : Option Content → ℕ → (List Message → List Message) → (List MessageContent → List MessageContent) → Inside → List Emission → Inside → Type 0
 MakesAlso came to adds taken old packets new =
     (queued : List Message) (sent : List Emission) (read : List MessageContent) (first : ℕ) (asking : Asking) → AsksFit first old.own asking
-    → Made came to (ledger_of queued old.below sent read asking) first new (adds queued) (sent ++ packets) (taken read)
+    → Made came to (ledger_of queued old.queues sent read asking) first new (adds queued) (sent ++ packets) (taken read)
 
 -- ---- what a RE-CONFIG does before
 
@@ -186,19 +186,19 @@ has_refused (effect ∷ effects) = has_refused effects
 -- What the peer answers to the own request, if these are the effects of the turn.
 pub data OwnEnds (happened : List Effect) (old : Inside) : Inside → Type 0 where
   unended : OwnEnds happened old old
-  committed : has_completed happened ≡ true → (own : Own) → old.own ≡ Some own → OwnEnds happened old (record { below = record old.below { queue = queue_committed old.below.queue }; own = Some (ended_own own) })
-  rolled_back : has_refused happened ≡ true → (own : Own) → old.own ≡ Some own → OwnEnds happened old (record { below = record old.below { queue = queue_rolled_back old.below.queue }; own = Some (ended_own own) })
+  committed : has_completed happened ≡ true → (own : Own) → old.own ≡ Some own → OwnEnds happened old (record { queues = record old.queues { queue = queue_committed old.queues.queue }; own = Some (ended_own own) })
+  rolled_back : has_refused happened ≡ true → (own : Own) → old.own ≡ Some own → OwnEnds happened old (record { queues = record old.queues { queue = queue_rolled_back old.queues.queue }; own = Some (ended_own own) })
 
 -- What the peer asks: its streams are reset, or will be once all up to a TSN was received.
 pub data PeerResets (came : Option Content) (happened : List Effect) (old : Inside) : Inside → Type 0 where
   unreset : has_reset happened ≡ false → PeerResets came happened old old
   -- There is nothing below the association.
-  absent : old.below.transfer ≡ None → PeerResets came happened old old
-  deferred : has_reset happened ≡ false → (transfer : Transfer) (last_tsn : ℕ) (streams : List ℕ) → old.below.transfer ≡ Some transfer
-      → PeerResets came happened old (record old { below = with_below (record transfer { reassembly = deferring last_tsn streams transfer.reassembly }) old.below })
+  absent : old.queues.transfer ≡ None → PeerResets came happened old old
+  deferred : has_reset happened ≡ false → (transfer : Transfer) (last_tsn : ℕ) (streams : List ℕ) → old.queues.transfer ≡ Some transfer
+      → PeerResets came happened old (record old { queues = queues_with_transfer (record transfer { reassembly = deferring last_tsn streams transfer.reassembly }) old.queues })
   reset_now : has_reset happened ≡ true → (parameters : List ResetParameter) (reset : RequestedReset) → came ≡ Some (re_config parameters) → requested_in parameters ≡ Some reset
-      → (transfer : Transfer) (reassembly : ReassemblyState) → old.below.transfer ≡ Some transfer → is_reached reset transfer.tracker ≡ true → Leaves reset.streams transfer.reassembly reassembly
-      → PeerResets came happened old (record old { below = with_below (record transfer { reassembly = reassembly }) old.below })
+      → (transfer : Transfer) (reassembly : ReassemblyState) → old.queues.transfer ≡ Some transfer → is_reset_reached reset transfer.tracker ≡ true → EndsDeferral reset.streams transfer.reassembly reassembly
+      → PeerResets came happened old (record old { queues = queues_with_transfer (record transfer { reassembly = reassembly }) old.queues })
 
 -- No RE-CONFIG is handled.
 abbrev pub IsCalm : Option Content → Type 0
@@ -212,16 +212,16 @@ pub record Begun (e : Endpoint) (o : Outcome) : Type 0 where
   pub held : Held
   pub window : ℕ
   pub later : List Effect
-  pub noted : o.effects ≡ holds (link_of my held) ∷ later
+  pub noted : o.effects ≡ holds (identity_of my held) ∷ later
   pub queue : SendQueueState
-  pub keeps : (queue ≡ numbered_for held.capabilities.message_interleaving e.below.queue) ⊎ (queue ≡ numbered_for held.capabilities.message_interleaving (restarted e.below.queue))
+  pub keeps : (queue ≡ numbered_for held.capabilities.message_interleaving e.queues.queue) ⊎ (queue ≡ numbered_for held.capabilities.message_interleaving (queue_restarted e.queues.queue))
 
 -- with nothing in flight and nothing received
 abbrev pub begun_transfer : (e : Endpoint) (o : Outcome) → Begun e o → Transfer
 begun_transfer e o begun = new_transfer e.options begun.held.capabilities begun.my.first_tsn begun.held.peer.first_tsn begun.window
 
-abbrev pub begun_below : (e : Endpoint) (o : Outcome) → Begun e o → Below
-begun_below e o begun = record { queue = begun.queue; transfer = Some (begun_transfer e o begun) }
+abbrev pub opening_queues : (e : Endpoint) (o : Outcome) → Begun e o → EndpointQueues
+opening_queues e o begun = record { queue = begun.queue; transfer = Some (begun_transfer e o begun) }
 
 -- An association begins by one of these chunks.
 abbrev pub IsOpening : Option Content → Type 0
@@ -233,16 +233,16 @@ IsOpening came = ⊥
 -- next number, in a packet of its own, and nothing else happens; it ends after its last packets, and no own request begins or ends before;
 -- or another one begins, and takes its place.
 pub data Becomes (came : Option Content) (to : ℕ) (adds : List Message → List Message) (taken : List MessageContent → List MessageContent) (e : Endpoint) (o : Outcome) : Type 0 where
-  goes_on : IsCalm came → link_in o.after.core ≡ link_in e.core → MakesAlso came to adds taken (inside e) (packets_in o.events) (inside o.after) → Becomes came to adds taken e o
-  works_resets : link_in o.after.core ≡ link_in e.core → (between worked : Inside) → OwnEnds o.effects (inside e) between → PeerResets came o.effects between worked
+  goes_on : IsCalm came → identity_in o.after.core ≡ identity_in e.core → MakesAlso came to adds taken (inside e) (packets_in o.events) (inside o.after) → Becomes came to adds taken e o
+  works_resets : identity_in o.after.core ≡ identity_in e.core → (between worked : Inside) → OwnEnds o.effects (inside e) between → PeerResets came o.effects between worked
       → MakesAlso came to adds taken worked (packets_in o.events) (inside o.after) → Becomes came to adds taken e o
-  renews : IsCalm came → link_in o.after.core ≡ link_in e.core → ((queued : List Message) → adds queued ≡ queued) → ((read : List MessageContent) → taken read ≡ read)
-      → (own : Own) (number : ℕ) (emission : Emission) → own_of e ≡ Some own → own.number ≡ Some number → inside o.after ≡ record { below = e.below; own = Some (renewed_own own) } → packets_in o.events ≡ emission ∷ []
+  renews : IsCalm came → identity_in o.after.core ≡ identity_in e.core → ((queued : List Message) → adds queued ≡ queued) → ((read : List MessageContent) → taken read ≡ read)
+      → (own : Own) (number : ℕ) (emission : Emission) → own_of e ≡ Some own → own.number ≡ Some number → inside o.after ≡ record { queues = e.queues; own = Some (renewed_own own) } → packets_in o.events ≡ emission ∷ []
       → emission.packet.tag ≡ to → emission.packet.contents ≡ reset_request own.next own.again ∷ [] → Becomes came to adds taken e o
-  ends : link_in o.after.core ≡ None → ((read : List MessageContent) → taken read ≡ read) → (last : Inside) → last.own ≡ own_of e → MakesAlso came to adds taken (inside e) (packets_in o.events) last
-      → o.after.below ≡ record last.below { transfer = None } → Becomes came to adds taken e o
-  begins : (begun : Begun e o) → IsOpening came → link_in o.after.core ≡ Some (link_of begun.my begun.held) → ((queued : List Message) → adds queued ≡ queued) → ((read : List MessageContent) → taken read ≡ read)
-      → (again : RequestedReset) → Makes came begun.held.peer.tag (record { below = begun_below e o begun; own = Some (record { number = None; next = begun.my.first_tsn; again = again }) }) (packets_in o.events) (inside o.after)
+  ends : identity_in o.after.core ≡ None → ((read : List MessageContent) → taken read ≡ read) → (last : Inside) → last.own ≡ own_of e → MakesAlso came to adds taken (inside e) (packets_in o.events) last
+      → o.after.queues ≡ record last.queues { transfer = None } → Becomes came to adds taken e o
+  begins : (begun : Begun e o) → IsOpening came → identity_in o.after.core ≡ Some (identity_of begun.my begun.held) → ((queued : List Message) → adds queued ≡ queued) → ((read : List MessageContent) → taken read ≡ read)
+      → (again : RequestedReset) → MakesPackets came begun.held.peer.tag (record { queues = opening_queues e o begun; own = Some (record { number = None; next = begun.my.first_tsn; again = again }) }) (packets_in o.events) (inside o.after)
       → Becomes came to adds taken e o
 
 -- The messages of a call fit their fields, as those in memory do; no snapshot is restored; and a request to reset streams is sent again

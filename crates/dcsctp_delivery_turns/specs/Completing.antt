@@ -3,16 +3,16 @@ use Rattle.std.specs.Prelude.{◌≡◌, ℕ, Some}
 use Rattle.dcsctp_spec_lemmas.specs.types.declared.association.Pair.{Pair}
 use Rattle.dcsctp_spec_lemmas.specs.spec.endpoint.Endpoint.{Endpoint}
 use Rattle.dcsctp_spec_lemmas.specs.spec.endpoint.Outcome.{Outcome}
-use Rattle.dcsctp_spec_runs.specs.Past.{Has}
+use Rattle.dcsctp_spec_runs.specs.Past.{HasEffect}
 use Rattle.dcsctp_spec_lemmas.specs.spec.endpoint.Turn.{Input, Turn}
-use Rattle.dcsctp_spec_lemmas.specs.spec.association.Effect.{Link, completes, link_in}
+use Rattle.dcsctp_spec_lemmas.specs.spec.association.Effect.{AssociationIdentity, completes, identity_in}
 use Rattle.dcsctp_delivery_turns.specs.Actions.{IsCall}
 use Rattle.dcsctp_delivery_turns.specs.Asking.{Own, own_of}
 
 -- The request of this number has no end yet, in the association whose own pair this is.
 pub record EndsOwn (e : Endpoint) (my : Pair) (number : ℕ) : Type 0 where
-  pub link : Link
-  pub linked : link_in e.core ≡ Some link
+  pub link : AssociationIdentity
+  pub linked : identity_in e.core ≡ Some link
   pub mine : link.my ≡ my
   pub own : Own
   pub kept : own_of e ≡ Some own
@@ -20,4 +20,4 @@ pub record EndsOwn (e : Endpoint) (my : Pair) (number : ℕ) : Type 0 where
 
 -- So it was before a turn in which a request ends as performed.
 abbrev pub CompletesOwn : Type 0
-CompletesOwn = (e : Endpoint) (input : Input) (o : Outcome) (my : Pair) (number : ℕ) → IsCall input → Turn e input o → Has (completes my number) o.effects → EndsOwn e my number
+CompletesOwn = (e : Endpoint) (input : Input) (o : Outcome) (my : Pair) (number : ℕ) → IsCall input → Turn e input o → HasEffect (completes my number) o.effects → EndsOwn e my number

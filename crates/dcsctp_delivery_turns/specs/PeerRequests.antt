@@ -6,11 +6,11 @@ use Rattle.dcsctp_spec_lemmas.specs.types.declared.association.Pair.{Pair}
 use Rattle.dcsctp_spec_lemmas.specs.spec.endpoint.Endpoint.{Endpoint, Core, closed, cookie_wait, cookie_echoed, open_in}
 use Rattle.dcsctp_spec_lemmas.specs.spec.endpoint.Outcome.{Outcome}
 use Rattle.dcsctp_spec_lemmas.specs.spec.Packet.{Content, re_config}
-use Rattle.dcsctp_spec_runs.specs.Past.{Has, number_to_accept, number_to_perform}
+use Rattle.dcsctp_spec_runs.specs.Past.{HasEffect, number_to_accept, number_to_perform}
 use Rattle.dcsctp_spec_lemmas.specs.spec.Reconfiguration.{RequestedReset, outgoing_reset_request}
 use Rattle.dcsctp_spec_lemmas.specs.spec.endpoint.Turn.{Input, Turn}
 use Rattle.dcsctp_spec_runs.specs.World.{after_effects}
-use Rattle.dcsctp_spec_lemmas.specs.spec.association.Effect.{Link, Effect, accepts, performs, resumes, link_of, link_in}
+use Rattle.dcsctp_spec_lemmas.specs.spec.association.Effect.{AssociationIdentity, Effect, accepts, performs, resumes, identity_of, identity_in}
 use Rattle.dcsctp_spec_lemmas.specs.spec.association.FlushChanges.{next_number, reset_request}
 use Rattle.dcsctp_spec_lemmas.specs.spec.queues.Reassembly.{DeferralModel}
 use Rattle.dcsctp_spec_lemmas.specs.spec.queues.Transfer.{Transfer}
@@ -56,26 +56,26 @@ IsDue past number = (number_to_accept past ≡ Some number) ⊎ (number_to_perfo
 
 -- What a turn does with the peer's requests in the association of this link, after this past, if this waits for a reset before it and that
 -- after it.
-pub data PeerTurns (link : Link) (past : List Effect) (e : Endpoint) (input : Input) (o : Outcome) (old new : Option DeferralModel) : Type 0 where
+pub data PeerTurns (link : AssociationIdentity) (past : List Effect) (e : Endpoint) (input : Input) (o : Outcome) (old new : Option DeferralModel) : Type 0 where
   -- Nothing is asked.
   asks_nothing : NoneAsked o.effects → SameWaits old new → PeerTurns link past e input o old new
   -- A request is performed: the next one, or the one in progress.
   performs_it : (number : ℕ) (reset : RequestedReset) → came_by input ≡ Some (reset_request number reset) → IsDue past number
-      → ((peer : Pair) (other : ℕ) → Has (performs peer other) o.effects → (peer ≡ link.peer) × (other ≡ number)) → Has (performs link.peer number) o.effects
+      → ((peer : Pair) (other : ℕ) → HasEffect (performs peer other) o.effects → (peer ≡ link.peer) × (other ≡ number)) → HasEffect (performs link.peer number) o.effects
       → number_to_accept (after_effects o.effects past) ≡ Some (next_number number) → number_to_perform (after_effects o.effects past) ≡ None → new ≡ None → PeerTurns link past e input o old new
   -- It is in progress from here on, or still.
   defers_it : (number : ℕ) (reset : RequestedReset) → came_by input ≡ Some (reset_request number reset) → IsDue past number
-      → ((peer : Pair) (other : ℕ) → Has (performs peer other) o.effects → ⊥)
+      → ((peer : Pair) (other : ℕ) → HasEffect (performs peer other) o.effects → ⊥)
       → number_to_accept (after_effects o.effects past) ≡ Some (next_number number) → number_to_perform (after_effects o.effects past) ≡ Some number
       → (left : DeferralModel) → new ≡ Some left → WaitsFor reset old left → PeerTurns link past e input o old new
   -- Another association begins.
-  begins_anew : (begun : Begun e o) → IsOpening (came_by input) → link_in o.after.core ≡ Some (link_of begun.my begun.held) → NoneAsked o.effects → new ≡ None → PeerTurns link past e input o old new
+  begins_anew : (begun : Begun e o) → IsOpening (came_by input) → identity_in o.after.core ≡ Some (identity_of begun.my begun.held) → NoneAsked o.effects → new ≡ None → PeerTurns link past e input o old new
 
 -- So it is of each turn in an association.
 abbrev pub PeersTurn : Type 0
 PeersTurn =
-    (e : Endpoint) (input : Input) (o : Outcome) (past : List Effect) (link : Link) (transfer left : Transfer) → KnowsPeerIn past e.core → IsPlainRequest (came_by input) → IsCall input → Turn e input o
-    → link_in e.core ≡ Some link → e.below.transfer ≡ Some transfer → o.after.below.transfer ≡ Some left
+    (e : Endpoint) (input : Input) (o : Outcome) (past : List Effect) (link : AssociationIdentity) (transfer left : Transfer) → KnowsPeerIn past e.core → IsPlainRequest (came_by input) → IsCall input → Turn e input o
+    → identity_in e.core ≡ Some link → e.queues.transfer ≡ Some transfer → o.after.queues.transfer ≡ Some left
     → PeerTurns link past e input o transfer.reassembly.deferral left.reassembly.deferral
 
 -- No request is accepted or performed where no RE-CONFIG is handled.
@@ -85,10 +85,10 @@ CalmAsksNothing = (e : Endpoint) (input : Input) (o : Outcome) → IsCalm (came_
 -- Nor is one where there is no association. One that begins waits for no reset.
 abbrev pub UnlinkedAsksNothing : Type 0
 UnlinkedAsksNothing =
-    (e : Endpoint) (input : Input) (o : Outcome) → IsCall input → Turn e input o → link_in e.core ≡ None
-    → NoneAsked o.effects × ((left : Transfer) → e.below.transfer ≡ None → o.after.below.transfer ≡ Some left → left.reassembly.deferral ≡ None)
+    (e : Endpoint) (input : Input) (o : Outcome) → IsCall input → Turn e input o → identity_in e.core ≡ None
+    → NoneAsked o.effects × ((left : Transfer) → e.queues.transfer ≡ None → o.after.queues.transfer ≡ Some left → left.reassembly.deferral ≡ None)
 
 -- Nor is one where an association ends: a RE-CONFIG ends none.
 abbrev pub EndsAskNothing : Type 0
 EndsAskNothing =
-    (e : Endpoint) (input : Input) (o : Outcome) (transfer : Transfer) → IsCall input → Turn e input o → e.below.transfer ≡ Some transfer → o.after.below.transfer ≡ None → NoneAsked o.effects
+    (e : Endpoint) (input : Input) (o : Outcome) (transfer : Transfer) → IsCall input → Turn e input o → e.queues.transfer ≡ Some transfer → o.after.queues.transfer ≡ None → NoneAsked o.effects

@@ -6,12 +6,12 @@ use Rattle.dcsctp_spec_lemmas.specs.spec.endpoint.Event.{packets_in}
 use Rattle.dcsctp_spec_lemmas.specs.spec.endpoint.Outcome.{Outcome}
 use Rattle.dcsctp_spec_lemmas.specs.spec.Packet.{Emission}
 use Rattle.dcsctp_spec_lemmas.specs.spec.endpoint.Turn.{Input, Turn}
-use Rattle.dcsctp_spec_lemmas.specs.spec.association.Effect.{link_of, link_in}
+use Rattle.dcsctp_spec_lemmas.specs.spec.association.Effect.{identity_of, identity_in}
 use Rattle.dcsctp_spec_lemmas.specs.types.queues.Messages.{MessageContent}
 use Rattle.dcsctp_spec_lemmas.specs.spec.queues.Reassembly.{new_reassembly}
 use Rattle.dcsctp_spec_lemmas.specs.spec.queues.SendQueue.{empty_queue}
 use Rattle.dcsctp_spec_lemmas.specs.spec.queues.Tracker.{new_tracker}
-use Rattle.dcsctp_spec_lemmas.specs.spec.queues.Transfer.{Transfer, Below}
+use Rattle.dcsctp_spec_lemmas.specs.spec.queues.Transfer.{Transfer, EndpointQueues}
 use Rattle.std.specs.List.{AllByRecursion}
 use Rattle.dcsctp_delivery_sending.specs.Log.{Fits, Message}
 use Rattle.dcsctp_delivery_turns.specs.Actions.{peer_tag, came_by, queued_after, read_after, Begun, begun_transfer, IsOpening, IsCall, IsCalm, has_refused}
@@ -26,18 +26,18 @@ use Rattle.dcsctp_delivery_turns.specs.Asking.{own_of, AsksFit, SomeFit, AskingG
 use Rattle.dcsctp_delivery_turns.specs.Addressed.{AreAddressed}
 use Rattle.dcsctp_delivery_sending.specs.Queueing.{QueueWaits}
 use Rattle.dcsctp_delivery_turns.specs.Sides.{WasSent, receiving}
-use Rattle.dcsctp_delivery_directions.specs.Directions.{Direction, Asking, nothing_asked, asking_renewed, all_ended, Run, IsAwaited}
+use Rattle.dcsctp_delivery_directions.specs.Directions.{Direction, Asking, nothing_asked, asking_renewed, all_ended, DirectionRun, IsAwaited}
 
 -- the direction, with this at its sender
-abbrev pub sender_at : Direction → List Message → Below → ℕ → List Emission → Asking → Direction
-sender_at direction queued below acknowledged sent asking = record direction { queued = queued; below = below; acknowledged = acknowledged; sent = sent; asking = asking }
+abbrev pub sender_at : Direction → List Message → EndpointQueues → ℕ → List Emission → Asking → Direction
+sender_at direction queued sender_queues acknowledged sent asking = record direction { queued = queued; queues = sender_queues; acknowledged = acknowledged; sent = sent; asking = asking }
 
 -- a direction on which nothing was received yet
-abbrev pub new_direction : Options → ℕ → ℕ → List Message → Below → ℕ → List Emission → Direction
-new_direction options first size queued below acknowledged sent =
+abbrev pub new_direction : Options → ℕ → ℕ → List Message → EndpointQueues → ℕ → List Emission → Direction
+new_direction options first size queued sender_queues acknowledged sent =
     record {
       queued = queued;
-      below = below;
+      queues = sender_queues;
       acknowledged = acknowledged;
       sent = sent;
       tracker = new_tracker options first;
@@ -57,57 +57,57 @@ pub data IsBetween (happened : List Effect) (old : Asking) : Asking → Type 0 w
 -- receives, and whatever that side has done before. All data goes to the peer's tag. Where an association ends or begins, what no longer
 -- waits may be marked as spent.
 pub data SenderTurns (options : Options) (first size : ℕ) (direction : Direction) (e : Endpoint) (input : Input) (o : Outcome) : Type 0 where
-  run_goes_on : link_in o.after.core ≡ link_in e.core → AreAddressed (peer_tag e.core) (packets_in o.events) → o.after.below.queue.is_interleaved ≡ e.below.queue.is_interleaved
+  run_goes_on : identity_in o.after.core ≡ identity_in e.core → AreAddressed (peer_tag e.core) (packets_in o.events) → o.after.queues.queue.is_interleaved ≡ e.queues.queue.is_interleaved
       → (acknowledged : ℕ) (between asking : Asking) → IsBetween o.effects direction.asking between → AskingGrows between asking → AsksFit first (own_of o.after) asking
-      → Run options first size (sender_at direction (queued_after e input direction.queued) o.after.below acknowledged (direction.sent ++ packets_in o.events) asking) → SenderTurns options first size direction e input o
-  run_ends : link_in o.after.core ≡ None → AreAddressed (peer_tag e.core) (packets_in o.events) → (last : Below) → last.queue.is_interleaved ≡ e.below.queue.is_interleaved
+      → DirectionRun options first size (sender_at direction (queued_after e input direction.queued) o.after.queues acknowledged (direction.sent ++ packets_in o.events) asking) → SenderTurns options first size direction e input o
+  run_ends : identity_in o.after.core ≡ None → AreAddressed (peer_tag e.core) (packets_in o.events) → (last : EndpointQueues) → last.queue.is_interleaved ≡ e.queues.queue.is_interleaved
       → (acknowledged : ℕ) (asking : Asking) → AskingGrows direction.asking asking → AsksFit first (own_of e) asking
-      → Run options first size (sender_at direction (queued_after e input direction.queued) last acknowledged (direction.sent ++ packets_in o.events) asking)
-      → o.after.below ≡ record last { transfer = None } → QueueWaits (queued_after e input direction.queued) last.queue → AllByRecursion Fits (queued_after e input direction.queued)
+      → DirectionRun options first size (sender_at direction (queued_after e input direction.queued) last acknowledged (direction.sent ++ packets_in o.events) asking)
+      → o.after.queues ≡ record last { transfer = None } → QueueWaits (queued_after e input direction.queued) last.queue → AllByRecursion Fits (queued_after e input direction.queued)
       → SenderTurns options first size direction e input o
-  run_begins : (begun : Begun e o) → IsOpening (came_by input) → link_in o.after.core ≡ Some (link_of begun.my begun.held) → AreAddressed begun.held.peer.tag (packets_in o.events) → queued_after e input direction.queued ≡ direction.queued
-      → QueueWaits direction.queued e.below.queue → AllByRecursion Fits direction.queued
-      → ((other : Options) (room : ℕ) (awaiting : Direction) (queued : List Message) → QueueWaits queued e.below.queue → AllByRecursion Fits queued → Run other begun.my.first_tsn room awaiting → IsAwaited awaiting
+  run_begins : (begun : Begun e o) → IsOpening (came_by input) → identity_in o.after.core ≡ Some (identity_of begun.my begun.held) → AreAddressed begun.held.peer.tag (packets_in o.events) → queued_after e input direction.queued ≡ direction.queued
+      → QueueWaits direction.queued e.queues.queue → AllByRecursion Fits direction.queued
+      → ((other : Options) (room : ℕ) (awaiting : Direction) (queued : List Message) → QueueWaits queued e.queues.queue → AllByRecursion Fits queued → DirectionRun other begun.my.first_tsn room awaiting → IsAwaited awaiting
       → (acknowledged : ℕ) × (asking : Asking) × AskingGrows nothing_asked asking × AsksFit begun.my.first_tsn (own_of o.after) asking
-      × Run other begun.my.first_tsn room (sender_at awaiting queued o.after.below acknowledged (packets_in o.events) asking))
+      × DirectionRun other begun.my.first_tsn room (sender_at awaiting queued o.after.queues acknowledged (packets_in o.events) asking))
       → SenderTurns options first size direction e input o
 
 -- Where the turn ends a request as performed, the receiver has performed the newest one, with interleaving.
 abbrev pub EndsPerformed : Endpoint → Outcome → Asking → Type 0
-EndsPerformed e o asking = has_completed o.effects ≡ true → e.below.queue.is_interleaved ≡ true → asking.is_performed ≡ true
+EndsPerformed e o asking = has_completed o.effects ≡ true → e.queues.queue.is_interleaved ≡ true → asking.is_performed ≡ true
 
 -- If an association begins in this turn, its own first TSN has 32 bits.
 abbrev pub OpensSmall : Endpoint → Input → Outcome → Type 0
-OpensSmall e input o = (begun : Begun e o) → IsOpening (came_by input) → link_in o.after.core ≡ Some (link_of begun.my begun.held) → begun.my.first_tsn < 2 ^ 32
+OpensSmall e input o = (begun : Begun e o) → IsOpening (came_by input) → identity_in o.after.core ≡ Some (identity_of begun.my begun.held) → begun.my.first_tsn < 2 ^ 32
 
 -- So it is of each turn, also of a closed socket, with a direction on which nothing is in flight.
 abbrev pub SendersGoOn : Type 0
 SendersGoOn =
-    (options : Options) (first size : ℕ) (direction : Direction) (e : Endpoint) (input : Input) (o : Outcome) → Run options first size direction → first < 2 ^ 32 → direction.below ≡ e.below
+    (options : Options) (first size : ℕ) (direction : Direction) (e : Endpoint) (input : Input) (o : Outcome) → DirectionRun options first size direction → first < 2 ^ 32 → direction.queues ≡ e.queues
     → AsksFit first (own_of e) direction.asking → EndsPerformed e o direction.asking → OpensSmall e input o
     → length (queued_after e input direction.queued) < 2 ^ 64 → IsCall input → Turn e input o → SenderTurns options first size direction e input o
 
 -- A run begins where the socket was just made,
 abbrev pub SendersBegin : Type 0
 SendersBegin =
-    (mine options : Options) (first size : ℕ) → Run options first size (new_direction options first size [] (record { queue = empty_queue mine; transfer = None }) 0 [])
+    (mine options : Options) (first size : ℕ) → DirectionRun options first size (new_direction options first size [] (record { queue = empty_queue mine; transfer = None }) 0 [])
 
 -- and where its association has ended.
 abbrev pub SendersBeginAnew : Type 0
 SendersBeginAnew =
-    (options : Options) (first size : ℕ) (queued : List Message) (below : Below) → AllByRecursion Fits queued → QueueWaits queued below.queue → below.transfer ≡ None
-    → Run options first size (new_direction options first size queued below 0 [])
+    (options : Options) (first size : ℕ) (queued : List Message) (sender_queues : EndpointQueues) → AllByRecursion Fits queued → QueueWaits queued sender_queues.queue → sender_queues.transfer ≡ None
+    → DirectionRun options first size (new_direction options first size queued sender_queues 0 [])
 
 -- An association begins, and what its receiver does in the same turn are steps of a run. It waits for no reset.
-pub record Opens (e : Endpoint) (input : Input) (o : Outcome) : Type 0 where
+pub record OpensAssociation (e : Endpoint) (input : Input) (o : Outcome) : Type 0 where
   pub begun : Begun e o
   pub opening : IsOpening (came_by input)
-  pub linked : link_in o.after.core ≡ Some (link_of begun.my begun.held)
+  pub linked : identity_in o.after.core ≡ Some (identity_of begun.my begun.held)
   pub unread : (read : List MessageContent) → read_after e input read ≡ read
   pub left : Transfer
-  pub is : o.after.below.transfer ≡ Some left
-  pub runs : (options : Options) (first size : ℕ) (direction : Direction) → Run options first size (receiving direction (begun_transfer e o begun) direction.read)
-      → Run options first size (receiving direction left direction.read)
+  pub is : o.after.queues.transfer ≡ Some left
+  pub runs : (options : Options) (first size : ℕ) (direction : Direction) → DirectionRun options first size (receiving direction (begun_transfer e o begun) direction.read)
+      → DirectionRun options first size (receiving direction left direction.read)
   pub fits : SomeFit (own_of o.after)
   pub empty : left.reassembly.deferral ≡ None
 
@@ -140,21 +140,21 @@ PerformedBy is_known input o direction asking =
 -- A run goes on by a turn of the receiver, where what is handled was sent; or the association ends, maybe after it has received more; or
 -- another one begins.
 pub data ReceiverTurns (is_known : Bool) (options : Options) (first size : ℕ) (direction : Direction) (transfer : Transfer) (e : Endpoint) (input : Input) (o : Outcome) : Type 0 where
-  receiver_goes_on : link_in o.after.core ≡ link_in e.core → (left : Transfer) → o.after.below.transfer ≡ Some left → SomeFit (own_of o.after) → (asking : Asking) → PerformedBy is_known input o direction asking
-      → Run options first size (record (receiving direction left (read_after e input direction.read)) { asking = asking }) → ReceiverTurns is_known options first size direction transfer e input o
-  receiver_ends : link_in o.after.core ≡ None → o.after.below.transfer ≡ None → ((read : List MessageContent) → read_after e input read ≡ read) → ReceiverTurns is_known options first size direction transfer e input o
-  receiver_begins : Opens e input o → ReceiverTurns is_known options first size direction transfer e input o
+  receiver_goes_on : identity_in o.after.core ≡ identity_in e.core → (left : Transfer) → o.after.queues.transfer ≡ Some left → SomeFit (own_of o.after) → (asking : Asking) → PerformedBy is_known input o direction asking
+      → DirectionRun options first size (record (receiving direction left (read_after e input direction.read)) { asking = asking }) → ReceiverTurns is_known options first size direction transfer e input o
+  receiver_ends : identity_in o.after.core ≡ None → o.after.queues.transfer ≡ None → ((read : List MessageContent) → read_after e input read ≡ read) → ReceiverTurns is_known options first size direction transfer e input o
+  receiver_begins : OpensAssociation e input o → ReceiverTurns is_known options first size direction transfer e input o
 
 -- So it is of each turn.
 abbrev pub ReceiversGoOn : Type 0
 ReceiversGoOn =
-    (is_known : Bool) (options : Options) (first size : ℕ) (direction : Direction) (transfer : Transfer) (e : Endpoint) (input : Input) (o : Outcome) → Run options first size (receiving direction transfer direction.read)
-    → e.below.transfer ≡ Some transfer → WasSent direction.sent (came_by input) → (is_known ≡ true → PerformsNewest direction transfer (came_by input) o.effects) → SomeFit (own_of e) → OpensSmall e input o → IsCall input → Turn e input o → ReceiverTurns is_known options first size direction transfer e input o
+    (is_known : Bool) (options : Options) (first size : ℕ) (direction : Direction) (transfer : Transfer) (e : Endpoint) (input : Input) (o : Outcome) → DirectionRun options first size (receiving direction transfer direction.read)
+    → e.queues.transfer ≡ Some transfer → WasSent direction.sent (came_by input) → (is_known ≡ true → PerformsNewest direction transfer (came_by input) o.effects) → SomeFit (own_of e) → OpensSmall e input o → IsCall input → Turn e input o → ReceiverTurns is_known options first size direction transfer e input o
 
 -- Where there is no association, none is there after the turn, and nothing is read in one; or one begins.
 pub data IdleTurns (e : Endpoint) (input : Input) (o : Outcome) : Type 0 where
-  idle_stays : (link_in o.after.core ≡ None) ⊎ (link_in o.after.core ≡ link_in e.core) → o.after.below.transfer ≡ None → SomeFit (own_of o.after) → ((read : List MessageContent) → read_after e input read ≡ read) → IdleTurns e input o
-  idle_begins : Opens e input o → IdleTurns e input o
+  idle_stays : (identity_in o.after.core ≡ None) ⊎ (identity_in o.after.core ≡ identity_in e.core) → o.after.queues.transfer ≡ None → SomeFit (own_of o.after) → ((read : List MessageContent) → read_after e input read ≡ read) → IdleTurns e input o
+  idle_begins : OpensAssociation e input o → IdleTurns e input o
 
 abbrev pub ReceiversBegin : Type 0
-ReceiversBegin = (e : Endpoint) (input : Input) (o : Outcome) → e.below.transfer ≡ None → SomeFit (own_of e) → OpensSmall e input o → IsCall input → Turn e input o → IdleTurns e input o
+ReceiversBegin = (e : Endpoint) (input : Input) (o : Outcome) → e.queues.transfer ≡ None → SomeFit (own_of e) → OpensSmall e input o → IsCall input → Turn e input o → IdleTurns e input o

@@ -11,29 +11,29 @@ use Rattle.dcsctp_spec_lemmas.specs.spec.queues.Transfer.{Transfer}
 use Rattle.dcsctp_delivery_sending.specs.Flushes.{NoRequests}
 use Rattle.dcsctp_delivery_turns.specs.Actions.{Ledger, Actions}
 use Rattle.dcsctp_delivery_turns.specs.PeerRequests.{SameWaits}
-use Rattle.dcsctp_delivery_sending.specs.Places.{Has}
-use Rattle.dcsctp_delivery_directions.specs.Directions.{Direction, Step, Run}
+use Rattle.dcsctp_delivery_sending.specs.Places.{HasEntry}
+use Rattle.dcsctp_delivery_directions.specs.Directions.{Direction, DirectionStep, DirectionRun}
 
 -- one step after another
-pub data Steps (old : Direction) : Direction → Type 0 where
-  stays : Steps old old
-  moves : (between new : Direction) → Steps old between → Step between new → Steps old new
+pub data DirectionSteps (old : Direction) : Direction → Type 0 where
+  stays : DirectionSteps old old
+  moves : (between new : Direction) → DirectionSteps old between → DirectionStep between new → DirectionSteps old new
 
 -- Steps go on from a run.
 abbrev pub StepsGoOn : Type 0
-StepsGoOn = (options : Options) (first size : ℕ) (old new : Direction) → Run options first size old → Steps old new → Run options first size new
+StepsGoOn = (options : Options) (first size : ℕ) (old new : Direction) → DirectionRun options first size old → DirectionSteps old new → DirectionRun options first size new
 
 -- ---- the direction on which it sends
 
 -- the direction, with what the other side has received
 abbrev pub sending : Ledger → ℕ → TrackerState → ReassemblyState → List MessageContent → Direction
 sending own acknowledged tracker reassembly read =
-    record { queued = own.queued; below = own.below; acknowledged = acknowledged; sent = own.sent; tracker = tracker; reassembly = reassembly; read = read; asking = own.asking }
+    record { queued = own.queued; queues = own.queues; acknowledged = acknowledged; sent = own.sent; tracker = tracker; reassembly = reassembly; read = read; asking = own.asking }
 
 -- The socket comes there by steps; more TSNs may have been acknowledged.
 pub record SendingSteps (old new : Ledger) (acknowledged : ℕ) (tracker : TrackerState) (reassembly : ReassemblyState) (read : List MessageContent) : Type 0 where
   pub later : ℕ
-  pub steps : Steps (sending old acknowledged tracker reassembly read) (sending new later tracker reassembly read)
+  pub steps : DirectionSteps (sending old acknowledged tracker reassembly read) (sending new later tracker reassembly read)
 
 -- Whatever is received, the actions of a socket are steps of the direction on which it sends.
 abbrev pub ActionsSend : Type 0
@@ -46,14 +46,14 @@ ActionsSend =
 -- The chunk was in a packet that the other side sent.
 pub record WasIn (sent : List Emission) (chunk : ChunkContent) : Type 0 where
   pub emission : Emission
-  pub was : Has emission sent
-  pub holds : Has (plain (unworked chunk)) emission.packet.contents
+  pub was : HasEntry emission sent
+  pub holds : HasEntry (plain (unworked chunk)) emission.packet.contents
 
 -- So was a RE-CONFIG.
 pub record WasAsked (sent : List Emission) (parameters : List ResetParameter) : Type 0 where
   pub emission : Emission
-  pub was : Has emission sent
-  pub holds : Has (re_config parameters) emission.packet.contents
+  pub was : HasEntry emission sent
+  pub holds : HasEntry (re_config parameters) emission.packet.contents
 
 -- The chunk that is handled, if it has data, passes TSNs or asks for a reset of streams, was sent by the other side.
 abbrev pub WasSent : List Emission → Option Content → Type 0
@@ -71,12 +71,12 @@ receiving direction transfer read = record direction { tracker = transfer.tracke
 -- The socket comes there by steps. What waits for a reset waits for it still.
 pub record ReceivingSteps (direction : Direction) (transfer : Transfer) (old new : Ledger) : Type 0 where
   pub left : Transfer
-  pub is : new.below.transfer ≡ Some left
-  pub steps : Steps (receiving direction transfer old.read) (receiving direction left new.read)
+  pub is : new.queues.transfer ≡ Some left
+  pub steps : DirectionSteps (receiving direction transfer old.read) (receiving direction left new.read)
   pub waits : SameWaits transfer.reassembly.deferral left.reassembly.deferral
 
 -- The actions of a socket in an association are steps of the direction on which it receives, where what is handled was sent.
 abbrev pub ActionsReceive : Type 0
 ActionsReceive =
-    (came : Option Content) (to : ℕ) (old new : Ledger) (direction : Direction) (transfer : Transfer) → WasSent direction.sent came → old.below.transfer ≡ Some transfer → Actions came to old new
+    (came : Option Content) (to : ℕ) (old new : Ledger) (direction : Direction) (transfer : Transfer) → WasSent direction.sent came → old.queues.transfer ≡ Some transfer → Actions came to old new
     → ReceivingSteps direction transfer old new

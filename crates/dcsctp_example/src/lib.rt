@@ -14,7 +14,7 @@ use std::alloc::{AllocError, Global};
 
 /// What a socket gave its user.
 #[derive(Drop)]
-pub struct Told {
+pub struct SocketOutput {
     /// Packets that go to the peer, oldest first.
     pub packets: Vec<Vec<u8>>,
 
@@ -31,7 +31,7 @@ pub fn serve<S: DcSctpSocket>(
     socket: &mut S,
     now: SocketTime,
     packet: Option<&[u8]>,
-    told: &mut Told,
+    told: &mut SocketOutput,
 ) -> Result<SocketTime, SocketFault>
     ensures quiet { OnOk result ((S.user_view socket.new).events ≡ []) }
     ensures due { IfOk result (λ due. due ≡ next_moment (S.user_view socket.new).endpoint) }
@@ -50,7 +50,7 @@ pub fn serve<S: DcSctpSocket>(
 }
 
 /// Takes all events that wait. `Err`: an allocation failed.
-pub fn drain<S: DcSctpSocket>(socket: &mut S, told: &mut Told) -> Result<(), AllocError>
+pub fn drain<S: DcSctpSocket>(socket: &mut S, told: &mut SocketOutput) -> Result<(), AllocError>
     ensures { OnOk result ((S.user_view socket.new).events ≡ []) }
 {
     while let Some(event) = socket.poll_event() {
@@ -79,7 +79,7 @@ pub fn say<S: DcSctpSocket>(
 pub fn drive<S: DcSctpSocket>(
     socket: &mut S,
     incoming: &[Vec<u8>],
-    told: &mut Told,
+    told: &mut SocketOutput,
 ) -> Result<(), SocketFault>
     ensures { OnOk result ((S.user_view socket.new).events ≡ []) }
 {
@@ -97,9 +97,9 @@ pub fn client<R: Rng + Drop>(
     alloc: Global,
     generator: R,
     incoming: &[Vec<u8>],
-) -> Result<Told, SocketFault> {
+) -> Result<SocketOutput, SocketFault> {
     let mut socket = Socket::new(alloc, "client", &Options::default(), generator)?;
-    let mut told = Told {
+    let mut told = SocketOutput {
         packets: Vec::new(alloc),
         messages: Vec::new(alloc),
         events: Vec::new(alloc),

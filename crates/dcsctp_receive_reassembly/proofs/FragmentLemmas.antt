@@ -14,7 +14,7 @@ use Rattle.dcsctp_api.specs.spec.queues.Numbers.{fragment_place}
 use Rattle.dcsctp_api.specs.spec.queues.Runs.{RunModel, PartModel, Assembled, part_dropped, part_kept, message_whole, AddsPart, AddsAt, behind_place, entry_before, chosen, front_end, back_start, merged, run_before, run_behind, with_part, without_runs}
 use Rattle.dcsctp_receive_reassembly.specs.declared.runs.Run.{Run}
 use Rattle.dcsctp_receive_reassembly.specs.declared.runs.Assembled.{Assembled as Outcome}
-use Rattle.dcsctp_receive_reassembly.specs.Runs.{run_of, assembled_of, up_to_place, IsInPlace, AreInPlace}
+use Rattle.dcsctp_receive_reassembly.specs.Runs.{run_model, assembled_of, up_to_place, IsInPlace, AreInPlace}
 
 -- ---- a part that is added
 
@@ -104,15 +104,15 @@ module _ (number : ℕ) where
           absurd (omega (arith, within, beyond, is))
 
   -- Where the first key is beyond it, nothing is dropped.
-  none_dropped : (es : List (ℕ × Run)) → AllByRecursion (λ key. last < key) (keys_of es) → AreInPlace (map run_of es) → (runs_behind number (map run_of es) ≡ map run_of es) × (runs_up_to number (map run_of es) ≡ [])
+  none_dropped : (es : List (ℕ × Run)) → AllByRecursion (λ key. last < key) (keys_of es) → AreInPlace (map run_model es) → (runs_behind number (map run_model es) ≡ map run_model es) × (runs_up_to number (map run_model es) ≡ [])
   none_dropped [] all are = (refl, refl)
   none_dropped (e ∷ es) all are =
       let rest = none_dropped es all.1 are.1 in
       let beyond : last < e.0 = all.0 in
       let not_it : nat_le e.0 last ≡ false = grind (arith, nat_tests, beyond) in
       let test : nat_le e.1.number number ≡ false = sym (same_test e.0 e.1.number are.0) ∙ not_it in (
-        ap (λ (is : Bool). if not is then run_of e ∷ runs_behind number (map run_of es) else runs_behind number (map run_of es)) test ∙ ap (λ (runs : List RunModel). run_of e ∷ runs) rest.0,
-        ap (λ (is : Bool). if is then run_of e ∷ runs_up_to number (map run_of es) else runs_up_to number (map run_of es)) test ∙ rest.1,
+        ap (λ (is : Bool). if not is then run_model e ∷ runs_behind number (map run_model es) else runs_behind number (map run_model es)) test ∙ ap (λ (runs : List RunModel). run_model e ∷ runs) rest.0,
+        ap (λ (is : Bool). if is then run_model e ∷ runs_up_to number (map run_model es) else runs_up_to number (map run_model es)) test ∙ rest.1,
       )
 
   beyond_all : (key : ℕ) (es : List (ℕ × Run)) → last < key → AllByRecursion (λ other. nat_cmp key other ≡ Less) (keys_of es) → AllByRecursion (λ other. last < other) (keys_of es)
@@ -120,17 +120,17 @@ module _ (number : ℕ) where
   beyond_all key (e ∷ es) beyond all = ((let less : key < e.0 = grind (arith, nat_tests, all.0) in omega (arith, less, beyond)), beyond_all key es beyond all.1)
 
   -- the runs in front up to the last place of the message are those of the messages up to it
-  pub front_dropped : (es : List (ℕ × Run)) → Ascends es → AreInPlace (map run_of es) → (behind_place last (map run_of es) ≡ runs_behind number (map run_of es)) × (up_to_place last (map run_of es) ≡ runs_up_to number (map run_of es))
+  pub front_dropped : (es : List (ℕ × Run)) → Ascends es → AreInPlace (map run_model es) → (behind_place last (map run_model es) ≡ runs_behind number (map run_model es)) × (up_to_place last (map run_model es) ≡ runs_up_to number (map run_model es))
   unfolding IsStrictlySortedBy
   front_dropped [] ascends are = (refl, refl)
   front_dropped (e ∷ es) ascends are = go (nat_le e.0 last) refl (front_dropped es ascends.1 are.1)
     where
-      go : (is : Bool) → nat_le e.0 last ≡ is → (behind_place last (map run_of es) ≡ runs_behind number (map run_of es)) × (up_to_place last (map run_of es) ≡ runs_up_to number (map run_of es))
-          → ((if is then behind_place last (map run_of es) else run_of e ∷ map run_of es) ≡ runs_behind number (map run_of (e ∷ es))) × ((if is then run_of e ∷ up_to_place last (map run_of es) else []) ≡ runs_up_to number (map run_of (e ∷ es)))
+      go : (is : Bool) → nat_le e.0 last ≡ is → (behind_place last (map run_model es) ≡ runs_behind number (map run_model es)) × (up_to_place last (map run_model es) ≡ runs_up_to number (map run_model es))
+          → ((if is then behind_place last (map run_model es) else run_model e ∷ map run_model es) ≡ runs_behind number (map run_model (e ∷ es))) × ((if is then run_model e ∷ up_to_place last (map run_model es) else []) ≡ runs_up_to number (map run_model (e ∷ es)))
       go true is rest =
           let test : nat_le e.1.number number ≡ true = sym (same_test e.0 e.1.number are.0) ∙ is in (
-            rest.0 ∙ sym (ap (λ (it : Bool). if not it then run_of e ∷ runs_behind number (map run_of es) else runs_behind number (map run_of es)) test),
-            ap (λ (runs : List RunModel). run_of e ∷ runs) rest.1 ∙ sym (ap (λ (it : Bool). if it then run_of e ∷ runs_up_to number (map run_of es) else runs_up_to number (map run_of es)) test),
+            rest.0 ∙ sym (ap (λ (it : Bool). if not it then run_model e ∷ runs_behind number (map run_model es) else runs_behind number (map run_model es)) test),
+            ap (λ (runs : List RunModel). run_model e ∷ runs) rest.1 ∙ sym (ap (λ (it : Bool). if it then run_model e ∷ runs_up_to number (map run_model es) else runs_up_to number (map run_model es)) test),
           )
       go false is rest =
           let beyond : last < e.0 = grind (arith, nat_tests, is) in

@@ -9,12 +9,12 @@ use Rattle.std.proofs.lemmas.Cmp.{nat_cmp_total}
 use Rattle.std.proofs.lemmas.Map.Entries.{sum_by-insert_entry}
 use Rattle.dcsctp_api.specs.types.declared.snapshot.HandoverOrderedStream.{HandoverOrderedStream}
 use Rattle.dcsctp_api.specs.spec.queues.Incoming.{stream_on}
-use Rattle.dcsctp_api.specs.spec.queues.IncomingStreams.{StreamModel, new_stream, stream_bytes, streams_bytes}
+use Rattle.dcsctp_api.specs.spec.queues.IncomingStreams.{StreamModel, new_stream, kept_stream_bytes, streams_bytes}
 use Rattle.dcsctp_api.specs.spec.queues.ReceivedParts.{restored_stream}
 use Rattle.dcsctp_receive_reassembly.specs.declared.stream.Stream.{Stream}
 use Rattle.dcsctp_receive_reassembly.specs.Handover.{restored_over}
 use Rattle.dcsctp_receive_reassembly.specs.Reassembly.{entry_of}
-use Rattle.dcsctp_receive_reassembly.specs.Streams.{stream_of}
+use Rattle.dcsctp_receive_reassembly.specs.Streams.{stream_model}
 use Rattle.dcsctp_receive_reassembly.proofs.ReassemblyLemmas.{stream_on-get, stream_on-other}
 use Rattle.dcsctp_receive_reassembly.proofs.StreamSums.{bytes_of, streams_bytes-values}
 
@@ -25,7 +25,7 @@ apart_from : (m n : ℕ) → (m == n) ≡ false → n ≡ m → ⊥
 apart_from m n is same = grind (arith, nat_tests)
 
 -- a stream of the snapshot is put into the map
-pub put_restored : (state : HandoverOrderedStream) (old new : BTreeMap ℕ Stream) (stream : Stream) → UpdatesBy nat_cmp (nat_cmp state.id) old new (Some stream) → stream_of stream ≡ restored_stream state.id (state ∷ []) → (id : ℕ) → stream_on id (map entry_of new.entries) ≡ restored_over (state ∷ []) id (stream_on id (map entry_of old.entries))
+pub put_restored : (state : HandoverOrderedStream) (old new : BTreeMap ℕ Stream) (stream : Stream) → UpdatesBy nat_cmp (nat_cmp state.id) old new (Some stream) → stream_model stream ≡ restored_stream state.id (state ∷ []) → (id : ℕ) → stream_on id (map entry_of new.entries) ≡ restored_over (state ∷ []) id (stream_on id (map entry_of old.entries))
 put_restored state old new stream updates restored id = go (state.id == id) refl
   where
     go : (is_it : Bool) → (state.id == id) ≡ is_it → stream_on id (map entry_of new.entries) ≡ (if is_it then restored_stream id (state ∷ []) else stream_on id (map entry_of old.entries))
@@ -33,16 +33,16 @@ put_restored state old new stream updates restored id = go (state.id == id) refl
     go false is = stream_on-other state.id id old new stream updates (apart_from state.id id is)
 
 -- it holds no bytes
-restored_empty : (state : HandoverOrderedStream) → stream_bytes (restored_stream state.id (state ∷ [])) ≡ 0
+restored_empty : (state : HandoverOrderedStream) → kept_stream_bytes (restored_stream state.id (state ∷ [])) ≡ 0
 restored_empty state = go (state.id == state.id)
   where
-    go : (is_it : Bool) → stream_bytes (if is_it then record (new_stream state.id) { next = 2 ^ 32 + state.next_ssn } else new_stream state.id) ≡ 0
+    go : (is_it : Bool) → kept_stream_bytes (if is_it then record (new_stream state.id) { next = 2 ^ 32 + state.next_ssn } else new_stream state.id) ≡ 0
     go true = refl
     go false = refl
 
-pub put_bytes : (state : HandoverOrderedStream) (old new : BTreeMap ℕ Stream) (stream : Stream) → new.entries ≡ insert_entry nat_cmp old.entries state.id stream → IsOrdered nat_cmp old → stream_of stream ≡ restored_stream state.id (state ∷ []) → streams_bytes (map entry_of new.entries) ≤ streams_bytes (map entry_of old.entries)
+pub put_bytes : (state : HandoverOrderedStream) (old new : BTreeMap ℕ Stream) (stream : Stream) → new.entries ≡ insert_entry nat_cmp old.entries state.id stream → IsOrdered nat_cmp old → stream_model stream ≡ restored_stream state.id (state ∷ []) → streams_bytes (map entry_of new.entries) ≤ streams_bytes (map entry_of old.entries)
 put_bytes state old new stream entries ordered restored =
-    let empty : bytes_of stream ≡ 0 = ap stream_bytes restored ∙ restored_empty state in
+    let empty : bytes_of stream ≡ 0 = ap kept_stream_bytes restored ∙ restored_empty state in
     omega (
       arith,
       empty,

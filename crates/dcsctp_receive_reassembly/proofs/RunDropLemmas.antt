@@ -3,10 +3,10 @@ use Rattle.std.proofs.Common.{◌≡◌, ℕ, Bool, true, false, Some, List, [],
 use Rattle.std.specs.Prelude.{nat_le, slice_get}
 use Rattle.std.specs.List.{filter}
 use Rattle.dcsctp_receive_reassembly.specs.declared.runs.Run.{Run}
-use Rattle.dcsctp_receive_reassembly.specs.Runs.{run_of, begins_up_to}
+use Rattle.dcsctp_receive_reassembly.specs.Runs.{run_model, begins_up_to}
 
 -- the first entry of a map is the first run
-pub begins_up_to-first : (place first : ℕ) (run : Run) (entries : List (ℕ × Run)) → slice_get entries 0 ≡ Some (first, run) → nat_le first place ≡ begins_up_to place (map run_of entries)
+pub begins_up_to-first : (place first : ℕ) (run : Run) (entries : List (ℕ × Run)) → slice_get entries 0 ≡ Some (first, run) → nat_le first place ≡ begins_up_to place (map run_model entries)
 begins_up_to-first place first run [] is = grind arith
 begins_up_to-first place first run (e ∷ entries) is = grind arith
 

@@ -5,7 +5,7 @@ use Rattle.std.specs.Option.{option_map}
 use Rattle.std.proofs.lemmas.Bool.{and_left, and_right, not_from_true}
 use Rattle.std.proofs.lemmas.List.{take-append-drop}
 use Rattle.std.proofs.lemmas.Bool.Decides.{nat_tests}
-use Rattle.dcsctp_api.specs.spec.queues.Runs.{part_dropped, part_kept, message_whole, entry_before, RunModel, PartModel, IsPlace, is_held_before, AddsPart, is_whole, whole_run, merged, with_part, without_runs, follows, precedes, following, preceding, run_before, run_behind}
+use Rattle.dcsctp_api.specs.spec.queues.Runs.{part_dropped, part_kept, message_whole, entry_before, RunModel, PartModel, IsRunPlace, is_held_before, AddsPart, is_whole, whole_run, merged, with_part, without_runs, follows, precedes, following, preceding, run_before, run_behind}
 use Rattle.dcsctp_receive_reassembly.specs.declared.runs.Whole.{Whole}
 use Rattle.dcsctp_receive_reassembly.specs.Runs.{BeginsIf, whole_of}
 
@@ -29,7 +29,7 @@ pub run_behind_none : (at : ℕ) (runs : List RunModel) (part : PartModel) → p
 run_behind_none at runs part ends = not_preceding part (slice_get runs at) ends
 
 -- a part that makes its message whole
-pub AddsPart-whole : (at : ℕ) (part : PartModel) (old new : List RunModel) (before behind : Option RunModel) (joins_before joins_behind : Bool) (whole : Whole) → IsPlace at part.place old → is_held_before at old part.place ≡ false → before ≡ run_before at old part → behind ≡ run_behind part at old → joins_before ≡ is_some before → joins_behind ≡ is_some behind → is_whole (merged before part behind) ≡ true → whole_of whole ≡ whole_run (merged before part behind) → new ≡ without_runs joins_before joins_behind at old → AddsPart part old (message_whole (whole_of whole)) new
+pub AddsPart-whole : (at : ℕ) (part : PartModel) (old new : List RunModel) (before behind : Option RunModel) (joins_before joins_behind : Bool) (whole : Whole) → IsRunPlace at part.place old → is_held_before at old part.place ≡ false → before ≡ run_before at old part → behind ≡ run_behind part at old → joins_before ≡ is_some before → joins_behind ≡ is_some behind → is_whole (merged before part behind) ≡ true → whole_of whole ≡ whole_run (merged before part behind) → new ≡ without_runs joins_before joins_behind at old → AddsPart part old (message_whole (whole_of whole)) new
 AddsPart-whole at part old new before behind joins_before joins_behind whole place new_here before_is behind_is joins joins' is_it bytes left =
     record {
       at = at;
@@ -49,11 +49,11 @@ AddsPart-whole at part old new before behind joins_before joins_behind whole pla
     }
 
 -- a part that is held already
-pub AddsPart-dropped : (at : ℕ) (part : PartModel) (old : List RunModel) → IsPlace at part.place old → is_held_before at old part.place ≡ true → AddsPart part old part_dropped old
+pub AddsPart-dropped : (at : ℕ) (part : PartModel) (old : List RunModel) → IsRunPlace at part.place old → is_held_before at old part.place ≡ true → AddsPart part old part_dropped old
 AddsPart-dropped at part old place held = record { at = at; place = place; adds = (held, refl); alone = λ begins ends. refl }
 
 -- a part that is kept
-pub AddsPart-kept : (at : ℕ) (part : PartModel) (old new : List RunModel) (before behind : Option RunModel) (joins_before joins_behind : Bool) → IsPlace at part.place old → is_held_before at old part.place ≡ false → before ≡ run_before at old part → behind ≡ run_behind part at old → joins_before ≡ is_some before → joins_behind ≡ is_some behind → is_whole (merged before part behind) ≡ false → new ≡ with_part joins_before joins_behind at part old → AddsPart part old part_kept new
+pub AddsPart-kept : (at : ℕ) (part : PartModel) (old new : List RunModel) (before behind : Option RunModel) (joins_before joins_behind : Bool) → IsRunPlace at part.place old → is_held_before at old part.place ≡ false → before ≡ run_before at old part → behind ≡ run_behind part at old → joins_before ≡ is_some before → joins_behind ≡ is_some behind → is_whole (merged before part behind) ≡ false → new ≡ with_part joins_before joins_behind at part old → AddsPart part old part_kept new
 AddsPart-kept at part old new before behind joins_before joins_behind place new_here before_is behind_is joins joins' not_it kept =
     record {
       at = at;

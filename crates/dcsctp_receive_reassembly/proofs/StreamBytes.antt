@@ -12,10 +12,10 @@ use Rattle.dcsctp_api.specs.types.declared.arrivals.SkippedTo.TheVariants.{Ssn, 
 use Rattle.dcsctp_api.specs.types.declared.arrivals.Taken.{Taken}
 use Rattle.dcsctp_api.specs.spec.queues.Numbers.{number_near, short_number_near}
 use Rattle.dcsctp_api.specs.spec.queues.Runs.{Assembled, part_dropped, part_kept, message_whole, run_bytes, runs_bytes, wholes_bytes}
-use Rattle.dcsctp_api.specs.spec.queues.IncomingStreams.{stream_bytes, ready_bytes}
+use Rattle.dcsctp_api.specs.spec.queues.IncomingStreams.{kept_stream_bytes, ready_bytes}
 use Rattle.dcsctp_api.specs.spec.queues.Runs.{RunModel, PartModel, WholeModel, behind_place}
 use Rattle.dcsctp_receive_reassembly.specs.Runs.{up_to_place}
-use Rattle.dcsctp_api.specs.spec.queues.IncomingStreams.{StreamModel, ChunkModel, delivered_as, due, not_due, next_after, next_past, deliveries_from, ready_with, TakesWhole, WaitsAmong, OrderedOutcome, TakesOrdered, TakesAhead, is_waiting, UnorderedOutcome, TakesUnordered, TakesInOrder, TakesOutOfOrder, TakesApart, TakesNumbered, TakesOnStream, skipped, skip_deliveries, skip_bytes}
+use Rattle.dcsctp_api.specs.spec.queues.IncomingStreams.{StreamModel, ChunkModel, delivered_as, due, not_due, next_after, next_past, deliveries_from, ready_with, TakesWhole, WaitsAmong, OrderedOutcome, TakesOrdered, TakesAhead, is_number_waiting, UnorderedOutcome, TakesUnordered, TakesInOrder, TakesOutOfOrder, TakesApart, TakesNumbered, TakesOnStream, skipped, skip_deliveries, skip_bytes}
 use Rattle.dcsctp_receive_reassembly.proofs.PartBytes.{PartCounted, part_counted}
 
 abbrev size_of_message : MessageContent → ℕ
@@ -51,7 +51,7 @@ waits_bytes whole old new waits =
 -- The bytes of a stream and of what is ready grow by those that are kept, which the chunk has.
 pub record Counted (size : ℕ) (old : StreamModel) (before : List MessageContent) (taken : Taken) (new : StreamModel) (after : List MessageContent) : Type 0 where
   pub kept : taken.kept_bytes ≤ size
-  pub bytes : stream_bytes new + ready_bytes after ≡ stream_bytes old + ready_bytes before + taken.kept_bytes
+  pub bytes : kept_stream_bytes new + ready_bytes after ≡ kept_stream_bytes old + ready_bytes before + taken.kept_bytes
 
 whole_counted : (whole : WholeModel) (old : StreamModel) (before : List MessageContent) (size : ℕ) (taken : Taken) (new : StreamModel) (after : List MessageContent) → TakesWhole whole old before size taken new after → wholes_bytes new.waiting + ready_bytes after ≡ wholes_bytes old.waiting + ready_bytes before + length whole.payload
 whole_counted whole old before size taken new after takes = go (whole.number == old.next) takes.ready takes.waiting
@@ -73,7 +73,7 @@ ordered_counted part old before taken new after takes = go takes.outcome (part_c
   where
     go : (outcome : Assembled) → PartCounted part old.ordered outcome new.ordered → OrderedOutcome part old before outcome taken new after → Counted (length part.payload) old before taken new after
     go part_dropped counted does =
-        record { kept = omega (arith, does.2.0); bytes = omega (arith, does.2.0, ap stream_bytes does.0, ap ready_bytes does.1) }
+        record { kept = omega (arith, does.2.0); bytes = omega (arith, does.2.0, ap kept_stream_bytes does.0, ap ready_bytes does.1) }
     go part_kept counted does =
         record { kept = omega (arith, does.3.0); bytes = omega (arith, counted, does.3.0, ap wholes_bytes does.1, ap ready_bytes does.2, ap runs_bytes takes.unordered.1) }
     go (message_whole whole) counted does =
@@ -91,9 +91,9 @@ unordered_counted part id old before taken new after takes = go takes.outcome (p
     )
 
 ahead_counted : (part : PartModel) (old : StreamModel) (before : List MessageContent) (taken : Taken) (new : StreamModel) (after : List MessageContent) → TakesAhead part old before taken new after → Counted (length part.payload) old before taken new after
-ahead_counted part old before taken new after takes = go (is_waiting part.number old.waiting) refl
+ahead_counted part old before taken new after takes = go (is_number_waiting part.number old.waiting) refl
   where
-    go : (waits : Bool) → is_waiting part.number old.waiting ≡ waits → Counted (length part.payload) old before taken new after
+    go : (waits : Bool) → is_number_waiting part.number old.waiting ≡ waits → Counted (length part.payload) old before taken new after
     go true waits =
         let does = takes.repeated waits in
         let counted = unordered_counted part old.id old.ordered before taken new.ordered after does.ordered in
@@ -112,7 +112,7 @@ in_order_counted part old before taken new after takes = go (nat_lt part.number 
     go : (is_past : Bool) → nat_lt part.number old.next ≡ is_past → Counted (length part.payload) old before taken new after
     go true past =
         let does = takes.past (nat_lt-true part.number old.next past) in
-        record { kept = omega (arith, does.0.0); bytes = omega (arith, does.0.0, ap stream_bytes does.1, ap ready_bytes does.2) }
+        record { kept = omega (arith, does.0.0); bytes = omega (arith, does.0.0, ap kept_stream_bytes does.1, ap ready_bytes does.2) }
     go false ahead = ahead_counted part old before taken new after (takes.ahead (nat_lt-false part.number old.next ahead))
 
 out_of_order_counted : (part : PartModel) (old : StreamModel) (before : List MessageContent) (taken : Taken) (new : StreamModel) (after : List MessageContent) → TakesOutOfOrder part old before taken new after → Counted (length part.payload) old before taken new after
@@ -144,7 +144,7 @@ parted_bytes drops (run ∷ runs) = go (drops run) (parted_bytes drops runs)
     go true rest = omega (arith, rest, sum_by-cons run_bytes run (filter drops runs), sum_by-cons run_bytes run runs)
     go false rest = omega (arith, rest, sum_by-cons run_bytes run (filter (λ run. not (drops run)) runs), sum_by-cons run_bytes run runs)
 
-pub skipped_bytes : (entry : SkippedTo) (stream : StreamModel) → stream_bytes (skipped entry stream) + ready_bytes (skip_deliveries entry stream) + skip_bytes entry stream ≡ stream_bytes stream
+pub skipped_bytes : (entry : SkippedTo) (stream : StreamModel) → kept_stream_bytes (skipped entry stream) + ready_bytes (skip_deliveries entry stream) + skip_bytes entry stream ≡ kept_stream_bytes stream
 skipped_bytes (Ssn id ssn) stream =
     omega (arith, parted_bytes (λ run. nat_le run.number (short_number_near stream.next ssn)) stream.ordered, deliveries_bytes (next_past (short_number_near stream.next ssn) stream.next) stream)
 skipped_bytes (Mid id false mid) stream =

@@ -10,26 +10,26 @@ use Rattle.std.proofs.lemmas.Cmp.{nat_cmp_total}
 use Rattle.std.proofs.lemmas.List.Sums.{sum_by-cons}
 use Rattle.std.proofs.lemmas.Map.Entries.{sum_by-insert_entry, sum_by-remove_entry, sum_by-set_value}
 use Rattle.dcsctp_receive_reassembly.specs.declared.stream.Stream.{Stream}
-use Rattle.dcsctp_api.specs.spec.queues.IncomingStreams.{stream_bytes, streams_bytes}
+use Rattle.dcsctp_api.specs.spec.queues.IncomingStreams.{kept_stream_bytes, streams_bytes}
 use Rattle.dcsctp_api.specs.spec.queues.IncomingStreams.{StreamModel, new_stream}
-use Rattle.dcsctp_receive_reassembly.specs.Streams.{stream_of}
+use Rattle.dcsctp_receive_reassembly.specs.Streams.{stream_model}
 use Rattle.dcsctp_receive_reassembly.specs.Reassembly.{entry_of}
 use Rattle.dcsctp_api.specs.spec.queues.Incoming.{stream_on}
 use Rattle.dcsctp_receive_reassembly.proofs.ReassemblyLemmas.{stream_on-get, stream_on-other, same_key}
 
 abbrev pub bytes_of : Stream → ℕ
-bytes_of stream = stream_bytes (stream_of stream)
+bytes_of stream = kept_stream_bytes (stream_model stream)
 
 pub streams_bytes-values : (entries : List (ℕ × Stream)) → streams_bytes (map entry_of entries) ≡ sum_by bytes_of (values_of entries)
 streams_bytes-values [] = refl
 streams_bytes-values (entry ∷ entries) =
-    omega (arith, streams_bytes-values entries, sum_by-cons (λ (e : ℕ × StreamModel). stream_bytes e.1) (entry_of entry) (map entry_of entries), sum_by-cons bytes_of entry.1 (values_of entries))
+    omega (arith, streams_bytes-values entries, sum_by-cons (λ (e : ℕ × StreamModel). kept_stream_bytes e.1) (entry_of entry) (map entry_of entries), sum_by-cons bytes_of entry.1 (values_of entries))
 
 -- a stream on which nothing came in is made
-pub streams_bytes-made : (id : ℕ) (old new : BTreeMap ℕ Stream) (stream : Stream) → new.entries ≡ insert_entry nat_cmp old.entries id stream → IsOrdered nat_cmp old → get nat_cmp old id ≡ None → stream_of stream ≡ new_stream id → streams_bytes (map entry_of new.entries) ≡ streams_bytes (map entry_of old.entries)
+pub streams_bytes-made : (id : ℕ) (old new : BTreeMap ℕ Stream) (stream : Stream) → new.entries ≡ insert_entry nat_cmp old.entries id stream → IsOrdered nat_cmp old → get nat_cmp old id ≡ None → stream_model stream ≡ new_stream id → streams_bytes (map entry_of new.entries) ≡ streams_bytes (map entry_of old.entries)
 streams_bytes-made id old new stream entries ordered absent fresh =
     let none : unwrap_or (option_map bytes_of (lookup (is_at (nat_cmp id)) old.entries)) 0 ≡ 0 = ap (λ o. unwrap_or (option_map bytes_of o) 0) absent in
-    let empty : bytes_of stream ≡ 0 = ap stream_bytes fresh in
+    let empty : bytes_of stream ≡ 0 = ap kept_stream_bytes fresh in
     omega (
       arith,
       none,
@@ -51,12 +51,12 @@ streams_bytes-written id old new before after entries found =
       sum_by-set_value bytes_of (is_at (nat_cmp id)) old.entries before after found,
     )
 
-stream_or_none : (id : ℕ) (o : Option Stream) (streams : BTreeMap ℕ Stream) → get nat_cmp streams id ≡ o → unwrap_or (option_map bytes_of o) 0 ≡ stream_bytes (stream_on id (map entry_of streams.entries))
-stream_or_none id None streams is = ap stream_bytes (sym (stream_on-get id streams None is))
-stream_or_none id (Some stream) streams is = ap stream_bytes (sym (stream_on-get id streams (Some stream) is))
+stream_or_none : (id : ℕ) (o : Option Stream) (streams : BTreeMap ℕ Stream) → get nat_cmp streams id ≡ o → unwrap_or (option_map bytes_of o) 0 ≡ kept_stream_bytes (stream_on id (map entry_of streams.entries))
+stream_or_none id None streams is = ap kept_stream_bytes (sym (stream_on-get id streams None is))
+stream_or_none id (Some stream) streams is = ap kept_stream_bytes (sym (stream_on-get id streams (Some stream) is))
 
 -- a stream is removed, where it is there
-pub streams_bytes-removed : (id : ℕ) (old new : BTreeMap ℕ Stream) → new.entries ≡ remove_entry (is_at (nat_cmp id)) old.entries → streams_bytes (map entry_of new.entries) + stream_bytes (stream_on id (map entry_of old.entries)) ≡ streams_bytes (map entry_of old.entries)
+pub streams_bytes-removed : (id : ℕ) (old new : BTreeMap ℕ Stream) → new.entries ≡ remove_entry (is_at (nat_cmp id)) old.entries → streams_bytes (map entry_of new.entries) + kept_stream_bytes (stream_on id (map entry_of old.entries)) ≡ streams_bytes (map entry_of old.entries)
 streams_bytes-removed id old new entries =
     omega (
       arith,
@@ -69,8 +69,8 @@ streams_bytes-removed id old new entries =
 
 -- What is known of a map once the stream at an identifier was written.
 pub record Written (id : ℕ) (old new : BTreeMap ℕ Stream) (before after : Stream) : Type 0 where
-  pub was : stream_on id (map entry_of old.entries) ≡ stream_of before
-  pub becomes : stream_on id (map entry_of new.entries) ≡ stream_of after
+  pub was : stream_on id (map entry_of old.entries) ≡ stream_model before
+  pub becomes : stream_on id (map entry_of new.entries) ≡ stream_model after
   pub others : (other : ℕ) → (other ≡ id → ⊥) → stream_on other (map entry_of new.entries) ≡ stream_on other (map entry_of old.entries)
   pub bytes : streams_bytes (map entry_of new.entries) + bytes_of before ≡ streams_bytes (map entry_of old.entries) + bytes_of after
   pub made : (other : ℕ) → IsSome (get nat_cmp old other) → IsSome (get nat_cmp new other)

@@ -5,7 +5,7 @@ use Rattle.std.specs.Ordering.{nat_cmp}
 use Rattle.std.proofs.lemmas.Bool.Decides.{nat_tests}
 use Rattle.dcsctp_api.specs.types.declared.arrivals.SkippedTo.{SkippedTo}
 use Rattle.dcsctp_receive_reassembly.specs.declared.stream.Stream.{Stream}
-use Rattle.dcsctp_receive_reassembly.specs.Streams.{stream_of}
+use Rattle.dcsctp_receive_reassembly.specs.Streams.{stream_model}
 use Rattle.dcsctp_api.specs.spec.queues.IncomingStreams.{new_stream, skipped, skipped_stream}
 use Rattle.dcsctp_receive_reassembly.specs.Reassembly.{entry_of}
 use Rattle.dcsctp_api.specs.spec.queues.Incoming.{stream_on, skipped_on}
@@ -18,7 +18,7 @@ same_from m n is = grind (arith, nat_tests)
 apart_from : (m n : ℕ) → (m == n) ≡ false → n ≡ m → ⊥
 apart_from m n is same = grind (arith, nat_tests)
 
-pub skipped_written : (entry : SkippedTo) (old new : BTreeMap ℕ Stream) (before after : Stream) → Written (skipped_stream entry) old new before after → stream_of after ≡ skipped entry (stream_of before) → (id : ℕ) → stream_on id (map entry_of new.entries) ≡ skipped_on entry id (stream_on id (map entry_of old.entries))
+pub skipped_written : (entry : SkippedTo) (old new : BTreeMap ℕ Stream) (before after : Stream) → Written (skipped_stream entry) old new before after → stream_model after ≡ skipped entry (stream_model before) → (id : ℕ) → stream_on id (map entry_of new.entries) ≡ skipped_on entry id (stream_on id (map entry_of old.entries))
 skipped_written entry old new before after written skips id = go (skipped_stream entry == id) refl
   where
     here : stream_on (skipped_stream entry) (map entry_of new.entries) ≡ skipped entry (stream_on (skipped_stream entry) (map entry_of old.entries))

@@ -2,5 +2,5 @@
 use Rattle.std.specs.Prelude.{ℕ, ◌-◌, ◌^◌, min}
 
 -- no more than a usize counts
-abbrev pub capped : ℕ → ℕ
-capped size = min size (2 ^ 64 - 1)
+abbrev pub capped_usize : ℕ → ℕ
+capped_usize size = min size (2 ^ 64 - 1)

@@ -8,8 +8,8 @@ use Rattle.dcsctp_receive_reassembly.specs.declared.deferral.Deferral.{Deferral}
 use Rattle.dcsctp_receive_reassembly.specs.Streams.{chunk_of}
 use Rattle.dcsctp_api.specs.spec.queues.Incoming.{IncomingModel, SameIncoming}
 
-abbrev pub waits_as : WaitingData → WaitingModel
-waits_as waiting = record { tsn = waiting.tsn; chunk = chunk_of waiting.data }
+abbrev pub waiting_model : WaitingData → WaitingModel
+waiting_model waiting = record { tsn = waiting.tsn; chunk = chunk_of waiting.data }
 
 abbrev pub skips_as : WaitingSkips → SkipsModel
 skips_as skips = record { tsn = skips.tsn; entries = skips.entries.entries }
@@ -19,7 +19,7 @@ deferral_of deferral =
     record {
       last_tsn = deferral.last_tsn;
       streams = deferral.streams;
-      waiting = map waits_as deferral.waiting.items;
+      waiting = map waiting_model deferral.waiting.items;
       skips = option_map skips_as deferral.skips;
     }
 

@@ -14,8 +14,8 @@ use Rattle.dcsctp_receive_reassembly.specs.declared.runs.Assembled.{Assembled}
 use Rattle.dcsctp_receive_reassembly.specs.declared.runs.Assembled.TheVariants.{Dropped, Kept, Whole as WholeMessage}
 
 -- a run, by the place of its first part
-abbrev pub run_of : ℕ × Run → RunModel
-run_of entry =
+abbrev pub run_model : ℕ × Run → RunModel
+run_model entry =
     record {
       first = entry.0;
       number = entry.1.number;
@@ -38,21 +38,21 @@ assembled_of Kept = part_kept
 assembled_of (WholeMessage message) = message_whole (whole_of message)
 
 -- Is there such a run, and does it begin at this place?
-abbrev pub BeginsAt : ℕ → Option RunModel → Type 0
-BeginsAt first None = ⊥
-BeginsAt first (Some run) = run.first ≡ first
+abbrev pub RunBeginsAt : ℕ → Option RunModel → Type 0
+RunBeginsAt first None = ⊥
+RunBeginsAt first (Some run) = run.first ≡ first
 
 abbrev pub BeginsIf : Option ℕ → Option RunModel → Type 0
 BeginsIf None run = Unit {0}
-BeginsIf (Some first) run = BeginsAt first run
+BeginsIf (Some first) run = RunBeginsAt first run
 
 -- Is there room for that many more parts in the run that begins at this place?
 abbrev pub RoomIn : ℕ → Option Run → Type 0
 RoomIn count None = ⊥
 RoomIn count (Some run) = length run.others.items + count ≤ deque_capacity run.others
 
-abbrev pub HasRoom : ℕ → ℕ → BTreeMap ℕ Run → Type 0
-HasRoom first count runs = RoomIn count (get nat_cmp runs first)
+abbrev pub HasRoomForRun : ℕ → ℕ → BTreeMap ℕ Run → Type 0
+HasRoomForRun first count runs = RoomIn count (get nat_cmp runs first)
 
 -- Is there room for a part between two runs: in the longer one, for the part and for the shorter one?
 abbrev pub CanLink : Run → Run → Type 0
@@ -78,7 +78,7 @@ up_to_place place (run ∷ runs) = if nat_le run.first place then run ∷ up_to_
 -- a run that is lent, with the place where it begins
 abbrev pub lent_run : Option (ℕ × Bor Run) → Option RunModel
 lent_run None = None
-lent_run (Some entry) = Some (run_of (entry.0, entry.1.now))
+lent_run (Some entry) = Some (run_model (entry.0, entry.1.now))
 
 -- The message that became whole is that of this number.
 abbrev pub IsOfMessage : ℕ → Assembled → Type 0

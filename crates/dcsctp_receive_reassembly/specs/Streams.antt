@@ -11,16 +11,16 @@ use Rattle.dcsctp_api.specs.spec.queues.Runs.{WholeModel}
 use Rattle.dcsctp_api.specs.spec.queues.IncomingStreams.{StreamModel, ChunkModel}
 
 -- a message that waits, by its number
-abbrev pub waits_as : ℕ × Waiting → WholeModel
-waits_as entry = record { number = entry.0; ppid = entry.1.ppid.0; payload = entry.1.payload.items }
+abbrev pub waiting_whole : ℕ × Waiting → WholeModel
+waiting_whole entry = record { number = entry.0; ppid = entry.1.ppid.0; payload = entry.1.payload.items }
 
-abbrev pub stream_of : Stream → StreamModel
-stream_of stream =
+abbrev pub stream_model : Stream → StreamModel
+stream_model stream =
     record {
       id = stream.id.0;
       next = stream.next;
       last_unordered = stream.last_unordered;
-      waiting = map waits_as stream.waiting.entries;
+      waiting = map waiting_whole stream.waiting.entries;
       ordered = stream.ordered;
       unordered = stream.unordered;
     }

@@ -5,10 +5,10 @@ ghost use Rattle.std.specs.BTreeMap.{insert_entry};
 ghost use Rattle.std.specs.List.{sum_by};
 ghost use Rattle.std.specs.Option.{option_map};
 ghost use Rattle.std.specs.Ordering.{nat_cmp};
-ghost use Rattle.dcsctp_api.specs.spec.queues.Incoming.{held_bytes, SameIncoming, TakesData};
+ghost use Rattle.dcsctp_api.specs.spec.queues.Incoming.{held_bytes, SameIncoming, TakesIncomingChunk};
 ghost use Rattle.dcsctp_api.specs.spec.queues.IncomingStreams.{skipped_stream};
-ghost use Rattle.dcsctp_api.specs.spec.queues.Reassembly.{names_stream, skip_key, with_entries, with_skips, entries_within, entries_beside, waiting_bytes, Handles, HandlesAll, HandlesFront, SkipsThen};
-ghost use Rattle.dcsctp_receive_reassembly.specs.Queue.{waits_as, skips_as, deferral_of, HandlesDeferral};
+ghost use Rattle.dcsctp_api.specs.spec.queues.Reassembly.{names_stream, skip_key, with_entries, with_skips, entries_within, entries_beside, waiting_bytes, HandlesWaiting, HandlesAll, HandlesFront, SkipsThen};
+ghost use Rattle.dcsctp_receive_reassembly.specs.Queue.{waiting_model, skips_as, deferral_of, HandlesDeferral};
 ghost use Rattle.dcsctp_receive_reassembly.specs.Reassembly.{incoming_of, Balances};
 ghost use Rattle.dcsctp_receive_reassembly.specs.Streams.{chunk_of};
 
@@ -150,9 +150,9 @@ fn skip_then(incoming: &mut Incoming, skips: &Option<WaitingSkips>) -> Result<()
 
 // Handles data that waited. `Err`: an allocation failed, and nothing has changed.
 fn handle_deferred(incoming: &mut Incoming, waiting: &WaitingData) -> Result<(), AllocError>
-    requires { held_bytes (incoming_of incoming.old) + waiting_bytes (waits_as waiting.now) ≤ incoming.old.queued_bytes }
-    ensures ok { OnOk result (Handles (waits_as waiting.now) (incoming_of incoming.old) (incoming_of incoming.new)) }
-    ensures worked { OnOk result (incoming.new.queued_bytes + held_bytes (incoming_of incoming.old) + waiting_bytes (waits_as waiting.now) ≡ incoming.old.queued_bytes + held_bytes (incoming_of incoming.new)) }
+    requires { held_bytes (incoming_of incoming.old) + waiting_bytes (waiting_model waiting.now) ≤ incoming.old.queued_bytes }
+    ensures ok { OnOk result (HandlesWaiting (waiting_model waiting.now) (incoming_of incoming.old) (incoming_of incoming.new)) }
+    ensures worked { OnOk result (incoming.new.queued_bytes + held_bytes (incoming_of incoming.old) + waiting_bytes (waiting_model waiting.now) ≡ incoming.old.queued_bytes + held_bytes (incoming_of incoming.new)) }
     ensures err { OnErr result (SameIncoming (incoming_of incoming.old) (incoming_of incoming.new)) }
     ensures left { OnErr result (incoming.new.queued_bytes + held_bytes (incoming_of incoming.old) ≡ incoming.old.queued_bytes + held_bytes (incoming_of incoming.new)) }
 {
@@ -174,11 +174,11 @@ fn handle_all_deferred(
     incoming: &mut Incoming,
     waiting: &mut VecDeque<WaitingData>,
 ) -> Result<(), AllocError>
-    requires { incoming.old.queued_bytes ≡ held_bytes (incoming_of incoming.old) + sum_by waiting_bytes (map waits_as waiting.old.items) }
-    ensures ok { OnOk result (HandlesAll (map waits_as waiting.old.items) (incoming_of incoming.old) (incoming_of incoming.new)) }
-    ensures err { OnErr result (HandlesFront (map waits_as waiting.old.items) (incoming_of incoming.old) (incoming_of incoming.new) (map waits_as waiting.new.items)) }
-    ensures bytes { incoming.new.queued_bytes ≡ held_bytes (incoming_of incoming.new) + sum_by waiting_bytes (map waits_as waiting.new.items) }
-    ensures none { OnOk result (map waits_as waiting.new.items ≡ []) }
+    requires { incoming.old.queued_bytes ≡ held_bytes (incoming_of incoming.old) + sum_by waiting_bytes (map waiting_model waiting.old.items) }
+    ensures ok { OnOk result (HandlesAll (map waiting_model waiting.old.items) (incoming_of incoming.old) (incoming_of incoming.new)) }
+    ensures err { OnErr result (HandlesFront (map waiting_model waiting.old.items) (incoming_of incoming.old) (incoming_of incoming.new) (map waiting_model waiting.new.items)) }
+    ensures bytes { incoming.new.queued_bytes ≡ held_bytes (incoming_of incoming.new) + sum_by waiting_bytes (map waiting_model waiting.new.items) }
+    ensures none { OnOk result (map waiting_model waiting.new.items ≡ []) }
 {
     while !waiting.is_empty() {
         handle_deferred(incoming, &waiting[0])?;
@@ -190,11 +190,11 @@ fn handle_all_deferred(
 /// Handles what waited for the end of a reset: the data, and then what is to be skipped. `Err`: an allocation
 /// failed; what is not handled keeps waiting.
 pub fn handle_deferral(incoming: &mut Incoming, deferral: &mut Deferral) -> Result<(), AllocError>
-    requires { incoming.old.queued_bytes ≡ held_bytes (incoming_of incoming.old) + sum_by waiting_bytes (map waits_as deferral.old.waiting.items) }
+    requires { incoming.old.queued_bytes ≡ held_bytes (incoming_of incoming.old) + sum_by waiting_bytes (map waiting_model deferral.old.waiting.items) }
     ensures ok { OnOk result (HandlesDeferral (deferral_of deferral.old) (incoming_of incoming.old) (incoming_of incoming.new)) }
-    ensures err { OnErr result (HandlesFront (map waits_as deferral.old.waiting.items) (incoming_of incoming.old) (incoming_of incoming.new) (map waits_as deferral.new.waiting.items)) }
-    ensures bytes { incoming.new.queued_bytes ≡ held_bytes (incoming_of incoming.new) + sum_by waiting_bytes (map waits_as deferral.new.waiting.items) }
-    ensures none { OnOk result (map waits_as deferral.new.waiting.items ≡ []) }
+    ensures err { OnErr result (HandlesFront (map waiting_model deferral.old.waiting.items) (incoming_of incoming.old) (incoming_of incoming.new) (map waiting_model deferral.new.waiting.items)) }
+    ensures bytes { incoming.new.queued_bytes ≡ held_bytes (incoming_of incoming.new) + sum_by waiting_bytes (map waiting_model deferral.new.waiting.items) }
+    ensures none { OnOk result (map waiting_model deferral.new.waiting.items ≡ []) }
     ensures kept { (deferral.new.last_tsn ≡ deferral.old.last_tsn) × (deferral.new.streams ≡ deferral.old.streams) × (deferral.new.skips ≡ deferral.old.skips) }
 {
     handle_all_deferred(incoming, &mut deferral.waiting)?;

@@ -3,7 +3,7 @@
 ghost use Rattle.std.specs.Prelude.{◌≡◌, ◌/◌, ◌^◌, [], IfOk, OnErr, IsTrue, ◌↔◌, length};
 ghost use Rattle.dcsctp_api.specs.spec.queues.IncomingStreams.{runs_up_to, runs_behind};
 ghost use Rattle.dcsctp_api.specs.spec.queues.Runs.{AddsPart, runs_bytes};
-ghost use Rattle.dcsctp_receive_reassembly.specs.Held.{capped};
+ghost use Rattle.dcsctp_receive_reassembly.specs.Held.{capped_usize};
 ghost use Rattle.dcsctp_receive_reassembly.specs.Runs.{part_of, assembled_of, IsOfMessage};
 
 use crate::joining::add_part;
@@ -23,13 +23,13 @@ pub struct Fragments {
 impl Model for Fragments {
     ghost use Rattle.std.specs.Prelude.{List, map};
     ghost use Rattle.dcsctp_api.specs.spec.queues.Runs.{RunModel};
-    ghost use Rattle.dcsctp_receive_reassembly.specs.Runs.{run_of, AreInPlace};
+    ghost use Rattle.dcsctp_receive_reassembly.specs.Runs.{run_model, AreInPlace};
 
     ghost Value = { List RunModel };
 
-    ghost view = { λ fragments. map run_of fragments.runs.entries };
+    ghost view = { λ fragments. map run_model fragments.runs.entries };
 
-    ghost invariant = { λ fragments. AreInPlace (map run_of fragments.runs.entries) };
+    ghost invariant = { λ fragments. AreInPlace (map run_model fragments.runs.entries) };
 }
 
 impl Fragments {
@@ -51,7 +51,7 @@ impl Fragments {
 
     /// How many bytes the parts have, at most `usize::MAX`.
     pub fn size(&self) -> usize
-        ensures { result ≡ capped (runs_bytes self.now) }
+        ensures { result ≡ capped_usize (runs_bytes self.now) }
     {
         size_of_runs(&self.runs)
     }
@@ -72,7 +72,7 @@ impl Fragments {
     /// `usize::MAX`. Visits these and one more.
     pub fn drop_up_to(&mut self, number: u64) -> usize
         ensures kept { self.new ≡ runs_behind number self.old }
-        ensures size { result ≡ capped (runs_bytes (runs_up_to number self.old)) }
+        ensures size { result ≡ capped_usize (runs_bytes (runs_up_to number self.old)) }
     {
         if self.runs.len() == 0 {
             return 0;

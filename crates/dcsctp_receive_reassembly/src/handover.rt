@@ -6,7 +6,7 @@ ghost use Rattle.dcsctp_api.specs.spec.queues.IncomingStreams.{streams_bytes};
 ghost use Rattle.dcsctp_api.specs.spec.queues.ReceivedParts.{ordered_stream, restored_stream};
 ghost use Rattle.dcsctp_receive_reassembly.specs.Handover.{restored_over};
 ghost use Rattle.dcsctp_receive_reassembly.specs.Reassembly.{entry_of};
-ghost use Rattle.dcsctp_receive_reassembly.specs.Streams.{stream_of};
+ghost use Rattle.dcsctp_receive_reassembly.specs.Streams.{stream_model};
 
 use crate::stream::{FIRST_NUMBER, Stream};
 use dcsctp_api::StreamId;
@@ -16,7 +16,7 @@ use std::collections::BTreeMap;
 
 // What a snapshot has of a stream.
 fn ordered_stream(id: u16, stream: &Stream) -> HandoverOrderedStream
-    ensures { result ≡ ordered_stream id (stream_of stream.now) }
+    ensures { result ≡ ordered_stream id (stream_model stream.now) }
 {
     HandoverOrderedStream {
         id,
@@ -40,7 +40,7 @@ pub fn ordered_streams(
 
 // The stream of a snapshot: its next ordered message has the number that stands there.
 fn restored_stream(alloc: Global, state: &HandoverOrderedStream) -> Stream
-    ensures { stream_of result ≡ restored_stream state.now.id (state.now ∷ []) }
+    ensures { stream_model result ≡ restored_stream state.now.id (state.now ∷ []) }
 {
     let mut stream = Stream::new(alloc, StreamId(state.id));
     stream.next = FIRST_NUMBER + u64::from(state.next_ssn);

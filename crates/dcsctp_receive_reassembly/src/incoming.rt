@@ -5,14 +5,14 @@ ghost use Rattle.std.specs.Prelude.{◌≡◌, ℕ, ◌+◌, ◌^◌, ◌<◌, m
 ghost use Rattle.std.specs.BTreeMap.{get};
 ghost use Rattle.std.specs.List.{list_any};
 ghost use Rattle.std.specs.Ordering.{nat_cmp};
-ghost use Rattle.dcsctp_receive_reassembly.specs.Held.{capped};
+ghost use Rattle.dcsctp_receive_reassembly.specs.Held.{capped_usize};
 ghost use Rattle.dcsctp_api.specs.spec.queues.IncomingStreams.{ready_bytes, streams_bytes};
 ghost use Rattle.dcsctp_api.specs.types.queues.Messages.{message_content};
 ghost use Rattle.dcsctp_api.specs.spec.queues.Readiness.{holds_parts, is_unassembled};
 ghost use Rattle.dcsctp_receive_reassembly.specs.Streams.{chunk_of};
 ghost use Rattle.dcsctp_api.specs.spec.queues.IncomingStreams.{TakesOnStream};
 ghost use Rattle.dcsctp_receive_reassembly.specs.Reassembly.{incoming_of, entry_of, Balances};
-ghost use Rattle.dcsctp_api.specs.spec.queues.Incoming.{AreInOrder, stream_on, nothing, received_more, KeepsStreams, SameIncoming, TakesUnorderedData, TakesStreamData, TakesChunk, TakesData};
+ghost use Rattle.dcsctp_api.specs.spec.queues.Incoming.{AreInOrder, stream_on, nothing, received_more, KeepsStreams, SameIncoming, TakesUnorderedData, TakesStreamData, TakesChunk, TakesIncomingChunk};
 
 use crate::arrivals::Data;
 use crate::joining::add_part;
@@ -155,7 +155,7 @@ impl Incoming {
     // Counts data that was taken.
     fn count(&mut self, taken: Taken)
         ensures incoming { incoming_of self.new ≡ record (incoming_of self.old) { messages_received = received_more taken.ready self.old.messages_received } }
-        ensures queued { self.new.queued_bytes ≡ capped (self.old.queued_bytes + taken.kept_bytes) }
+        ensures queued { self.new.queued_bytes ≡ capped_usize (self.old.queued_bytes + taken.kept_bytes) }
     {
         self.queued_bytes = self.queued_bytes.saturating_add(taken.kept_bytes);
         self.messages_received = self.messages_received.saturating_add(taken.ready as u64);
@@ -220,7 +220,7 @@ impl Incoming {
     #[inline(always)]
     pub fn take(&mut self, tsn: u32, chunk: Data) -> Result<(), AllocError>
         requires { self.old.queued_bytes + length chunk.payload.items < 2 ^ 64 }
-        ensures ok { OnOk result (TakesData tsn (chunk_of chunk) (incoming_of self.old) (incoming_of self.new)) }
+        ensures ok { OnOk result (TakesIncomingChunk tsn (chunk_of chunk) (incoming_of self.old) (incoming_of self.new)) }
         ensures bytes { Balances self.old self.new }
         ensures err { OnErr result (SameIncoming (incoming_of self.old) (incoming_of self.new)) }
         ensures count { OnErr result (self.new.queued_bytes ≡ self.old.queued_bytes) }

@@ -19,7 +19,7 @@ ghost use Rattle.std.specs.BTreeMap.{IsOrdered, get, is_at};
 ghost use Rattle.std.specs.Ordering.{nat_cmp};
 ghost use Rattle.dcsctp_receive_ordered_map.specs.Entries.{count_up_to};
 ghost use Rattle.dcsctp_api.specs.spec.queues.Runs.{entry_before, whole_run, follows, precedes, following, run_behind, single_run, merged, is_whole, joined_bytes, with_part, without_runs, holds_some, is_held_before, AddsPart};
-ghost use Rattle.dcsctp_receive_reassembly.specs.Runs.{assembled_of, run_of, part_of, whole_of, lent_run, BeginsAt, BeginsIf, IsOfMessage};
+ghost use Rattle.dcsctp_receive_reassembly.specs.Runs.{assembled_of, run_model, part_of, whole_of, lent_run, RunBeginsAt, BeginsIf, IsOfMessage};
 
 use crate::linking::{append, link, reserve, reserve_between, take_over};
 use crate::runs::{Assembled, Part, Run, Whole, holds, run_up_to, size_of_run};
@@ -29,7 +29,7 @@ use std::collections::{BTreeMap, VecDeque};
 
 // Does the part follow on this run, which begins at `first`?
 fn follows(first: u128, run: &Run, part: &Part) -> bool
-    ensures { result ≡ follows (run_of (first, run.now)) (part_of part.now) }
+    ensures { result ≡ follows (run_model (first, run.now)) (part_of part.now) }
 {
     part.place.saturating_sub(first) == run.others.len() as u128 + 1
         && run.number == part.number
@@ -39,7 +39,7 @@ fn follows(first: u128, run: &Run, part: &Part) -> bool
 
 // Does this run, which begins at `first`, follow on the part?
 fn precedes(part: &Part, first: u128, run: &Run) -> bool
-    ensures { result ≡ precedes (part_of part.now) (run_of (first, run.now)) }
+    ensures { result ≡ precedes (part_of part.now) (run_model (first, run.now)) }
 {
     first.saturating_sub(part.place) == 1
         && run.number == part.number
@@ -59,7 +59,7 @@ fn copy_payloads(joined: &mut Vec<u8>, payloads: &VecDeque<Vec<u8>>) -> Result<(
 
 // Adds a copy of the payloads of a run.
 fn copy_run(joined: &mut Vec<u8>, run: &Run) -> Result<(), AllocError>
-    ensures { OnOk result (joined.new.items ≡ joined.old.items ++ joined_bytes (run_of (0, run.now)).payloads) }
+    ensures { OnOk result (joined.new.items ≡ joined.old.items ++ joined_bytes (run_model (0, run.now)).payloads) }
 {
     joined.extend_from_slice(run.payload.as_slice())?;
     copy_payloads(joined, &run.others)
@@ -67,7 +67,7 @@ fn copy_run(joined: &mut Vec<u8>, run: &Run) -> Result<(), AllocError>
 
 // A run of this part alone. Allocates nothing.
 fn single(alloc: Global, part: Part) -> Run
-    ensures { run_of (part.place, result) ≡ single_run (part_of part) }
+    ensures { run_model (part.place, result) ≡ single_run (part_of part) }
 {
     Run {
         number: part.number,
@@ -133,7 +133,7 @@ fn run_before<'x>(nearest: Option<(u128, &'x Run)>, part: &Part) -> Option<(u128
 
 // The run that follows on the part. Nothing follows on an end.
 fn run_behind<'x>(part: &Part, runs: &'x BTreeMap<u128, Run>) -> Option<(u128, &'x Run)>
-    ensures { lent_run result ≡ run_behind (part_of part.now) (count_up_to part.now.place runs.now.entries) (map run_of runs.now.entries) }
+    ensures { lent_run result ≡ run_behind (part_of part.now) (count_up_to part.now.place runs.now.entries) (map run_model runs.now.entries) }
 {
     if part.is_end {
         return None;
@@ -163,9 +163,9 @@ fn is_whole(before: Option<(u128, &Run)>, part: &Part, behind: Option<(u128, &Ru
 
 // The part goes alone among the runs.
 fn keep_alone(alloc: Global, runs: &mut BTreeMap<u128, Run>, part: Part) -> Result<(), AllocError>
-    requires absent { is_held_before (count_up_to part.place runs.old.entries) (map run_of runs.old.entries) part.place ≡ false }
+    requires absent { is_held_before (count_up_to part.place runs.old.entries) (map run_model runs.old.entries) part.place ≡ false }
     requires ordered { IsOrdered nat_cmp runs.old }
-    ensures ok { OnOk result (map run_of runs.new.entries ≡ with_part false false (count_up_to part.place runs.old.entries) (part_of part) (map run_of runs.old.entries)) }
+    ensures ok { OnOk result (map run_model runs.new.entries ≡ with_part false false (count_up_to part.place runs.old.entries) (part_of part) (map run_model runs.old.entries)) }
     ensures err { OnErr result (runs.new.entries ≡ runs.old.entries) }
     ensures others { OnOk result ((other : ℕ) → is_at (nat_cmp part.place) other ≡ false → get nat_cmp runs.new other ≡ get nat_cmp runs.old other) }
     ensures ordered { IsOrdered nat_cmp runs.new }
@@ -175,9 +175,9 @@ fn keep_alone(alloc: Global, runs: &mut BTreeMap<u128, Run>, part: Part) -> Resu
 
 // The part goes to the run before it, which begins at `first`.
 fn keep_before(runs: &mut BTreeMap<u128, Run>, first: u128, part: Part) -> Result<(), AllocError>
-    requires before { BeginsAt first (entry_before (count_up_to part.place runs.old.entries) (map run_of runs.old.entries)) }
-    ensures ok { OnOk result (map run_of runs.new.entries ≡ with_part true false (count_up_to part.place runs.old.entries) (part_of part) (map run_of runs.old.entries)) }
-    ensures err { OnErr result (map run_of runs.new.entries ≡ map run_of runs.old.entries) }
+    requires before { RunBeginsAt first (entry_before (count_up_to part.place runs.old.entries) (map run_model runs.old.entries)) }
+    ensures ok { OnOk result (map run_model runs.new.entries ≡ with_part true false (count_up_to part.place runs.old.entries) (part_of part) (map run_model runs.old.entries)) }
+    ensures err { OnErr result (map run_model runs.new.entries ≡ map run_model runs.old.entries) }
 {
     append(runs.get_mut(&first).unwrap(), part)
 }
@@ -190,11 +190,11 @@ fn keep_behind(
     part: Part,
     next: u128,
 ) -> Result<(), AllocError>
-    requires absent { is_held_before (count_up_to part.place runs.old.entries) (map run_of runs.old.entries) part.place ≡ false }
-    requires behind { BeginsAt next (slice_get (map run_of runs.old.entries) (count_up_to part.place runs.old.entries)) }
+    requires absent { is_held_before (count_up_to part.place runs.old.entries) (map run_model runs.old.entries) part.place ≡ false }
+    requires behind { RunBeginsAt next (slice_get (map run_model runs.old.entries) (count_up_to part.place runs.old.entries)) }
     requires ordered { IsOrdered nat_cmp runs.old }
-    ensures ok { OnOk result (map run_of runs.new.entries ≡ with_part false true (count_up_to part.place runs.old.entries) (part_of part) (map run_of runs.old.entries)) }
-    ensures err { OnErr result (map run_of runs.new.entries ≡ map run_of runs.old.entries) }
+    ensures ok { OnOk result (map run_model runs.new.entries ≡ with_part false true (count_up_to part.place runs.old.entries) (part_of part) (map run_model runs.old.entries)) }
+    ensures err { OnErr result (map run_model runs.new.entries ≡ map run_model runs.old.entries) }
 {
     let place = part.place;
     reserve(runs, next, 1)?;
@@ -211,11 +211,11 @@ fn keep_between(
     part: Part,
     next: u128,
 ) -> Result<(), AllocError>
-    requires before { BeginsAt first (entry_before (count_up_to part.place runs.old.entries) (map run_of runs.old.entries)) }
-    requires behind { BeginsAt next (slice_get (map run_of runs.old.entries) (count_up_to part.place runs.old.entries)) }
+    requires before { RunBeginsAt first (entry_before (count_up_to part.place runs.old.entries) (map run_model runs.old.entries)) }
+    requires behind { RunBeginsAt next (slice_get (map run_model runs.old.entries) (count_up_to part.place runs.old.entries)) }
     requires ordered { IsOrdered nat_cmp runs.old }
-    ensures ok { OnOk result (map run_of runs.new.entries ≡ with_part true true (count_up_to part.place runs.old.entries) (part_of part) (map run_of runs.old.entries)) }
-    ensures err { OnErr result (map run_of runs.new.entries ≡ map run_of runs.old.entries) }
+    ensures ok { OnOk result (map run_model runs.new.entries ≡ with_part true true (count_up_to part.place runs.old.entries) (part_of part) (map run_model runs.old.entries)) }
+    ensures err { OnErr result (map run_model runs.new.entries ≡ map run_model runs.old.entries) }
 {
     reserve_between(runs, first, next)?;
     let behind = runs.remove(&next).unwrap();
@@ -231,12 +231,12 @@ fn keep(
     part: Part,
     next: Option<u128>,
 ) -> Result<(), AllocError>
-    requires absent { is_held_before (count_up_to part.place runs.old.entries) (map run_of runs.old.entries) part.place ≡ false }
-    requires before { BeginsIf first (entry_before (count_up_to part.place runs.old.entries) (map run_of runs.old.entries)) }
-    requires behind { BeginsIf next (slice_get (map run_of runs.old.entries) (count_up_to part.place runs.old.entries)) }
+    requires absent { is_held_before (count_up_to part.place runs.old.entries) (map run_model runs.old.entries) part.place ≡ false }
+    requires before { BeginsIf first (entry_before (count_up_to part.place runs.old.entries) (map run_model runs.old.entries)) }
+    requires behind { BeginsIf next (slice_get (map run_model runs.old.entries) (count_up_to part.place runs.old.entries)) }
     requires ordered { IsOrdered nat_cmp runs.old }
-    ensures ok { OnOk result (map run_of runs.new.entries ≡ with_part (is_some first) (is_some next) (count_up_to part.place runs.old.entries) (part_of part) (map run_of runs.old.entries)) }
-    ensures err { OnErr result (map run_of runs.new.entries ≡ map run_of runs.old.entries) }
+    ensures ok { OnOk result (map run_model runs.new.entries ≡ with_part (is_some first) (is_some next) (count_up_to part.place runs.old.entries) (part_of part) (map run_model runs.old.entries)) }
+    ensures err { OnErr result (map run_model runs.new.entries ≡ map run_model runs.old.entries) }
 {
     match (first, next) {
         (Some(first), Some(next)) => keep_between(runs, first, part, next),
@@ -249,7 +249,7 @@ fn keep(
 // Takes the runs out that a message was joined from: they begin at these places.
 fn take_out(runs: &mut BTreeMap<u128, Run>, first: Option<u128>, next: Option<u128>)
     requires ordered { IsOrdered nat_cmp runs.old }
-    ensures { (at : ℕ) → BeginsIf first (entry_before at (map run_of runs.old.entries)) → BeginsIf next (slice_get (map run_of runs.old.entries) at) → map run_of runs.new.entries ≡ without_runs (is_some first) (is_some next) at (map run_of runs.old.entries) }
+    ensures { (at : ℕ) → BeginsIf first (entry_before at (map run_model runs.old.entries)) → BeginsIf next (slice_get (map run_model runs.old.entries) at) → map run_model runs.new.entries ≡ without_runs (is_some first) (is_some next) at (map run_model runs.old.entries) }
 {
     match (first, next) {
         (Some(first), Some(next)) => {
@@ -291,9 +291,9 @@ pub fn add_part(
     runs: &mut BTreeMap<u128, Run>,
     part: Part,
 ) -> Result<Assembled, AllocError>
-    ensures ok { IfOk result (λ outcome. AddsPart (part_of part) (map run_of runs.old.entries) (assembled_of outcome) (map run_of runs.new.entries)) }
+    ensures ok { IfOk result (λ outcome. AddsPart (part_of part) (map run_model runs.old.entries) (assembled_of outcome) (map run_model runs.new.entries)) }
     ensures number { IfOk result (λ outcome. IsOfMessage part.number outcome) }
-    ensures err { OnErr result (map run_of runs.new.entries ≡ map run_of runs.old.entries) }
+    ensures err { OnErr result (map run_model runs.new.entries ≡ map run_model runs.old.entries) }
 {
     let nearest = run_up_to(runs, part.place);
     if is_held_by(nearest, part.place) {

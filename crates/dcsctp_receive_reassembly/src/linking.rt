@@ -20,7 +20,7 @@ ghost use Rattle.std.specs.VecDeque.{deque_capacity};
 ghost use Rattle.std.specs.BTreeMap.{IsOrdered, get};
 ghost use Rattle.std.specs.Ordering.{nat_cmp};
 ghost use Rattle.dcsctp_api.specs.spec.queues.Runs.{PartModel, single_run, merged};
-ghost use Rattle.dcsctp_receive_reassembly.specs.Runs.{run_of, part_of, HasRoom, CanLink, CanLinkAt};
+ghost use Rattle.dcsctp_receive_reassembly.specs.Runs.{run_model, part_of, HasRoomForRun, CanLink, CanLinkAt};
 
 use crate::runs::{Part, Run};
 use std::alloc::AllocError;
@@ -28,8 +28,8 @@ use std::collections::{BTreeMap, VecDeque};
 
 /// The part follows on the last part of a run.
 pub fn append(run: &mut Run, part: Part) -> Result<(), AllocError>
-    ensures ok { OnOk result ((first : ℕ) → run_of (first, run.new) ≡ merged (Some (run_of (first, run.old))) (part_of part) None) }
-    ensures err { OnErr result ((first : ℕ) → run_of (first, run.new) ≡ run_of (first, run.old)) }
+    ensures ok { OnOk result ((first : ℕ) → run_model (first, run.new) ≡ merged (Some (run_model (first, run.old))) (part_of part) None) }
+    ensures err { OnErr result ((first : ℕ) → run_model (first, run.new) ≡ run_model (first, run.old)) }
 {
     run.others.push_back(part.payload)?;
     run.has_end = part.is_end;
@@ -39,7 +39,7 @@ pub fn append(run: &mut Run, part: Part) -> Result<(), AllocError>
 /// The parts of another run follow on those of a run of one part. There is room for one more in front.
 pub fn take_over(run: &mut Run, behind: Run)
     requires { length behind.others.items < deque_capacity behind.others }
-    ensures { (next : ℕ) (part : PartModel) → run_of (part.place, run.old) ≡ single_run part → run_of (part.place, run.new) ≡ merged None part (Some (run_of (next, behind))) }
+    ensures { (next : ℕ) (part : PartModel) → run_model (part.place, run.old) ≡ single_run part → run_model (part.place, run.new) ≡ merged None part (Some (run_model (next, behind))) }
 {
     let Run {
         payload,
@@ -55,7 +55,7 @@ pub fn take_over(run: &mut Run, behind: Run)
 // The part and the run behind go behind the parts of a run, in which there is room.
 fn link_behind(run: &mut Run, payload: Vec<u8>, behind: Run)
     requires { length run.old.others.items + 2 + length behind.others.items ≤ deque_capacity run.old.others }
-    ensures { (first next : ℕ) (part : PartModel) → part.payload ≡ payload.items → run_of (first, run.new) ≡ merged (Some (run_of (first, run.old))) part (Some (run_of (next, behind))) }
+    ensures { (first next : ℕ) (part : PartModel) → part.payload ≡ payload.items → run_model (first, run.new) ≡ merged (Some (run_model (first, run.old))) part (Some (run_model (next, behind))) }
 {
     let Run {
         payload: next,
@@ -83,7 +83,7 @@ fn move_in_front(front: &mut VecDeque<Vec<u8>>, others: &mut VecDeque<Vec<u8>>)
 // run takes them over.
 fn link_in_front(run: &mut Run, payload: Vec<u8>, behind: Run)
     requires { length run.old.others.items + 2 + length behind.others.items ≤ deque_capacity behind.others }
-    ensures { (first next : ℕ) (part : PartModel) → part.payload ≡ payload.items → run_of (first, run.new) ≡ merged (Some (run_of (first, run.old))) part (Some (run_of (next, behind))) }
+    ensures { (first next : ℕ) (part : PartModel) → part.payload ≡ payload.items → run_model (first, run.new) ≡ merged (Some (run_model (first, run.old))) part (Some (run_model (next, behind))) }
 {
     let Run {
         payload: next,
@@ -102,7 +102,7 @@ fn link_in_front(run: &mut Run, payload: Vec<u8>, behind: Run)
 /// longer one, in which there is room.
 pub fn link(run: &mut Run, payload: Vec<u8>, behind: Run)
     requires { CanLink run.old behind }
-    ensures { (first next : ℕ) (part : PartModel) → part.payload ≡ payload.items → run_of (first, run.new) ≡ merged (Some (run_of (first, run.old))) part (Some (run_of (next, behind))) }
+    ensures { (first next : ℕ) (part : PartModel) → part.payload ≡ payload.items → run_model (first, run.new) ≡ merged (Some (run_model (first, run.old))) part (Some (run_model (next, behind))) }
 {
     if behind.others.len() <= run.others.len() {
         link_behind(run, payload, behind);
@@ -113,7 +113,7 @@ pub fn link(run: &mut Run, payload: Vec<u8>, behind: Run)
 
 // Makes room in a run for that many more parts.
 fn reserve_in(run: &mut Run, count: usize) -> Result<(), AllocError>
-    ensures kept { (first : ℕ) → run_of (first, run.new) ≡ run_of (first, run.old) }
+    ensures kept { (first : ℕ) → run_model (first, run.new) ≡ run_model (first, run.old) }
     ensures room { OnOk result (length run.new.others.items + count ≤ deque_capacity run.new.others) }
 {
     run.others.try_reserve(count)?;
@@ -123,8 +123,8 @@ fn reserve_in(run: &mut Run, count: usize) -> Result<(), AllocError>
 /// Makes room in the run that begins at this place for that many more parts.
 pub fn reserve(runs: &mut BTreeMap<u128, Run>, first: u128, count: usize) -> Result<(), AllocError>
     requires there { IsSome (get nat_cmp runs.old first) }
-    ensures kept { map run_of runs.new.entries ≡ map run_of runs.old.entries }
-    ensures room { OnOk result (HasRoom first count runs.new) }
+    ensures kept { map run_model runs.new.entries ≡ map run_model runs.old.entries }
+    ensures room { OnOk result (HasRoomForRun first count runs.new) }
     ensures ordered { IsOrdered nat_cmp runs.new }
 {
     reserve_in(runs.get_mut(&first).unwrap(), count)
@@ -140,7 +140,7 @@ pub fn reserve_between(
     requires front { IsSome (get nat_cmp runs.old first) }
     requires back { IsSome (get nat_cmp runs.old next) }
     requires ordered { IsOrdered nat_cmp runs.old }
-    ensures kept { map run_of runs.new.entries ≡ map run_of runs.old.entries }
+    ensures kept { map run_model runs.new.entries ≡ map run_model runs.old.entries }
     ensures room { OnOk result (CanLinkAt first next runs.new) }
     ensures ordered { IsOrdered nat_cmp runs.new }
 {

@@ -63,7 +63,7 @@ impl fmt::Debug for ReassemblyQueue {
 
 impl ReassemblyQueue {
     ghost use Rattle.std.specs.Prelude.{◌*◌, nat_le, ◌∷◌, IfSome, IfNone, map};
-    ghost use Rattle.dcsctp_api.specs.spec.queues.Reassembly.{new_reassembly, is_above_watermark, bytes_to_watermark, with_ready, queued_bytes, remaining_bytes, can_count, is_deferred, with_deferred, AddsData, SkipsData, DeferralModel, ForwardsBeside, is_forward_deferred, deferring, Leaves, StaysDeferred};
+    ghost use Rattle.dcsctp_api.specs.spec.queues.Reassembly.{new_reassembly, is_above_watermark, bytes_to_watermark, with_ready, reassembly_bytes, remaining_bytes, can_count, is_data_deferred, with_deferred, AddsData, SkipsData, DeferralModel, ForwardsBeside, is_forward_deferred, deferring, EndsDeferral, StaysDeferred};
     ghost use Rattle.dcsctp_api.specs.spec.queues.Readiness.{reassembly_readiness};
     ghost use Rattle.dcsctp_api.specs.spec.queues.ReceivedParts.{with_reassembly, RestoresReassembly};
     ghost use Rattle.dcsctp_api.specs.types.Snapshot.{received_part};
@@ -166,7 +166,7 @@ impl ReassemblyQueue {
 
     /// Is nothing left of the receive window?
     pub fn is_full(&self) -> bool
-        ensures { result ≡ nat_le self.now.max_size (queued_bytes self.now) }
+        ensures { result ≡ nat_le self.now.max_size (reassembly_bytes self.now) }
     {
         self.max_size <= self.incoming.queued_bytes
     }
@@ -180,7 +180,7 @@ impl ReassemblyQueue {
 
     // Does what comes with this TSN on this stream wait for the end of a deferred reset?
     fn is_deferred(&self, tsn: u32, id: StreamId) -> bool
-        ensures { result ≡ is_deferred tsn id.0 self.now.deferral }
+        ensures { result ≡ is_data_deferred tsn id.0 self.now.deferral }
     {
         match &self.deferral {
             None => false,
@@ -330,7 +330,7 @@ impl ReassemblyQueue {
         &mut self,
         streams: &[StreamId],
     ) -> Result<(), AllocError>
-        ensures ok { OnOk result (Leaves (stream_numbers streams.now) self.old self.new) }
+        ensures ok { OnOk result (EndsDeferral (stream_numbers streams.now) self.old self.new) }
         ensures err { OnErr result (StaysDeferred (stream_numbers streams.now) self.old self.new) }
     {
         self.incoming.reset_streams(streams);

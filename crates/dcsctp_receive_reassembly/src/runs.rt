@@ -7,8 +7,8 @@ ghost use Rattle.std.specs.BTreeMap.{IsOrdered};
 ghost use Rattle.std.specs.Ordering.{nat_cmp};
 ghost use Rattle.dcsctp_receive_ordered_map.specs.Entries.{count_up_to};
 ghost use Rattle.dcsctp_api.specs.spec.queues.Runs.{entry_before, holds, behind_place};
-ghost use Rattle.dcsctp_receive_reassembly.specs.Runs.{run_of, lent_run, begins_up_to, up_to_place};
-ghost use Rattle.dcsctp_receive_reassembly.specs.Held.{capped};
+ghost use Rattle.dcsctp_receive_reassembly.specs.Runs.{run_model, lent_run, begins_up_to, up_to_place};
+ghost use Rattle.dcsctp_receive_reassembly.specs.Held.{capped_usize};
 ghost use Rattle.dcsctp_api.specs.spec.queues.Runs.{payloads_bytes, runs_bytes};
 ghost use Rattle.dcsctp_api.specs.types.StreamTables.{marks};
 
@@ -70,7 +70,7 @@ pub enum Assembled {
 
 /// Does the run that begins at `first` hold the place?
 pub fn holds(first: u128, run: &Run, place: u128) -> bool
-    ensures { result ≡ holds (run_of (first, run.now)) place }
+    ensures { result ≡ holds (run_model (first, run.now)) place }
 {
     first <= place && place - first <= run.others.len() as u128
 }
@@ -78,7 +78,7 @@ pub fn holds(first: u128, run: &Run, place: u128) -> bool
 /// The last run that begins at this place or before it, and where. The last of all is found without a search
 /// by key.
 pub fn run_up_to<'x>(runs: &'x BTreeMap<u128, Run>, place: u128) -> Option<(u128, &'x Run)>
-    ensures run { lent_run result ≡ entry_before (count_up_to place runs.now.entries) (map run_of runs.now.entries) }
+    ensures run { lent_run result ≡ entry_before (count_up_to place runs.now.entries) (map run_model runs.now.entries) }
     ensures ordered { IsOrdered nat_cmp runs.now }
 {
     let (first, run) = entry_up_to(runs, place)?;
@@ -87,7 +87,7 @@ pub fn run_up_to<'x>(runs: &'x BTreeMap<u128, Run>, place: u128) -> Option<(u128
 
 // How many bytes the payloads have together, at most `usize::MAX`.
 fn size_of(payloads: &VecDeque<Vec<u8>>) -> usize
-    ensures { result ≡ capped (payloads_bytes (map (λ payload. payload.items) payloads.now.items)) }
+    ensures { result ≡ capped_usize (payloads_bytes (map (λ payload. payload.items) payloads.now.items)) }
 {
     let mut size: usize = 0;
     for index in 0..payloads.len() {
@@ -98,14 +98,14 @@ fn size_of(payloads: &VecDeque<Vec<u8>>) -> usize
 
 /// How many bytes a run has, at most `usize::MAX`.
 pub fn size_of_run(run: &Run) -> usize
-    ensures { result ≡ capped (payloads_bytes (run_of (0, run.now)).payloads) }
+    ensures { result ≡ capped_usize (payloads_bytes (run_model (0, run.now)).payloads) }
 {
     run.payload.len().saturating_add(size_of(&run.others))
 }
 
 /// How many bytes the runs have, at most `usize::MAX`.
 pub fn size_of_runs(runs: &BTreeMap<u128, Run>) -> usize
-    ensures { result ≡ capped (runs_bytes (map run_of runs.now.entries)) }
+    ensures { result ≡ capped_usize (runs_bytes (map run_model runs.now.entries)) }
 {
     let mut size: usize = 0;
     for (_, run) in runs {
@@ -116,7 +116,7 @@ pub fn size_of_runs(runs: &BTreeMap<u128, Run>) -> usize
 
 // How many bytes the runs of the messages with these numbers have, at most `usize::MAX`.
 fn size_of_messages(runs: &BTreeMap<u128, Run>, numbers: &StreamTable) -> usize
-    ensures { result ≡ capped (runs_bytes (filter (λ run. marks numbers.now run.number) (map run_of runs.now.entries))) }
+    ensures { result ≡ capped_usize (runs_bytes (filter (λ run. marks numbers.now run.number) (map run_model runs.now.entries))) }
 {
     let mut size: usize = 0;
     for (_, run) in runs {
@@ -129,8 +129,8 @@ fn size_of_messages(runs: &BTreeMap<u128, Run>, numbers: &StreamTable) -> usize
 
 /// Drops the runs of the messages with these numbers, and returns how many bytes they had.
 pub fn drop_messages(runs: &mut BTreeMap<u128, Run>, numbers: &StreamTable) -> usize
-    ensures kept { map run_of runs.new.entries ≡ filter (λ run. not (marks numbers.now run.number)) (map run_of runs.old.entries) }
-    ensures size { result ≡ capped (runs_bytes (filter (λ run. marks numbers.now run.number) (map run_of runs.old.entries))) }
+    ensures kept { map run_model runs.new.entries ≡ filter (λ run. not (marks numbers.now run.number)) (map run_model runs.old.entries) }
+    ensures size { result ≡ capped_usize (runs_bytes (filter (λ run. marks numbers.now run.number) (map run_model runs.old.entries))) }
 {
     let dropped = size_of_messages(runs, numbers);
     runs.retain(|_, run| !numbers.has(run.number));
@@ -139,7 +139,7 @@ pub fn drop_messages(runs: &mut BTreeMap<u128, Run>, numbers: &StreamTable) -> u
 
 // Does the first run begin at this place or before it?
 fn first_begins_up_to(runs: &BTreeMap<u128, Run>, place: u128) -> bool
-    ensures { result ≡ begins_up_to place (map run_of runs.now.entries) }
+    ensures { result ≡ begins_up_to place (map run_model runs.now.entries) }
 {
     match runs.first_key_value() {
         Some((first, _)) => *first <= place,
@@ -149,8 +149,8 @@ fn first_begins_up_to(runs: &BTreeMap<u128, Run>, place: u128) -> bool
 
 /// Drops the runs in front that begin at this place or before it, and returns how many bytes they had.
 pub fn drop_places(runs: &mut BTreeMap<u128, Run>, place: u128) -> usize
-    ensures kept { map run_of runs.new.entries ≡ behind_place place (map run_of runs.old.entries) }
-    ensures size { result ≡ capped (runs_bytes (up_to_place place (map run_of runs.old.entries))) }
+    ensures kept { map run_model runs.new.entries ≡ behind_place place (map run_model runs.old.entries) }
+    ensures size { result ≡ capped_usize (runs_bytes (up_to_place place (map run_model runs.old.entries))) }
 {
     let mut dropped: usize = 0;
     while first_begins_up_to(runs, place) {

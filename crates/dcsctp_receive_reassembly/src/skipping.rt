@@ -7,9 +7,9 @@ ghost use Rattle.std.specs.BTreeMap.{get};
 ghost use Rattle.std.specs.Ordering.{nat_cmp};
 ghost use Rattle.dcsctp_api.specs.types.Ids.{stream_numbers};
 ghost use Rattle.dcsctp_api.specs.types.StreamTables.{marks};
-ghost use Rattle.dcsctp_receive_reassembly.specs.Held.{capped};
-ghost use Rattle.dcsctp_api.specs.spec.queues.Incoming.{is_named, stream_on, KeepsStreams, SameIncoming, skipped_on, SkipsOne, SkipsAll, MovesTo, MovesOn, ResetsAll, ResetsEach, ResetsStreams};
-ghost use Rattle.dcsctp_api.specs.spec.queues.IncomingStreams.{ready_bytes, stream_bytes, streams_bytes};
+ghost use Rattle.dcsctp_receive_reassembly.specs.Held.{capped_usize};
+ghost use Rattle.dcsctp_api.specs.spec.queues.Incoming.{is_named, stream_on, KeepsStreams, SameIncoming, skipped_on, SkipsOne, SkipsAll, MovesTo, MovesOn, ResetsEveryStream, ResetsEach, ResetsStreams};
+ghost use Rattle.dcsctp_api.specs.spec.queues.IncomingStreams.{ready_bytes, kept_stream_bytes, streams_bytes};
 ghost use Rattle.dcsctp_api.specs.spec.queues.Runs.{behind_place};
 ghost use Rattle.dcsctp_api.specs.types.queues.Messages.{message_content};
 ghost use Rattle.dcsctp_api.specs.spec.queues.IncomingStreams.{new_stream, skipped_stream, skipped, skip_deliveries, skip_bytes};
@@ -74,7 +74,7 @@ fn waiting_once(streams: &BTreeMap<u16, Stream>, id: StreamId, seen: &mut Stream
 // How many messages wait on the streams that are named, at most `usize::MAX`. A stream counts once, however
 // often it is named.
 fn room_for_all(streams: &BTreeMap<u16, Stream>, entries: &[SkippedTo]) -> usize
-    ensures { result ≡ capped (room_for entries.now (λ id. stream_on id (map entry_of streams.now.entries))) }
+    ensures { result ≡ capped_usize (room_for entries.now (λ id. stream_on id (map entry_of streams.now.entries))) }
 {
     let mut seen = StreamTable::new();
     let mut room: usize = 0;
@@ -86,7 +86,7 @@ fn room_for_all(streams: &BTreeMap<u16, Stream>, entries: &[SkippedTo]) -> usize
 
 // The same. One stream is looked up without a table.
 fn room_for(streams: &BTreeMap<u16, Stream>, entries: &[SkippedTo]) -> usize
-    ensures { result ≡ capped (room_for entries.now (λ id. stream_on id (map entry_of streams.now.entries))) }
+    ensures { result ≡ capped_usize (room_for entries.now (λ id. stream_on id (map entry_of streams.now.entries))) }
 {
     match entries {
         [] => 0,
@@ -108,7 +108,7 @@ fn skip_on(
     ensures made { (id : ℕ) → IsSome (get nat_cmp streams.old id) → IsSome (get nat_cmp streams.new id) }
     ensures ready { map message_content ready.new.items ≡ map message_content ready.old.items ++ skip_deliveries entry.now (stream_on (skipped_stream entry.now) (map entry_of streams.old.entries)) }
     ensures bytes { streams_bytes (map entry_of streams.new.entries) + ready_bytes (map message_content ready.new.items) + skip_bytes entry.now (stream_on (skipped_stream entry.now) (map entry_of streams.old.entries)) ≡ streams_bytes (map entry_of streams.old.entries) + ready_bytes (map message_content ready.old.items) }
-    ensures size { result ≡ capped (skip_bytes entry.now (stream_on (skipped_stream entry.now) (map entry_of streams.old.entries))) }
+    ensures size { result ≡ capped_usize (skip_bytes entry.now (stream_on (skipped_stream entry.now) (map entry_of streams.old.entries))) }
     ensures room { deque_capacity ready.new ≡ deque_capacity ready.old }
 {
     let stream = streams.get_mut(&stream_of(entry).0).unwrap();
@@ -118,8 +118,8 @@ fn skip_on(
 // Forgets the stream, so that it starts anew, and returns how many bytes it had, at most `usize::MAX`.
 fn forget_stream(streams: &mut BTreeMap<u16, Stream>, id: StreamId) -> usize
     ensures streams { (other : ℕ) → stream_on other (map entry_of streams.new.entries) ≡ (if id.0 == other then new_stream other else stream_on other (map entry_of streams.old.entries)) }
-    ensures bytes { streams_bytes (map entry_of streams.new.entries) + stream_bytes (stream_on id.0 (map entry_of streams.old.entries)) ≡ streams_bytes (map entry_of streams.old.entries) }
-    ensures size { result ≡ capped (stream_bytes (stream_on id.0 (map entry_of streams.old.entries))) }
+    ensures bytes { streams_bytes (map entry_of streams.new.entries) + kept_stream_bytes (stream_on id.0 (map entry_of streams.old.entries)) ≡ streams_bytes (map entry_of streams.old.entries) }
+    ensures size { result ≡ capped_usize (kept_stream_bytes (stream_on id.0 (map entry_of streams.old.entries))) }
 {
     match streams.remove(&id.0) {
         Some(stream) => stream.size(),
@@ -131,7 +131,7 @@ fn forget_stream(streams: &mut BTreeMap<u16, Stream>, id: StreamId) -> usize
 fn forget_each_stream(streams: &mut BTreeMap<u16, Stream>, ids: &[StreamId]) -> usize
     ensures streams { (other : ℕ) → stream_on other (map entry_of streams.new.entries) ≡ (if is_named (stream_numbers ids.now) other then new_stream other else stream_on other (map entry_of streams.old.entries)) }
     ensures bytes { streams_bytes (map entry_of streams.new.entries) ≤ streams_bytes (map entry_of streams.old.entries) }
-    ensures size { result ≡ capped (streams_bytes (map entry_of streams.old.entries) - streams_bytes (map entry_of streams.new.entries)) }
+    ensures size { result ≡ capped_usize (streams_bytes (map entry_of streams.old.entries) - streams_bytes (map entry_of streams.new.entries)) }
 {
     let mut size: usize = 0;
     for id in ids {
@@ -144,7 +144,7 @@ fn forget_each_stream(streams: &mut BTreeMap<u16, Stream>, ids: &[StreamId]) -> 
 fn forget_streams(streams: &mut BTreeMap<u16, Stream>) -> usize
     ensures streams { (other : ℕ) → stream_on other (map entry_of streams.new.entries) ≡ new_stream other }
     ensures bytes { streams_bytes (map entry_of streams.new.entries) ≡ 0 }
-    ensures size { result ≡ capped (streams_bytes (map entry_of streams.old.entries)) }
+    ensures size { result ≡ capped_usize (streams_bytes (map entry_of streams.old.entries)) }
 {
     let mut size: usize = 0;
     while let Some((_, stream)) = streams.pop_first() {
@@ -224,7 +224,7 @@ impl Incoming {
 
     // Forgets all streams.
     fn reset_all_streams(&mut self)
-        ensures resets { ResetsAll (incoming_of self.old) (incoming_of self.new) }
+        ensures resets { ResetsEveryStream (incoming_of self.old) (incoming_of self.new) }
         ensures bytes { Balances self.old self.new }
     {
         let dropped = size_of_runs(&self.unordered);

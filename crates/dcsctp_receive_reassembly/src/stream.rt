@@ -6,14 +6,14 @@ ghost use Rattle.std.specs.VecDeque.{deque_len, deque_capacity};
 ghost use Rattle.std.specs.BTreeMap.{btree_map_len, get};
 ghost use Rattle.std.specs.Ordering.{nat_cmp};
 ghost use Rattle.dcsctp_receive_reassembly.specs.Runs.{part_of, whole_of, assembled_of};
-ghost use Rattle.dcsctp_receive_reassembly.specs.Held.{capped};
+ghost use Rattle.dcsctp_receive_reassembly.specs.Held.{capped_usize};
 ghost use Rattle.dcsctp_api.specs.spec.queues.Runs.{PartModel, runs_bytes, wholes_bytes};
-ghost use Rattle.dcsctp_api.specs.spec.queues.IncomingStreams.{stream_bytes};
+ghost use Rattle.dcsctp_api.specs.spec.queues.IncomingStreams.{kept_stream_bytes};
 ghost use Rattle.dcsctp_api.specs.types.queues.Messages.{MessageContent, message_content};
 ghost use Rattle.dcsctp_api.specs.spec.queues.Readiness.{holds_parts};
 ghost use Rattle.dcsctp_receive_reassembly.specs.declared.stream.Waiting.{Waiting};
-ghost use Rattle.dcsctp_receive_reassembly.specs.Streams.{stream_of, waits_as, HoldsPlace, chunk_of};
-ghost use Rattle.dcsctp_api.specs.spec.queues.IncomingStreams.{is_waiting, is_due, delivered_from, deliveries_from, delivered_as, next_after, ready_with, NothingTaken, WaitsAmong, TakesOrdered, TakesAhead, TakesUnordered, UnorderedOutcome, next_past, runs_up_to, skipped, skipped_in_order, skipped_out_of_order, skip_deliveries, skip_bytes, data_part, TakesOnStream, new_stream};
+ghost use Rattle.dcsctp_receive_reassembly.specs.Streams.{stream_model, waiting_whole, HoldsPlace, chunk_of};
+ghost use Rattle.dcsctp_api.specs.spec.queues.IncomingStreams.{is_number_waiting, is_message_due, delivered_from, deliveries_from, delivered_as, next_after, ready_with, NothingTaken, WaitsAmong, TakesOrdered, TakesAhead, TakesUnordered, UnorderedOutcome, next_past, runs_up_to, skipped, skipped_in_order, skipped_out_of_order, skip_deliveries, skip_bytes, data_part, TakesOnStream, new_stream};
 
 use crate::arrivals::Data;
 use crate::fragments::Fragments;
@@ -125,7 +125,7 @@ fn take_unordered(
 // Does the first message that waits have this number or a smaller one?
 #[inline(always)]
 fn first_is_due(waiting: &BTreeMap<u64, Waiting>, next: u64) -> bool
-    ensures { result ≡ is_due next (map waits_as waiting.now.entries) }
+    ensures { result ≡ is_message_due next (map waiting_whole waiting.now.entries) }
 {
     match waiting.first_key_value() {
         Some((number, _)) => *number <= next,
@@ -136,7 +136,7 @@ fn first_is_due(waiting: &BTreeMap<u64, Waiting>, next: u64) -> bool
 // Does a message of this number wait?
 #[inline(always)]
 fn waits(waiting: &BTreeMap<u64, Waiting>, number: u64) -> bool
-    ensures waits { result ≡ is_waiting number (map waits_as waiting.now.entries) }
+    ensures waits { result ≡ is_number_waiting number (map waiting_whole waiting.now.entries) }
     ensures absent { result ≡ false → get nat_cmp waiting.now number ≡ None }
 {
     waiting.contains_key(&number)
@@ -144,7 +144,7 @@ fn waits(waiting: &BTreeMap<u64, Waiting>, number: u64) -> bool
 
 // How many bytes the messages have, at most `usize::MAX`.
 fn size_of_waiting(waiting: &BTreeMap<u64, Waiting>) -> usize
-    ensures { result ≡ capped (wholes_bytes (map waits_as waiting.now.entries)) }
+    ensures { result ≡ capped_usize (wholes_bytes (map waiting_whole waiting.now.entries)) }
 {
     let mut size: usize = 0;
     for (_, message) in waiting {
@@ -174,7 +174,7 @@ fn hold_place(
 // The message waits at the place that was taken for it.
 fn fill_place(waiting: &mut BTreeMap<u64, Waiting>, whole: Whole)
     requires there { IsSome (get nat_cmp waiting.old whole.number) }
-    ensures { (before : List (ℕ × Waiting)) → HoldsPlace whole.number before waiting.old.entries → WaitsAmong (whole_of whole) (map waits_as before) (map waits_as waiting.new.entries) }
+    ensures { (before : List (ℕ × Waiting)) → HoldsPlace whole.number before waiting.old.entries → WaitsAmong (whole_of whole) (map waiting_whole before) (map waiting_whole waiting.new.entries) }
 {
     let message = waiting.get_mut(&whole.number).unwrap();
     message.ppid = whole.ppid;
@@ -191,7 +191,7 @@ fn leave_place(waiting: &mut BTreeMap<u64, Waiting>, number: u64)
 impl Stream {
     /// A stream on which nothing was received. Allocates nothing.
     pub fn new(alloc: Global, id: StreamId) -> Stream
-        ensures { stream_of result ≡ new_stream id.0 }
+        ensures { stream_model result ≡ new_stream id.0 }
     {
         Stream {
             id,
@@ -208,9 +208,9 @@ impl Stream {
     /// for all that wait.
     pub fn deliver(&mut self, ready: &mut VecDeque<Message>) -> usize
         requires { deque_len ready.old + btree_map_len self.old.waiting ≤ deque_capacity ready.old }
-        ensures stream { stream_of self.new ≡ delivered_from self.old.next (stream_of self.old) }
-        ensures ready { map message_content ready.new.items ≡ map message_content ready.old.items ++ deliveries_from self.old.next (stream_of self.old) }
-        ensures count { result ≡ length (deliveries_from self.old.next (stream_of self.old)) }
+        ensures stream { stream_model self.new ≡ delivered_from self.old.next (stream_model self.old) }
+        ensures ready { map message_content ready.new.items ≡ map message_content ready.old.items ++ deliveries_from self.old.next (stream_model self.old) }
+        ensures count { result ≡ length (deliveries_from self.old.next (stream_model self.old)) }
         ensures room { deque_capacity ready.new ≡ deque_capacity ready.old }
     {
         let mut count = 0;
@@ -229,9 +229,9 @@ impl Stream {
     fn deliver_next(&mut self, whole: Whole, ready: &mut VecDeque<Message>) -> usize
         requires room { deque_len ready.old + btree_map_len self.old.waiting < deque_capacity ready.old }
         requires next { whole.number ≡ self.old.next }
-        ensures stream { stream_of self.new ≡ delivered_from (next_after self.old.next (whole_of whole)) (stream_of self.old) }
-        ensures ready { map message_content ready.new.items ≡ map message_content ready.old.items ++ ready_with (stream_of self.old) (whole_of whole) }
-        ensures count { result ≡ length (ready_with (stream_of self.old) (whole_of whole)) }
+        ensures stream { stream_model self.new ≡ delivered_from (next_after self.old.next (whole_of whole)) (stream_model self.old) }
+        ensures ready { map message_content ready.new.items ≡ map message_content ready.old.items ++ ready_with (stream_model self.old) (whole_of whole) }
+        ensures count { result ≡ length (ready_with (stream_model self.old) (whole_of whole)) }
     {
         self.next = self.next.saturating_add(1);
         ready.push_back_reserved(Message::new(self.id, whole.ppid, whole.payload));
@@ -249,8 +249,8 @@ impl Stream {
     ) -> Result<Taken, AllocError>
         requires next { part.number ≡ self.old.next }
         requires place { part.place / 2 ^ 64 ≡ part.number }
-        ensures ok { IfOk result (λ taken. TakesOrdered (part_of part) (stream_of self.old) (map message_content ready.old.items) taken (stream_of self.new) (map message_content ready.new.items)) }
-        ensures err { OnErr result ((stream_of self.new ≡ stream_of self.old) × (map message_content ready.new.items ≡ map message_content ready.old.items)) }
+        ensures ok { IfOk result (λ taken. TakesOrdered (part_of part) (stream_model self.old) (map message_content ready.old.items) taken (stream_model self.new) (map message_content ready.new.items)) }
+        ensures err { OnErr result ((stream_model self.new ≡ stream_model self.old) × (map message_content ready.new.items ≡ map message_content ready.old.items)) }
     {
         let size = part.payload.len();
         ready.try_reserve(self.waiting.len() + 1)?;
@@ -274,8 +274,8 @@ impl Stream {
         requires ahead { self.old.next < part.number }
         requires fresh { get nat_cmp self.old.waiting part.number ≡ None }
         requires place { part.place / 2 ^ 64 ≡ part.number }
-        ensures ok { (ready : List MessageContent) → IfOk result (λ taken. TakesOrdered (part_of part) (stream_of self.old) ready taken (stream_of self.new) ready) }
-        ensures err { OnErr result (stream_of self.new ≡ stream_of self.old) }
+        ensures ok { (ready : List MessageContent) → IfOk result (λ taken. TakesOrdered (part_of part) (stream_model self.old) ready taken (stream_model self.new) ready) }
+        ensures err { OnErr result (stream_model self.new ≡ stream_model self.old) }
     {
         let size = part.payload.len();
         let number = part.number;
@@ -317,9 +317,9 @@ impl Stream {
         ready: &mut VecDeque<Message>,
     ) -> Result<Taken, AllocError>
         requires { part.place / 2 ^ 64 ≡ part.number }
-        ensures past { part.number < self.old.next → IfOk result (λ taken. NothingTaken taken × (stream_of self.new ≡ stream_of self.old) × (map message_content ready.new.items ≡ map message_content ready.old.items)) }
-        ensures ok { self.old.next ≤ part.number → IfOk result (λ taken. TakesAhead (part_of part) (stream_of self.old) (map message_content ready.old.items) taken (stream_of self.new) (map message_content ready.new.items)) }
-        ensures err { OnErr result ((stream_of self.new ≡ stream_of self.old) × (map message_content ready.new.items ≡ map message_content ready.old.items)) }
+        ensures past { part.number < self.old.next → IfOk result (λ taken. NothingTaken taken × (stream_model self.new ≡ stream_model self.old) × (map message_content ready.new.items ≡ map message_content ready.old.items)) }
+        ensures ok { self.old.next ≤ part.number → IfOk result (λ taken. TakesAhead (part_of part) (stream_model self.old) (map message_content ready.old.items) taken (stream_model self.new) (map message_content ready.new.items)) }
+        ensures err { OnErr result ((stream_model self.new ≡ stream_model self.old) × (map message_content ready.new.items ≡ map message_content ready.old.items)) }
     {
         if part.number < self.next {
             return Ok(NOTHING);
@@ -345,7 +345,7 @@ impl Stream {
         requires { part.place / 2 ^ 64 ≡ part.number }
         ensures ok { IfOk result (λ taken. TakesUnordered (part_of part) (delivered_as self.old.id.0) self.old.unordered (map message_content ready.old.items) taken self.new.unordered (map message_content ready.new.items)) }
         ensures ordered { (self.new.id ≡ self.old.id) × (self.new.next ≡ self.old.next) × (self.new.last_unordered ≡ self.old.last_unordered) × (self.new.waiting.entries ≡ self.old.waiting.entries) × (self.new.ordered ≡ self.old.ordered) }
-        ensures err { OnErr result ((stream_of self.new ≡ stream_of self.old) × (map message_content ready.new.items ≡ map message_content ready.old.items)) }
+        ensures err { OnErr result ((stream_model self.new ≡ stream_model self.old) × (map message_content ready.new.items ≡ map message_content ready.old.items)) }
     {
         take_unordered(alloc, self.id, &mut self.unordered, part, ready)
     }
@@ -359,8 +359,8 @@ impl Stream {
         chunk: Data,
         ready: &mut VecDeque<Message>,
     ) -> Result<Taken, AllocError>
-        ensures ok { IfOk result (λ taken. TakesOnStream tsn_number (chunk_of chunk) (stream_of self.old) (map message_content ready.old.items) taken (stream_of self.new) (map message_content ready.new.items)) }
-        ensures err { OnErr result ((stream_of self.new ≡ stream_of self.old) × (map message_content ready.new.items ≡ map message_content ready.old.items)) }
+        ensures ok { IfOk result (λ taken. TakesOnStream tsn_number (chunk_of chunk) (stream_model self.old) (map message_content ready.old.items) taken (stream_model self.new) (map message_content ready.new.items)) }
+        ensures err { OnErr result ((stream_model self.new ≡ stream_model self.old) × (map message_content ready.new.items ≡ map message_content ready.old.items)) }
     {
         match chunk.numbering {
             Numbering::Ordered { ssn } => {
@@ -391,9 +391,9 @@ impl Stream {
     /// wait.
     pub fn skip(&mut self, entry: &SkippedTo, ready: &mut VecDeque<Message>) -> usize
         requires { deque_len ready.old + btree_map_len self.old.waiting ≤ deque_capacity ready.old }
-        ensures stream { stream_of self.new ≡ skipped entry.now (stream_of self.old) }
-        ensures ready { map message_content ready.new.items ≡ map message_content ready.old.items ++ skip_deliveries entry.now (stream_of self.old) }
-        ensures size { result ≡ capped (skip_bytes entry.now (stream_of self.old)) }
+        ensures stream { stream_model self.new ≡ skipped entry.now (stream_model self.old) }
+        ensures ready { map message_content ready.new.items ≡ map message_content ready.old.items ++ skip_deliveries entry.now (stream_model self.old) }
+        ensures size { result ≡ capped_usize (skip_bytes entry.now (stream_model self.old)) }
         ensures room { deque_capacity ready.new ≡ deque_capacity ready.old }
     {
         match entry {
@@ -424,9 +424,9 @@ impl Stream {
     // ones become ready with those that follow (RFC 3758, section 3.6). There is room for all that wait.
     fn skip_ordered(&mut self, number: u64, ready: &mut VecDeque<Message>) -> usize
         requires { deque_len ready.old + btree_map_len self.old.waiting ≤ deque_capacity ready.old }
-        ensures stream { stream_of self.new ≡ skipped_in_order number (stream_of self.old) }
-        ensures ready { map message_content ready.new.items ≡ map message_content ready.old.items ++ deliveries_from (next_past number self.old.next) (stream_of self.old) }
-        ensures size { result ≡ capped (runs_bytes (runs_up_to number self.old.ordered)) }
+        ensures stream { stream_model self.new ≡ skipped_in_order number (stream_model self.old) }
+        ensures ready { map message_content ready.new.items ≡ map message_content ready.old.items ++ deliveries_from (next_past number self.old.next) (stream_model self.old) }
+        ensures size { result ≡ capped_usize (runs_bytes (runs_up_to number self.old.ordered)) }
         ensures room { deque_capacity ready.new ≡ deque_capacity ready.old }
     {
         let dropped_bytes = self.ordered.drop_up_to(number);
@@ -438,8 +438,8 @@ impl Stream {
     // The unordered messages up to this number are skipped: their parts are dropped (RFC 8260, section
     // 2.3.1).
     fn skip_unordered(&mut self, number: u64) -> usize
-        ensures stream { stream_of self.new ≡ skipped_out_of_order number (stream_of self.old) }
-        ensures size { result ≡ capped (runs_bytes (runs_up_to number self.old.unordered)) }
+        ensures stream { stream_model self.new ≡ skipped_out_of_order number (stream_model self.old) }
+        ensures size { result ≡ capped_usize (runs_bytes (runs_up_to number self.old.unordered)) }
     {
         self.last_unordered = number;
         self.unordered.drop_up_to(number)
@@ -447,14 +447,14 @@ impl Stream {
 
     /// Does something of it wait for more: a message for an earlier one, or parts for the others?
     pub fn holds_parts(&self) -> bool
-        ensures { result ≡ holds_parts (stream_of self.now) }
+        ensures { result ≡ holds_parts (stream_model self.now) }
     {
         !self.waiting.is_empty() || !self.ordered.is_empty() || !self.unordered.is_empty()
     }
 
     /// How many bytes of the stream are kept, at most `usize::MAX`.
     pub fn size(&self) -> usize
-        ensures { result ≡ capped (stream_bytes (stream_of self.now)) }
+        ensures { result ≡ capped_usize (kept_stream_bytes (stream_model self.now)) }
     {
         size_of_waiting(&self.waiting)
             .saturating_add(self.ordered.size())

@@ -4,9 +4,9 @@ use Rattle.std.specs.Bool.{IsTrue}
 use Rattle.std.proofs.lemmas.Bool.Decides.{nat_tests}
 use Rattle.dcsctp_spec_lemmas.specs.types.declared.tracking.TsnRange.{TsnRange}
 use Rattle.dcsctp_spec_lemmas.specs.spec.queues.Ranges.{IsBeyond, is_received, received, forwarded}
-use Rattle.dcsctp_spec_lemmas.specs.spec.queues.Tracker.{TrackerState, number_of, highest, after_arrival, with_duplicate, has_ranges, stopped, is_new_tsn, is_urgent, observed, has_numbers_left, after_forward}
+use Rattle.dcsctp_spec_lemmas.specs.spec.queues.Tracker.{TrackerState, nearest_number, highest, after_arrival, with_duplicate, has_ranges, stopped, is_new_tsn, is_urgent, observed, has_numbers_left, after_forward}
 use Rattle.dcsctp_spec_lemmas.proofs.RangesLemmas.{same_numbers, received_beyond, received_members, forwarded_beyond, forwarded_members}
-use Rattle.dcsctp_receive_tracker.specs.Received.{range_of, Receives, Advances}
+use Rattle.dcsctp_receive_tracker.specs.Received.{range_of, Receives, AdvancesCumulative}
 
 -- The set determines what is kept of it.
 received_only : (number cumulative reached : ℕ) (old new : List TsnRange) → IsBeyond cumulative old → IsBeyond reached new
@@ -36,9 +36,9 @@ observing tsn immediate is_new tracker cumulative ranges =
     }
 
 pub observes : (tsn : ℕ) (immediate is_new : Bool) (old new : TrackerState) (reached : ℕ) (ranges : List TsnRange) → IsBeyond old.cumulative old.ranges
-    → Receives (number_of old.cumulative tsn) old.cumulative old.ranges is_new reached ranges → new ≡ observing tsn immediate is_new old reached ranges → new ≡ observed tsn immediate old
+    → Receives (nearest_number old.cumulative tsn) old.cumulative old.ranges is_new reached ranges → new ≡ observing tsn immediate is_new old reached ranges → new ≡ observed tsn immediate old
 observes tsn immediate is_new old new reached ranges beyond takes is =
-    let number = number_of old.cumulative tsn in
+    let number = nearest_number old.cumulative tsn in
     let only = received_only number old.cumulative reached old.ranges ranges beyond takes.beyond takes.members in
     is
     ∙ ap (λ (b : Bool). observing tsn immediate b old reached ranges) takes.answer
@@ -50,13 +50,13 @@ abbrev moving : TrackerState → ℕ → List TsnRange → TrackerState
 moving tracker cumulative ranges =
     record tracker { cumulative = cumulative; ranges = ranges; acknowledgement = after_arrival tracker.acknowledgement false; delay = stopped tracker.delay }
 
-pub moves : (tsn number : ℕ) (old new : TrackerState) (reached : ℕ) (ranges : List TsnRange) → IsBeyond old.cumulative old.ranges → number ≡ number_of old.cumulative tsn
-    → old.cumulative < 2 ^ 64 - 2 ^ 32 → old.cumulative < number → Advances number old.ranges reached ranges → new ≡ moving old reached ranges → new ≡ after_forward tsn old
+pub moves : (tsn number : ℕ) (old new : TrackerState) (reached : ℕ) (ranges : List TsnRange) → IsBeyond old.cumulative old.ranges → number ≡ nearest_number old.cumulative tsn
+    → old.cumulative < 2 ^ 64 - 2 ^ 32 → old.cumulative < number → AdvancesCumulative number old.ranges reached ranges → new ≡ moving old reached ranges → new ≡ after_forward tsn old
 moves tsn number old new reached ranges beyond of few above takes is =
-    let above' : old.cumulative < number_of old.cumulative tsn = rw (← of) above in
+    let above' : old.cumulative < nearest_number old.cumulative tsn = rw (← of) above in
     let only = advances_only number old.cumulative reached old.ranges ranges above beyond takes.beyond takes.members in
     let left : has_numbers_left old.cumulative ≡ true = grind (arith, nat_tests) in
-    let ahead : nat_lt old.cumulative (number_of old.cumulative tsn) ≡ true = grind (arith, nat_tests) in
+    let ahead : nat_lt old.cumulative (nearest_number old.cumulative tsn) ≡ true = grind (arith, nat_tests) in
     rw (left, ahead) (is
     ∙ ap (λ (n : ℕ). moving old n ranges) only.0
     ∙ ap (λ (rs : List TsnRange). moving old (forwarded number old.cumulative old.ranges).cumulative rs) only.1

@@ -10,7 +10,7 @@ use Rattle.dcsctp_receive_ordered_map.specs.Entries.{Ascends, count_up_to, Split
 use Rattle.dcsctp_spec_lemmas.specs.spec.queues.Runs.{entry_before}
 use Rattle.dcsctp_receive_ordered_map.proofs.EntryLemmas.{count_within, behind_count, count_places, next_from_some, next_from_none, insert_at, set_at, remove_at, find_key, get-map, entry_before-map}
 use Rattle.dcsctp_spec_lemmas.specs.types.declared.tracking.TsnRange.{TsnRange}
-use Rattle.dcsctp_receive_tracker.specs.Received.{range_of, Removes, Joins, Adds}
+use Rattle.dcsctp_receive_tracker.specs.Received.{range_of, Removes, Joins, AddsToRanges}
 use Rattle.dcsctp_spec_lemmas.specs.spec.queues.Ranges.{IsBeyond, is_in}
 use Rattle.dcsctp_receive_tracker.proofs.ReceivedLemmas.{end_of, drop-at, IsBeyond-drop, IsBeyond-rest, IsBeyond-later, end_of-before, is_in-below, is_in-neither, is_in-at, Adds-alone, Adds-earlier, Adds-later, Adds-between}
 use Rattle.dcsctp_receive_tracker.proofs.NeighborLemmas.{entry_of}
@@ -163,7 +163,7 @@ module _ (from number : ℕ) (es : List (ℕ × ℕ)) (sorted : Ascends es) (ord
           absurd (omega arith)
 
   -- it touches no range before it
-  pub alone_adds : (behind : Option TsnRange) (new : List (ℕ × ℕ)) → from + 1 < number → ((e : ℕ × ℕ) → entry_before at es ≡ Some e → e.1 + 1 < number) → behind ≡ option_map (λ last. range_of (number + 1, last)) (lookup (is_at (nat_cmp (number + 1))) es) → Joins (insert_entry nat_cmp es number) number behind new → Adds from number ranges (map range_of new)
+  pub alone_adds : (behind : Option TsnRange) (new : List (ℕ × ℕ)) → from + 1 < number → ((e : ℕ × ℕ) → entry_before at es ≡ Some e → e.1 + 1 < number) → behind ≡ option_map (λ last. range_of (number + 1, last)) (lookup (is_at (nat_cmp (number + 1))) es) → Joins (insert_entry nat_cmp es number) number behind new → AddsToRanges from number ranges (map range_of new)
   alone_adds behind new start ends is joins = go behind is joins
     where
       inserts : (last : ℕ) → insert_entry nat_cmp es number last ≡ take at es ++ (number, last) ∷ drop at es
@@ -172,22 +172,22 @@ module _ (from number : ℕ) (es : List (ℕ × ℕ)) (sorted : Ascends es) (ord
       past : end_of from (take at ranges) + 1 < number
       past = ends_before 1 start ends
 
-      go : (behind : Option TsnRange) → behind ≡ option_map (λ last. range_of (number + 1, last)) (lookup (is_at (nat_cmp (number + 1))) es) → Joins (insert_entry nat_cmp es number) number behind new → Adds from number ranges (map range_of new)
+      go : (behind : Option TsnRange) → behind ≡ option_map (λ last. range_of (number + 1, last)) (lookup (is_at (nat_cmp (number + 1))) es) → Joins (insert_entry nat_cmp es number) number behind new → AddsToRanges from number ranges (map range_of new)
       go None is joins =
           let entries : new ≡ take at es ++ (number, number) ∷ drop at es = joined_at at at number number (insert_entry nat_cmp es number) None es new (count_within number es) inserts (λ next never. absurd (cc)) joins in
-          subst (λ (all : List TsnRange). Adds from number ranges all) (sym (ap (λ (fs : List (ℕ × ℕ)). map range_of fs) entries ∙ ranges_at at at (number, number) es))
+          subst (λ (all : List TsnRange). AddsToRanges from number ranges all) (sym (ap (λ (fs : List (ℕ × ℕ)). map range_of fs) entries ∙ ranges_at at at (number, number) es))
           (Adds-alone from number at ranges ordered past (apart (none_at is)))
       go (Some next) is joins =
           let found = next_at next is in
           let entries : new ≡ take at es ++ (number, next.last) ∷ drop (suc at) es = joined_at at at number number (insert_entry nat_cmp es number) (Some next) es new (count_within number es) inserts (found_at at next found.1) joins in
-          subst (λ (all : List TsnRange). Adds from number ranges all) (sym (ap (λ (fs : List (ℕ × ℕ)). map range_of fs) entries ∙ ranges_at at (suc at) (number, next.last) es))
+          subst (λ (all : List TsnRange). AddsToRanges from number ranges all) (sym (ap (λ (fs : List (ℕ × ℕ)). map range_of fs) entries ∙ ranges_at at (suc at) (number, next.last) es))
           (Adds-earlier from number at ranges next (drop (suc at) ranges) ordered past (drop-at at ranges next (range_at at (next.first, next.last) es found.1)) (sym found.0))
 
   -- it touches the range before it
-  pub touching_adds : (range : TsnRange) (behind : Option TsnRange) (new : List (ℕ × ℕ)) → entry_before at es ≡ Some (range.first, range.last) → range.last + 1 ≡ number → behind ≡ option_map (λ last. range_of (number + 1, last)) (lookup (is_at (nat_cmp (number + 1))) es) → Joins (set_value (is_at (nat_cmp range.first)) es) number behind new → Adds from number ranges (map range_of new)
+  pub touching_adds : (range : TsnRange) (behind : Option TsnRange) (new : List (ℕ × ℕ)) → entry_before at es ≡ Some (range.first, range.last) → range.last + 1 ≡ number → behind ≡ option_map (λ last. range_of (number + 1, last)) (lookup (is_at (nat_cmp (number + 1))) es) → Joins (set_value (is_at (nat_cmp range.first)) es) number behind new → AddsToRanges from number ranges (map range_of new)
   touching_adds range behind new before touching is joins = at_place at refl before
     where
-      at_place : (place : ℕ) → at ≡ place → entry_before place es ≡ Some (range.first, range.last) → Adds from number ranges (map range_of new)
+      at_place : (place : ℕ) → at ≡ place → entry_before place es ≡ Some (range.first, range.last) → AddsToRanges from number ranges (map range_of new)
       at_place zero same here = absurd (cc)
       at_place (suc i) same here = go behind is joins
         where
@@ -200,16 +200,16 @@ module _ (from number : ℕ) (es : List (ℕ × ℕ)) (sorted : Ascends es) (ord
           first : drop i ranges ≡ range ∷ drop (suc i) ranges
           first = drop-at i ranges range (range_at i (range.first, range.last) es here)
 
-          go : (behind : Option TsnRange) → behind ≡ option_map (λ last. range_of (number + 1, last)) (lookup (is_at (nat_cmp (number + 1))) es) → Joins (set_value (is_at (nat_cmp range.first)) es) number behind new → Adds from number ranges (map range_of new)
+          go : (behind : Option TsnRange) → behind ≡ option_map (λ last. range_of (number + 1, last)) (lookup (is_at (nat_cmp (number + 1))) es) → Joins (set_value (is_at (nat_cmp range.first)) es) number behind new → AddsToRanges from number ranges (map range_of new)
           go None is joins =
               let entries : new ≡ take i es ++ (range.first, number) ∷ drop (suc i) es = joined_at i (suc i) range.first number (set_value (is_at (nat_cmp range.first)) es) None es new within writes (λ next never. absurd (cc)) joins in
-              subst (λ (all : List TsnRange). Adds from number ranges all) (sym (ap (λ (fs : List (ℕ × ℕ)). map range_of fs) entries ∙ ranges_at i (suc i) (range.first, number) es))
+              subst (λ (all : List TsnRange). AddsToRanges from number ranges all) (sym (ap (λ (fs : List (ℕ × ℕ)). map range_of fs) entries ∙ ranges_at i (suc i) (range.first, number) es))
               (Adds-later from number i ranges range (drop (suc i) ranges) ordered first touching (subst (λ (p : ℕ). IsBeyond number (drop p ranges)) same (apart (none_at is))))
           go (Some next) is joins =
               let found = next_at next is in
               let there : slice_get es (suc i) ≡ Some (next.first, next.last) = subst (λ (p : ℕ). slice_get es p ≡ Some (next.first, next.last)) same found.1 in
               let entries : new ≡ take i es ++ (range.first, next.last) ∷ drop (suc (suc i)) es = joined_at i (suc i) range.first number (set_value (is_at (nat_cmp range.first)) es) (Some next) es new within writes (found_at (suc i) next there) joins in
-              subst (λ (all : List TsnRange). Adds from number ranges all) (sym (ap (λ (fs : List (ℕ × ℕ)). map range_of fs) entries ∙ ranges_at i (suc (suc i)) (range.first, next.last) es))
+              subst (λ (all : List TsnRange). AddsToRanges from number ranges all) (sym (ap (λ (fs : List (ℕ × ℕ)). map range_of fs) entries ∙ ranges_at i (suc (suc i)) (range.first, next.last) es))
               (Adds-between from number i ranges range next (drop (suc (suc i)) ranges) ordered
               (first ∙ ap (λ (rest : List TsnRange). range ∷ rest) (drop-at (suc i) ranges next (range_at (suc i) (next.first, next.last) es there)))
               touching (sym found.0))

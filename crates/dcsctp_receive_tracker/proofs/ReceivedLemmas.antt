@@ -6,7 +6,7 @@ use Rattle.std.proofs.lemmas.List.{take-append-drop}
 use Rattle.dcsctp_spec_lemmas.specs.spec.queues.Runs.{entry_before}
 use Rattle.dcsctp_receive_ordered_map.proofs.EntryLemmas.{entry_within}
 use Rattle.dcsctp_spec_lemmas.specs.types.declared.tracking.TsnRange.{TsnRange}
-use Rattle.dcsctp_receive_tracker.specs.Received.{IsSpaced, Adds, Advances, Receives}
+use Rattle.dcsctp_receive_tracker.specs.Received.{IsSpaced, AddsToRanges, AdvancesCumulative, Receives}
 use Rattle.dcsctp_spec_lemmas.specs.spec.queues.Ranges.{IsBeyond, is_in}
 
 -- the last number of the last range, or this one where there is none
@@ -44,7 +44,7 @@ is_in-append number (range ∷ xs) ys =
 -- ---- one more number
 
 -- the tail of the ranges gets the number, and the others stay
-pub Adds-at : (from number i : ℕ) (ranges tail : List TsnRange) → IsBeyond from ranges → IsBeyond (end_of from (take i ranges)) tail → ((other : ℕ) → is_in other tail ≡ (is_in other (drop i ranges) || (other == number))) → Adds from number ranges (take i ranges ++ tail)
+pub Adds-at : (from number i : ℕ) (ranges tail : List TsnRange) → IsBeyond from ranges → IsBeyond (end_of from (take i ranges)) tail → ((other : ℕ) → is_in other tail ≡ (is_in other (drop i ranges) || (other == number))) → AddsToRanges from number ranges (take i ranges ++ tail)
 Adds-at from number i ranges tail beyond back members =
     record {
       beyond = IsBeyond-append from (take i ranges) tail (IsBeyond-take i from ranges beyond) back;
@@ -158,19 +158,19 @@ or_covered a number other f covered = go (other == number) refl
     go false differs = sym (or_false (f other))
 
 -- it is there already
-pub Adds-none : (from number : ℕ) (ranges : List TsnRange) → IsBeyond from ranges → is_in number ranges ≡ true → Adds from number ranges ranges
+pub Adds-none : (from number : ℕ) (ranges : List TsnRange) → IsBeyond from ranges → is_in number ranges ≡ true → AddsToRanges from number ranges ranges
 Adds-none from number ranges beyond there =
     record { beyond = beyond; members = λ other. or_covered true number other (λ n. is_in n ranges) there }
 
 -- alone
-pub Adds-alone : (from number i : ℕ) (ranges : List TsnRange) → IsBeyond from ranges → end_of from (take i ranges) + 1 < number → IsBeyond number (drop i ranges) → Adds from number ranges (take i ranges ++ record { first = number; last = number } ∷ drop i ranges)
+pub Adds-alone : (from number i : ℕ) (ranges : List TsnRange) → IsBeyond from ranges → end_of from (take i ranges) + 1 < number → IsBeyond number (drop i ranges) → AddsToRanges from number ranges (take i ranges ++ record { first = number; last = number } ∷ drop i ranges)
 Adds-alone from number i ranges beyond past apart =
     Adds-at from number i ranges (record { first = number; last = number } ∷ drop i ranges) beyond
     (past, omega arith, apart)
     (λ other. is_in-single number other (record { first = number; last = number }) (drop i ranges) refl refl)
 
 -- before the first of a range
-pub Adds-earlier : (from number i : ℕ) (ranges : List TsnRange) (range : TsnRange) (rest : List TsnRange) → IsBeyond from ranges → end_of from (take i ranges) + 1 < number → drop i ranges ≡ range ∷ rest → number + 1 ≡ range.first → Adds from number ranges (take i ranges ++ record { first = number; last = range.last } ∷ rest)
+pub Adds-earlier : (from number i : ℕ) (ranges : List TsnRange) (range : TsnRange) (rest : List TsnRange) → IsBeyond from ranges → end_of from (take i ranges) + 1 < number → drop i ranges ≡ range ∷ rest → number + 1 ≡ range.first → AddsToRanges from number ranges (take i ranges ++ record { first = number; last = range.last } ∷ rest)
 Adds-earlier from number i ranges range rest beyond past at touching =
     let back : IsBeyond (end_of from (take i ranges)) (range ∷ rest) = subst (λ tail. IsBeyond (end_of from (take i ranges)) tail) at (IsBeyond-drop i from ranges beyond) in
     let filled : range.first ≤ range.last = back.1 in
@@ -182,7 +182,7 @@ Adds-earlier from number i ranges range rest beyond past at touching =
     ∙ ap (λ tail. is_in other tail || (other == number)) (sym at))
 
 -- behind the last of a range, and not touching the next
-pub Adds-later : (from number i : ℕ) (ranges : List TsnRange) (range : TsnRange) (rest : List TsnRange) → IsBeyond from ranges → drop i ranges ≡ range ∷ rest → range.last + 1 ≡ number → IsBeyond number rest → Adds from number ranges (take i ranges ++ record { first = range.first; last = number } ∷ rest)
+pub Adds-later : (from number i : ℕ) (ranges : List TsnRange) (range : TsnRange) (rest : List TsnRange) → IsBeyond from ranges → drop i ranges ≡ range ∷ rest → range.last + 1 ≡ number → IsBeyond number rest → AddsToRanges from number ranges (take i ranges ++ record { first = range.first; last = number } ∷ rest)
 Adds-later from number i ranges range rest beyond at touching apart =
     let back : IsBeyond (end_of from (take i ranges)) (range ∷ rest) = subst (λ tail. IsBeyond (end_of from (take i ranges)) tail) at (IsBeyond-drop i from ranges beyond) in
     let filled : range.first ≤ range.last = back.1 in
@@ -194,7 +194,7 @@ Adds-later from number i ranges range rest beyond at touching apart =
     ∙ ap (λ tail. is_in other tail || (other == number)) (sym at))
 
 -- between two ranges that touch it both
-pub Adds-between : (from number i : ℕ) (ranges : List TsnRange) (range next : TsnRange) (rest : List TsnRange) → IsBeyond from ranges → drop i ranges ≡ range ∷ (next ∷ rest) → range.last + 1 ≡ number → number + 1 ≡ next.first → Adds from number ranges (take i ranges ++ record { first = range.first; last = next.last } ∷ rest)
+pub Adds-between : (from number i : ℕ) (ranges : List TsnRange) (range next : TsnRange) (rest : List TsnRange) → IsBeyond from ranges → drop i ranges ≡ range ∷ (next ∷ rest) → range.last + 1 ≡ number → number + 1 ≡ next.first → AddsToRanges from number ranges (take i ranges ++ record { first = range.first; last = next.last } ∷ rest)
 Adds-between from number i ranges range next rest beyond at before after =
     let back : IsBeyond (end_of from (take i ranges)) (range ∷ (next ∷ rest)) = subst (λ tail. IsBeyond (end_of from (take i ranges)) tail) at (IsBeyond-drop i from ranges beyond) in
     let filled : range.first ≤ range.last = back.1 in
@@ -263,7 +263,7 @@ next_test cumulative number other next = grind (arith, nat_tests)
 next_is_new : (cumulative number : ℕ) → number ≡ cumulative + 1 → nat_le number cumulative ≡ false
 next_is_new cumulative number next = grind (arith, nat_tests)
 
-pub Receives-next : (number cumulative : ℕ) (old : List TsnRange) (reached : ℕ) (new : List TsnRange) → number ≡ cumulative + 1 → IsBeyond cumulative old → Advances number old reached new → Receives number cumulative old true reached new
+pub Receives-next : (number cumulative : ℕ) (old : List TsnRange) (reached : ℕ) (new : List TsnRange) → number ≡ cumulative + 1 → IsBeyond cumulative old → AdvancesCumulative number old reached new → Receives number cumulative old true reached new
 Receives-next number cumulative old reached new next beyond advances =
     let forward : number ≤ reached = advances.forward in
     record {

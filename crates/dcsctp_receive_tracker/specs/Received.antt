@@ -27,12 +27,12 @@ Joins written number None new = new ≡ written number
 Joins written number (Some next) new = Removes next.first (written next.last) new
 
 -- The number is added to the ranges beyond a cumulative one, and nothing else.
-pub record Adds (cumulative number : ℕ) (old new : List TsnRange) : Type 0 where
+pub record AddsToRanges (cumulative number : ℕ) (old new : List TsnRange) : Type 0 where
   pub beyond : IsBeyond cumulative new
   pub members : (other : ℕ) → is_in other new ≡ (is_in other old || (other == number))
 
 -- All up to the number are received with what is in the ranges; `reached` is the last before the first that is missing.
-pub record Advances (number : ℕ) (old : List TsnRange) (reached : ℕ) (new : List TsnRange) : Type 0 where
+pub record AdvancesCumulative (number : ℕ) (old : List TsnRange) (reached : ℕ) (new : List TsnRange) : Type 0 where
   pub forward : number ≤ reached
   pub beyond : IsBeyond reached new
   pub members : (other : ℕ) → is_received reached other new ≡ is_received number other old

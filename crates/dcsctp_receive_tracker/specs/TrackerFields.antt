@@ -5,7 +5,7 @@ use Rattle.dcsctp_receive_tracker.specs.Received.{ranges_of}
 use Rattle.dcsctp_spec_lemmas.specs.spec.queues.Ranges.{IsBeyond}
 use Rattle.dcsctp_receive_tracker.specs.Acknowledging.{IsWithinReach, RunsOnce, RunsWhereDelayed}
 
-pub record IsKept (tracker : Inside) : Type 0 where
+pub record IsTrackerKept (tracker : Inside) : Type 0 where
   pub beyond : IsBeyond tracker.received.cumulative (ranges_of tracker.received.ranges)
   pub near : IsWithinReach tracker.received.cumulative (ranges_of tracker.received.ranges)
   pub few : length tracker.duplicates.items ≤ 20

@@ -8,7 +8,7 @@ ghost use Rattle.std.specs.Int.{w32, to_be_bytes};
 ghost use Rattle.dcsctp_receive_tracker.specs.Received.{ranges_of};
 ghost use Rattle.dcsctp_spec_lemmas.specs.spec.queues.Ranges.{IsBeyond};
 ghost use Rattle.dcsctp_receive_tracker.specs.Acknowledging.{IsWithinReach};
-ghost use Rattle.dcsctp_spec_lemmas.specs.spec.queues.Tracker.{number_of, heeds_gap, block_bytes, acknowledgement_delay, after_arrival, is_due, with_duplicate};
+ghost use Rattle.dcsctp_spec_lemmas.specs.spec.queues.Tracker.{nearest_number, heeds_gap, block_bytes, acknowledgement_delay, after_arrival, is_sack_due, with_duplicate};
 
 use crate::received::{Received, advance};
 use dcsctp_send_timer::Timer;
@@ -83,7 +83,7 @@ fn keep_duplicate(duplicates: &mut Vec<u32>, tsn: u32, is_new: bool) -> Result<(
 
 // Is a SACK due in this state, or could one go along with other chunks?
 fn is_due(state: AckState, also_if_delayed: bool) -> bool
-    ensures { result ≡ is_due state also_if_delayed }
+    ensures { result ≡ is_sack_due state also_if_delayed }
 {
     match state {
         AckState::Idle => false,
@@ -95,7 +95,7 @@ fn is_due(state: AckState, also_if_delayed: bool) -> bool
 // The number of a TSN, which is within 2^31 of the cumulative one (RFC 9260, section 1.6).
 fn number_of(cumulative: u64, tsn: u32) -> u64
     requires { cumulative < 2 ^ 64 - 2 ^ 32 }
-    ensures { result ≡ number_of cumulative tsn }
+    ensures { result ≡ nearest_number cumulative tsn }
 {
     let ahead = u64::from(tsn.wrapping_sub((cumulative % 0x1_0000_0000) as u32));
     if ahead < 0x8000_0000 {
@@ -205,7 +205,7 @@ impl Model for DataTracker {
 
     ghost Value = { TrackerState };
 
-    ghost use Rattle.dcsctp_receive_tracker.specs.TrackerFields.{IsKept};
+    ghost use Rattle.dcsctp_receive_tracker.specs.TrackerFields.{IsTrackerKept};
 
     ghost view = { λ tracker. record {
       cumulative = tracker.received.cumulative;
@@ -218,13 +218,13 @@ impl Model for DataTracker {
       follows_rfc = tracker.follows_rfc;
     } };
 
-    ghost invariant = { IsKept };
+    ghost invariant = { IsTrackerKept };
 }
 
 impl DataTracker {
     ghost use Rattle.std.specs.Prelude.{◌%◌, []};
     ghost use Rattle.dcsctp_receive_tracker.specs.Acknowledging.{RunsWhereDelayed};
-    ghost use Rattle.dcsctp_spec_lemmas.specs.spec.queues.Tracker.{new_tracker, is_valid_tsn, is_new_tsn, observed, is_below_highest, delay_over, hastened, is_forward, after_forward, after_packet_end, is_acknowledgement_due, acknowledged, after_moment, stopped, owes_acknowledgement, with_timeout};
+    ghost use Rattle.dcsctp_spec_lemmas.specs.spec.queues.Tracker.{new_tracker, is_valid_tsn, is_new_tsn, observed, is_below_highest, delay_over, hastened, is_forward, after_forward, after_packet_end, is_acknowledgement_due, acknowledgement_asked, after_moment, stopped, owes_acknowledgement, with_timeout};
     ghost use Rattle.dcsctp_spec_lemmas.specs.spec.endpoint.Timers.{running_deadline, expires_at};
 
     /// Nothing was received yet, and `peer_initial_tsn` is the TSN that is to come first. The one before it
@@ -361,8 +361,8 @@ impl DataTracker {
     /// Is a SACK to be sent now? A delayed one counts if other chunks are sent that it can go along with. If
     /// the answer is yes, all counts as acknowledged.
     pub fn should_send_ack(&mut self, also_if_delayed: bool) -> bool
-        ensures answer { result ≡ is_due self.old.acknowledgement also_if_delayed }
-        ensures left { self.new ≡ acknowledged also_if_delayed self.old }
+        ensures answer { result ≡ is_sack_due self.old.acknowledgement also_if_delayed }
+        ensures left { self.new ≡ acknowledgement_asked also_if_delayed self.old }
     {
         let is_due = is_due(self.acknowledgement, also_if_delayed);
         if is_due {

@@ -3,7 +3,7 @@
 ghost use Rattle.std.specs.Prelude.{◌≡◌, []};
 ghost use Rattle.dcsctp_spec_lemmas.specs.types.Snapshot.{received_part};
 ghost use Rattle.dcsctp_spec_lemmas.specs.spec.queues.Readiness.{tracker_readiness};
-ghost use Rattle.dcsctp_spec_lemmas.specs.spec.queues.ReceivedParts.{with_tracker, tracker_restored};
+ghost use Rattle.dcsctp_spec_lemmas.specs.spec.queues.ReceivedParts.{part_with_tracker, tracker_restored};
 
 use crate::data_tracker::DataTracker;
 use dcsctp_spec_lemmas::types::{HandoverReadiness, HandoverReceive};
@@ -19,7 +19,7 @@ impl DataTracker {
     /// Adds what a snapshot has of it: the last TSN before the first that is missing, and whether data was
     /// received at all.
     pub fn add_to_handover_state(&self, rx: &mut HandoverReceive)
-        ensures { received_part rx.new ≡ with_tracker self.now (received_part rx.old) }
+        ensures { received_part rx.new ≡ part_with_tracker self.now (received_part rx.old) }
     {
         rx.seen_packet = self.has_seen_data;
         rx.last_cumulative_acked_tsn = self.last_cumulative_acked_tsn();

@@ -18,7 +18,7 @@ ghost use Rattle.std.specs.Ordering.{nat_cmp};
 ghost use Rattle.std.specs.BTreeMap.{IsOrdered, get, insert_entry, is_at};
 ghost use Rattle.dcsctp_receive_ordered_map.specs.Entries.{count_up_to};
 ghost use Rattle.dcsctp_spec_lemmas.specs.spec.queues.Runs.{entry_before};
-ghost use Rattle.dcsctp_receive_tracker.specs.Received.{range_of, ranges_of, IsSpaced, Joins, Adds, Advances, Receives};
+ghost use Rattle.dcsctp_receive_tracker.specs.Received.{range_of, ranges_of, IsSpaced, Joins, AddsToRanges, AdvancesCumulative, Receives};
 ghost use Rattle.dcsctp_spec_lemmas.specs.spec.queues.Ranges.{IsBeyond, is_in};
 ghost use Rattle.dcsctp_spec_lemmas.specs.spec.queues.Tracker.{highest};
 
@@ -138,7 +138,7 @@ fn extend(ranges: &mut BTreeMap<u64, u64>, first: u64, number: u64, behind: Opti
 /// beyond that are kept.
 pub fn advance(ranges: &mut BTreeMap<u64, u64>, number: u64) -> u64
     requires { IsSpaced (ranges_of ranges.old) }
-    ensures { Advances number (ranges_of ranges.old) result (ranges_of ranges.new) }
+    ensures { AdvancesCumulative number (ranges_of ranges.old) result (ranges_of ranges.new) }
 {
     let mut reached = number;
     while let Some((first, last)) = ranges.first_key_value() {
@@ -176,7 +176,7 @@ impl Received {
     fn add(&mut self, number: u64) -> Result<bool, AllocError>
         requires beyond { self.old.cumulative + 1 < number }
         requires ordered { IsBeyond self.old.cumulative (ranges_of self.old.ranges) }
-        ensures added { IfOk result (λ _. Adds self.old.cumulative number (ranges_of self.old.ranges) (ranges_of self.new.ranges)) }
+        ensures added { IfOk result (λ _. AddsToRanges self.old.cumulative number (ranges_of self.old.ranges) (ranges_of self.new.ranges)) }
         ensures answer { IfOk result (λ is_new. is_new ≡ not (is_in number (ranges_of self.old.ranges))) }
         ensures known { IfOk result (λ is_new. is_new ≡ false → ranges_of self.new.ranges ≡ ranges_of self.old.ranges) }
         ensures kept { self.new.cumulative ≡ self.old.cumulative }

@@ -11,6 +11,6 @@ pub use memory::{begin_span, end_span, is_gone};
 pub use messages::{How, is_message, message, options};
 pub use moments::at;
 pub use told::{
-    ABORT, COOKIE_ACK, COOKIE_ECHO, DATA, FORWARD_TSN, HEARTBEAT, HEARTBEAT_ACK, INIT, INIT_ACK,
-    RE_CONFIG, SACK, SHUTDOWN, SHUTDOWN_ACK, SHUTDOWN_COMPLETE, Told, is_told,
+    ABORT, COOKIE_ACK, COOKIE_ECHO, DATA, ExpectedEvent, FORWARD_TSN, HEARTBEAT, HEARTBEAT_ACK,
+    INIT, INIT_ACK, RE_CONFIG, SACK, SHUTDOWN, SHUTDOWN_ACK, SHUTDOWN_COMPLETE, is_told,
 };

@@ -33,7 +33,7 @@ pub const FORWARD_TSN: u8 = 192;
 
 /// An event.
 #[derive(Clone, Copy)]
-pub enum Told {
+pub enum ExpectedEvent {
     /// A packet with chunks of these types, and no others.
     Packet(&'static [u8]),
 
@@ -85,10 +85,10 @@ fn name_of(event: &SocketEvent) -> (&'static str, u64) {
 }
 
 /// Is the event this one?
-pub fn is_told(event: &SocketEvent, told: &Told) -> bool {
+pub fn is_told(event: &SocketEvent, told: &ExpectedEvent) -> bool {
     match told {
-        Told::Event(name, number) => name_of(event) == (*name, *number),
-        Told::Packet(kinds) => match event {
+        ExpectedEvent::Event(name, number) => name_of(event) == (*name, *number),
+        ExpectedEvent::Packet(kinds) => match event {
             SocketEvent::SendPacket(packet) => has_chunks(packet, kinds),
             _ => false,
         },

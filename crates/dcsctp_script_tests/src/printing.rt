@@ -9,7 +9,7 @@ use std::process::Abort;
 
 /// An event.
 #[derive(Clone, Copy)]
-enum Told {
+enum PrintedEvent {
     Connected,
     Closed,
     Restarted,
@@ -51,25 +51,31 @@ fn packet(rt: &impl Abort, alloc: Global, chunks: &[&[u8]]) -> Vec<u8> {
     packet
 }
 
-fn event_of(rt: &impl Abort, alloc: Global, told: Told) -> SocketEvent {
+fn event_of(rt: &impl Abort, alloc: Global, told: PrintedEvent) -> SocketEvent {
     let last = LifecycleId::from(18446744073709551615);
     match told {
-        Told::Connected => SocketEvent::OnConnected(),
-        Told::Closed => SocketEvent::OnClosed(),
-        Told::Restarted => SocketEvent::OnConnectionRestarted(),
-        Told::Aborted(kind, words) => SocketEvent::OnAborted(kind, text(rt, alloc, words)),
-        Told::Error(kind, words) => SocketEvent::OnError(kind, text(rt, alloc, words)),
-        Told::BufferedAmountLow(id) => SocketEvent::OnBufferedAmountLow(StreamId(id)),
-        Told::TotalBufferedAmountLow => SocketEvent::OnTotalBufferedAmountLow(),
-        Told::ResetFailed(ids) => SocketEvent::OnStreamsResetFailed(streams(rt, alloc, ids)),
-        Told::ResetPerformed(ids) => SocketEvent::OnStreamsResetPerformed(streams(rt, alloc, ids)),
-        Told::IncomingReset(ids) => SocketEvent::OnIncomingStreamReset(streams(rt, alloc, ids)),
-        Told::FullySent => SocketEvent::OnLifecycleMessageFullySent(last),
-        Told::MaybeExpired => SocketEvent::OnLifecycleMessageMaybeExpired(last),
-        Told::Expired => SocketEvent::OnLifecycleMessageExpired(last),
-        Told::Delivered => SocketEvent::OnLifecycleMessageDelivered(last),
-        Told::LifecycleEnd => SocketEvent::OnLifecycleEnd(last),
-        Told::Packet(chunks) => SocketEvent::SendPacket(packet(rt, alloc, chunks)),
+        PrintedEvent::Connected => SocketEvent::OnConnected(),
+        PrintedEvent::Closed => SocketEvent::OnClosed(),
+        PrintedEvent::Restarted => SocketEvent::OnConnectionRestarted(),
+        PrintedEvent::Aborted(kind, words) => SocketEvent::OnAborted(kind, text(rt, alloc, words)),
+        PrintedEvent::Error(kind, words) => SocketEvent::OnError(kind, text(rt, alloc, words)),
+        PrintedEvent::BufferedAmountLow(id) => SocketEvent::OnBufferedAmountLow(StreamId(id)),
+        PrintedEvent::TotalBufferedAmountLow => SocketEvent::OnTotalBufferedAmountLow(),
+        PrintedEvent::ResetFailed(ids) => SocketEvent::OnStreamsResetFailed(streams(
+            rt, alloc, ids,
+        )),
+        PrintedEvent::ResetPerformed(ids) => SocketEvent::OnStreamsResetPerformed(streams(
+            rt, alloc, ids,
+        )),
+        PrintedEvent::IncomingReset(ids) => SocketEvent::OnIncomingStreamReset(streams(
+            rt, alloc, ids,
+        )),
+        PrintedEvent::FullySent => SocketEvent::OnLifecycleMessageFullySent(last),
+        PrintedEvent::MaybeExpired => SocketEvent::OnLifecycleMessageMaybeExpired(last),
+        PrintedEvent::Expired => SocketEvent::OnLifecycleMessageExpired(last),
+        PrintedEvent::Delivered => SocketEvent::OnLifecycleMessageDelivered(last),
+        PrintedEvent::LifecycleEnd => SocketEvent::OnLifecycleEnd(last),
+        PrintedEvent::Packet(chunks) => SocketEvent::SendPacket(packet(rt, alloc, chunks)),
     }
 }
 
@@ -86,48 +92,63 @@ const DATA: &[u8] = &[
 ];
 
 // Events, and the line that each is printed by.
-static TOLD: &[(Told, &str)] = &[
-    (Told::Connected, "B connected\n"),
-    (Told::Closed, "B closed\n"),
-    (Told::Restarted, "B restarted\n"),
+static TOLD: &[(PrintedEvent, &str)] = &[
+    (PrintedEvent::Connected, "B connected\n"),
+    (PrintedEvent::Closed, "B closed\n"),
+    (PrintedEvent::Restarted, "B restarted\n"),
     (
-        Told::Aborted(ErrorKind::TooManyRetries, "No INIT_ACK received"),
+        PrintedEvent::Aborted(ErrorKind::TooManyRetries, "No INIT_ACK received"),
         "B aborted TooManyRetries No INIT_ACK received\n",
     ),
     (
-        Told::Aborted(ErrorKind::PeerReported, ""),
+        PrintedEvent::Aborted(ErrorKind::PeerReported, ""),
         "B aborted PeerReported\n",
     ),
     (
-        Told::Error(ErrorKind::WrongSequence, "a\tb\n\u{7f}\u{e9}"),
+        PrintedEvent::Error(ErrorKind::WrongSequence, "a\tb\n\u{7f}\u{e9}"),
         "B error WrongSequence a.b.\u{7f}\u{e9}\n",
     ),
-    (Told::BufferedAmountLow(7), "B buffered-low 7\n"),
-    (Told::TotalBufferedAmountLow, "B total-buffered-low\n"),
+    (PrintedEvent::BufferedAmountLow(7), "B buffered-low 7\n"),
     (
-        Told::ResetFailed(&[StreamId(1), StreamId(65535)]),
+        PrintedEvent::TotalBufferedAmountLow,
+        "B total-buffered-low\n",
+    ),
+    (
+        PrintedEvent::ResetFailed(&[StreamId(1), StreamId(65535)]),
         "B reset-failed 1,65535\n",
     ),
     (
-        Told::ResetPerformed(&[StreamId(0)]),
+        PrintedEvent::ResetPerformed(&[StreamId(0)]),
         "B reset-performed 0\n",
     ),
-    (Told::IncomingReset(&[]), "B incoming-reset all\n"),
-    (Told::FullySent, "B fully-sent 18446744073709551615\n"),
-    (Told::MaybeExpired, "B maybe-expired 18446744073709551615\n"),
-    (Told::Expired, "B expired 18446744073709551615\n"),
-    (Told::Delivered, "B delivered 18446744073709551615\n"),
-    (Told::LifecycleEnd, "B lifecycle-end 18446744073709551615\n"),
+    (PrintedEvent::IncomingReset(&[]), "B incoming-reset all\n"),
     (
-        Told::Packet(&[DATA, &[77, 0, 0, 4], DATA]),
+        PrintedEvent::FullySent,
+        "B fully-sent 18446744073709551615\n",
+    ),
+    (
+        PrintedEvent::MaybeExpired,
+        "B maybe-expired 18446744073709551615\n",
+    ),
+    (PrintedEvent::Expired, "B expired 18446744073709551615\n"),
+    (
+        PrintedEvent::Delivered,
+        "B delivered 18446744073709551615\n",
+    ),
+    (
+        PrintedEvent::LifecycleEnd,
+        "B lifecycle-end 18446744073709551615\n",
+    ),
+    (
+        PrintedEvent::Packet(&[DATA, &[77, 0, 0, 4], DATA]),
         "B packet 5 0000ab09 DATA+TYPE-77+DATA\n",
     ),
     (
-        Told::Packet(&[&[3, 0, 0, 5, 1]]),
+        PrintedEvent::Packet(&[&[3, 0, 0, 5, 1]]),
         "B packet 5 0000ab09 SACK\n",
     ),
     (
-        Told::Packet(&[
+        PrintedEvent::Packet(&[
             &[4, 0, 0, 4],
             &[5, 0, 0, 4],
             &[7, 0, 0, 4],
@@ -137,7 +158,7 @@ static TOLD: &[(Told, &str)] = &[
         "B packet 5 0000ab09 HEARTBEAT+HEARTBEAT-ACK+SHUTDOWN+SHUTDOWN-ACK+ERROR\n",
     ),
     (
-        Told::Packet(&[
+        PrintedEvent::Packet(&[
             &[14, 0, 0, 4],
             &[64, 0, 0, 4],
             &[130, 0, 0, 4],

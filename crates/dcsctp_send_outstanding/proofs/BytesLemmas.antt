@@ -13,7 +13,7 @@ use Rattle.dcsctp_api.specs.types.SnapshotItems.{OutstandingPart, outstanding_pa
 use Rattle.dcsctp_api.specs.spec.Soundness.{HasBytes}
 use Rattle.dcsctp_api.specs.spec.queues.Items.{Item}
 use Rattle.dcsctp_api.specs.spec.queues.OutstandingParts.{item_again, state_again}
-use Rattle.dcsctp_api.specs.types.queues.Progress.{is_marked, missed, missed_where, marked, acknowledged, tells_of, changed}
+use Rattle.dcsctp_api.specs.types.queues.Progress.{is_marked, missed, missed_where, marked_lost, acknowledged, tells_of, progress_changed}
 use Rattle.dcsctp_send_outstanding.specs.Outstanding.{KeepsAbandoned, MayChange}
 
 -- ---- items come
@@ -42,15 +42,15 @@ may_change Acknowledge p items keeps = tt
 may_change Abandon p items keeps = tt
 
 -- What waits to be sent again isn't abandoned.
-not_both : (items : List Item) (p : ℕ) (item marked : Item) → slice_get items p ≡ Some marked → is_marked marked.progress.state ≡ true → p < length items → item ≡ get_or items p item
+not_both : (items : List Item) (p : ℕ) (item marked_lost : Item) → slice_get items p ≡ Some marked_lost → is_marked marked_lost.progress.state ≡ true → p < length items → item ≡ get_or items p item
     → item.progress.state ≡ Abandoned → ⊥
-not_both [] p item marked at is lt same abandoned = absurd (omega arith)
-not_both (x ∷ xs) zero item marked at is lt same abandoned =
-    let here : x ≡ marked = cc in
-    let state : Abandoned ≡ marked.progress.state = sym abandoned ∙ ap (λ (i : Item). i.progress.state) (same ∙ here) in
+not_both [] p item marked_lost at is lt same abandoned = absurd (omega arith)
+not_both (x ∷ xs) zero item marked_lost at is lt same abandoned =
+    let here : x ≡ marked_lost = cc in
+    let state : Abandoned ≡ marked_lost.progress.state = sym abandoned ∙ ap (λ (i : Item). i.progress.state) (same ∙ here) in
     let no : false ≡ true = ap is_marked state ∙ is in
     cc
-not_both (x ∷ xs) (suc p) item marked at is lt same abandoned = not_both xs p item marked at is (omega arith) same abandoned
+not_both (x ∷ xs) (suc p) item marked_lost at is lt same abandoned = not_both xs p item marked_lost at is (omega arith) same abandoned
 
 missed_stays : (progress : Progress) (state : ItemState) → state ≡ Abandoned → progress.state ≡ Abandoned → (missed state progress).state ≡ Abandoned
 missed_stays progress InFlight is was = cc
@@ -62,7 +62,7 @@ missed_where_stays : (tells : Bool) (progress : Progress) → progress.state ≡
 missed_where_stays true progress is = missed_stays progress progress.state is is
 missed_where_stays false progress is = is
 
-marked_stays : (progress : Progress) (state : ItemState) → state ≡ Abandoned → progress.state ≡ Abandoned → (marked state progress).state ≡ Abandoned
+marked_stays : (progress : Progress) (state : ItemState) → state ≡ Abandoned → progress.state ≡ Abandoned → (marked_lost state progress).state ≡ Abandoned
 marked_stays progress InFlight is was = cc
 marked_stays progress Marked is was = cc
 marked_stays progress Acknowledged is was = cc
@@ -75,7 +75,7 @@ acknowledged_stays progress Acknowledged is was = cc
 acknowledged_stays progress Abandoned is was = was
 
 abandoned_stays : (change : Change) (items : List Item) (p : ℕ) (item : Item) → p < length items → item ≡ get_or items p item → MayChange change p items → item.progress.state ≡ Abandoned
-    → (changed change item.progress).state ≡ Abandoned
+    → (progress_changed change item.progress).state ≡ Abandoned
 abandoned_stays (SendAgain next) items p item lt is may abandoned = absurd (not_both items p item may.item may.at may.is lt is abandoned)
 abandoned_stays (Miss newest) items p item lt is may abandoned = missed_where_stays (tells_of item.progress.sent_before newest) item.progress abandoned
 abandoned_stays Mark items p item lt is may abandoned = marked_stays item.progress item.progress.state abandoned abandoned
@@ -84,7 +84,7 @@ abandoned_stays Abandon items p item lt is may abandoned = refl
 
 -- the item at a place, changed
 pub bytes_changed : (change : Change) (items : List Item) (p : ℕ) (item : Item) (progress : Progress) → AllByRecursion HasBytes items → p < length items → item ≡ get_or items p item
-    → MayChange change p items → progress ≡ changed change item.progress → HasBytes (record item { progress = progress })
+    → MayChange change p items → progress ≡ progress_changed change item.progress → HasBytes (record item { progress = progress })
 bytes_changed change items p item progress all lt is may after =
     elim (bytes_at items p item all lt is) as (λ z. HasBytes (record item { progress = progress })) [
       | inl some ↦ inl some

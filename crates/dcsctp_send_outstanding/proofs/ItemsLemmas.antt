@@ -6,17 +6,17 @@ use Rattle.std.proofs.lemmas.List.Sums.{sum_by-set, sum_by-cons, sum_by_push, ge
 use Rattle.std.proofs.lemmas.Option.{slice_get_within}
 use Rattle.dcsctp_api.specs.wire.declared.chunk.sack.GapAckBlock.{GapAckBlock}
 use Rattle.dcsctp_api.specs.types.declared.progress.Change.TheVariants.{Acknowledge}
-use Rattle.dcsctp_api.specs.spec.queues.Items.{Item, counted, size_of, in_flight_size, unacknowledged_size, unacknowledged_count, never_acknowledged_count, marked_count, marked_items, changed_item, changed_between}
+use Rattle.dcsctp_api.specs.spec.queues.Items.{Item, number_where, item_size, in_flight_size, unacknowledged_size, unacknowledged_count, never_acknowledged_count, marked_count, marked_items, changed_item, changed_between}
 use Rattle.dcsctp_send_outstanding.specs.declared.named_places.NamedPlaces.{NamedPlaces}
 use Rattle.dcsctp_api.specs.types.declared.progress.Change.{Change}
 use Rattle.dcsctp_api.specs.types.declared.progress.Progress.{Progress}
 use Rattle.dcsctp_send_outstanding.specs.declared.totals.Totals.{Totals}
-use Rattle.dcsctp_api.specs.types.queues.Progress.{is_in_flight, is_marked, is_unacknowledged, changed}
-use Rattle.dcsctp_send_outstanding.specs.Outstanding.{cursor_after, IsSummed, NoneMarkedBetween, IsKept}
+use Rattle.dcsctp_api.specs.types.queues.Progress.{is_in_flight, is_marked, is_unacknowledged, progress_changed}
+use Rattle.dcsctp_send_outstanding.specs.Outstanding.{cursor_after, IsSummed, NoneMarkedBetween, AreItemsKept}
 use Rattle.dcsctp_api.specs.spec.queues.NextItem.{NoneMarkedBefore}
 use Rattle.dcsctp_api.specs.spec.Soundness.{HasBytes}
 use Rattle.dcsctp_send_outstanding.specs.NamedPlaces.{AreSettled}
-use Rattle.dcsctp_send_outstanding.specs.Totals.{total_with, total_without, HasRoom}
+use Rattle.dcsctp_send_outstanding.specs.Totals.{total_with, total_without, HasRoomInTotals}
 use Rattle.dcsctp_send_outstanding.proofs.BytesLemmas.{bytes_set, bytes_pushed}
 use Rattle.dcsctp_api.specs.spec.queues.Outstanding.{OutstandingState, header_of, reported}
 
@@ -29,7 +29,7 @@ sum_bounded f bound each (x ∷ xs) =
     let whole = sum_by-cons f x xs in
     grind arith
 
-pub counted_bounded : (test : Bool) (number bound : ℕ) → number ≤ bound → counted test number ≤ bound
+pub counted_bounded : (test : Bool) (number bound : ℕ) → number ≤ bound → number_where test number ≤ bound
 counted_bounded true number bound h = h
 counted_bounded false number bound h = omega arith
 
@@ -74,7 +74,7 @@ scanned_replaced items place cursor new scanned k item below is =
     go false e below (inr other) = scanned k item below other.1
 
 -- the sums, where one item is counted in place of another
-pub sums_replaced : (header : ℕ) (items : List Item) (totals : Totals) (place : ℕ) (item new : Item) → place < length items → item ≡ get_or items place item → size_of header item ≡ size_of header new → IsSummed header items totals → IsSummed header (set items place new) (total_with new.progress (size_of header new) (total_without item.progress (size_of header item) totals))
+pub sums_replaced : (header : ℕ) (items : List Item) (totals : Totals) (place : ℕ) (item new : Item) → place < length items → item ≡ get_or items place item → item_size header item ≡ item_size header new → IsSummed header items totals → IsSummed header (set items place new) (total_with new.progress (item_size header new) (total_without item.progress (item_size header item) totals))
 sums_replaced header items totals place item new within is same sums =
     record {
       in_flight = let e = sum_replaced (in_flight_size header) items place item new within is in let has = sum_has (in_flight_size header) items place item within is in let was = sums.in_flight in omega arith;
@@ -84,24 +84,24 @@ sums_replaced header items totals place item new within is same sums =
       marked = let e = sum_replaced marked_count items place item new within is in let has = sum_has marked_count items place item within is in let was = sums.marked in omega arith;
     }
 
-pub size_bounded : (is_interleaved : Bool) (item : Item) → size_of (header_of is_interleaved) item ≤ 65556
+pub size_bounded : (is_interleaved : Bool) (item : Item) → item_size (header_of is_interleaved) item ≤ 65556
 size_bounded true item = omega arith
 size_bounded false item = omega arith
 
 -- each sum leaves room for one more
-pub sums_leave_room : (is_interleaved : Bool) (cursor : ℕ) (items : List Item) (totals : Totals) (named : NamedPlaces) (size : ℕ) → size ≤ 65556 → IsKept is_interleaved cursor items totals named → HasRoom size totals
+pub sums_leave_room : (is_interleaved : Bool) (cursor : ℕ) (items : List Item) (totals : Totals) (named : NamedPlaces) (size : ℕ) → size ≤ 65556 → AreItemsKept is_interleaved cursor items totals named → HasRoomInTotals size totals
 sums_leave_room is_interleaved cursor items totals named size small kept =
     let few = kept.few in
     let sums = kept.sums in
-    let in_flight = sum_bounded (in_flight_size (header_of is_interleaved)) 65556 (λ (x : Item). counted_bounded (is_in_flight x.progress.state) (size_of (header_of is_interleaved) x) 65556 (size_bounded is_interleaved x)) items in
-    let bytes = sum_bounded (unacknowledged_size (header_of is_interleaved)) 65556 (λ (x : Item). counted_bounded (is_unacknowledged x.progress.state) (size_of (header_of is_interleaved) x) 65556 (size_bounded is_interleaved x)) items in
+    let in_flight = sum_bounded (in_flight_size (header_of is_interleaved)) 65556 (λ (x : Item). counted_bounded (is_in_flight x.progress.state) (item_size (header_of is_interleaved) x) 65556 (size_bounded is_interleaved x)) items in
+    let bytes = sum_bounded (unacknowledged_size (header_of is_interleaved)) 65556 (λ (x : Item). counted_bounded (is_unacknowledged x.progress.state) (item_size (header_of is_interleaved) x) 65556 (size_bounded is_interleaved x)) items in
     let count = sum_bounded unacknowledged_count 1 (λ (x : Item). counted_bounded (is_unacknowledged x.progress.state) 1 1 (omega arith)) items in
     let never = sum_bounded never_acknowledged_count 1 (λ (x : Item). counted_bounded (not x.progress.was_acknowledged) 1 1 (omega arith)) items in
     let marked = sum_bounded marked_count 1 (λ (x : Item). counted_bounded (is_marked x.progress.state) 1 1 (omega arith)) items in
     record { in_flight_bytes = omega arith; unacknowledged_bytes = omega arith; unacknowledged_items = omega arith; never_acknowledged_items = omega arith; marked_items = omega arith }
 
 -- what is taken away leaves room
-pub room_without : (progress : Progress) (size less : ℕ) (totals : Totals) → HasRoom size totals → HasRoom size (total_without progress less totals)
+pub room_without : (progress : Progress) (size less : ℕ) (totals : Totals) → HasRoomInTotals size totals → HasRoomInTotals size (total_without progress less totals)
 room_without progress size less totals room =
     let a = room.in_flight_bytes in
     let b = room.unacknowledged_bytes in
@@ -111,12 +111,12 @@ room_without progress size less totals room =
     record { in_flight_bytes = omega arith; unacknowledged_bytes = omega arith; unacknowledged_items = omega arith; never_acknowledged_items = omega arith; marked_items = omega arith }
 
 -- the change at one place, as the body makes it
-pub changed_is : (change : Change) (place : ℕ) (items : List Item) (item : Item) (progress : Progress) → place < length items → item ≡ get_or items place item → progress ≡ changed change item.progress → set items place (record item { progress = progress }) ≡ changed_between change place (place + 1) items
+pub changed_is : (change : Change) (place : ℕ) (items : List Item) (item : Item) (progress : Progress) → place < length items → item ≡ get_or items place item → progress ≡ progress_changed change item.progress → set items place (record item { progress = progress }) ≡ changed_between change place (place + 1) items
 changed_is change place items item progress within is e =
     rw (add-one, e) (sym (changed_one change place items item within is))
 
 -- what is kept of the items, with one replaced
-pub kept_replaced : (is_interleaved : Bool) (cursor : ℕ) (items : List Item) (totals : Totals) (named : NamedPlaces) (place : ℕ) (item new : Item) (size : ℕ) (less more : Totals) (is_now_marked : Bool) (cursor' : ℕ) (named' : NamedPlaces) → IsKept is_interleaved cursor items totals named → place < length items → item ≡ get_or items place item → size ≡ size_of (header_of is_interleaved) item → size_of (header_of is_interleaved) item ≡ size_of (header_of is_interleaved) new → less ≡ total_without item.progress size totals → more ≡ total_with new.progress size less → is_now_marked ≡ is_marked new.progress.state → cursor' ≡ cursor_after is_now_marked place cursor → AreSettled named' (set items place new) → HasBytes new → IsKept is_interleaved cursor' (set items place new) more named'
+pub kept_replaced : (is_interleaved : Bool) (cursor : ℕ) (items : List Item) (totals : Totals) (named : NamedPlaces) (place : ℕ) (item new : Item) (size : ℕ) (less more : Totals) (is_now_marked : Bool) (cursor' : ℕ) (named' : NamedPlaces) → AreItemsKept is_interleaved cursor items totals named → place < length items → item ≡ get_or items place item → size ≡ item_size (header_of is_interleaved) item → item_size (header_of is_interleaved) item ≡ item_size (header_of is_interleaved) new → less ≡ total_without item.progress size totals → more ≡ total_with new.progress size less → is_now_marked ≡ is_marked new.progress.state → cursor' ≡ cursor_after is_now_marked place cursor → AreSettled named' (set items place new) → HasBytes new → AreItemsKept is_interleaved cursor' (set items place new) more named'
 kept_replaced is_interleaved cursor items totals named place item new size less more is_now_marked cursor' named' kept within is sized same is_less is_more marks moves settled some =
     record {
       few = let few = kept.few in omega (arith, length-set {A = Item});
@@ -191,7 +191,7 @@ scanned_pushed items cursor new scanned k item below is =
     go false e below (inr here) = scanned k item below here
 
 -- what is kept of the items, with one more
-pub kept_added : (is_interleaved : Bool) (cursor : ℕ) (items : List Item) (totals : Totals) (named : NamedPlaces) (new : Item) (size : ℕ) (more : Totals) (is_now_marked : Bool) (cursor' : ℕ) → IsKept is_interleaved cursor items totals named → length items + 1 < 2 ^ 31 → size ≡ size_of (header_of is_interleaved) new → more ≡ total_with new.progress size totals → is_now_marked ≡ is_marked new.progress.state → cursor' ≡ cursor_after is_now_marked (length items) cursor → AreSettled named (items ++ new ∷ []) → HasBytes new → IsKept is_interleaved cursor' (items ++ new ∷ []) more named
+pub kept_added : (is_interleaved : Bool) (cursor : ℕ) (items : List Item) (totals : Totals) (named : NamedPlaces) (new : Item) (size : ℕ) (more : Totals) (is_now_marked : Bool) (cursor' : ℕ) → AreItemsKept is_interleaved cursor items totals named → length items + 1 < 2 ^ 31 → size ≡ item_size (header_of is_interleaved) new → more ≡ total_with new.progress size totals → is_now_marked ≡ is_marked new.progress.state → cursor' ≡ cursor_after is_now_marked (length items) cursor → AreSettled named (items ++ new ∷ []) → HasBytes new → AreItemsKept is_interleaved cursor' (items ++ new ∷ []) more named
 kept_added is_interleaved cursor items totals named new size more is_now_marked cursor' kept room sized is_more marks moves settled some =
     record {
       few = omega (arith, length-append items (new ∷ []));
@@ -208,12 +208,12 @@ kept_added is_interleaved cursor items totals named new size more is_now_marked 
     }
 
 -- the same, with one that isn't marked
-pub kept_pushed : (is_interleaved : Bool) (cursor : ℕ) (items : List Item) (totals : Totals) (named : NamedPlaces) (new : Item) (size : ℕ) (more : Totals) → IsKept is_interleaved cursor items totals named → length items + 1 < 2 ^ 31 → size ≡ size_of (header_of is_interleaved) new → more ≡ total_with new.progress size totals → is_marked new.progress.state ≡ false → AreSettled named (items ++ new ∷ []) → HasBytes new → IsKept is_interleaved cursor (items ++ new ∷ []) more named
+pub kept_pushed : (is_interleaved : Bool) (cursor : ℕ) (items : List Item) (totals : Totals) (named : NamedPlaces) (new : Item) (size : ℕ) (more : Totals) → AreItemsKept is_interleaved cursor items totals named → length items + 1 < 2 ^ 31 → size ≡ item_size (header_of is_interleaved) new → more ≡ total_with new.progress size totals → is_marked new.progress.state ≡ false → AreSettled named (items ++ new ∷ []) → HasBytes new → AreItemsKept is_interleaved cursor (items ++ new ∷ []) more named
 kept_pushed is_interleaved cursor items totals named new size more kept room sized is_more unmarked settled some =
     kept_added is_interleaved cursor items totals named new size more false cursor kept room sized is_more (sym unmarked) refl settled some
 
 -- what is kept of the items, without the first
-pub kept_removed : (is_interleaved : Bool) (cursor : ℕ) (item : Item) (items : List Item) (totals : Totals) (named : NamedPlaces) (size : ℕ) (less : Totals) (named' : NamedPlaces) → IsKept is_interleaved cursor (item ∷ items) totals named → size ≡ size_of (header_of is_interleaved) item → less ≡ total_without item.progress size totals → AreSettled named' items → IsKept is_interleaved (cursor - 1) items less named'
+pub kept_removed : (is_interleaved : Bool) (cursor : ℕ) (item : Item) (items : List Item) (totals : Totals) (named : NamedPlaces) (size : ℕ) (less : Totals) (named' : NamedPlaces) → AreItemsKept is_interleaved cursor (item ∷ items) totals named → size ≡ item_size (header_of is_interleaved) item → less ≡ total_without item.progress size totals → AreSettled named' items → AreItemsKept is_interleaved (cursor - 1) items less named'
 kept_removed is_interleaved cursor item items totals named size less named' kept sized is_less settled =
     record {
       few = let few = kept.few in omega arith;
@@ -236,7 +236,7 @@ le_or_lt a b = grind arith
 pub none_marked : (items : List Item) → ((k : ℕ) (item : Item) → slice_get items k ≡ Some item → is_marked item.progress.state ≡ false) → marked_items items ≡ 0
 none_marked [] each = refl
 none_marked (x ∷ xs) each =
-    let here = ap (λ (b : Bool). counted b 1) (each 0 x refl) in
+    let here = ap (λ (b : Bool). number_where b 1) (each 0 x refl) in
     let later = none_marked xs (λ k item is. each (suc k) item is) in
     let all = sum_by-cons marked_count x xs in
     omega arith

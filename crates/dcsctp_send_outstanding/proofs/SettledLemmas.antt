@@ -12,13 +12,13 @@ use Rattle.dcsctp_api.specs.types.declared.progress.Change.TheVariants.{SendAgai
 use Rattle.dcsctp_api.specs.types.declared.progress.ItemState.{ItemState}
 use Rattle.dcsctp_api.specs.types.declared.progress.ItemState.TheVariants.{InFlight, Marked, Acknowledged, Abandoned}
 use Rattle.dcsctp_api.specs.types.declared.progress.Progress.{Progress}
-use Rattle.dcsctp_api.specs.types.queues.Progress.{changed, tells_of, missed, missed_where, marked, acknowledged, is_in_flight, is_unacknowledged}
+use Rattle.dcsctp_api.specs.types.queues.Progress.{progress_changed, tells_of, missed, missed_where, marked_lost, acknowledged, is_in_flight, is_unacknowledged}
 use Rattle.dcsctp_send_outstanding.specs.Settled.{is_settled, leaves_settled, is_left_by, is_unsettled_by}
 use Rattle.dcsctp_send_outstanding.specs.declared.totals.Totals.{Totals}
-use Rattle.dcsctp_send_outstanding.specs.Outstanding.{IsKept, later_of}
+use Rattle.dcsctp_send_outstanding.specs.Outstanding.{AreItemsKept, later_of}
 use Rattle.dcsctp_api.specs.spec.queues.Outstanding.{reported}
-use Rattle.dcsctp_api.specs.spec.queues.Reports.{IsWithin, Names, IsLastAt, IsLast}
-use Rattle.dcsctp_send_outstanding.specs.NamedPlaces.{IsNamed, IsSettledAt, AreSettled, AreSettledBetween, BlocksAreSettled, IsLeftBetween}
+use Rattle.dcsctp_api.specs.spec.queues.Reports.{IsPlaceWithin, NamesItem, IsLastAt, IsLastPlace}
+use Rattle.dcsctp_send_outstanding.specs.NamedPlaces.{IsNamedPlace, IsSettledAt, AreSettled, AreSettledBetween, BlocksAreSettled, IsLeftBetween}
 use Rattle.dcsctp_send_outstanding.proofs.ItemsLemmas.{le_or_lt}
 use Rattle.dcsctp_send_outstanding.proofs.MessageLemmas.{index_at}
 use Rattle.dcsctp_send_outstanding.proofs.ReportLemmas.{has_item, last_either}
@@ -31,7 +31,7 @@ miss_is_same true progress same = same
 miss_is_same false progress same = refl
 
 -- a change leaves what it is known to leave
-pub left_is_same : (change : Change) (progress : Progress) → is_left_by change progress ≡ true → changed change progress ≡ progress
+pub left_is_same : (change : Change) (progress : Progress) → is_left_by change progress ≡ true → progress_changed change progress ≡ progress
 left_is_same (SendAgain next) progress h = absurd (cc)
 left_is_same (Miss newest) progress h = miss_is_same (tells_of progress.sent_before newest) progress (go progress.state h)
   where
@@ -42,7 +42,7 @@ left_is_same (Miss newest) progress h = miss_is_same (tells_of progress.sent_bef
     go Abandoned h = refl
 left_is_same Mark progress h = go progress.state h
   where
-    go : (state : ItemState) → not (is_in_flight state) ≡ true → marked state (record progress { state = state }) ≡ record progress { state = state }
+    go : (state : ItemState) → not (is_in_flight state) ≡ true → marked_lost state (record progress { state = state }) ≡ record progress { state = state }
     go InFlight h = absurd (cc)
     go Marked h = refl
     go Acknowledged h = refl
@@ -63,7 +63,7 @@ pub settled_is_not_awaited : (progress : Progress) → is_settled progress ≡ t
 settled_is_not_awaited progress h awaited = let both = rw awaited at h in absurd (cc)
 
 -- Most changes are known to leave what is settled.
-pub settled_is_left : (change : Change) (progress : Progress) → leaves_settled change ≡ true → is_settled progress ≡ true → changed change progress ≡ progress
+pub settled_is_left : (change : Change) (progress : Progress) → leaves_settled change ≡ true → is_settled progress ≡ true → progress_changed change progress ≡ progress
 settled_is_left (SendAgain next) progress leaves h = absurd (cc)
 settled_is_left (Miss newest) progress leaves h = miss_is_same (tells_of progress.sent_before newest) progress (go progress.state h)
   where
@@ -74,7 +74,7 @@ settled_is_left (Miss newest) progress leaves h = miss_is_same (tells_of progres
     go Abandoned h = refl
 settled_is_left Mark progress leaves h = go progress.state h
   where
-    go : (state : ItemState) → is_settled (record progress { state = state }) ≡ true → marked state (record progress { state = state }) ≡ record progress { state = state }
+    go : (state : ItemState) → is_settled (record progress { state = state }) ≡ true → marked_lost state (record progress { state = state }) ≡ record progress { state = state }
     go InFlight h = absurd (cc)
     go Marked h = refl
     go Acknowledged h = refl
@@ -83,7 +83,7 @@ settled_is_left Acknowledge progress leaves h = left_is_same Acknowledge progres
 settled_is_left Abandon progress leaves h = absurd (cc)
 
 -- what a SACK acknowledges is settled
-pub acknowledged_is_settled : (progress : Progress) → is_settled (changed Acknowledge progress) ≡ true
+pub acknowledged_is_settled : (progress : Progress) → is_settled (progress_changed Acknowledge progress) ≡ true
 acknowledged_is_settled progress = go progress.state
   where
     go : (state : ItemState) → is_settled (acknowledged state (record progress { state = state })) ≡ true
@@ -93,7 +93,7 @@ acknowledged_is_settled progress = go progress.state
     go Abandoned = refl
 
 -- What is settled stays so, unless the change is known to unsettle it.
-pub stays_settled : (change : Change) (progress : Progress) → is_unsettled_by change progress ≡ false → is_settled progress ≡ true → is_settled (changed change progress) ≡ true
+pub stays_settled : (change : Change) (progress : Progress) → is_unsettled_by change progress ≡ false → is_settled progress ≡ true → is_settled (progress_changed change progress) ≡ true
 stays_settled (SendAgain next) progress keeps h = absurd (cc)
 stays_settled (Miss newest) progress keeps h = rw (settled_is_left (Miss newest) progress refl h) h
 stays_settled Mark progress keeps h = rw (settled_is_left Mark progress refl h) h
@@ -113,7 +113,7 @@ pub none_left_changed : (change : Change) (start end : ℕ) (items : List Item) 
 none_left_changed change zero zero items left = refl
 none_left_changed change zero (suc end) [] left = refl
 none_left_changed change zero (suc end) (x ∷ xs) left =
-    let here : changed change x.progress ≡ x.progress = left 0 x (omega arith) (omega arith) refl in
+    let here : progress_changed change x.progress ≡ x.progress = left 0 x (omega arith) (omega arith) refl in
     let first : changed_item change x ≡ x = ap (λ (p : Progress). let it : Item = record x { progress = p } in it) here in
     let others = none_left_changed change zero end xs (λ k item from to at. left (suc k) item (omega arith) (omega arith) at) in
     rw (first, others) refl
@@ -145,7 +145,7 @@ same_at : (items : List Item) (k : ℕ) (a b : Item) → slice_get items k ≡ S
 same_at items k a b first second = cc
 
 -- one item that the change leaves
-pub one_left : (change : Change) (place : ℕ) (items : List Item) (item : Item) → slice_get items place ≡ Some item → changed change item.progress ≡ item.progress → items ≡ changed_between change place (place + 1) items
+pub one_left : (change : Change) (place : ℕ) (items : List Item) (item : Item) → slice_get items place ≡ Some item → progress_changed change item.progress ≡ item.progress → items ≡ changed_between change place (place + 1) items
 one_left change place items item at left = sym (none_left_changed change place (place + 1) items row)
   where
     row : IsLeftBetween change place (place + 1) items
@@ -155,7 +155,7 @@ one_left change place items item at left = sym (none_left_changed change place (
         rw same left
 
 -- a row of named places
-pub row_is_settled : (named : NamedPlaces) (items : List Item) (start end : ℕ) → AreSettled named items → ((k : ℕ) → start ≤ k → k < end → IsNamed named k) → AreSettledBetween start end items
+pub row_is_settled : (named : NamedPlaces) (items : List Item) (start end : ℕ) → AreSettled named items → ((k : ℕ) → start ≤ k → k < end → IsNamedPlace named k) → AreSettledBetween start end items
 row_is_settled named items start end settled row k item from to at = go (settled k (row k from to))
   where
     go : IsSettledAt items k → is_settled item.progress ≡ true
@@ -175,7 +175,7 @@ get_replaced (y ∷ ys) (suc place) (suc k) new x h =
     elim (get_replaced ys place k new x h) [ inl e ↦ inl (ap suc e.0, e.1) | inr e ↦ inr e ]
 
 -- one item is changed
-pub settled_replaced : (change : Change) (old named : NamedPlaces) (items : List Item) (place : ℕ) (item : Item) (progress : Progress) (unsettles : Bool) → AreSettled old items → item ≡ get_or items place item → progress ≡ changed change item.progress → unsettles ≡ is_unsettled_by change item.progress → ((k : ℕ) → IsNamed named k → (unsettles ≡ false) × IsNamed old k) → AreSettled named (set items place (record item { progress = progress }))
+pub settled_replaced : (change : Change) (old named : NamedPlaces) (items : List Item) (place : ℕ) (item : Item) (progress : Progress) (unsettles : Bool) → AreSettled old items → item ≡ get_or items place item → progress ≡ progress_changed change item.progress → unsettles ≡ is_unsettled_by change item.progress → ((k : ℕ) → IsNamedPlace named k → (unsettles ≡ false) × IsNamedPlace old k) → AreSettled named (set items place (record item { progress = progress }))
 settled_replaced change old named items place item progress unsettles settled is e test keeps k is_named =
     let kept = keeps k is_named in
     let was = settled k kept.1 in
@@ -202,11 +202,11 @@ settled_behind : (item : Item) (items : List Item) (k : ℕ) → IsSettledAt (it
 settled_behind item items k was = record { item = was.item; at = rw add-one at was.at; is = was.is }
 
 -- the first item is removed
-pub settled_removed : (old named : NamedPlaces) (item : Item) (items : List Item) → AreSettled old (item ∷ items) → ((k : ℕ) → IsNamed named k → IsNamed old (k + 1)) → AreSettled named items
+pub settled_removed : (old named : NamedPlaces) (item : Item) (items : List Item) → AreSettled old (item ∷ items) → ((k : ℕ) → IsNamedPlace named k → IsNamedPlace old (k + 1)) → AreSettled named items
 settled_removed old named item items settled shifts k is_named = settled_behind item items k (settled (k + 1) (shifts k is_named))
 
 -- more places are named
-pub settled_added : (old named : NamedPlaces) (items : List Item) (start end limit : ℕ) → AreSettled old items → AreSettledBetween start end items → limit ≡ min end (length items) → ((k : ℕ) → IsNamed named k → IsNamed old k ⊎ IsWithin start limit k) → AreSettled named items
+pub settled_added : (old named : NamedPlaces) (items : List Item) (start end limit : ℕ) → AreSettled old items → AreSettledBetween start end items → limit ≡ min end (length items) → ((k : ℕ) → IsNamedPlace named k → IsNamedPlace old k ⊎ IsPlaceWithin start limit k) → AreSettled named items
 settled_added old named items start end limit settled row is adds k is_named =
     elim (adds k is_named) [
       | inl before ↦ settled k before
@@ -217,14 +217,14 @@ settled_added old named items start end limit settled row is adds k is_named =
     ]
 
 -- other places are named
-pub kept_with_named : (is_interleaved : Bool) (cursor : ℕ) (items : List Item) (totals : Totals) (old named : NamedPlaces) → IsKept is_interleaved cursor items totals old → AreSettled named items → IsKept is_interleaved cursor items totals named
+pub kept_with_named : (is_interleaved : Bool) (cursor : ℕ) (items : List Item) (totals : Totals) (old named : NamedPlaces) → AreItemsKept is_interleaved cursor items totals old → AreSettled named items → AreItemsKept is_interleaved cursor items totals named
 kept_with_named is_interleaved cursor items totals old named kept settled =
     record { few = kept.few; sums = kept.sums; scanned = kept.scanned; settled = settled; bytes = kept.bytes }
 
 -- ---- what the blocks name
 
 -- What the change leaves at a place comes of the item there.
-comes_of : (change : Change) (start end : ℕ) (items : List Item) (k : ℕ) (y : Item) → slice_get (changed_between change start end items) k ≡ Some y → (x : Item) × ((slice_get items k ≡ Some x) × (((IsWithin start end k → ⊥) × (y ≡ x)) ⊎ (y ≡ changed_item change x)))
+comes_of : (change : Change) (start end : ℕ) (items : List Item) (k : ℕ) (y : Item) → slice_get (changed_between change start end items) k ≡ Some y → (x : Item) × ((slice_get items k ≡ Some x) × (((IsPlaceWithin start end k → ⊥) × (y ≡ x)) ⊎ (y ≡ changed_item change x)))
 comes_of change zero zero items k y h = (y, (h, inl (λ within. let to = within.1 in absurd (omega arith), refl)))
 comes_of change zero (suc end) [] k y h = absurd (cc)
 comes_of change zero (suc end) (x ∷ xs) zero y h = (x, (refl, inr (cc)))
@@ -270,7 +270,7 @@ reported_is_settled count (block ∷ blocks) items k y (inr others) h =
     reported_is_settled count blocks (changed_between Acknowledge (count + block.start - 1) (count + block.end) items) k y others h
 
 -- a block among them names its places
-named_by : (count : ℕ) (blocks : List GapAckBlock) (i : ℕ) (d : GapAckBlock) (place : ℕ) → i < length blocks → IsWithin (count + (get_or blocks i d).start - 1) (count + (get_or blocks i d).end) place → Names count blocks place
+named_by : (count : ℕ) (blocks : List GapAckBlock) (i : ℕ) (d : GapAckBlock) (place : ℕ) → i < length blocks → IsPlaceWithin (count + (get_or blocks i d).start - 1) (count + (get_or blocks i d).end) place → NamesItem count blocks place
 named_by count [] i d place within h = absurd (omega arith)
 named_by count (block ∷ blocks) zero d place within h = let a = h.0 in let b = h.1 in inl (omega arith, omega arith)
 named_by count (block ∷ blocks) (suc i) d place within h = inr (named_by count blocks i d place (omega arith) h)
@@ -281,9 +281,9 @@ block_is_settled count blocks i d items within settled k item from to at = settl
 -- ---- the last item that is awaited
 
 abbrev pub IsAwaitedWithin : ℕ → ℕ → ℕ → Item → Type 0
-IsAwaitedWithin start end place item = IsWithin start end place × (is_unacknowledged item.progress.state ≡ true)
+IsAwaitedWithin start end place item = IsPlaceWithin start end place × (is_unacknowledged item.progress.state ≡ true)
 
-pub none_awaited : (items : List Item) (start : ℕ) → IsLast (IsAwaitedWithin start start) items None
+pub none_awaited : (items : List Item) (start : ℕ) → IsLastPlace (IsAwaitedWithin start start) items None
 none_awaited items start k item at awaited = let a = awaited.0.0 in let b = awaited.0.1 in absurd (omega arith)
 
 -- a row of one place
@@ -291,7 +291,7 @@ pub awaited_here : (items : List Item) (place : ℕ) (item : Item) → slice_get
 awaited_here items place item at awaited =
     record { item = item; at = at; holds = ((omega arith, omega arith), awaited); last = λ k x behind there holds. let to = holds.0.1 in absurd (omega arith) }
 
-pub none_awaited_here : (items : List Item) (place : ℕ) (item : Item) → slice_get items place ≡ Some item → is_unacknowledged item.progress.state ≡ false → IsLast (IsAwaitedWithin place (place + 1)) items None
+pub none_awaited_here : (items : List Item) (place : ℕ) (item : Item) → slice_get items place ≡ Some item → is_unacknowledged item.progress.state ≡ false → IsLastPlace (IsAwaitedWithin place (place + 1)) items None
 none_awaited_here items place item at unawaited k x there holds =
     let from = holds.0.0 in
     let to = holds.0.1 in
@@ -303,13 +303,13 @@ none_awaited_here items place item at unawaited k x there holds =
     absurd (cc)
 
 -- the same of another row, where the items of both that are awaited are the same
-last_at_same : (P Q : ℕ → Item → Type 0) (items : List Item) (found : Option ℕ) → ((k : ℕ) (x : Item) → P k x → Q k x) → ((k : ℕ) (x : Item) → slice_get items k ≡ Some x → Q k x → P k x) → IsLast P items found → IsLast Q items found
+last_at_same : (P Q : ℕ → Item → Type 0) (items : List Item) (found : Option ℕ) → ((k : ℕ) (x : Item) → P k x → Q k x) → ((k : ℕ) (x : Item) → slice_get items k ≡ Some x → Q k x → P k x) → IsLastPlace P items found → IsLastPlace Q items found
 last_at_same P Q items None to from none = λ k x at holds. none k x at (from k x at holds)
 last_at_same P Q items (Some place) to from found =
     record { item = found.item; at = found.at; holds = to place found.item found.holds; last = λ k x behind at holds. found.last k x behind at (from k x at holds) }
 
 -- the row reaches further over settled items
-pub awaited_past : (items : List Item) (start place end : ℕ) (found : Option ℕ) → place ≤ end → AreSettledBetween place end items → IsLast (IsAwaitedWithin start place) items found → IsLast (IsAwaitedWithin start end) items found
+pub awaited_past : (items : List Item) (start place end : ℕ) (found : Option ℕ) → place ≤ end → AreSettledBetween place end items → IsLastPlace (IsAwaitedWithin start place) items found → IsLastPlace (IsAwaitedWithin start end) items found
 awaited_past items start place end found further settled last =
     last_at_same (λ k x. IsAwaitedWithin start place k x) (λ k x. IsAwaitedWithin start end k x) items found
     (λ k x holds. let to = holds.0.1 in ((holds.0.0, omega arith), holds.1))
@@ -320,7 +320,7 @@ awaited_past items start place end found further settled last =
     last
 
 -- one place more
-pub awaited_further : (items : List Item) (start place : ℕ) (a b : Option ℕ) → start ≤ place → IsLast (IsAwaitedWithin start place) items a → IsLast (IsAwaitedWithin place (place + 1)) items b → IsLast (IsAwaitedWithin start (place + 1)) items (later_of a b)
+pub awaited_further : (items : List Item) (start place : ℕ) (a b : Option ℕ) → start ≤ place → IsLastPlace (IsAwaitedWithin start place) items a → IsLastPlace (IsAwaitedWithin place (place + 1)) items b → IsLastPlace (IsAwaitedWithin start (place + 1)) items (later_of a b)
 awaited_further items start place a b from before here =
     last_at_same (λ k x. IsAwaitedWithin start place k x ⊎ IsAwaitedWithin place (place + 1) k x) (λ k x. IsAwaitedWithin start (place + 1) k x) items (later_of a b)
     (λ k x holds. elim holds [
@@ -334,7 +334,7 @@ awaited_further items start place a b from before here =
     (last_either (λ k x. IsAwaitedWithin start place k x) (λ k x. IsAwaitedWithin place (place + 1) k x) items a b before here)
 
 -- as far as there are items
-pub awaited_as_far : (items : List Item) (start place end : ℕ) (found : Option ℕ) → place ≡ max start (min end (length items)) → IsLast (IsAwaitedWithin start place) items found → IsLast (IsAwaitedWithin start end) items found
+pub awaited_as_far : (items : List Item) (start place end : ℕ) (found : Option ℕ) → place ≡ max start (min end (length items)) → IsLastPlace (IsAwaitedWithin start place) items found → IsLastPlace (IsAwaitedWithin start end) items found
 awaited_as_far items start place end found is last =
     last_at_same (λ k x. IsAwaitedWithin start place k x) (λ k x. IsAwaitedWithin start end k x) items found
     (λ k x holds. let a = holds.0.0 in let b = holds.0.1 in ((a, omega arith), holds.1))

@@ -2,7 +2,7 @@
 use Rattle.std.specs.Prelude.{◌≡◌, ℕ, zero, suc, ◌+◌, ◌%◌, ◌^◌, ◌≤◌, List, [], ◌∷◌, ◌++◌, length}
 use Rattle.dcsctp_api.specs.spec.queues.Items.{Item, marked_items}
 use Rattle.dcsctp_api.specs.spec.queues.Outstanding.{OutstandingState}
-use Rattle.dcsctp_api.specs.spec.queues.Filling.{IsFresh}
+use Rattle.dcsctp_api.specs.spec.queues.Filling.{IsSentFirstNow}
 
 -- the TSNs of that many places from this one on
 abbrev pub tsns_from : ℕ → ℕ → ℕ → List ℕ
@@ -12,7 +12,7 @@ tsns_from first place (suc count) = ((first + place) % 2 ^ 32) ∷ tsns_from fir
 -- each of them does
 abbrev pub AllFresh : ℕ → List Item → Type 0
 AllFresh now [] = Unit {0}
-AllFresh now (item ∷ items) = IsFresh now item × AllFresh now items
+AllFresh now (item ∷ items) = IsSentFirstNow now item × AllFresh now items
 
 -- Such items come after the others, and their TSNs after those in a packet.
 pub record SendsFresh (now : ℕ) (old new : OutstandingState) (before after : List ℕ) : Type 0 where

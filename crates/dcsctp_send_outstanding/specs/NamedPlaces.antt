@@ -5,12 +5,12 @@ use Rattle.dcsctp_api.specs.spec.queues.Items.{Item}
 use Rattle.dcsctp_send_outstanding.specs.declared.named_places.Row.{Row}
 use Rattle.dcsctp_api.specs.types.declared.progress.Change.{Change}
 use Rattle.dcsctp_send_outstanding.specs.declared.named_places.NamedPlaces.{NamedPlaces}
-use Rattle.dcsctp_api.specs.types.queues.Progress.{changed}
+use Rattle.dcsctp_api.specs.types.queues.Progress.{progress_changed}
 use Rattle.dcsctp_send_outstanding.specs.Settled.{is_settled}
-use Rattle.dcsctp_api.specs.spec.queues.Reports.{Names}
+use Rattle.dcsctp_api.specs.spec.queues.Reports.{NamesItem}
 
 -- One of the rows names the place.
-pub record IsNamed (named : NamedPlaces) (place : ℕ) : Type 0 where
+pub record IsNamedPlace (named : NamedPlaces) (place : ℕ) : Type 0 where
   pub index : ℕ
   pub row : Row
   pub at : slice_get named.rows.items index ≡ Some row
@@ -26,7 +26,7 @@ pub record IsSettledAt (items : List Item) (place : ℕ) : Type 0 where
 
 -- There is an item at each place that is named, and it is settled.
 abbrev pub AreSettled : NamedPlaces → List Item → Type 0
-AreSettled named items = (place : ℕ) → IsNamed named place → IsSettledAt items place
+AreSettled named items = (place : ℕ) → IsNamedPlace named place → IsSettledAt items place
 
 -- the items from place `start` to before place `end` are settled
 abbrev pub AreSettledBetween : ℕ → ℕ → List Item → Type 0
@@ -34,8 +34,8 @@ AreSettledBetween start end items = (k : ℕ) (item : Item) → start ≤ k → 
 
 -- those that the blocks name are
 abbrev pub BlocksAreSettled : ℕ → List GapAckBlock → List Item → Type 0
-BlocksAreSettled count blocks items = (k : ℕ) (item : Item) → Names count blocks k → slice_get items k ≡ Some item → is_settled item.progress ≡ true
+BlocksAreSettled count blocks items = (k : ℕ) (item : Item) → NamesItem count blocks k → slice_get items k ≡ Some item → is_settled item.progress ≡ true
 
 -- The change leaves the items from place `start` to before place `end` as they are.
 abbrev pub IsLeftBetween : Change → ℕ → ℕ → List Item → Type 0
-IsLeftBetween change start end items = (k : ℕ) (item : Item) → start ≤ k → k < end → slice_get items k ≡ Some item → changed change item.progress ≡ item.progress
+IsLeftBetween change start end items = (k : ℕ) (item : Item) → start ≤ k → k < end → slice_get items k ≡ Some item → progress_changed change item.progress ≡ item.progress

@@ -9,7 +9,7 @@ use Rattle.dcsctp_api.specs.types.declared.progress.Change.TheVariants.{SendAgai
 use Rattle.dcsctp_api.specs.types.declared.progress.ItemState.TheVariants.{Abandoned}
 use Rattle.dcsctp_send_outstanding.specs.declared.totals.Totals.{Totals}
 use Rattle.dcsctp_send_outstanding.specs.NamedPlaces.{AreSettled}
-use Rattle.dcsctp_api.specs.spec.queues.Outstanding.{OutstandingState, header_of, tsn_at, next_tsn, distance_to, acknowledged_by}
+use Rattle.dcsctp_api.specs.spec.queues.Outstanding.{OutstandingState, header_of, tsn_at, next_tsn, distance_to, acknowledged_count}
 use Rattle.dcsctp_api.specs.types.queues.Progress.{just_sent, is_marked}
 use Rattle.dcsctp_api.specs.spec.queues.NextItem.{NoneMarkedBefore, IsMarkedAt}
 use Rattle.dcsctp_api.specs.spec.Soundness.{HasBytes}
@@ -20,7 +20,7 @@ FindsPlaces outstanding = (place : ℕ) → place < length outstanding.items →
 
 -- It isn't behind, and was sent.
 abbrev pub was_sent : OutstandingState → ℕ → Type 0
-was_sent outstanding cumulative = acknowledged_by outstanding cumulative ≤ length outstanding.items
+was_sent outstanding cumulative = acknowledged_count outstanding cumulative ≤ length outstanding.items
 
 -- the sums are those of the items
 pub record IsSummed (header : ℕ) (items : List Item) (totals : Totals) : Type 0 where
@@ -34,7 +34,7 @@ pub record IsSummed (header : ℕ) (items : List Item) (totals : Totals) : Type 
 abbrev pub NoneMarkedBetween : ℕ → ℕ → List Item → Type 0
 NoneMarkedBetween start end items = (k : ℕ) (item : Item) → start ≤ k → k < end → slice_get items k ≡ Some item → is_marked item.progress.state ≡ false
 
-pub record IsKept (is_interleaved : Bool) (cursor : ℕ) (items : List Item) (totals : Totals) (named : NamedPlaces) : Type 0 where
+pub record AreItemsKept (is_interleaved : Bool) (cursor : ℕ) (items : List Item) (totals : Totals) (named : NamedPlaces) : Type 0 where
   -- TSNs can be compared (RFC 9260, section 1.6)
   pub few : length items < 2 ^ 31
   pub sums : IsSummed (header_of is_interleaved) items totals

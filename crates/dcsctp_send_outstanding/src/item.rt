@@ -38,12 +38,12 @@ impl Model for Item {
 }
 
 impl Item {
-    ghost use Rattle.dcsctp_api.specs.spec.queues.Items.{size_of};
+    ghost use Rattle.dcsctp_api.specs.spec.queues.Items.{item_size};
 
     /// How long its chunk is, as I-DATA or as DATA, with its header and padding. No payload is above 65,535
     /// bytes.
     pub fn size(&self, interleaving: bool) -> usize
-        ensures { result ≡ size_of (header_of interleaving) self.now }
+        ensures { result ≡ item_size (header_of interleaving) self.now }
     {
         header_of(interleaving) + (self.fragment.payload.len().min(65535) + 3) / 4 * 4
     }

@@ -2,7 +2,7 @@
 //! 9260, section 3.3.4).
 
 ghost use Rattle.std.specs.Prelude.{◌≡◌, ◌⊎◌, ◌<◌, ◌≤◌, ◌+◌, ℕ};
-ghost use Rattle.dcsctp_send_outstanding.specs.NamedPlaces.{IsNamed};
+ghost use Rattle.dcsctp_send_outstanding.specs.NamedPlaces.{IsNamedPlace};
 
 use std::alloc::Global;
 
@@ -28,11 +28,11 @@ pub struct NamedPlaces {
 
 impl NamedPlaces {
     ghost use Rattle.std.specs.Prelude.{false};
-    ghost use Rattle.dcsctp_api.specs.spec.queues.Reports.{IsWithin};
+    ghost use Rattle.dcsctp_api.specs.spec.queues.Reports.{IsPlaceWithin};
 
     /// No place. Allocates nothing.
     pub fn new(alloc: Global) -> NamedPlaces
-        ensures { (place : ℕ) → IsNamed result place → ⊥ }
+        ensures { (place : ℕ) → IsNamedPlace result place → ⊥ }
     {
         NamedPlaces {
             rows: Vec::new(alloc),
@@ -43,21 +43,21 @@ impl NamedPlaces {
 
     /// Forgets all places. The room for rows is kept.
     pub fn clear(&mut self)
-        ensures { (place : ℕ) → IsNamed self.new place → ⊥ }
+        ensures { (place : ℕ) → IsNamedPlace self.new place → ⊥ }
     {
         self.rows.clear();
     }
 
     /// Forgets all places, and gives the room for rows back.
     pub fn free(&mut self)
-        ensures { (place : ℕ) → IsNamed self.new place → ⊥ }
+        ensures { (place : ℕ) → IsNamedPlace self.new place → ⊥ }
     {
         self.rows = Vec::new(self.alloc);
     }
 
     /// Forgets all places where the test holds.
     pub fn clear_if(&mut self, test: bool)
-        ensures { (place : ℕ) → IsNamed self.new place → (test ≡ false) × IsNamed self.old place }
+        ensures { (place : ℕ) → IsNamedPlace self.new place → (test ≡ false) × IsNamedPlace self.old place }
     {
         if test {
             self.clear();
@@ -66,7 +66,7 @@ impl NamedPlaces {
 
     /// Adds the places from `start` on and before `end`.
     pub fn add(&mut self, start: usize, end: usize)
-        ensures { (place : ℕ) → IsNamed self.new place → IsNamed self.old place ⊎ IsWithin start end place }
+        ensures { (place : ℕ) → IsNamedPlace self.new place → IsNamedPlace self.old place ⊎ IsPlaceWithin start end place }
     {
         let row = Row {
             start: start.saturating_add(self.removed),
@@ -77,7 +77,7 @@ impl NamedPlaces {
 
     /// The first item was removed: each place is one less.
     pub fn shift(&mut self)
-        ensures { (place : ℕ) → IsNamed self.new place → IsNamed self.old (place + 1) }
+        ensures { (place : ℕ) → IsNamedPlace self.new place → IsNamedPlace self.old (place + 1) }
     {
         self.removed = self.removed.saturating_add(1);
     }
@@ -103,7 +103,7 @@ impl NamedPlaces {
     /// Up to where the row names each place from this one on: the place itself if it doesn't name it.
     pub fn end_from(&self, row: usize, place: usize) -> usize
         ensures from { place ≤ result }
-        ensures named { (k : ℕ) → place ≤ k → k < result → IsNamed self.now k }
+        ensures named { (k : ℕ) → place ≤ k → k < result → IsNamedPlace self.now k }
     {
         let rows = self.rows.as_slice();
         if rows.len() <= row {

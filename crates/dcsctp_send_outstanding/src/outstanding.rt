@@ -44,7 +44,7 @@ pub struct Outstanding {
 }
 
 impl Model for Outstanding {
-    ghost use Rattle.dcsctp_send_outstanding.specs.Outstanding.{IsKept};
+    ghost use Rattle.dcsctp_send_outstanding.specs.Outstanding.{AreItemsKept};
     ghost use Rattle.dcsctp_api.specs.spec.queues.Outstanding.{OutstandingState};
 
     ghost Value = { OutstandingState };
@@ -55,7 +55,7 @@ impl Model for Outstanding {
       items = outstanding.items.items;
     } };
 
-    ghost invariant = { λ outstanding. IsKept outstanding.interleaving outstanding.cursor outstanding.items.items outstanding.totals outstanding.named };
+    ghost invariant = { λ outstanding. AreItemsKept outstanding.interleaving outstanding.cursor outstanding.items.items outstanding.totals outstanding.named };
 }
 
 impl Outstanding {
@@ -63,7 +63,7 @@ impl Outstanding {
     ghost use Rattle.std.specs.List.{AllByRecursion};
     ghost use Rattle.dcsctp_api.specs.spec.Soundness.{HasBytes};
     ghost use Rattle.dcsctp_api.specs.types.declared.progress.Change.TheVariants.{SendAgain};
-    ghost use Rattle.dcsctp_api.specs.spec.queues.Items.{size_of, bytes_in_flight, unacknowledged_bytes, unacknowledged_items, never_acknowledged_items, marked_items, changed_between};
+    ghost use Rattle.dcsctp_api.specs.spec.queues.Items.{item_size, bytes_in_flight, unacknowledged_bytes, unacknowledged_items, never_acknowledged_items, marked_items, changed_between};
     ghost use Rattle.dcsctp_api.specs.types.queues.Progress.{is_marked};
     ghost use Rattle.dcsctp_api.specs.spec.queues.NextItem.{IsNextMarked, HasNone, IsMarkedAt};
     ghost use Rattle.dcsctp_send_outstanding.specs.Outstanding.{FindsPlaces, KeepsAbandoned, MayChange, TriesNext, NoneMarkedBetween};
@@ -185,7 +185,7 @@ impl Outstanding {
     /// How long the chunk of the item at the place is.
     pub fn size_at(&self, place: usize) -> usize
         requires { place < length self.now.items }
-        ensures { IfSome (slice_get self.now.items place) (λ item. result ≡ size_of (header self.now) item) }
+        ensures { IfSome (slice_get self.now.items place) (λ item. result ≡ item_size (header self.now) item) }
     {
         self.items[place].size(self.interleaving)
     }

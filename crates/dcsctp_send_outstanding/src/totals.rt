@@ -1,7 +1,7 @@
 //! The sums over all items that are asked for with each packet.
 
 ghost use Rattle.std.specs.Prelude.{◌≡◌};
-ghost use Rattle.dcsctp_api.specs.spec.queues.Items.{counted};
+ghost use Rattle.dcsctp_api.specs.spec.queues.Items.{number_where};
 
 use dcsctp_api::types::Progress;
 
@@ -25,13 +25,13 @@ pub struct Totals {
 }
 
 fn counted(test: bool, number: usize) -> usize
-    ensures { result ≡ counted test number }
+    ensures { result ≡ number_where test number }
 {
     if test { number } else { 0 }
 }
 
 impl Totals {
-    ghost use Rattle.dcsctp_send_outstanding.specs.Totals.{no_totals, HasOne, HasRoom, total_with, total_without};
+    ghost use Rattle.dcsctp_send_outstanding.specs.Totals.{no_totals, HasOne, HasRoomInTotals, total_with, total_without};
 
     /// Those of no items.
     pub fn none() -> Totals
@@ -48,7 +48,7 @@ impl Totals {
 
     /// Counts an item that is so far, of this size.
     pub fn add(&mut self, progress: Progress, size: usize)
-        requires { HasRoom size self.old }
+        requires { HasRoomInTotals size self.old }
         ensures { self.new ≡ total_with progress size self.old }
     {
         let state = progress.state;

@@ -3,11 +3,11 @@ use Rattle.std.proofs.Common.{◌≡◌, ◌≢◌, ◌==◌, ◌%◌, nat_le, �
 use Rattle.std.proofs.lemmas.Bool.Decides.{nat_tests}
 use Rattle.std.specs.List.{insert}
 use Rattle.dcsctp_api.specs.spec.endpoint.Event.{Event}
-use Rattle.dcsctp_api.specs.spec.queues.SendQueue.{SendQueueState, changed, with_stream, used, IsUnderWay, CanGoOn}
+use Rattle.dcsctp_api.specs.spec.queues.SendQueue.{SendQueueState, stream_changed, with_stream, used, IsUnderWay, CanGoOn}
 use Rattle.dcsctp_api.specs.types.declared.sending.UnderWay.{UnderWay}
-use Rattle.dcsctp_api.specs.types.queues.SendStreams.{Waiting, Stream, unused, front_of, counted, served, stream_at, IsAscending}
+use Rattle.dcsctp_api.specs.types.queues.SendStreams.{Waiting, Stream, unused, front_of, stream_counted, served, stream_at, IsAscending}
 use Rattle.dcsctp_send_streams.specs.Ranking.{IsFound}
-use Rattle.dcsctp_api.specs.spec.queues.Sending.{Chooses, IsNamed, Drops, none, more, reduced, next_turn, counting, after_part, after_last, produced, is_last}
+use Rattle.dcsctp_api.specs.spec.queues.Sending.{Chooses, IsMessageUnderWay, Drops, none, more, reduced, next_turn, begun_message_counted, after_part, after_last, produced, is_last}
 use Rattle.dcsctp_send_streams.proofs.StreamLemmas.{stream_at-set, length-set_at}
 use Rattle.dcsctp_send_streams.proofs.NextLemmas.{same_place}
 use Rattle.dcsctp_send_queue.proofs.QueueLemmas.{less_test, not_less_test, changed_at, used_found, lost_after, used_lost, changed_insert, stream_at-either, under_way_set}
@@ -53,13 +53,13 @@ pub drops-under_way : (now : ℕ) (old queue : SendQueueState) (events : List (E
 drops-under_way now old queue events none = refl
 drops-under_way now old queue events (more told before place message drops next front expired) = drops-under_way now old before told drops
 
-pub counted-front : (i b : Bool) (s : Stream) → (counted i b s).messages ≡ s.messages
+pub counted-front : (i b : Bool) (s : Stream) → (stream_counted i b s).messages ≡ s.messages
 counted-front false false s = refl
 counted-front false true s = refl
 counted-front true false s = refl
 counted-front true true s = refl
 
-pub counted-number : (i b : Bool) (s : Stream) → (counted i b s).id ≡ s.id
+pub counted-number : (i b : Bool) (s : Stream) → (stream_counted i b s).id ≡ s.id
 counted-number false false s = refl
 counted-number false true s = refl
 counted-number true false s = refl
@@ -69,12 +69,12 @@ pub part_at : (streams : List Stream) (p size amount turn : ℕ) (i b first : Bo
     → p < length streams → (stream_at streams p).id ≡ u.stream_id.0 → front_of (stream_at streams p).messages ≡ Some message
     → next.stream_id.0 ≡ u.stream_id.0 → 0 < next.sent → next.sent < length message.payload
     → let reduced = set streams p (record (stream_at streams p) { amount = amount }) in
-    IsUnderWay (if first then set reduced p (served turn (counted i b (stream_at reduced p))) else reduced) next
+    IsUnderWay (if first then set reduced p (served turn (stream_counted i b (stream_at reduced p))) else reduced) next
 part_at streams p size amount turn i b true u next message lt is front same some less =
     let s = record (stream_at streams p) { amount = amount } in
     let len = length-set_at streams p s in
     let at = stream_at-set streams p s lt in
-    let last : Stream = served turn (counted i b (stream_at (set streams p s) p)) in
+    let last : Stream = served turn (stream_counted i b (stream_at (set streams p s) p)) in
     let again = stream_at-set (set streams p s) p last (omega (arith, len)) in
     let more = length-set_at (set streams p s) p last in
     record {
@@ -103,7 +103,7 @@ part_at streams p size amount turn i b false u next message lt is front same som
 pub part_goes : (queue : SendQueueState) (place size : ℕ) (first : Bool) (u next : UnderWay) (message : Waiting)
     → place < length queue.streams → (stream_at queue.streams place).id ≡ u.stream_id.0 → front_of (stream_at queue.streams place).messages ≡ Some message
     → next.stream_id.0 ≡ u.stream_id.0 → 0 < next.sent → next.sent < length message.payload
-    → IsUnderWay (if first then counting place message.is_unordered (reduced place size queue) else reduced place size queue).streams next
+    → IsUnderWay (if first then begun_message_counted place message.is_unordered (reduced place size queue) else reduced place size queue).streams next
 part_goes queue place size true u next message lt is front same some less =
     part_at queue.streams place size ((stream_at queue.streams place).amount - size) (next_turn queue) queue.is_interleaved message.is_unordered true u next message lt is front same some less
 part_goes queue place size false u next message lt is front same some less =
@@ -153,17 +153,17 @@ pub insert-used : (queue : SendQueueState) (p id : ℕ) → IsFound queue.stream
 insert-used queue p id lost = insert-with_stream queue.streams p (unused id queue.default_priority queue.default_threshold) lost ∙ sym (used-lost queue p id lost)
 
 -- a changed stream that is put in, as it is used first
-pub insert-changed : (queue : SendQueueState) (p id : ℕ) (f : Stream → Stream) → IsFound queue.streams id (Err p) → insert queue.streams p (f (unused id queue.default_priority queue.default_threshold)) ≡ changed id f (used queue id)
+pub insert-changed : (queue : SendQueueState) (p id : ℕ) (f : Stream → Stream) → IsFound queue.streams id (Err p) → insert queue.streams p (f (unused id queue.default_priority queue.default_threshold)) ≡ stream_changed id f (used queue id)
 insert-changed queue p id f lost =
-    changed_insert queue.streams p id (unused id queue.default_priority queue.default_threshold) f lost refl ∙ ap (λ ts. changed id f ts) (sym (used-lost queue p id lost))
+    changed_insert queue.streams p id (unused id queue.default_priority queue.default_threshold) f lost refl ∙ ap (λ ts. stream_changed id f ts) (sym (used-lost queue p id lost))
 
 -- a change of a stream that was used
-pub set-changed : (queue : SendQueueState) (p id : ℕ) (f : Stream → Stream) → IsAscending queue.streams → IsFound queue.streams id (Ok p) → set queue.streams p (f (stream_at queue.streams p)) ≡ changed id f (used queue id)
+pub set-changed : (queue : SendQueueState) (p id : ℕ) (f : Stream → Stream) → IsAscending queue.streams → IsFound queue.streams id (Ok p) → set queue.streams p (f (stream_at queue.streams p)) ≡ stream_changed id f (used queue id)
 set-changed queue p id f ascending found =
-    changed_at queue.streams p id f ascending found ∙ ap (λ ts. changed id f ts) (sym (used-found queue p id ascending found))
+    changed_at queue.streams p id f ascending found ∙ ap (λ ts. stream_changed id f ts) (sym (used-found queue p id ascending found))
 
 -- another message is under way
-pub not_named : (queue : SendQueueState) (stream message_id p : ℕ) (message : Waiting) → IsAscending queue.streams → IsFound queue.streams stream (Ok p) → front_of (stream_at queue.streams p).messages ≡ Some message → message.message_id ≢ message_id → IsNamed queue stream message_id → ⊥
+pub not_named : (queue : SendQueueState) (stream message_id p : ℕ) (message : Waiting) → IsAscending queue.streams → IsFound queue.streams stream (Ok p) → front_of (stream_at queue.streams p).messages ≡ Some message → message.message_id ≢ message_id → IsMessageUnderWay queue stream message_id → ⊥
 not_named queue stream message_id p message ascending found front other named =
     let same = same_place queue.streams named.place p ascending named.within found.0 (named.is ∙ sym found.1) in
     let e : Some named.message ≡ Some message = sym named.front ∙ (ap (λ k. front_of (stream_at queue.streams k).messages) same ∙ front) in

@@ -5,7 +5,7 @@ use Rattle.std.specs.List.{insert}
 use Rattle.dcsctp_api.specs.types.declared.sending.UnderWay.{UnderWay}
 use Rattle.dcsctp_api.specs.types.queues.SendStreams.{Waiting, Stream, front_of, stream_at, IsBelow, IsAscending}
 use Rattle.dcsctp_send_streams.specs.Ranking.{IsFound}
-use Rattle.dcsctp_api.specs.spec.queues.SendQueue.{changed, with_stream, is_used, found_in, IsUnderWay}
+use Rattle.dcsctp_api.specs.spec.queues.SendQueue.{stream_changed, with_stream, is_used, found_in, IsUnderWay}
 use Rattle.dcsctp_send_streams.proofs.StreamLemmas.{length-set_at}
 
 pub same_test : (a b : ℕ) → a ≡ b → (a == b) ≡ true
@@ -20,7 +20,7 @@ less_test a b e = grind (arith, nat_tests)
 pub not_less_test : (a b : ℕ) → b ≤ a → nat_lt a b ≡ false
 not_less_test a b e = grind (arith, nat_tests)
 
-pub changed-none : (id : ℕ) (f : Stream → Stream) (streams : List Stream) → ((k : ℕ) → k < length streams → id < (stream_at streams k).id) → changed id f streams ≡ streams
+pub changed-none : (id : ℕ) (f : Stream → Stream) (streams : List Stream) → ((k : ℕ) → k < length streams → id < (stream_at streams k).id) → stream_changed id f streams ≡ streams
 changed-none id f [] h = refl
 changed-none id f (x ∷ xs) h =
     let e = other_test x.id id (let b = h zero (omega arith) in omega (arith, b)) in
@@ -32,7 +32,7 @@ IsBelow-out id (x ∷ xs) below zero lt = below.0
 IsBelow-out id (x ∷ xs) below (suc k) lt = IsBelow-out id xs below.1 k (omega arith)
 
 -- a change at the place of a stream is one by its number
-pub changed_at : (streams : List Stream) (p id : ℕ) (f : Stream → Stream) → IsAscending streams → IsFound streams id (Ok p) → set streams p (f (stream_at streams p)) ≡ changed id f streams
+pub changed_at : (streams : List Stream) (p id : ℕ) (f : Stream → Stream) → IsAscending streams → IsFound streams id (Ok p) → set streams p (f (stream_at streams p)) ≡ stream_changed id f streams
 changed_at [] p id f ascending found = absurd (let b = found.0 in omega arith)
 changed_at (x ∷ xs) zero id f ascending found =
     let e = same_test x.id id found.1 in
@@ -67,7 +67,7 @@ used_lost (x ∷ xs) (suc p) id lost =
     rw e (used_lost xs p id (lost_after x xs p id lost))
 
 -- a changed stream that is put in
-pub changed_insert : (streams : List Stream) (p id : ℕ) (u : Stream) (f : Stream → Stream) → IsFound streams id (Err p) → u.id ≡ id → insert streams p (f u) ≡ changed id f (with_stream u streams)
+pub changed_insert : (streams : List Stream) (p id : ℕ) (u : Stream) (f : Stream → Stream) → IsFound streams id (Err p) → u.id ≡ id → insert streams p (f u) ≡ stream_changed id f (with_stream u streams)
 changed_insert [] zero id u f lost is = let e = same_test u.id id is in rw e refl
 changed_insert [] (suc p) id u f lost is = absurd (let b = lost.0 in omega arith)
 changed_insert (x ∷ xs) zero id u f lost is =

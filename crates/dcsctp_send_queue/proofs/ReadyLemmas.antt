@@ -5,13 +5,13 @@ use Rattle.dcsctp_api.specs.types.declared.ids.StreamId.{StreamId}
 use Rattle.dcsctp_api.specs.types.declared.sending.UnderWay.{UnderWay}
 use Rattle.dcsctp_api.specs.types.queues.SendStreams.{Stream, handed_out, stream_at}
 use Rattle.dcsctp_send_streams.specs.Ranking.{IsFound}
-use Rattle.dcsctp_api.specs.spec.queues.SendQueue.{changed, CanGoOn}
+use Rattle.dcsctp_api.specs.spec.queues.SendQueue.{stream_changed, CanGoOn}
 use Rattle.dcsctp_api.specs.spec.queues.OwnResets.{is_ready, handing_out}
 use Rattle.dcsctp_send_streams.proofs.NextLemmas.{absent_at}
 use Rattle.dcsctp_send_queue.proofs.ResetLemmas.{can_go_on-map, changed_absent}
 
 -- no stream has this number
-pub changed_lost : (streams : List Stream) (p id : ℕ) (f : Stream → Stream) → IsFound streams id (Err p) → changed id f streams ≡ streams
+pub changed_lost : (streams : List Stream) (p id : ℕ) (f : Stream → Stream) → IsFound streams id (Err p) → stream_changed id f streams ≡ streams
 changed_lost streams p id f lost = changed_absent id f streams (λ k lt e. absent_at streams id p k lost lt e)
 
 pub kept_number : (b : Bool) (s : Stream) → (if b then handed_out s else s).id ≡ s.id
@@ -25,18 +25,18 @@ kept_messages false s = refl
 pub can_go_on-handing_out : (ids : List ℕ) (streams : List Stream) (under_way : Option UnderWay) → CanGoOn streams under_way → CanGoOn (handing_out ids streams) under_way
 can_go_on-handing_out [] streams under_way can = can
 can_go_on-handing_out (id ∷ ids) streams under_way can =
-    can_go_on-handing_out ids (changed id handed_out streams) under_way
+    can_go_on-handing_out ids (stream_changed id handed_out streams) under_way
     (can_go_on-map (λ s. if s.id == id then handed_out s else s) streams under_way (λ s. kept_number (s.id == id) s) (λ s. kept_messages (s.id == id) s) can)
 
 pub handing_out-suc : (ids : List StreamId) (k : ℕ) (d : StreamId) (streams : List Stream) → k < length ids
-    → changed (get_or ids k d).0 handed_out (handing_out (stream_numbers (take k ids)) streams) ≡ handing_out (stream_numbers (take (suc k) ids)) streams
+    → stream_changed (get_or ids k d).0 handed_out (handing_out (stream_numbers (take k ids)) streams) ≡ handing_out (stream_numbers (take (suc k) ids)) streams
 handing_out-suc [] k d streams lt = absurd (omega arith)
 handing_out-suc (id ∷ ids) zero d streams lt = refl
-handing_out-suc (id ∷ ids) (suc k) d streams lt = handing_out-suc ids k d (changed id.0 handed_out streams) (omega arith)
+handing_out-suc (id ∷ ids) (suc k) d streams lt = handing_out-suc ids k d (stream_changed id.0 handed_out streams) (omega arith)
 
 -- one more is handed out
 pub handing_out-step : (ids : List StreamId) (k j : ℕ) (d : StreamId) (streams : List Stream) → j ≡ k + 1 → k < length ids
-    → changed (get_or ids k d).0 handed_out (handing_out (stream_numbers (take k ids)) streams) ≡ handing_out (stream_numbers (take j ids)) streams
+    → stream_changed (get_or ids k d).0 handed_out (handing_out (stream_numbers (take k ids)) streams) ≡ handing_out (stream_numbers (take j ids)) streams
 handing_out-step ids k j d streams e lt = let is : suc k ≡ j = omega arith in handing_out-suc ids k d streams lt ∙ ap (λ n. handing_out (stream_numbers (take n ids)) streams) is
 
 pub all_taken : (ids : List StreamId) (k : ℕ) → length ids ≤ k → take k ids ≡ ids

@@ -1,15 +1,15 @@
 -- What a reset does to streams.
 use Rattle.std.proofs.Common.{◌≡◌, ◌≢◌, ◌==◌, ℕ, zero, suc, ◌-◌, ◌+◌, ◌^◌, ◌<◌, min, true, false, Option, None, Some, Result, Ok, Err, OnOk, OnErr, ◌⊎◌, inl, inr, List, [], ◌∷◌, length, set, map, take, refl, sym, ap, subst, ◌∙◌, arith}
 use Rattle.std.proofs.lemmas.Bool.Decides.{nat_tests}
-use Rattle.dcsctp_api.specs.spec.queues.SendQueue.{SendQueueState, changed, used, stream_of, put_back, IsUnderWay, CanGoOn}
+use Rattle.dcsctp_api.specs.spec.queues.SendQueue.{SendQueueState, stream_changed, used, queue_stream, put_back, IsUnderWay, CanGoOn}
 use Rattle.dcsctp_api.specs.types.declared.sending.UnderWay.{UnderWay}
-use Rattle.dcsctp_api.specs.types.queues.SendStreams.{Waiting, Stream, unused, front_of, raised, paused, committed, rolled_back, stream_at, IsAscending}
+use Rattle.dcsctp_api.specs.types.queues.SendStreams.{Waiting, Stream, unused, front_of, amount_raised, paused, committed, rolled_back, stream_at, IsAscending}
 use Rattle.dcsctp_api.specs.types.declared.sending.Pause.{Pause}
 use Rattle.dcsctp_api.specs.types.declared.sending.Pause.TheVariants.{Open, Pausing, HandedOut}
 use Rattle.dcsctp_send_streams.specs.Ranking.{IsFound}
 use Rattle.dcsctp_send_queue.specs.declared.backlog.Backlog.{Backlog}
 use Rattle.dcsctp_send_queue.specs.Backlog.{queue_of}
-use Rattle.dcsctp_api.specs.spec.queues.OwnResets.{prepared_stream, prepared_open, prepared_in, prepare_events_in, is_open, dropped_size, count_under_way}
+use Rattle.dcsctp_api.specs.spec.queues.OwnResets.{prepared_stream, prepared_open, prepared_in, prepare_events_in, is_open_pause, dropped_size, count_under_way}
 use Rattle.dcsctp_send_queue.specs.Leaving.{DropsSome, pause_events, after_pause, size_not_begun}
 use Rattle.dcsctp_api.specs.spec.queues.Sending.{none}
 use Rattle.dcsctp_send_streams.proofs.StreamLemmas.{stream_at-set, length-set_at}
@@ -51,11 +51,11 @@ rolled_back-kept s = rolled_kept_if s.pause s refl
 
 -- a change of a stream that is used
 pub change_used : (old mid : SendQueueState) (p id : ℕ) (f : Stream → Stream) (streams : List Stream) → mid ≡ record old { streams = used old id } → IsAscending mid.streams → IsFound mid.streams id (Ok p)
-    → streams ≡ set mid.streams p (f (stream_at mid.streams p)) → record mid { streams = streams } ≡ record old { streams = changed id f (used old id) }
+    → streams ≡ set mid.streams p (f (stream_at mid.streams p)) → record mid { streams = streams } ≡ record old { streams = stream_changed id f (used old id) }
 change_used old mid p id f streams ok ascending found is =
-    ap {A = List Stream} (λ (s : List Stream). record mid { streams = s }) (is ∙ changed_at mid.streams p id f ascending found) ∙ ap {A = SendQueueState} (λ (q : SendQueueState). record q { streams = changed id f q.streams }) ok
+    ap {A = List Stream} (λ (s : List Stream). record mid { streams = s }) (is ∙ changed_at mid.streams p id f ascending found) ∙ ap {A = SendQueueState} (λ (q : SendQueueState). record q { streams = stream_changed id f q.streams }) ok
 
-pub put_back_is : (queue : SendQueueState) (w : Option UnderWay) (u : UnderWay) (streams : List Stream) (total : ℕ) → w ≡ Some u → streams ≡ changed u.stream_id.0 (raised u.sent) queue.streams → total ≡ min (queue.total_amount + u.sent) (2 ^ 64 - 1)
+pub put_back_is : (queue : SendQueueState) (w : Option UnderWay) (u : UnderWay) (streams : List Stream) (total : ℕ) → w ≡ Some u → streams ≡ stream_changed u.stream_id.0 (amount_raised u.sent) queue.streams → total ≡ min (queue.total_amount + u.sent) (2 ^ 64 - 1)
     → record queue { streams = streams; under_way = None; total_amount = total } ≡ put_back w queue
 put_back_is queue w u streams total e es et = rw (e, es, et) refl
 
@@ -99,18 +99,18 @@ pub on_ok_map : {P Q : Type 0} {T E : Type 0} (r : Result T E) → (P → Q) →
 on_ok_map (Ok v) f h = f h
 on_ok_map (Err e) f h = tt
 
-pub open_is : (queue : SendQueueState) (id : ℕ) → is_open (stream_of queue id).pause ≡ true → prepared_open id queue ≡ prepared_in id queue
+pub open_is : (queue : SendQueueState) (id : ℕ) → is_open_pause (queue_stream queue id).pause ≡ true → prepared_open id queue ≡ prepared_in id queue
 open_is queue id e = rw e refl
 
-pub closed_is : (queue : SendQueueState) (id : ℕ) → is_open (stream_of queue id).pause ≡ false → queue ≡ prepared_in id queue
+pub closed_is : (queue : SendQueueState) (id : ℕ) → is_open_pause (queue_stream queue id).pause ≡ false → queue ≡ prepared_in id queue
 closed_is queue id e = rw e refl
 
-pub open_events : (queue : SendQueueState) (p id : ℕ) → IsAscending queue.streams → IsFound queue.streams id (Ok p) → is_open (stream_of queue id).pause ≡ true → pause_events p queue ≡ prepare_events_in id queue
+pub open_events : (queue : SendQueueState) (p id : ℕ) → IsAscending queue.streams → IsFound queue.streams id (Ok p) → is_open_pause (queue_stream queue id).pause ≡ true → pause_events p queue ≡ prepare_events_in id queue
 open_events queue p id ascending found e =
     let at = found_in-at (unused id queue.default_priority queue.default_threshold) queue.streams p id ascending found in
     rw e (rw (at, found.1) refl)
 
-pub closed_events : {P : Type 0} (queue : SendQueueState) (id : ℕ) → is_open (stream_of queue id).pause ≡ false → prepare_events_in {P = P} id queue ≡ []
+pub closed_events : {P : Type 0} (queue : SendQueueState) (id : ℕ) → is_open_pause (queue_stream queue id).pause ≡ false → prepare_events_in {P = P} id queue ≡ []
 closed_events queue id e = rw e refl
 
 pub front_kept : (messages : List Waiting) (m : Waiting) → front_of messages ≡ Some m → front_of (take 1 messages) ≡ Some m
@@ -161,7 +161,7 @@ can_go_on-after_pause (Ok v) old new p ok err lt can =
     subst (λ (q : SendQueueState). CanGoOn q.streams q.under_way) (sym ok) (can_go_on-pause (queue_of old) p lt can)
 can_go_on-after_pause (Err e) old new p ok err lt can = rw err can
 
-pub changed_absent : (id : ℕ) (f : Stream → Stream) (streams : List Stream) → ((k : ℕ) → k < length streams → (stream_at streams k).id ≢ id) → changed id f streams ≡ streams
+pub changed_absent : (id : ℕ) (f : Stream → Stream) (streams : List Stream) → ((k : ℕ) → k < length streams → (stream_at streams k).id ≢ id) → stream_changed id f streams ≡ streams
 changed_absent id f [] h = refl
 changed_absent id f (x ∷ xs) h =
     let e = other_test x.id id (h zero (omega arith)) in

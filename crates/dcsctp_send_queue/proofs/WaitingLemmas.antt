@@ -7,7 +7,7 @@ use Rattle.dcsctp_api.specs.types.queues.SendStreams.{Waiting, Stream, front_of,
 use Rattle.dcsctp_send_streams.specs.Ranking.{IsFound}
 use Rattle.dcsctp_api.specs.spec.queues.SendQueue.{SendQueueState, IsUnderWay}
 use Rattle.dcsctp_api.specs.spec.queues.Sending.{without_rest}
-use Rattle.dcsctp_send_queue.specs.Leaving.{HasRest, HasMore}
+use Rattle.dcsctp_send_queue.specs.Leaving.{HasUnsentBytes, HasMore}
 use Rattle.dcsctp_api.specs.types.declared.sending.UnderWay.{UnderWay}
 use Rattle.dcsctp_send_streams.proofs.StreamLemmas.{stream_at-set, length-set_at}
 use Rattle.dcsctp_send_streams.proofs.NextLemmas.{same_place, absent_at}
@@ -55,7 +55,7 @@ count-without_rest queue place sent message lt front =
     omega (arith, first, second)
 
 -- the stream of the message under way was found
-pub under_way_at : (streams : List Stream) (under_way : UnderWay) (p : ℕ) → IsAscending streams → IsUnderWay streams under_way → IsFound streams under_way.stream_id.0 (Ok p) → HasRest streams p under_way.sent
+pub under_way_at : (streams : List Stream) (under_way : UnderWay) (p : ℕ) → IsAscending streams → IsUnderWay streams under_way → IsFound streams under_way.stream_id.0 (Ok p) → HasUnsentBytes streams p under_way.sent
 under_way_at streams under_way p ascending goes_on found =
     let same = same_place streams goes_on.place p ascending goes_on.within found.0 (goes_on.is ∙ sym found.1) in
     record {

@@ -4,7 +4,7 @@ use Rattle.dcsctp_api.specs.spec.endpoint.Event.{Event}
 use Rattle.dcsctp_api.specs.types.declared.sending.UnderWay.{UnderWay}
 use Rattle.dcsctp_api.specs.types.queues.SendStreams.{Waiting, front_of, is_expired, stream_at, IsNext}
 use Rattle.dcsctp_api.specs.spec.queues.SendQueue.{SendQueueState}
-use Rattle.dcsctp_api.specs.spec.queues.Sending.{Chooses, Drops, drop_events, produced_events, IsNamed}
+use Rattle.dcsctp_api.specs.spec.queues.Sending.{Chooses, Drops, drop_events, produced_events, IsMessageUnderWay}
 use Rattle.dcsctp_send_streams.specs.Telling.{TellsFront}
 
 -- The message that is dropped next, and the events about it. No message is under way.
@@ -36,5 +36,5 @@ pub record StopsTaking (now max : ℕ) (old : SendQueueState) (told_before : Lis
 
 -- An allocation fails, and the first of the events about what would be dropped are added.
 pub record StopsDiscarding (queue : SendQueueState) (stream message_id : ℕ) (told_before told_after : List (Event (List ℕ))) : Type 0 where
-  pub named : IsNamed queue stream message_id
+  pub named : IsMessageUnderWay queue stream message_id
   pub tells : TellsFront told_before (drop_events named.place named.under_way.sent named.message queue) told_after

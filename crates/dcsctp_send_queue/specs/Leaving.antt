@@ -1,7 +1,7 @@
 -- What leaves a send queue, step by step.
 use Rattle.std.specs.Prelude.{◌≡◌, ◌<◌, ◌≤◌, ℕ, ◌-◌, ◌^◌, min, false, Option, None, Some, List, [], ◌++◌, length, drop, slice_set}
 use Rattle.dcsctp_api.specs.spec.endpoint.Event.{Event}
-use Rattle.dcsctp_api.specs.types.queues.SendStreams.{Waiting, Stream, front_of, is_expired, paused, size_of, stream_at, turns_of, IsNext}
+use Rattle.dcsctp_api.specs.types.queues.SendStreams.{Waiting, Stream, front_of, is_expired, paused, payload_size, stream_at, turns_of, IsNext}
 use Rattle.dcsctp_api.specs.spec.queues.SendEvents.{expiries}
 use Rattle.dcsctp_api.specs.spec.queues.SendQueue.{SendQueueState}
 use Rattle.dcsctp_api.specs.spec.queues.Sending.{reduced, part_events, Drops}
@@ -13,7 +13,7 @@ not_begun place queue = drop (count_under_way (stream_at queue.streams place).id
 
 -- what leaves with them: the amounts stop at the greatest `usize`
 abbrev pub size_not_begun : ℕ → SendQueueState → ℕ
-size_not_begun place queue = min (size_of (not_begun place queue)) (2 ^ 64 - 1)
+size_not_begun place queue = min (payload_size (not_begun place queue)) (2 ^ 64 - 1)
 
 -- the stream at the place is paused, without the messages that haven't been started
 abbrev pub paused_at : ℕ → ℕ → SendQueueState → SendQueueState
@@ -34,7 +34,7 @@ pub record HasMore (streams : List Stream) (place sent : ℕ) : Type 0 where
   pub more : sent < length message.payload
 
 -- The oldest message of the stream at the place has that many bytes at least.
-pub record HasRest (streams : List Stream) (place sent : ℕ) : Type 0 where
+pub record HasUnsentBytes (streams : List Stream) (place sent : ℕ) : Type 0 where
   pub within : place < length streams
   pub message : Waiting
   pub front : front_of (stream_at streams place).messages ≡ Some message

@@ -47,7 +47,7 @@ pub struct Backlog {
 
 impl Backlog {
     ghost use Rattle.dcsctp_send_queue.specs.Backlog.{queue_of};
-    ghost use Rattle.dcsctp_api.specs.spec.queues.SendQueue.{CanGoOn, IsUnderWay, has_data, waits_at, changed, used, put_back, with_threshold, with_priority, may_send};
+    ghost use Rattle.dcsctp_api.specs.spec.queues.SendQueue.{CanGoOn, IsUnderWay, has_queued_data, waits_at, stream_changed, used, put_back, with_threshold, with_priority, may_send};
     ghost use Rattle.dcsctp_api.specs.spec.queues.OwnResets.{with_used, count_under_way};
     ghost use Rattle.dcsctp_api.specs.types.Setting.{stream_priority, stream_low_threshold};
     ghost use Rattle.dcsctp_api.specs.spec.endpoint.SettingOutcomes.{set_in_queue};
@@ -56,7 +56,7 @@ impl Backlog {
     ghost use Rattle.dcsctp_send_streams.specs.Telling.{contents, TellsFront};
     ghost use Rattle.dcsctp_send_streams.specs.Ranking.{IsFound};
     ghost use Rattle.dcsctp_api.specs.spec.queues.Sending.{reduced, without_rest, drop_events, part_events};
-    ghost use Rattle.dcsctp_send_queue.specs.Leaving.{HasMore, HasRest};
+    ghost use Rattle.dcsctp_send_queue.specs.Leaving.{HasMore, HasUnsentBytes};
 
     /// A stream that was never used.
     pub fn new_stream(&self, stream_id: StreamId) -> OutgoingStream
@@ -72,7 +72,7 @@ impl Backlog {
 
     /// Adds a message after the others of its stream. `Err`: an allocation failed, and nothing has changed.
     pub fn put(&mut self, stream_id: StreamId, message: QueuedMessage) -> Result<(), AllocError>
-        ensures ok { OnOk result (queue_of self.new ≡ record (queue_of self.old) { streams = changed stream_id.0 (with_message message) (used (queue_of self.old) stream_id.0) }) }
+        ensures ok { OnOk result (queue_of self.new ≡ record (queue_of self.old) { streams = stream_changed stream_id.0 (with_message message) (used (queue_of self.old) stream_id.0) }) }
         ensures was_ascending { IsAscending self.old.streams }
         ensures can { CanGoOn self.old.streams self.old.under_way → CanGoOn self.new.streams self.new.under_way }
         ensures err { OnErr result (self.new ≡ self.old) }
@@ -137,7 +137,7 @@ impl Backlog {
 
     /// Is a message under way, or does one wait on a stream that isn't paused?
     pub fn may_send(&self) -> bool
-        ensures { result ≡ has_data (queue_of self.now) }
+        ensures { result ≡ has_queued_data (queue_of self.now) }
     {
         match self.under_way {
             Some(_) => true,
@@ -155,7 +155,7 @@ impl Backlog {
     /// The place of the stream of the message under way.
     pub fn place_of(&self, under_way: UnderWay) -> usize
         requires { IsUnderWay self.now.streams under_way }
-        ensures rest { HasRest self.now.streams result under_way.sent }
+        ensures rest { HasUnsentBytes self.now.streams result under_way.sent }
         ensures more { HasMore self.now.streams result under_way.sent }
         ensures stream { (stream_at self.now.streams result).id ≡ under_way.stream_id.0 }
         ensures ascending { IsAscending self.now.streams }

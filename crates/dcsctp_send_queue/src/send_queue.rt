@@ -44,20 +44,20 @@ impl SendQueue {
     ghost use Rattle.dcsctp_api.specs.spec.queues.OwnResets.{queue_committed, queue_rolled_back, queue_handing_out, ready_streams, handing_out, prepared, prepare_events};
     ghost use Rattle.dcsctp_send_streams.specs.Fragment.{HasSize};
     ghost use Rattle.std.specs.Prelude.{◌≡◌, ◌+◌, ◌-◌, ◌<◌, ◌++◌, vec_len, true, IfSome, OnOk, OnErr, IfOk, take, not};
-    ghost use Rattle.dcsctp_api.specs.spec.queues.SendQueue.{empty_queue, IsWellFormed, restarted, has_data, waits_at, changed, used, stream_of, numbered_for, queued, with_added, may_send, with_threshold, with_priority};
+    ghost use Rattle.dcsctp_api.specs.spec.queues.SendQueue.{empty_queue, IsWellFormed, queue_restarted, has_queued_data, waits_at, stream_changed, used, queue_stream, numbered_for, queued, with_added, may_send, with_threshold, with_priority};
     ghost use Rattle.dcsctp_api.specs.spec.queues.Transfer.{is_none_ready};
     ghost use Rattle.dcsctp_api.specs.types.Setting.{stream_priority, stream_low_threshold};
     ghost use Rattle.dcsctp_api.specs.spec.endpoint.SettingOutcomes.{set_in_queue};
     ghost use Rattle.dcsctp_send_streams.specs.Telling.{contents, TellsFront};
     ghost use Rattle.dcsctp_api.specs.types.queues.SendStreams.{paused, committed, rolled_back};
     ghost use Rattle.dcsctp_send_queue.specs.Calls.{StopsTaking, StopsDiscarding};
-    ghost use Rattle.dcsctp_api.specs.spec.queues.Sending.{TakesNext, DiscardsNamed};
+    ghost use Rattle.dcsctp_api.specs.spec.queues.Sending.{TakesNextFragment, DiscardsNamed};
     ghost use Rattle.dcsctp_send_queue.specs.Leaving.{DropsSome};
     ghost use Rattle.dcsctp_send_queue.specs.Preparing.{TriesStream};
     ghost use Rattle.dcsctp_send_queue.specs.Resets.{IsUsedAtMost};
     ghost use Rattle.dcsctp_api.specs.types.Ids.{stream_numbers};
     ghost use Rattle.dcsctp_api.specs.spec.queues.Readiness.{queue_readiness};
-    ghost use Rattle.dcsctp_api.specs.spec.queues.QueuedParts.{with_queue, queue_restored};
+    ghost use Rattle.dcsctp_api.specs.spec.queues.QueuedParts.{part_with_queue, queue_restored};
     ghost use Rattle.dcsctp_api.specs.types.Snapshot.{send_part, is_valid_queued};
 
     /// A queue with no messages, which numbers them as for no interleaving. Allocates nothing.
@@ -118,7 +118,7 @@ impl SendQueue {
         max: usize,
     ) -> Result<Option<DataToSend>, AllocError>
         requires { 0 < max }
-        ensures ok { IfOk result (λ next. TakesNext now max self.old (contents events.old) next self.new (contents events.new)) }
+        ensures ok { IfOk result (λ next. TakesNextFragment now max self.old (contents events.old) next self.new (contents events.new)) }
         ensures size { IfOk result (λ next. IfSome next (HasSize max)) }
         ensures err { OnErr result (DropsSome now self.old self.new) }
         ensures front { OnErr result (StopsTaking now max self.old (contents events.old) self.new (contents events.new)) }
@@ -146,7 +146,7 @@ impl SendQueue {
 
     /// Is a message under way, or does one wait on a stream that isn't paused? Its age isn't looked at.
     pub fn has_data_to_send(&self) -> bool
-        ensures { result ≡ has_data self.now }
+        ensures { result ≡ has_queued_data self.now }
     {
         self.backlog.may_send()
     }
@@ -171,7 +171,7 @@ impl SendQueue {
     /// Makes the queue ready for another association: the message that is under way starts again, all
     /// messages are numbered from 0, and every pause ends. Messages, thresholds and priorities are kept.
     pub fn reset(&mut self)
-        ensures { self.new ≡ restarted self.old }
+        ensures { self.new ≡ queue_restarted self.old }
     {
         self.backlog.put_back();
         self.backlog.streams.begin_all_anew();
@@ -245,7 +245,7 @@ impl SendQueue {
         with_outstanding_data: bool,
         tx: &mut HandoverTransmission,
     ) -> Result<(), AllocError>
-        ensures ok { OnOk result (send_part tx.new ≡ with_queue now with_outstanding_data self.now (send_part tx.old)) }
+        ensures ok { OnOk result (send_part tx.new ≡ part_with_queue now with_outstanding_data self.now (send_part tx.old)) }
         ensures err { OnErr result (send_part tx.new ≡ send_part tx.old) }
     {
         let streams = self.backlog.handover_streams()?;
@@ -282,7 +282,7 @@ impl SendQueue {
 
     /// The payload bytes that wait on the stream; 0 for one that was never used.
     pub fn buffered_amount(&self, stream_id: StreamId) -> usize
-        ensures amount { result ≡ (stream_of self.now stream_id.0).amount }
+        ensures amount { result ≡ (queue_stream self.now stream_id.0).amount }
         ensures queue { IsWellFormed self.now }
     {
         match self.backlog.streams.find(stream_id) {
@@ -300,7 +300,7 @@ impl SendQueue {
 
     /// The stream's threshold in bytes.
     pub fn buffered_amount_low_threshold(&self, stream_id: StreamId) -> usize
-        ensures { result ≡ (stream_of self.now stream_id.0).threshold }
+        ensures { result ≡ (queue_stream self.now stream_id.0).threshold }
     {
         match self.backlog.streams.find(stream_id) {
             Ok(place) => self.backlog.streams.at(place).threshold(),
@@ -322,7 +322,7 @@ impl SendQueue {
 
     /// The stream's priority; a greater one goes first.
     pub fn get_priority(&self, stream_id: StreamId) -> u16
-        ensures { result ≡ (stream_of self.now stream_id.0).priority }
+        ensures { result ≡ (queue_stream self.now stream_id.0).priority }
     {
         match self.backlog.streams.find(stream_id) {
             Ok(place) => self.backlog.streams.at(place).priority(),

@@ -4,7 +4,7 @@ use Rattle.std.specs.List.{sum_by, slice_get}
 use Rattle.std.proofs.lemmas.List.Sums.{sum_by-cons}
 use Rattle.std.proofs.lemmas.Bool.Decides.{nat_tests}
 use Rattle.dcsctp_api.specs.wire.declared.chunk.sack.GapAckBlock.{GapAckBlock}
-use Rattle.dcsctp_api.specs.spec.queues.Items.{Item, counted, never_acknowledged_count, never_acknowledged_items, changed_item, changed_between, marked_items}
+use Rattle.dcsctp_api.specs.spec.queues.Items.{Item, number_where, never_acknowledged_count, never_acknowledged_items, changed_item, changed_between, marked_items}
 use Rattle.dcsctp_api.specs.types.declared.progress.ItemState.{ItemState}
 use Rattle.dcsctp_api.specs.types.declared.progress.ItemState.TheVariants.{InFlight, Marked, Acknowledged, Abandoned}
 use Rattle.dcsctp_api.specs.types.declared.progress.Progress.{Progress}
@@ -12,12 +12,12 @@ use Rattle.dcsctp_api.specs.types.declared.progress.Change.{Change}
 use Rattle.dcsctp_api.specs.types.declared.progress.Change.TheVariants.{Miss, Acknowledge}
 use Rattle.dcsctp_api.specs.types.queues.Progress.{tells_of, missed, missed_where, acknowledged}
 use Rattle.std.specs.Option.{option_map}
-use Rattle.dcsctp_api.specs.spec.queues.Outstanding.{reported, acknowledged_by, tsn_at}
-use Rattle.dcsctp_api.specs.spec.queues.Reports.{Names}
+use Rattle.dcsctp_api.specs.spec.queues.Outstanding.{reported, acknowledged_count, tsn_at}
+use Rattle.dcsctp_api.specs.spec.queues.Reports.{NamesItem}
 use Rattle.dcsctp_send_outstanding.proofs.ItemsLemmas.{le_or_lt}
 use Rattle.dcsctp_api.specs.spec.queues.Retransmission.{RetransmissionState, with_items}
 use Rattle.dcsctp_api.specs.spec.queues.Acknowledging.{covered, lossy, missed_until, exiting, has_acknowledged, AcknowledgesItems}
-use Rattle.dcsctp_send_retransmission.specs.Answers.{Answers, SaysAnswer}
+use Rattle.dcsctp_send_retransmission.specs.Answers.{AcknowledgesItem, SaysAnswer}
 
 -- ---- one item
 
@@ -52,10 +52,10 @@ pub acknowledge_notes : (item : Item) → (changed_item Acknowledge item).progre
 acknowledge_notes item = acknowledged_now item.progress item.progress.state
 
 pub miss_adds_none : (newest : Option ℕ) (item : Item) → never_acknowledged_count (changed_item (Miss newest) item) ≤ never_acknowledged_count item
-miss_adds_none newest item = let same = ap (λ (b : Bool). counted (not b) 1) (miss_keeps newest item) in omega (arith, same)
+miss_adds_none newest item = let same = ap (λ (b : Bool). number_where (not b) 1) (miss_keeps newest item) in omega (arith, same)
 
 pub acknowledge_adds_none : (item : Item) → never_acknowledged_count (changed_item Acknowledge item) ≤ never_acknowledged_count item
-acknowledge_adds_none item = let none = ap (λ (b : Bool). counted (not b) 1) (acknowledge_notes item) in omega (arith, none)
+acknowledge_adds_none item = let none = ap (λ (b : Bool). number_where (not b) 1) (acknowledge_notes item) in omega (arith, none)
 
 -- ---- sums that don't grow
 
@@ -121,10 +121,10 @@ was_so_reported count (block ∷ blocks) items k y h never =
     was_so (count + block.start - 1) (count + block.end) items k y (was_so_reported count blocks (changed_between Acknowledge (count + block.start - 1) (count + block.end) items) k y h never) never
 
 one : (item : Item) → item.progress.was_acknowledged ≡ false → never_acknowledged_count item ≡ 1
-one item never = ap (λ (b : Bool). counted (not b) 1) never
+one item never = ap (λ (b : Bool). number_where (not b) 1) never
 
 none : (item : Item) → never_acknowledged_count (changed_item Acknowledge item) ≡ 0
-none item = ap (λ (b : Bool). counted (not b) 1) (acknowledge_notes item)
+none item = ap (λ (b : Bool). number_where (not b) 1) (acknowledge_notes item)
 
 -- Where one is acknowledged fewer are left.
 falls : (start end : ℕ) (items : List Item) (p : ℕ) (x : Item) → start ≤ p → p < end → slice_get items p ≡ Some x → x.progress.was_acknowledged ≡ false
@@ -173,7 +173,7 @@ left_or_fewer (suc start) (suc end) (y ∷ ys) (suc p) x at never =
     let new = sum_by-cons never_acknowledged_count y (changed_between Acknowledge start end ys) in
     elim (left_or_fewer start end ys p x at never) [ inl h ↦ inl h | inr h ↦ inr (omega (arith, h, old, new)) ]
 
-reported_falls : (count : ℕ) (blocks : List GapAckBlock) (items : List Item) (p : ℕ) (x : Item) → Names count blocks p → slice_get items p ≡ Some x → x.progress.was_acknowledged ≡ false
+reported_falls : (count : ℕ) (blocks : List GapAckBlock) (items : List Item) (p : ℕ) (x : Item) → NamesItem count blocks p → slice_get items p ≡ Some x → x.progress.was_acknowledged ≡ false
     → never_acknowledged_items (reported count blocks items) + 1 ≤ never_acknowledged_items items
 reported_falls count [] items p x named at never = absurd named
 reported_falls count (block ∷ blocks) items p x (inl h) at never =
@@ -212,7 +212,7 @@ fell zero (suc end) (y ∷ ys) less = go y.progress.was_acknowledged refl less (
         → Found (λ k. (zero ≤ k) × (k < suc end)) (y ∷ ys)
     go false is less later = record { place = zero; item = y; at = refl; within = (omega arith, omega arith); never = is }
     go true is less later =
-        let none_here = ap (λ (b : Bool). counted (not b) 1) is in
+        let none_here = ap (λ (b : Bool). number_where (not b) 1) is in
         let now = none y in
         let old = sum_by-cons never_acknowledged_count y ys in
         let new = sum_by-cons never_acknowledged_count (changed_item Acknowledge y) (changed_between Acknowledge zero end ys) in
@@ -229,7 +229,7 @@ fell (suc start) (suc end) (y ∷ ys) less =
     let to = found.within.1 in
     record { place = suc found.place; item = found.item; at = found.at; within = (omega (arith, from), omega (arith, to)); never = found.never }
 
-reported_fell : (count : ℕ) (blocks : List GapAckBlock) (items : List Item) → never_acknowledged_items (reported count blocks items) < never_acknowledged_items items → Found (Names count blocks) items
+reported_fell : (count : ℕ) (blocks : List GapAckBlock) (items : List Item) → never_acknowledged_items (reported count blocks items) < never_acknowledged_items items → Found (NamesItem count blocks) items
 reported_fell count [] items less = absurd (omega arith)
 reported_fell count (block ∷ blocks) items less =
     let start : ℕ = count + block.start - 1 in
@@ -255,7 +255,7 @@ dropped_fell (suc count) (y ∷ ys) less = go y.progress.was_acknowledged refl l
         → Found (λ k. k < suc count) (y ∷ ys)
     go false is less later = record { place = zero; item = y; at = refl; within = omega arith; never = is }
     go true is less later =
-        let none_here = ap (λ (b : Bool). counted (not b) 1) is in
+        let none_here = ap (λ (b : Bool). number_where (not b) 1) is in
         let old = sum_by-cons never_acknowledged_count y ys in
         let found = later (omega (arith, less, none_here, old)) in
         let to = found.within in
@@ -267,7 +267,7 @@ dropped_fell (suc count) (y ∷ ys) less = go y.progress.was_acknowledged refl l
 abbrev left_of : ℕ → ℕ → Option ℕ → List GapAckBlock → List Item → List Item
 left_of count limit newest blocks items = drop count (changed_between (Miss newest) count limit (covered count blocks items))
 
-answers_lessen : (count limit : ℕ) (newest : Option ℕ) (blocks : List GapAckBlock) (items : List Item) → Answers count blocks items → never_acknowledged_items (left_of count limit newest blocks items) < never_acknowledged_items items
+answers_lessen : (count limit : ℕ) (newest : Option ℕ) (blocks : List GapAckBlock) (items : List Item) → AcknowledgesItem count blocks items → never_acknowledged_items (left_of count limit newest blocks items) < never_acknowledged_items items
 answers_lessen count limit newest blocks items answers =
     let passed : List Item = changed_between Acknowledge 0 count items in
     let first = lessened never_acknowledged_count Acknowledge acknowledge_adds_none 0 count items in
@@ -283,7 +283,7 @@ answers_lessen count limit newest blocks items answers =
     ]
 
 -- one that is passed though no SACK had acknowledged it
-passed_first : (count limit : ℕ) (newest : Option ℕ) (blocks : List GapAckBlock) (items : List Item) → Found (λ k. k < count) (changed_between (Miss newest) count limit (covered count blocks items)) → Answers count blocks items
+passed_first : (count limit : ℕ) (newest : Option ℕ) (blocks : List GapAckBlock) (items : List Item) → Found (λ k. k < count) (changed_between (Miss newest) count limit (covered count blocks items)) → AcknowledgesItem count blocks items
 passed_first count limit newest blocks items found =
     let from = comes_of (Miss newest) count limit (covered count blocks items) found.place found.item found.at in
     let never : from.0.progress.was_acknowledged ≡ false = elim (from.1.1) [
@@ -298,7 +298,7 @@ passed_first count limit newest blocks items found =
       is = (inl found.within, never);
     }
 
-lessens_answer : (count limit : ℕ) (newest : Option ℕ) (blocks : List GapAckBlock) (items : List Item) → never_acknowledged_items (left_of count limit newest blocks items) < never_acknowledged_items items → Answers count blocks items
+lessens_answer : (count limit : ℕ) (newest : Option ℕ) (blocks : List GapAckBlock) (items : List Item) → never_acknowledged_items (left_of count limit newest blocks items) < never_acknowledged_items items → AcknowledgesItem count blocks items
 lessens_answer count limit newest blocks items less =
     let passed : List Item = changed_between Acknowledge 0 count items in
     let marked : List Item = changed_between (Miss newest) count limit (covered count blocks items) in
@@ -321,7 +321,7 @@ lessens_answer count limit newest blocks items less =
     missing_keeps zero (suc end) [] = omega arith
     missing_keeps zero (suc end) (x ∷ xs) =
         let later = missing_keeps zero end xs in
-        let here = ap (λ (b : Bool). counted (not b) 1) (miss_keeps newest x) in
+        let here = ap (λ (b : Bool). number_where (not b) 1) (miss_keeps newest x) in
         let old = sum_by-cons never_acknowledged_count x xs in
         let new = sum_by-cons never_acknowledged_count (changed_item (Miss newest) x) (changed_between (Miss newest) zero end xs) in
         omega (arith, later, here, old, new)
@@ -363,9 +363,9 @@ missed_items count limit newest queue = go (nat_lt (marked_items queue.outstandi
 
 -- A SACK says so of itself.
 pub sack_answers : (now cumulative window : ℕ) (blocks : List GapAckBlock) (old new : RetransmissionState) (b : Bool) → AcknowledgesItems now cumulative window blocks old new → b ≡ has_acknowledged old new
-    → SaysAnswer b (acknowledged_by old.outstanding cumulative) blocks old.outstanding.items
+    → SaysAnswer b (acknowledged_count old.outstanding cumulative) blocks old.outstanding.items
 sack_answers now cumulative window blocks old new b takes counts =
-    let count : ℕ = acknowledged_by old.outstanding cumulative in
+    let count : ℕ = acknowledged_count old.outstanding cumulative in
     let items : List Item = old.outstanding.items in
     says_answer count takes.limit (option_map (tsn_at old.outstanding) takes.newest) blocks items new.outstanding.items b
     (ap (λ (q : RetransmissionState). q.outstanding.items) takes.is ∙ ap (λ (xs : List Item). drop count xs) (missed_items count takes.limit (option_map (tsn_at old.outstanding) takes.newest) (with_items (covered count blocks items) (exiting cumulative old))))

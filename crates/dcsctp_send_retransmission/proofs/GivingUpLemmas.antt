@@ -13,10 +13,10 @@ use Rattle.dcsctp_send_outstanding.specs.Outstanding.{MayAddEnd}
 use Rattle.dcsctp_api.specs.spec.queues.Outstanding.{OutstandingState}
 use Rattle.dcsctp_api.specs.spec.queues.ItemMessages.{EndsDropped}
 use Rattle.dcsctp_send_outstanding.proofs.ItemsLemmas.{le_or_lt, slice_get_pushed}
-use Rattle.dcsctp_send_retransmission.specs.Queue.{MayGrow, GivesUp}
+use Rattle.dcsctp_send_retransmission.specs.Queue.{MayGrow, AbandonsItems}
 use Rattle.dcsctp_api.specs.spec.queues.Retransmission.{RetransmissionState}
-use Rattle.dcsctp_api.specs.spec.queues.Filling.{Stage, Closes, GivesUpAt, Steps, none, more}
-use Rattle.dcsctp_api.specs.spec.queues.NextItem.{is_due}
+use Rattle.dcsctp_api.specs.spec.queues.Filling.{Stage, ClosesMessage, GivesUpAt, StageSteps, none, more}
+use Rattle.dcsctp_api.specs.spec.queues.NextItem.{is_abandonment_due}
 use Rattle.dcsctp_send_retransmission.specs.GivingUp.{StopsGivingUp, GivesUpIf}
 use Rattle.dcsctp_api.specs.spec.queues.Abandoning.{NoneAwaitedBefore, NoneDue, GivesUpFirst}
 use Rattle.dcsctp_send_retransmission.proofs.QueueLemmas.{gives_up_grows}
@@ -24,7 +24,7 @@ use Rattle.dcsctp_send_retransmission.proofs.QueueLemmas.{gives_up_grows}
 -- ---- items that aren't awaited
 
 -- such an item isn't due
-pub not_due : (now : ℕ) (negotiated : Bool) (item : Item) → is_unacknowledged item.progress.state ≡ false → is_due now negotiated item ≡ false
+pub not_due : (now : ℕ) (negotiated : Bool) (item : Item) → is_unacknowledged item.progress.state ≡ false → is_abandonment_due now negotiated item ≡ false
 not_due now false item e = refl
 not_due now true item e = go item.progress.state _ e
   where
@@ -69,7 +69,7 @@ added_end old new (inr ends) k x at =
       | inr was ↦ inl was
     ]
 
-gives_up_stays : (place : ℕ) (old new : RetransmissionState) → GivesUp place old new → (k : ℕ) (x : Item) → slice_get new.outstanding.items k ≡ Some x → ((y : Item) → slice_get old.outstanding.items k ≡ Some y → is_unacknowledged y.progress.state ≡ false) → is_unacknowledged x.progress.state ≡ false
+gives_up_stays : (place : ℕ) (old new : RetransmissionState) → AbandonsItems place old new → (k : ℕ) (x : Item) → slice_get new.outstanding.items k ≡ Some x → ((y : Item) → slice_get old.outstanding.items k ≡ Some y → is_unacknowledged y.progress.state ≡ false) → is_unacknowledged x.progress.state ≡ false
 gives_up_stays place old new up k x at before =
     let here : slice_get (changed_between Abandon up.start up.end up.grown.outstanding.items) k ≡ Some x = ap (λ (q : RetransmissionState). slice_get q.outstanding.items k) (sym up.is) ∙ at in
     stays up.start up.end up.grown.outstanding.items k x here (λ y is. elim (added_end old.outstanding up.grown.outstanding up.grows.ends k y is) [ inl was ↦ before y was | inr e ↦ e ])
@@ -81,14 +81,14 @@ ends_adds now begins last old new true ends = inr (record { item = ends.item; is
 ends_adds now begins last old new false same = inl same
 
 -- what is done for a message beside its items
-closes_grows : (now : ℕ) (last : Item) (old new : Stage) (is_end : Bool) → Closes now last old new is_end → MayGrow old.queue new.queue
+closes_grows : (now : ℕ) (last : Item) (old new : Stage) (is_end : Bool) → ClosesMessage now last old new is_end → MayGrow old.queue new.queue
 closes_grows now last old new true is = rw is (record { ends = inl refl; rest = refl })
 closes_grows now last old new false (inl drops) =
     rw drops.1.is (record { ends = ends_adds now old.queue.reset_begun last old.queue.outstanding drops.1.outstanding drops.1.drops.is_dropped drops.1.drops.ends; rest = refl })
 closes_grows now last old new false (inr same) = rw same.1 (record { ends = inl refl; rest = refl })
 
 -- the same in the words of the queue alone
-pub gives_up_at : (now place : ℕ) (old new : Stage) → GivesUpAt now place old new → GivesUp place old.queue new.queue
+pub gives_up_at : (now place : ℕ) (old new : Stage) → GivesUpAt now place old new → AbandonsItems place old.queue new.queue
 gives_up_at now place old new up =
     record {
       grown = up.closed.queue;
@@ -108,14 +108,14 @@ if_grows done now place old new false same = let e = ap (λ (s : Stage). length 
 -- nothing is due where partial reliability wasn't negotiated
 pub none_due_without : (now : ℕ) (queue : RetransmissionState) → queue.partial_reliability ≡ false → NoneDue now queue
 none_due_without now queue off place is =
-    let due : true ≡ false = sym is.due ∙ ap (λ (b : Bool). is_due now b is.item) off in
+    let due : true ≡ false = sym is.due ∙ ap (λ (b : Bool). is_abandonment_due now b is.item) off in
     absurd (cc)
 
 -- ---- one after the other
 
 -- How far the items were looked at: none before the place is awaited.
 pub record Scans (now place : ℕ) (initial at : Stage) : Type 0 where
-  pub steps : Steps (GivesUpFirst now) initial at
+  pub steps : StageSteps (GivesUpFirst now) initial at
   pub passed : NoneAwaitedBefore place at.queue.outstanding.items
   pub added : (k : ℕ) (item : Item) → length initial.queue.outstanding.items ≤ k → slice_get at.queue.outstanding.items k ≡ Some item → is_unacknowledged item.progress.state ≡ false
   pub grown : length initial.queue.outstanding.items ≤ length at.queue.outstanding.items
@@ -131,10 +131,10 @@ scans_none now stage =
 
 -- the item at the place isn't due
 abbrev pub NotDueAt : ℕ → ℕ → RetransmissionState → Type 0
-NotDueAt now place queue = (x : Item) → slice_get queue.outstanding.items place ≡ Some x → is_due now queue.partial_reliability x ≡ false
+NotDueAt now place queue = (x : Item) → slice_get queue.outstanding.items place ≡ Some x → is_abandonment_due now queue.partial_reliability x ≡ false
 
 -- the item at the place is given up where it's due
-pub scans_at : {A : Type 0} (done : A) (now place : ℕ) (initial old new : Stage) (item : Item) → Scans now place initial old → slice_get old.queue.outstanding.items place ≡ Some item → (due : Bool) → is_due now old.queue.partial_reliability item ≡ due → GivesUpIf now place old new due (Ok done) → Scans now place initial new × NotDueAt now place new.queue
+pub scans_at : {A : Type 0} (done : A) (now place : ℕ) (initial old new : Stage) (item : Item) → Scans now place initial old → slice_get old.queue.outstanding.items place ≡ Some item → (due : Bool) → is_abandonment_due now old.queue.partial_reliability item ≡ due → GivesUpIf now place old new due (Ok done) → Scans now place initial new × NotDueAt now place new.queue
 scans_at done now place initial old new item scans at true is gives =
     let up = gives_up_at now place old new gives in (
       record {
@@ -149,10 +149,10 @@ scans_at done now place initial old new item scans at true is gives =
     )
 scans_at done now place initial old new item scans at false is same =
     let P : Stage → Type 0 = λ s. Scans now place initial s × NotDueAt now place s.queue in
-    subst P (sym same) (scans, λ x here. let e : item ≡ x = cc in ap (is_due now old.queue.partial_reliability) (sym e) ∙ is)
+    subst P (sym same) (scans, λ x here. let e : item ≡ x = cc in ap (is_abandonment_due now old.queue.partial_reliability) (sym e) ∙ is)
 
 -- memory is refused for the item at the place
-pub scans_stop : (A : Type 0) (error : AllocError) (now place : ℕ) (initial old new : Stage) (item : Item) → Scans now place initial old → slice_get old.queue.outstanding.items place ≡ Some item → (due : Bool) → is_due now old.queue.partial_reliability item ≡ due → GivesUpIf {A = A} now place old new due (Err error) → StopsGivingUp now initial new
+pub scans_stop : (A : Type 0) (error : AllocError) (now place : ℕ) (initial old new : Stage) (item : Item) → Scans now place initial old → slice_get old.queue.outstanding.items place ≡ Some item → (due : Bool) → is_abandonment_due now old.queue.partial_reliability item ≡ due → GivesUpIf {A = A} now place old new due (Err error) → StopsGivingUp now initial new
 scans_stop A error now place initial old new item scans at true is refuses =
     record {
       at = old;
@@ -182,7 +182,7 @@ scanned_to now place initial at item scans settled here awaited k is =
     let due : true ≡ false = sym is.due ∙ not_due_there k is.item is.at is.none_awaited in
     absurd (cc)
   where
-    not_due_there : (k : ℕ) (x : Item) → slice_get at.queue.outstanding.items k ≡ Some x → NoneAwaitedBefore k at.queue.outstanding.items → is_due now at.queue.partial_reliability x ≡ false
+    not_due_there : (k : ℕ) (x : Item) → slice_get at.queue.outstanding.items k ≡ Some x → NoneAwaitedBefore k at.queue.outstanding.items → is_abandonment_due now at.queue.partial_reliability x ≡ false
     not_due_there k x there before =
         elim (le_or_lt k place) [
           | inl up_to ↦ elim (le_or_lt place k) [

@@ -6,11 +6,11 @@ use Rattle.dcsctp_api.specs.spec.endpoint.Event.{Event}
 use Rattle.dcsctp_api.specs.spec.queues.Items.{Item, marked_items, changed_between}
 use Rattle.dcsctp_send_streams.specs.Telling.{TellsFront}
 use Rattle.std.proofs.Math.Seq.{take-add}
-use Rattle.dcsctp_api.specs.spec.queues.Acknowledging.{ends_delivery, told_by, delivered, covered, lossy, missed_until, without_first, acknowledgement, grown_by, acknowledged_until}
+use Rattle.dcsctp_api.specs.spec.queues.Acknowledging.{ends_delivery, lifecycle_events_by, delivered_events, covered, lossy, missed_until, without_first_items, congestion_acknowledgement, grown_by, acknowledged_until}
 use Rattle.dcsctp_api.specs.wire.declared.chunk.sack.GapAckBlock.{GapAckBlock}
 use Rattle.dcsctp_api.specs.types.declared.congestion.Acknowledged.{Acknowledged}
 use Rattle.dcsctp_api.specs.types.declared.progress.Change.TheVariants.{Miss, Abandon}
-use Rattle.dcsctp_send_retransmission.specs.Queue.{GivesUp}
+use Rattle.dcsctp_send_retransmission.specs.Queue.{AbandonsItems}
 use Rattle.dcsctp_api.specs.spec.queues.Retransmission.{RetransmissionState, with_items}
 use Rattle.dcsctp_send_outstanding.specs.Outstanding.{MayAddEnd}
 use Rattle.dcsctp_api.specs.spec.queues.Outstanding.{OutstandingState}
@@ -26,35 +26,35 @@ length-missed_until count limit newest queue =
     go false = length-changed_between (Miss newest) count limit queue.outstanding.items
 
 -- a SACK, step by step
-pub acknowledged_is : (count : ℕ) (blocks : List GapAckBlock) (limit : ℕ) (newest : Option ℕ) (old mid left new : RetransmissionState) (ack : Acknowledged) → mid ≡ missed_until count limit newest (with_items (covered count blocks old.outstanding.items) old) → left ≡ without_first count mid → ack ≡ acknowledgement count old left → new ≡ grown_by ack left → new ≡ acknowledged_until count blocks limit newest old
+pub acknowledged_is : (count : ℕ) (blocks : List GapAckBlock) (limit : ℕ) (newest : Option ℕ) (old mid left new : RetransmissionState) (ack : Acknowledged) → mid ≡ missed_until count limit newest (with_items (covered count blocks old.outstanding.items) old) → left ≡ without_first_items count mid → ack ≡ congestion_acknowledgement count old left → new ≡ grown_by ack left → new ≡ acknowledged_until count blocks limit newest old
 acknowledged_is count blocks limit newest old mid left new ack is_mid is_left is_ack is_new =
-    let left_is : left ≡ without_first count (missed_until count limit newest (with_items (covered count blocks old.outstanding.items) old)) = is_left ∙ ap (without_first count) is_mid in
-    is_new ∙ ap (λ (a : Acknowledged). grown_by a left) is_ack ∙ ap (λ (q : RetransmissionState). grown_by (acknowledgement count old q) q) left_is
+    let left_is : left ≡ without_first_items count (missed_until count limit newest (with_items (covered count blocks old.outstanding.items) old)) = is_left ∙ ap (without_first_items count) is_mid in
+    is_new ∙ ap (λ (a : Acknowledged). grown_by a left) is_ack ∙ ap (λ (q : RetransmissionState). grown_by (congestion_acknowledgement count old q) q) left_is
 
 -- what is told of one item
 abbrev pub told_of : Item → List (Event (List ℕ))
-told_of item = told_by item.fragment.lifecycle (ends_delivery item)
+told_of item = lifecycle_events_by item.fragment.lifecycle (ends_delivery item)
 
 -- what is told of one more item
-pub delivered_further : (items : List Item) (k : ℕ) (item : Item) → slice_get items k ≡ Some item → delivered {P = List ℕ} (take (suc k) items) ≡ delivered (take k items) ++ told_of item
+pub delivered_further : (items : List Item) (k : ℕ) (item : Item) → slice_get items k ≡ Some item → delivered_events {P = List ℕ} (take (suc k) items) ≡ delivered_events (take k items) ++ told_of item
 delivered_further [] k item is = absurd (cc)
 delivered_further (x ∷ xs) zero item is = ap (λ (y : Item). told_of y ++ []) (let e : x ≡ item = cc in e) ∙ append-nil (told_of item)
 delivered_further (x ∷ xs) (suc k) item is =
-    ap (λ (ys : List (Event (List ℕ))). told_of x ++ ys) (delivered_further xs k item is) ∙ sym (append_assoc (told_of x) (delivered (take k xs)) (told_of item))
+    ap (λ (ys : List (Event (List ℕ))). told_of x ++ ys) (delivered_further xs k item is) ∙ sym (append_assoc (told_of x) (delivered_events (take k xs)) (told_of item))
 
 -- what is told of a first part of the items is told first of all
-delivered_append : (front rest : List Item) → delivered {P = List ℕ} (front ++ rest) ≡ delivered front ++ delivered rest
+delivered_append : (front rest : List Item) → delivered_events {P = List ℕ} (front ++ rest) ≡ delivered_events front ++ delivered_events rest
 delivered_append [] rest = refl
-delivered_append (x ∷ xs) rest = ap (λ (ys : List (Event (List ℕ))). told_of x ++ ys) (delivered_append xs rest) ∙ sym (append_assoc (told_of x) (delivered xs) (delivered rest))
+delivered_append (x ∷ xs) rest = ap (λ (ys : List (Event (List ℕ))). told_of x ++ ys) (delivered_append xs rest) ∙ sym (append_assoc (told_of x) (delivered_events xs) (delivered_events rest))
 
 -- A front part is told of an item, once all before it were told of.
-pub front_further : (items : List Item) (k count : ℕ) (item : Item) (start told telling : List (Event (List ℕ))) → k < count → slice_get items k ≡ Some item → told ≡ start ++ delivered (take k items) → TellsFront told (told_of item) telling
-    → TellsFront start (delivered (take count items)) telling
+pub front_further : (items : List Item) (k count : ℕ) (item : Item) (start told telling : List (Event (List ℕ))) → k < count → slice_get items k ≡ Some item → told ≡ start ++ delivered_events (take k items) → TellsFront told (told_of item) telling
+    → TellsFront start (delivered_events (take count items)) telling
 front_further items k count item start told telling within at is tells =
-    let before : List (Event (List ℕ)) = delivered (take k items) in
-    let behind : List (Event (List ℕ)) = delivered (take (count - suc k) (drop (suc k) items)) in
-    let whole : delivered (take count items) ≡ (before ++ told_of item) ++ behind =
-    ap delivered (take_parts items (suc k) count (omega arith)) ∙ (delivered_append (take (suc k) items) (take (count - suc k) (drop (suc k) items)) ∙ ap (λ (xs : List (Event (List ℕ))). xs ++ behind) (delivered_further items k item at)) in
+    let before : List (Event (List ℕ)) = delivered_events (take k items) in
+    let behind : List (Event (List ℕ)) = delivered_events (take (count - suc k) (drop (suc k) items)) in
+    let whole : delivered_events (take count items) ≡ (before ++ told_of item) ++ behind =
+    ap delivered_events (take_parts items (suc k) count (omega arith)) ∙ (delivered_append (take (suc k) items) (take (count - suc k) (drop (suc k) items)) ∙ ap (λ (xs : List (Event (List ℕ))). xs ++ behind) (delivered_further items k item at)) in
     record {
       front = before ++ tells.front;
       rest = tells.rest ++ behind;
@@ -66,7 +66,7 @@ front_further items k count item start told telling within at is tells =
     take_parts xs k n le = let e : n ≡ k + (n - k) = omega arith in ap (λ (m : ℕ). take m xs) e ∙ take-add k (n - k) xs
 
 -- no item is lost where a message is given up
-pub gives_up_grows : (place : ℕ) (old new : RetransmissionState) → GivesUp place old new → length old.outstanding.items ≤ length new.outstanding.items
+pub gives_up_grows : (place : ℕ) (old new : RetransmissionState) → AbandonsItems place old new → length old.outstanding.items ≤ length new.outstanding.items
 gives_up_grows place old new up =
     let same = ap (λ (q : RetransmissionState). length q.outstanding.items) up.is in
     let kept = length-changed_between Abandon up.start up.end up.grown.outstanding.items in

@@ -8,7 +8,7 @@ use Rattle.dcsctp_api.specs.wire.Fields.{u16_at, u32_at, lowest_bit, skipped_str
 use Rattle.dcsctp_api.specs.wire.Spelling.{t_bit}
 use Rattle.dcsctp_api.specs.wire.declared.chunk.forward_tsn.SkippedStream.{SkippedStream}
 use Rattle.dcsctp_api.specs.wire.declared.chunk.forward_tsn.SkippedMessages.{SkippedMessages}
-use Rattle.dcsctp_send_retransmission.specs.SkippedBytes.{stream_bytes, messages_bytes, skipped_bytes, FitsStream, FitsMessages, ReadsAs}
+use Rattle.dcsctp_send_retransmission.specs.SkippedBytes.{skipped_stream_bytes, messages_bytes, skipped_bytes, FitsStream, FitsMessages, ReadsAs}
 use Rattle.dcsctp_send_retransmission.specs.declared.forward_tsn.Skipped.{Skipped}
 use Rattle.dcsctp_send_retransmission.specs.declared.forward_tsn.Skipped.TheVariants.{Streams, Messages}
 use Rattle.std.specs.declared.alloc.Global.{Global}
@@ -29,9 +29,9 @@ same_messages stream unordered number other_stream is_unordered other_number str
     ap (λ (x : ℕ). messages_of x unordered number) streams ∙ (ap (λ (b : Bool). messages_of other_stream b number) flags ∙ ap (messages_of other_stream is_unordered) numbers)
 
 -- an entry at the front
-stream_reads : (entry : SkippedStream) (rest : List ℕ) → FitsStream entry → skipped_stream_at 0 (stream_bytes entry ++ rest) ≡ entry
+stream_reads : (entry : SkippedStream) (rest : List ℕ) → FitsStream entry → skipped_stream_at 0 (skipped_stream_bytes entry ++ rest) ≡ entry
 stream_reads entry rest fits =
-    let bytes : List ℕ = stream_bytes entry ++ rest in
+    let bytes : List ℕ = skipped_stream_bytes entry ++ rest in
     let stream : u16_at 0 bytes ≡ entry.stream_id = from_be_bytes-to_be_bytes_2 entry.stream_id fits.0 in
     let number : u16_at 2 bytes ≡ entry.ssn = from_be_bytes-to_be_bytes_2 entry.ssn fits.1 in
     same_stream (u16_at 0 bytes) (u16_at 2 bytes) entry.stream_id entry.ssn stream number
@@ -69,13 +69,13 @@ later_messages index front rest eight =
 
 -- ---- all entries
 
-pub streams_read : (streams : List SkippedStream) (index : ℕ) (entry : SkippedStream) → FitsStream entry → slice_get streams index ≡ Some entry → skipped_stream_at index (flat_map stream_bytes streams) ≡ entry
+pub streams_read : (streams : List SkippedStream) (index : ℕ) (entry : SkippedStream) → FitsStream entry → slice_get streams index ≡ Some entry → skipped_stream_at index (flat_map skipped_stream_bytes streams) ≡ entry
 streams_read [] index entry fits at = absurd (cc)
 streams_read (x ∷ xs) zero entry fits at =
     let e : x ≡ entry = cc in
-    ap (λ (y : SkippedStream). skipped_stream_at 0 (stream_bytes y ++ flat_map stream_bytes xs)) e ∙ stream_reads entry (flat_map stream_bytes xs) fits
+    ap (λ (y : SkippedStream). skipped_stream_at 0 (skipped_stream_bytes y ++ flat_map skipped_stream_bytes xs)) e ∙ stream_reads entry (flat_map skipped_stream_bytes xs) fits
 streams_read (x ∷ xs) (suc index) entry fits at =
-    later_stream index (stream_bytes x) (flat_map stream_bytes xs) refl ∙ streams_read xs index entry fits at
+    later_stream index (skipped_stream_bytes x) (flat_map skipped_stream_bytes xs) refl ∙ streams_read xs index entry fits at
 
 pub all_messages_read : (messages : List SkippedMessages) (index : ℕ) (entry : SkippedMessages) → FitsMessages entry → slice_get messages index ≡ Some entry → skipped_messages_at index (flat_map messages_bytes messages) ≡ entry
 all_messages_read [] index entry fits at = absurd (cc)
@@ -85,7 +85,7 @@ all_messages_read (x ∷ xs) zero entry fits at =
 all_messages_read (x ∷ xs) (suc index) entry fits at =
     later_messages index (messages_bytes x) (flat_map messages_bytes xs) refl ∙ all_messages_read xs index entry fits at
 
-pub length-streams : (streams : List SkippedStream) → length (flat_map stream_bytes streams) ≡ 4 * length streams
+pub length-streams : (streams : List SkippedStream) → length (flat_map skipped_stream_bytes streams) ≡ 4 * length streams
 length-streams [] = refl
 length-streams (x ∷ xs) = let rest = length-streams xs in omega arith
 

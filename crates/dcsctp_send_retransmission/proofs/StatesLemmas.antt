@@ -4,21 +4,21 @@ use Rattle.std.specs.List.{slice_get}
 use Rattle.std.specs.declared.alloc.AllocError.{AllocError}
 use Rattle.dcsctp_api.specs.declared.events.SocketEvent.{SocketEvent}
 use Rattle.dcsctp_api.specs.spec.queues.SendQueue.{SendQueueState}
-use Rattle.dcsctp_api.specs.spec.queues.Sending.{Takes}
+use Rattle.dcsctp_api.specs.spec.queues.Sending.{TakesFragment}
 use Rattle.dcsctp_send_queue.specs.Calls.{StopsDiscarding}
 use Rattle.dcsctp_api.specs.spec.endpoint.Event.{Event}
 use Rattle.dcsctp_send_streams.specs.Telling.{contents}
-use Rattle.dcsctp_api.specs.spec.queues.Items.{Item, size_of, marked_items, changed_between}
+use Rattle.dcsctp_api.specs.spec.queues.Items.{Item, item_size, marked_items, changed_between}
 use Rattle.dcsctp_send_retransmission.specs.declared.packet.Packet.{Packet}
 use Rattle.dcsctp_api.specs.types.declared.progress.Change.{Change}
 use Rattle.dcsctp_api.specs.types.declared.progress.Change.TheVariants.{SendAgain}
 use Rattle.dcsctp_api.specs.types.queues.Progress.{is_marked}
 use Rattle.dcsctp_api.specs.spec.queues.Outstanding.{OutstandingState, header}
-use Rattle.dcsctp_api.specs.spec.queues.NextItem.{IsNextMarked, is_due}
+use Rattle.dcsctp_api.specs.spec.queues.NextItem.{IsNextMarked, is_abandonment_due}
 use Rattle.dcsctp_api.specs.spec.queues.Retransmission.{RetransmissionState, can_send}
 use Rattle.dcsctp_send_retransmission.proofs.SendingLemmas.{last_pushed, with_outstanding}
-use Rattle.dcsctp_send_retransmission.specs.States.{stage, RefusesClosing, GoesFilling, StopsFilling, Stops, Goes, SendsAt}
-use Rattle.dcsctp_api.specs.spec.queues.Filling.{Stage, DropsRestAt, Closes, payload_room, SendsNew, StepAgain, MayAdd, StepNew, counting, Steps, none, more, SendsMarked}
+use Rattle.dcsctp_send_retransmission.specs.States.{stage, RefusesClosing, GoesFilling, StopsFilling, StopsBetweenSteps, Goes, SendsAt}
+use Rattle.dcsctp_api.specs.spec.queues.Filling.{Stage, DropsRestAt, ClosesMessage, payload_room, SendsNew, StepAgain, MayAdd, StepNew, resent_packet_counted, StageSteps, none, more, SendsMarked}
 use Rattle.dcsctp_api.specs.spec.queues.AtOnce.{SendsFirst, is_first_marked}
 use Rattle.dcsctp_send_outstanding.specs.Handing.{SendsItem}
 
@@ -39,25 +39,25 @@ pub on_ok_map : {A E : Type 0} {P Q : Type 0} (r : Result A E) → (P → Q) →
 on_ok_map (Ok done) f p = f p
 on_ok_map (Err error) f p = tt
 
-pub closes_rest : (now : ℕ) (last : Item) (old new : Stage) (is_end : Bool) → is_end ≡ false → length old.queue.outstanding.items + 1 < 2 ^ 31 → DropsRestAt now last old new → Closes now last old new is_end
+pub closes_rest : (now : ℕ) (last : Item) (old new : Stage) (is_end : Bool) → is_end ≡ false → length old.queue.outstanding.items + 1 < 2 ^ 31 → DropsRestAt now last old new → ClosesMessage now last old new is_end
 closes_rest now last old new true is_false room drops = absurd (cc)
 closes_rest now last old new false is_false room drops = inl (room, drops)
 
 -- ---- steps
 
-pub steps_trans : (Step : Stage → Stage → Type 0) (a b c : Stage) → Steps Step a b → Steps Step b c → Steps Step a c
+pub steps_trans : (Step : Stage → Stage → Type 0) (a b c : Stage) → StageSteps Step a b → StageSteps Step b c → StageSteps Step a c
 steps_trans Step a b c first none = first
 steps_trans Step a b c first (more between new steps step) = more between new (steps_trans Step a b between first steps) step
 
-pub stops_trans : (now : ℕ) (Step : Stage → Stage → Type 0) (a b c : Stage) → Steps Step a b → Stops now Step b c → Stops now Step a c
+pub stops_trans : (now : ℕ) (Step : Stage → Stage → Type 0) (a b c : Stage) → StageSteps Step a b → StopsBetweenSteps now Step b c → StopsBetweenSteps now Step a c
 stops_trans now Step a b c first stops =
     record { at = stops.at; steps = steps_trans Step a b stops.at first stops.steps; queue = stops.queue; refused = stops.refused }
 
 -- the first item that waits is sent again, where it fits
 pub goes_at : (r : Result Bool AllocError) (now place : ℕ) (Step : Stage → Stage → Type 0) (start : Stage) (old new : RetransmissionState) (waiting : SendQueueState) (events : List SocketEvent) (before after : Packet) (next : IsNextMarked place old.outstanding.items)
     → ((m n : Stage) → m.queue ≡ old → SendsMarked now m n → Step m n)
-    → Steps Step start (stage old waiting events before.tsns.items before.room)
-    → is_due now old.partial_reliability next.marked.item ≡ false
+    → StageSteps Step start (stage old waiting events before.tsns.items before.room)
+    → is_abandonment_due now old.partial_reliability next.marked.item ≡ false
     → IfOk r (SendsAt place next.marked.item old before new after) → OnErr r (new ≡ old)
     → Goes now Step start (stage new waiting events after.tsns.items after.room) r
 goes_at (Ok true) now place Step start old new waiting events before after next embed steps stays sends err =
@@ -98,16 +98,16 @@ sends_first_later false tsn (suc place) old items new later is first = ap is_fir
 -- a new item goes out
 pub sends_new : (now max : ℕ) (old : RetransmissionState) (before after : Packet) (place size tsn : ℕ) (new : OutstandingState) (waiting left : SendQueueState) (events telling : List SocketEvent)
     → SendsItem now max old.reset_begun old.outstanding waiting (contents events) new left (contents telling) tsn → place ≡ length old.outstanding.items
-    → IfSome (slice_get new.items place) (λ item. size ≡ size_of (header new) item) → max ≡ payload_room (header old.outstanding) before.room
+    → IfSome (slice_get new.items place) (λ item. size ≡ item_size (header new) item) → max ≡ payload_room (header old.outstanding) before.room
     → after.tsns.items ≡ before.tsns.items ++ tsn ∷ [] → after.room ≡ before.room - size
     → SendsNew now (stage old waiting events before.tsns.items before.room) (stage (with_outstanding new false old) left telling after.tsns.items after.room)
 sends_new now max old before after place size tsn new waiting left events telling sends place_is sized max_is tsns room =
     let items = ap (λ (m : OutstandingState). m.items) sends.grows in
     let sizes = ap header sends.grows in
     let at : slice_get new.items place ≡ Some sends.item = rw (items, place_is) (last_pushed old.outstanding.items sends.item) in
-    let P : Option Item → Type 0 = λ x. IfSome x (λ item. size ≡ size_of (header new) item) in
-    let size_is : size ≡ size_of (header old.outstanding) sends.item = subst P at sized ∙ ap (λ (h : ℕ). size_of h sends.item) sizes in
-    let T : ℕ → Type 0 = λ m. Takes now m waiting (contents events) sends.item.fragment left (contents telling) in
+    let P : Option Item → Type 0 = λ x. IfSome x (λ item. size ≡ item_size (header new) item) in
+    let size_is : size ≡ item_size (header old.outstanding) sends.item = subst P at sized ∙ ap (λ (h : ℕ). item_size h sends.item) sizes in
+    let T : ℕ → Type 0 = λ m. TakesFragment now m waiting (contents events) sends.item.fragment left (contents telling) in
     record {
       item = sends.item;
       is_fresh = sends.is_fresh;
@@ -116,13 +116,13 @@ sends_new now max old before after place size tsn new waiting left events tellin
       is = rw (sends.grows, tsns, room, size_is, sends.tsn_is) refl;
     }
 
-pub goes_filling : {A : Type 0} (r : Result A AllocError) (now : ℕ) (old resent new : Stage) → Steps (StepAgain now) old resent → Goes now (StepNew now) (counting old.room resent) new r → GoesFilling now old new r
+pub goes_filling : {A : Type 0} (r : Result A AllocError) (now : ℕ) (old resent new : Stage) → StageSteps (StepAgain now) old resent → Goes now (StepNew now) (resent_packet_counted old.room resent) new r → GoesFilling now old new r
 goes_filling (Ok done) now old resent new again anew = record { resent = resent; again = again; anew = anew }
 goes_filling (Err error) now old resent new again stops = inr (record { resent = resent; again = again; stops = stops })
 
 -- what is in a packet that isn't handed out
 pub stops_any : (now : ℕ) (Step : Stage → Stage → Type 0) (old : Stage) (queue : RetransmissionState) (waiting : SendQueueState) (events : List SocketEvent) (tsns other : List ℕ) (room more_room : ℕ)
-    → Stops now Step old (stage queue waiting events tsns room) → Stops now Step old (stage queue waiting events other more_room)
+    → StopsBetweenSteps now Step old (stage queue waiting events tsns room) → StopsBetweenSteps now Step old (stage queue waiting events other more_room)
 stops_any now Step old queue waiting events tsns other room more_room stops =
     record { at = stops.at; steps = stops.steps; queue = stops.queue; refused = stops.refused }
 
@@ -133,7 +133,7 @@ stops_filling_any now old queue waiting events tsns other room more_room (inr la
     inr (record {
       resent = later.resent;
       again = later.again;
-      stops = stops_any now (StepNew now) (counting old.room later.resent) queue waiting events tsns other room more_room later.stops;
+      stops = stops_any now (StepNew now) (resent_packet_counted old.room later.resent) queue waiting events tsns other room more_room later.stops;
     })
 
 pub on_err_map : {A E : Type 0} {P Q : Type 0} (r : Result A E) → (P → Q) → OnErr r P → OnErr r Q

@@ -7,7 +7,7 @@ use Rattle.dcsctp_send_retransmission.specs.declared.forward_tsn.Skipped.{Skippe
 use Rattle.dcsctp_send_retransmission.specs.declared.forward_tsn.Skipped.TheVariants.{Streams, Messages}
 use Rattle.dcsctp_api.specs.spec.queues.Items.{Item}
 use Rattle.dcsctp_api.specs.spec.queues.Retransmission.{RetransmissionState}
-use Rattle.dcsctp_api.specs.spec.queues.Skipping.{entry_limit, ListsEntries, IsRow}
+use Rattle.dcsctp_api.specs.spec.queues.Skipping.{entry_limit, ListsEntries, IsSkippedRow}
 
 -- ---- the chunk
 
@@ -30,8 +30,8 @@ entry_count (Streams streams) = length streams.items
 entry_count (Messages messages) = length messages.items
 
 -- The chunk skips the first items which were abandoned, as far as it has room, and no other.
-pub record Says (queue : RetransmissionState) (chunk : ForwardTsn) : Type 0 where
+pub record SkipsAbandoned (queue : RetransmissionState) (chunk : ForwardTsn) : Type 0 where
   pub count : ℕ
-  pub row : IsRow queue.outstanding.is_interleaved (entry_limit queue.outstanding.is_interleaved queue.congestion.mtu) (entry_count chunk.skipped) count queue.outstanding.items
+  pub row : IsSkippedRow queue.outstanding.is_interleaved (entry_limit queue.outstanding.is_interleaved queue.congestion.mtu) (entry_count chunk.skipped) count queue.outstanding.items
   pub cumulative : chunk.new_cumulative_tsn ≡ (queue.outstanding.first_tsn + count + (2 ^ 32 - 1)) % 2 ^ 32
   pub lists : Lists queue.outstanding.is_interleaved (take count queue.outstanding.items) chunk.skipped

@@ -2,7 +2,7 @@
 use Rattle.std.specs.Prelude.{Result, Ok, Err, ◌≡◌, ℕ, Bool, true, false}
 use Rattle.std.specs.declared.alloc.AllocError.{AllocError}
 use Rattle.dcsctp_send_retransmission.specs.States.{RefusesUpAt}
-use Rattle.dcsctp_api.specs.spec.queues.Filling.{Stage, GivesUpAt, Steps}
+use Rattle.dcsctp_api.specs.spec.queues.Filling.{Stage, GivesUpAt, StageSteps}
 use Rattle.dcsctp_api.specs.spec.queues.Abandoning.{IsDueAt, NoneDue, GivesUpFirst}
 
 -- An allocation fails for abandoning the message of the item at this place. The first of its events are added, and nothing else
@@ -14,14 +14,14 @@ pub record RefusesAt (place : ℕ) (old new : Stage) : Type 0 where
 -- Some messages are abandoned, and for the next one an allocation fails.
 pub record StopsGivingUp (now : ℕ) (old new : Stage) : Type 0 where
   pub at : Stage
-  pub steps : Steps (GivesUpFirst now) old at
+  pub steps : StageSteps (GivesUpFirst now) old at
   pub place : ℕ
   pub is_due : IsDueAt now place at.queue
   pub refuses : RefusesAt place at new
 
 -- Messages are abandoned one after the other, until none is due; or up to where an allocation fails.
 abbrev pub GivesUpDue : {A : Type 0} → ℕ → Stage → Stage → Result A AllocError → Type 0
-GivesUpDue now old new (Ok done) = Steps (GivesUpFirst now) old new × NoneDue now new.queue
+GivesUpDue now old new (Ok done) = StageSteps (GivesUpFirst now) old new × NoneDue now new.queue
 GivesUpDue now old new (Err error) = StopsGivingUp now old new
 
 -- what is done at the item at this place, by whether it is due, and by whether an allocation failed

@@ -1,7 +1,7 @@
 -- Why no more chunks go into a packet (RFC 9260, section 6.1).
 use Rattle.std.specs.Prelude.{◌≡◌, ℕ, ◌+◌, ◌<◌, ◌≤◌, Bool, true, false, Some, List, slice_get}
 use Rattle.dcsctp_api.specs.spec.queues.SendQueue.{SendQueueState}
-use Rattle.dcsctp_api.specs.spec.queues.Items.{Item, size_of, marked_items, changed_between}
+use Rattle.dcsctp_api.specs.spec.queues.Items.{Item, item_size, marked_items, changed_between}
 use Rattle.dcsctp_api.specs.types.declared.progress.Change.TheVariants.{SendAgain}
 use Rattle.dcsctp_api.specs.spec.queues.Outstanding.{OutstandingState, header, next_tsn}
 use Rattle.dcsctp_api.specs.spec.queues.NextItem.{HaltsAgain, Halts}
@@ -14,7 +14,7 @@ SendsAgain place old room new left true = new ≡ record old { items = changed_b
 SendsAgain place old room new left false = (new ≡ old) × (left ≡ room) × IsLonger room place old
   where
     IsLonger : ℕ → ℕ → OutstandingState → Type 0
-    IsLonger room place outstanding = (item : Item) → slice_get outstanding.items place ≡ Some item → room < size_of (header outstanding) item
+    IsLonger room place outstanding = (item : Item) → slice_get outstanding.items place ≡ Some item → room < item_size (header outstanding) item
 
 -- what a try to send the first marked item again leaves: fewer that wait, or a reason and no more of them
 abbrev pub GoesAgain : ℕ → RetransmissionState → RetransmissionState → ℕ → Bool → Type 0

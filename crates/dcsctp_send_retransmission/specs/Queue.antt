@@ -9,7 +9,7 @@ use Rattle.dcsctp_api.specs.spec.endpoint.Event.{Event}
 use Rattle.dcsctp_api.specs.spec.endpoint.Timers.{expires_at}
 use Rattle.dcsctp_api.specs.spec.queues.Acknowledging.{AcknowledgesItems, has_acknowledged, delivered_by}
 use Rattle.dcsctp_api.specs.spec.queues.Items.{changed_between}
-use Rattle.dcsctp_api.specs.spec.queues.Outstanding.{acknowledged_by}
+use Rattle.dcsctp_api.specs.spec.queues.Outstanding.{acknowledged_count}
 use Rattle.dcsctp_api.specs.spec.queues.Retransmission.{RetransmissionState, after_expiry, with_items}
 use Rattle.dcsctp_api.specs.spec.queues.RoundTrip.{MeasuresRoundTrip}
 use Rattle.dcsctp_send_streams.specs.Telling.{TellsFront}
@@ -25,18 +25,18 @@ queue_at now queue = if expires_at now queue.timer.running then after_expiry now
 -- ---- a SACK
 
 -- What a SACK does to the queue and the events, by its result.
-abbrev pub HandlesSack : ℕ → ℕ → ℕ → List GapAckBlock → RetransmissionState → List (Event (List ℕ)) → RetransmissionState → List (Event (List ℕ)) → Result HandleSackResult AllocError → Type 0
-HandlesSack now cumulative window blocks old told new telling (Ok Invalid) =
-    (length old.outstanding.items < acknowledged_by old.outstanding cumulative) × (new ≡ old) × (telling ≡ told)
-HandlesSack now cumulative window blocks old told new telling (Ok (Valid rtt reset_error_counter)) =
-    (acknowledged_by old.outstanding cumulative ≤ length old.outstanding.items)
+abbrev pub HandlesSackInQueue : ℕ → ℕ → ℕ → List GapAckBlock → RetransmissionState → List (Event (List ℕ)) → RetransmissionState → List (Event (List ℕ)) → Result HandleSackResult AllocError → Type 0
+HandlesSackInQueue now cumulative window blocks old told new telling (Ok Invalid) =
+    (length old.outstanding.items < acknowledged_count old.outstanding cumulative) × (new ≡ old) × (telling ≡ told)
+HandlesSackInQueue now cumulative window blocks old told new telling (Ok (Valid rtt reset_error_counter)) =
+    (acknowledged_count old.outstanding cumulative ≤ length old.outstanding.items)
     × AcknowledgesItems now cumulative window blocks old new
     × (telling ≡ told ++ delivered_by cumulative old)
-    × MeasuresRoundTrip now (acknowledged_by old.outstanding cumulative) blocks old.outstanding.items (option_map as_nanos rtt)
+    × MeasuresRoundTrip now (acknowledged_count old.outstanding cumulative) blocks old.outstanding.items (option_map as_nanos rtt)
     × (reset_error_counter ≡ has_acknowledged old new)
-    × SaysAnswer reset_error_counter (acknowledged_by old.outstanding cumulative) blocks old.outstanding.items
-HandlesSack now cumulative window blocks old told new telling (Err error) =
-    (acknowledged_by old.outstanding cumulative ≤ length old.outstanding.items) × (new ≡ old) × TellsFront told (delivered_by cumulative old) telling
+    × SaysAnswer reset_error_counter (acknowledged_count old.outstanding cumulative) blocks old.outstanding.items
+HandlesSackInQueue now cumulative window blocks old told new telling (Err error) =
+    (acknowledged_count old.outstanding cumulative ≤ length old.outstanding.items) × (new ≡ old) × TellsFront told (delivered_by cumulative old) telling
 
 -- ---- what is abandoned
 
@@ -46,7 +46,7 @@ pub record MayGrow (old new : RetransmissionState) : Type 0 where
   pub rest : new ≡ record old { outstanding = new.outstanding }
 
 -- A row of items round this place is abandoned, which are the message's, with the end that was added.
-pub record GivesUp (place : ℕ) (old new : RetransmissionState) : Type 0 where
+pub record AbandonsItems (place : ℕ) (old new : RetransmissionState) : Type 0 where
   pub grown : RetransmissionState
   pub grows : MayGrow old grown
   pub start : ℕ

@@ -1,7 +1,7 @@
 -- What goes into a packet, and what stays of the items that were accepted before (RFC 9260, section 6.1).
 use Rattle.std.specs.Prelude.{◌≡◌, ℕ, ◌+◌, ◌%◌, ◌^◌, ◌≤◌, Some, List, [], ◌∷◌, ◌++◌, slice_get}
 use Rattle.dcsctp_api.specs.spec.queues.Sending.{Fragment}
-use Rattle.dcsctp_api.specs.spec.queues.Items.{Item, size_of}
+use Rattle.dcsctp_api.specs.spec.queues.Items.{Item, item_size}
 use Rattle.dcsctp_send_retransmission.specs.declared.packet.Packet.{Packet}
 use Rattle.dcsctp_api.specs.spec.queues.Outstanding.{OutstandingState, header}
 use Rattle.dcsctp_api.specs.spec.queues.Retransmission.{RetransmissionState, timer_with}
@@ -17,7 +17,7 @@ abbrev pub KeepsFragments : List Item → List Item → Type 0
 KeepsFragments old new = (k : ℕ) (item : Item) → slice_get old k ≡ Some item → HasFragment k item.fragment new
 
 -- No fragment is lost, and neither the cumulative TSN nor the windows nor the timer change.
-pub record Keeps (old new : RetransmissionState) : Type 0 where
+pub record KeepsAllFragments (old new : RetransmissionState) : Type 0 where
   pub first_tsn : new.outstanding.first_tsn ≡ old.outstanding.first_tsn
   pub is_interleaved : new.outstanding.is_interleaved ≡ old.outstanding.is_interleaved
   pub fragments : KeepsFragments old.outstanding.items new.outstanding.items
@@ -29,7 +29,7 @@ pub record Keeps (old new : RetransmissionState) : Type 0 where
 -- These TSNs are those of items, and their chunks take up that many bytes.
 pub data Packed (first header : ℕ) (items : List Item) : List ℕ → ℕ → Type 0 where
   none : Packed first header items [] 0
-  more : (tsns : List ℕ) (used place : ℕ) (item : Item) (tsn size : ℕ) → Packed first header items tsns used → slice_get items place ≡ Some item → tsn ≡ (first + place) % 2 ^ 32 → size ≡ size_of header item → Packed first header items (tsns ++ tsn ∷ []) (used + size)
+  more : (tsns : List ℕ) (used place : ℕ) (item : Item) (tsn size : ℕ) → Packed first header items tsns used → slice_get items place ≡ Some item → tsn ≡ (first + place) % 2 ^ 32 → size ≡ item_size header item → Packed first header items (tsns ++ tsn ∷ []) (used + size)
 
 -- the same for what is outstanding
 abbrev pub PackedFrom : OutstandingState → List ℕ → ℕ → Type 0
@@ -46,8 +46,8 @@ abbrev pub GoesOnFilling : RetransmissionState → Packet → RetransmissionStat
 GoesOnFilling old before new after = (bytes : ℕ) → Filled bytes old before → Filled bytes new after
 
 -- Nothing is lost, and the packet goes on being filled.
-pub record Fills (old : RetransmissionState) (before : Packet) (new : RetransmissionState) (after : Packet) : Type 0 where
-  pub keeps : Keeps old new
+pub record ContinuesPacket (old : RetransmissionState) (before : Packet) (new : RetransmissionState) (after : Packet) : Type 0 where
+  pub keeps : KeepsAllFragments old new
   pub filling : GoesOnFilling old before new after
 
 -- the TSNs of outstanding items, whose chunks fit into that many bytes
@@ -57,7 +57,7 @@ pub record HandsOut (bytes : ℕ) (outstanding : OutstandingState) (tsns : List 
   pub packed : PackedFrom outstanding tsns used
 
 -- Nothing is lost, and the timer runs while something is outstanding.
-pub record Sends (now : ℕ) (old new : RetransmissionState) : Type 0 where
+pub record SendsItems (now : ℕ) (old new : RetransmissionState) : Type 0 where
   pub sent : RetransmissionState
-  pub keeps : Keeps old sent
+  pub keeps : KeepsAllFragments old sent
   pub is : new ≡ record sent { timer = timer_with now sent.outstanding.items sent.timer }

@@ -10,8 +10,8 @@ use Rattle.dcsctp_send_retransmission.specs.declared.forward_tsn.Skipped.{Skippe
 use Rattle.dcsctp_send_retransmission.specs.declared.forward_tsn.Skipped.TheVariants.{Streams, Messages}
 
 -- the stream, and the last number that is skipped
-abbrev pub stream_bytes : SkippedStream → List ℕ
-stream_bytes entry = to_be_bytes w16 entry.stream_id ++ to_be_bytes w16 entry.ssn
+abbrev pub skipped_stream_bytes : SkippedStream → List ℕ
+skipped_stream_bytes entry = to_be_bytes w16 entry.stream_id ++ to_be_bytes w16 entry.ssn
 
 -- the stream, the flags, of which U is the lowest and the others are reserved, and the last identifier that is skipped
 abbrev pub messages_bytes : SkippedMessages → List ℕ
@@ -19,7 +19,7 @@ messages_bytes entry = to_be_bytes w16 entry.stream_id ++ to_be_bytes w16 (t_bit
 
 -- one entry after the other
 abbrev pub skipped_bytes : Skipped → List ℕ
-skipped_bytes (Streams streams) = flat_map stream_bytes streams.items
+skipped_bytes (Streams streams) = flat_map skipped_stream_bytes streams.items
 skipped_bytes (Messages messages) = flat_map messages_bytes messages.items
 
 -- entries within their fields

@@ -4,7 +4,7 @@ use Rattle.std.specs.Option.{option_map}
 use Rattle.dcsctp_api.specs.spec.queues.Items.{Item}
 use Rattle.dcsctp_send_retransmission.specs.declared.retransmission_queue.forwarding.LastNumbers.{LastNumbers}
 use Rattle.dcsctp_api.specs.spec.queues.Retransmission.{RetransmissionState}
-use Rattle.dcsctp_api.specs.spec.queues.Skipping.{entry_limit, last_listed, entry_for, LacksRoom, IsRow}
+use Rattle.dcsctp_api.specs.spec.queues.Skipping.{entry_limit, last_listed, entry_for, LacksRoom, IsSkippedRow}
 
 -- the numbers of an item's message
 abbrev pub numbers_of : Item → LastNumbers
@@ -18,22 +18,22 @@ abbrev pub mid_entry : (ℕ × Bool) × LastNumbers → (ℕ × Bool) × ℕ
 mid_entry entry = ((entry.0.0, entry.0.1), entry.1.mid)
 
 -- how many entries fit
-abbrev pub limit_of : RetransmissionState → ℕ
-limit_of queue = entry_limit queue.outstanding.is_interleaved queue.congestion.mtu
+abbrev pub skipped_entry_limit : RetransmissionState → ℕ
+skipped_entry_limit queue = entry_limit queue.outstanding.is_interleaved queue.congestion.mtu
 
 -- the numbers of the last items of a row, by their streams
-pub record Collects (queue : RetransmissionState) (row : List Item) (entries : List ((ℕ × Bool) × LastNumbers)) : Type 0 where
+pub record CollectsLastNumbers (queue : RetransmissionState) (row : List Item) (entries : List ((ℕ × Bool) × LastNumbers)) : Type 0 where
   pub numbers : (stream : ℕ) (unordered : Bool) → entry_for stream unordered entries ≡ option_map numbers_of (last_listed queue.outstanding.is_interleaved stream unordered row)
-  pub fits : length entries ≤ limit_of queue
+  pub fits : length entries ≤ skipped_entry_limit queue
 
 -- those of the row that is skipped
-pub record Skips (queue : RetransmissionState) (count : ℕ) (entries : List ((ℕ × Bool) × LastNumbers)) : Type 0 where
-  pub row : IsRow queue.outstanding.is_interleaved (limit_of queue) (length entries) count queue.outstanding.items
-  pub collects : Collects queue (take count queue.outstanding.items) entries
+pub record SkipsRow (queue : RetransmissionState) (count : ℕ) (entries : List ((ℕ × Bool) × LastNumbers)) : Type 0 where
+  pub row : IsSkippedRow queue.outstanding.is_interleaved (skipped_entry_limit queue) (length entries) count queue.outstanding.items
+  pub collects : CollectsLastNumbers queue (take count queue.outstanding.items) entries
 
 -- What a try to take one more item in does: it is collected, or there is no room for it.
-abbrev pub TakesIn : RetransmissionState → ℕ → List ((ℕ × Bool) × LastNumbers) → List ((ℕ × Bool) × LastNumbers) → Bool → Type 0
-TakesIn queue place old new true = Collects queue (take (place + 1) queue.outstanding.items) new
-TakesIn queue place old new false =
+abbrev pub TakesItemIn : RetransmissionState → ℕ → List ((ℕ × Bool) × LastNumbers) → List ((ℕ × Bool) × LastNumbers) → Bool → Type 0
+TakesItemIn queue place old new true = CollectsLastNumbers queue (take (place + 1) queue.outstanding.items) new
+TakesItemIn queue place old new false =
     (new ≡ old)
-    × ((item : Item) → slice_get queue.outstanding.items place ≡ Some item → LacksRoom queue.outstanding.is_interleaved (limit_of queue) (length old) (take place queue.outstanding.items) item)
+    × ((item : Item) → slice_get queue.outstanding.items place ≡ Some item → LacksRoom queue.outstanding.is_interleaved (skipped_entry_limit queue) (length old) (take place queue.outstanding.items) item)

@@ -8,12 +8,12 @@ use Rattle.dcsctp_api.specs.spec.endpoint.Event.{Event}
 use Rattle.dcsctp_api.specs.spec.queues.SendQueue.{SendQueueState}
 use Rattle.dcsctp_send_queue.specs.Calls.{StopsTaking, StopsDiscarding}
 use Rattle.dcsctp_send_streams.specs.Telling.{contents, TellsFront}
-use Rattle.dcsctp_api.specs.spec.queues.Items.{Item, size_of, changed_between}
+use Rattle.dcsctp_api.specs.spec.queues.Items.{Item, item_size, changed_between}
 use Rattle.dcsctp_send_retransmission.specs.declared.packet.Packet.{Packet}
 use Rattle.dcsctp_api.specs.types.declared.progress.Change.TheVariants.{SendAgain}
 use Rattle.dcsctp_api.specs.spec.queues.Outstanding.{header, tsn_at, next_tsn}
-use Rattle.dcsctp_api.specs.spec.queues.Filling.{Stage, maybe_expired, payload_room, SendsMarked, StepAgain, MayAdd, StepNew, Steps, counting, FillsStage}
-use Rattle.dcsctp_api.specs.spec.queues.NextItem.{is_due, IsNextMarked}
+use Rattle.dcsctp_api.specs.spec.queues.Filling.{Stage, maybe_expired, payload_room, SendsMarked, StepAgain, MayAdd, StepNew, StageSteps, resent_packet_counted, FillsStage}
+use Rattle.dcsctp_api.specs.spec.queues.NextItem.{is_abandonment_due, IsNextMarked}
 use Rattle.dcsctp_api.specs.spec.queues.ItemMessages.{EndsMessage}
 use Rattle.dcsctp_api.specs.spec.queues.Retransmission.{RetransmissionState, with_items, timer_with}
 use Rattle.dcsctp_api.specs.spec.queues.AtOnce.{SendsAtOnce}
@@ -41,7 +41,7 @@ pub record RefusesUpAt (place : ℕ) (items : List Item) (waiting : SendQueueSta
 pub record RefusesUp (now : ℕ) (at : Stage) (left : SendQueueState) (telling : List (Event (List ℕ))) : Type 0 where
   pub place : ℕ
   pub next : IsNextMarked place at.queue.outstanding.items
-  pub due : is_due now at.queue.partial_reliability next.marked.item ≡ true
+  pub due : is_abandonment_due now at.queue.partial_reliability next.marked.item ≡ true
   pub refused : RefusesUpAt place at.queue.outstanding.items at.waiting at.told telling
   pub stays : left ≡ at.waiting
 
@@ -54,40 +54,40 @@ Refused now at left telling =
     ⊎ (MayAdd at × StopsTaking now (payload_room (header at.queue.outstanding) at.room) at.waiting at.told left telling))
 
 -- After some steps an allocation fails: nothing of a further step has happened to the items.
-pub record Stops (now : ℕ) (Step : Stage → Stage → Type 0) (old new : Stage) : Type 0 where
+pub record StopsBetweenSteps (now : ℕ) (Step : Stage → Stage → Type 0) (old new : Stage) : Type 0 where
   pub at : Stage
-  pub steps : Steps Step old at
+  pub steps : StageSteps Step old at
   pub queue : new.queue ≡ at.queue
   pub refused : Refused now at new.waiting new.told
 
 -- some steps, by whether an allocation failed
 abbrev pub Goes : {A : Type 0} → ℕ → (Stage → Stage → Type 0) → Stage → Stage → Result A AllocError → Type 0
-Goes now Step old new (Ok done) = Steps Step old new
-Goes now Step old new (Err error) = Stops now Step old new
+Goes now Step old new (Ok done) = StageSteps Step old new
+Goes now Step old new (Err error) = StopsBetweenSteps now Step old new
 
 -- ---- the whole
 
 -- A packet is filled up to where an allocation fails.
 pub record StopsAnew (now : ℕ) (old new : Stage) : Type 0 where
   pub resent : Stage
-  pub again : Steps (StepAgain now) old resent
-  pub stops : Stops now (StepNew now) (counting old.room resent) new
+  pub again : StageSteps (StepAgain now) old resent
+  pub stops : StopsBetweenSteps now (StepNew now) (resent_packet_counted old.room resent) new
 
 abbrev pub StopsFilling : ℕ → Stage → Stage → Type 0
-StopsFilling now old new = Stops now (StepAgain now) old new ⊎ StopsAnew now old new
+StopsFilling now old new = StopsBetweenSteps now (StepAgain now) old new ⊎ StopsAnew now old new
 
 abbrev pub GoesFilling : {A : Type 0} → ℕ → Stage → Stage → Result A AllocError → Type 0
 GoesFilling now old new (Ok done) = FillsStage now old new
 GoesFilling now old new (Err error) = StopsFilling now old new
 
 -- A packet is filled that had that many bytes of room, from a queue, a send queue and events to others.
-pub record FillsPacket (now bytes : ℕ) (old : RetransmissionState) (waiting : SendQueueState) (events : List SocketEvent) (new : RetransmissionState) (left : SendQueueState) (telling : List SocketEvent) (tsns : List ℕ) : Type 0 where
+pub record FillsFromQueue (now bytes : ℕ) (old : RetransmissionState) (waiting : SendQueueState) (events : List SocketEvent) (new : RetransmissionState) (left : SendQueueState) (telling : List SocketEvent) (tsns : List ℕ) : Type 0 where
   pub room : ℕ
   pub fills : FillsStage now (stage old waiting events [] bytes) (stage new left telling tsns room)
 
 -- a packet is filled by whether an allocation failed
 abbrev pub TriesPacket : ℕ → ℕ → RetransmissionState → SendQueueState → List SocketEvent → RetransmissionState → SendQueueState → List SocketEvent → Result (Vec ℕ Global) AllocError → Type 0
-TriesPacket now bytes old waiting events new left telling (Ok tsns) = FillsPacket now bytes old waiting events new left telling tsns.items
+TriesPacket now bytes old waiting events new left telling (Ok tsns) = FillsFromQueue now bytes old waiting events new left telling tsns.items
 TriesPacket now bytes old waiting events new left telling (Err error) =
     StopsFilling now (stage old waiting events [] bytes) (stage new left telling [] bytes)
 
@@ -102,10 +102,10 @@ pub record SendsPacket (now bytes : ℕ) (old : RetransmissionState) (waiting : 
 -- What a try to send the item at this place again does, by whether it fits.
 abbrev pub SendsAt : ℕ → Item → RetransmissionState → Packet → RetransmissionState → Packet → Bool → Type 0
 SendsAt place item old before new after true =
-    (size_of (header old.outstanding) item ≤ before.room)
+    (item_size (header old.outstanding) item ≤ before.room)
     × (new ≡ with_items (changed_between (SendAgain (next_tsn old.outstanding)) place (place + 1) old.outstanding.items) old)
     × (after.tsns.items ≡ before.tsns.items ++ tsn_at old.outstanding place ∷ [])
-    × (after.room ≡ before.room - size_of (header old.outstanding) item)
+    × (after.room ≡ before.room - item_size (header old.outstanding) item)
 SendsAt place item old before new after false = (new ≡ old) × (after.tsns.items ≡ before.tsns.items) × (after.room ≡ before.room)
 
 -- ---- a fast retransmission (RFC 9260, section 7.2.4)
@@ -115,4 +115,4 @@ abbrev pub TriesAtOnce : ℕ → ℕ → RetransmissionState → RetransmissionS
 TriesAtOnce now bytes old new (Ok tsns) = (waiting : SendQueueState) → SendsAtOnce now bytes waiting old new tsns.items
 TriesAtOnce now bytes old new (Err error) =
     (waiting : SendQueueState) (events : List SocketEvent)
-    → Stops now (SendsMarked now) (stage (record old { fast_retransmit_due = false }) waiting events [] bytes) (stage new waiting events [] bytes)
+    → StopsBetweenSteps now (SendsMarked now) (stage (record old { fast_retransmit_due = false }) waiting events [] bytes) (stage new waiting events [] bytes)

@@ -2,7 +2,7 @@
 
 ghost use Rattle.std.specs.Prelude.{◌≡◌, IfOk};
 ghost use Rattle.std.specs.List.{flat_map};
-ghost use Rattle.dcsctp_send_retransmission.specs.SkippedBytes.{stream_bytes, messages_bytes};
+ghost use Rattle.dcsctp_send_retransmission.specs.SkippedBytes.{skipped_stream_bytes, messages_bytes};
 
 use dcsctp_api::wire::{SkippedMessages, SkippedStream};
 use std::alloc::{AllocError, Global};
@@ -29,7 +29,7 @@ pub struct ForwardTsn {
 
 // The entry of a FORWARD-TSN.
 fn stream_bytes(entry: SkippedStream) -> [u8; 4]
-    ensures { result ≡ stream_bytes entry }
+    ensures { result ≡ skipped_stream_bytes entry }
 {
     let stream = entry.stream_id.to_be_bytes();
     let number = entry.ssn.to_be_bytes();
@@ -50,7 +50,7 @@ fn messages_bytes(entry: SkippedMessages) -> [u8; 8]
 
 // The entries of a FORWARD-TSN.
 fn streams_bytes(alloc: Global, streams: &[SkippedStream]) -> Result<Vec<u8>, AllocError>
-    ensures { IfOk result (λ bytes. bytes.items ≡ flat_map stream_bytes streams.now) }
+    ensures { IfOk result (λ bytes. bytes.items ≡ flat_map skipped_stream_bytes streams.now) }
 {
     let mut bytes = Vec::new(alloc);
     for entry in streams {

@@ -6,7 +6,7 @@ use borrow.Author.Tests.{ltb-true, ltb-false}
 use Rattle.dcsctp_api.specs.types.declared.sending.Turn.{Turn}
 use Rattle.dcsctp_api.specs.types.declared.sending.Pause.{Pause}
 use Rattle.dcsctp_api.specs.types.declared.sending.Pause.TheVariants.{Open, Pausing, HandedOut}
-use Rattle.dcsctp_api.specs.types.queues.SendStreams.{comes_after, with_turn, with_turns, Stream, is_pausing, committed, rolled_back, stream_at, turn_of, turns_of, IsNext, IsAscending}
+use Rattle.dcsctp_api.specs.types.queues.SendStreams.{comes_after, with_turn, with_optional_turn, Stream, is_pausing, committed, rolled_back, stream_at, turn_of, turns_of, IsNext, IsAscending}
 use Rattle.dcsctp_send_streams.specs.Turns.{NoneAfter, IsOrdered}
 use Rattle.dcsctp_send_streams.specs.Ranking.{IsRanked, IsFound}
 use Rattle.dcsctp_send_streams.proofs.TurnLemmas.{itself}
@@ -37,11 +37,11 @@ pub In-out : (t u : Turn) (turns : List Turn) → In t (with_turn u turns) → (
 In-out t u [] m = m
 In-out t u (x ∷ xs) m = out_at t u x xs (comes_after x u) (In-out t u xs) m
 
-pub in_turns : (t : Turn) (turn : Option Turn) (turns : List Turn) → turn ≡ Some t → In t (with_turns turn turns)
+pub in_turns : (t : Turn) (turn : Option Turn) (turns : List Turn) → turn ≡ Some t → In t (with_optional_turn turn turns)
 in_turns t None turns e = cc
 in_turns t (Some u) turns e = In-with_turn t u turns (inl (cc))
 
-pub still_in : (t : Turn) (turn : Option Turn) (turns : List Turn) → In t turns → In t (with_turns turn turns)
+pub still_in : (t : Turn) (turn : Option Turn) (turns : List Turn) → In t turns → In t (with_optional_turn turn turns)
 still_in t None turns m = m
 still_in t (Some u) turns m = In-with_turn t u turns (inr m)
 
@@ -60,7 +60,7 @@ pub record IsTurnAt (streams : List Stream) (t : Turn) : Type 0 where
 pub later_turn : (x : Stream) (xs : List Stream) (t : Turn) → IsTurnAt xs t → IsTurnAt (x ∷ xs) t
 later_turn x xs t h = record { place = suc h.place; within = let w = h.within in omega (arith, w); is = h.is }
 
-pub turn_in : (x : Stream) (xs : List Stream) (t : Turn) (turn : Option Turn) → turn_of x ≡ turn → (In t (turns_of xs) → IsTurnAt xs t) → In t (with_turns turn (turns_of xs)) → IsTurnAt (x ∷ xs) t
+pub turn_in : (x : Stream) (xs : List Stream) (t : Turn) (turn : Option Turn) → turn_of x ≡ turn → (In t (turns_of xs) → IsTurnAt xs t) → In t (with_optional_turn turn (turns_of xs)) → IsTurnAt (x ∷ xs) t
 turn_in x xs t None e ih m = later_turn x xs t (ih m)
 turn_in x xs t (Some u) e ih m =
     elim (In-out t u (turns_of xs) m) as (λ z. IsTurnAt (x ∷ xs) t) [

@@ -2,7 +2,7 @@
 use Rattle.std.proofs.Common.{◌≡◌, ℕ, zero, suc, below_more, ◌-◌, ◌+◌, ◌<◌, ◌≤◌, Option, Err, List, [], ◌∷◌, length, refl, sym, ap, ◌∙◌, arith}
 use Rattle.std.specs.List.{insert, remove}
 use Rattle.dcsctp_api.specs.types.declared.sending.Turn.{Turn}
-use Rattle.dcsctp_api.specs.types.queues.SendStreams.{with_turns, Stream, stream_at, turn_of, turns_of, IsBelow, IsAscending}
+use Rattle.dcsctp_api.specs.types.queues.SendStreams.{with_optional_turn, Stream, stream_at, turn_of, turns_of, IsBelow, IsAscending}
 use Rattle.dcsctp_send_streams.specs.Ranking.{IsRanked, IsFound}
 use Rattle.dcsctp_send_streams.proofs.StreamLemmas.{ascending_at, turns_of-split}
 
@@ -69,16 +69,16 @@ length-insert_at (x ∷ xs) (suc p) s le = let e = length-insert_at xs p s (omeg
 -- a stream that is put in, and its turn
 pub ranked-insert : (streams : List Stream) (turns after : List Turn) (room more left p : ℕ) (s : Stream) (turn : Option Turn)
     → IsRanked streams turns room → IsFound streams s.id (Err p) → turn ≡ turn_of s
-    → ((others : List Turn) → turns ≡ others → after ≡ with_turns turn others)
+    → ((others : List Turn) → turns ≡ others → after ≡ with_optional_turn turn others)
     → length streams + 1 ≤ more → left ≡ more → IsRanked (insert streams p s) after left
 ranked-insert streams turns after room more left p s turn ranked found is moved fits same =
     let len = length-insert_at streams p s found.0 in
     let ascending = IsAscending-insert streams p s ranked.ascending found in
     record {
       ascending = ascending;
-      are = moved turns refl ∙ (ap (λ t. with_turns t turns) is ∙ (ap (λ ts. with_turns (turn_of s) ts) ranked.are
+      are = moved turns refl ∙ (ap (λ t. with_optional_turn t turns) is ∙ (ap (λ ts. with_optional_turn (turn_of s) ts) ranked.are
           ∙ sym (turns_of-split (insert streams p s) p ascending (let b = found.0 in omega (arith, len, b))
-          ∙ (ap (λ x. with_turns (turn_of x) (turns_of (remove (insert streams p s) p))) (stream_at-insert streams p s found.0)
-          ∙ ap (λ xs. with_turns (turn_of s) (turns_of xs)) (remove-insert streams p s found.0)))));
+          ∙ (ap (λ x. with_optional_turn (turn_of x) (turns_of (remove (insert streams p s) p))) (stream_at-insert streams p s found.0)
+          ∙ ap (λ xs. with_optional_turn (turn_of s) (turns_of xs)) (remove-insert streams p s found.0)))));
       has_room = omega (arith, len, fits, same);
     }

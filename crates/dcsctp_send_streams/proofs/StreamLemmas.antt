@@ -4,8 +4,8 @@ use Rattle.std.specs.List.{remove}
 use Rattle.dcsctp_api.specs.types.declared.sending.Turn.{Turn}
 use Rattle.dcsctp_api.specs.types.declared.sending.Pause.{Pause}
 use Rattle.dcsctp_api.specs.types.declared.sending.Pause.TheVariants.{Open, Pausing, HandedOut}
-use Rattle.dcsctp_api.specs.types.queues.SendStreams.{comes_after, with_turn, with_turns, Waiting, Stream, is_pausing, counted, stream_at, turn_if, turn_of, turns_of, IsBelow, IsAscending}
-use Rattle.dcsctp_send_streams.specs.Turns.{IsOrdered, Holds}
+use Rattle.dcsctp_api.specs.types.queues.SendStreams.{comes_after, with_turn, with_optional_turn, Waiting, Stream, is_pausing, stream_counted, stream_at, turn_if, turn_of, turns_of, IsBelow, IsAscending}
+use Rattle.dcsctp_send_streams.specs.Turns.{IsOrdered, HoldsTurns}
 use Rattle.dcsctp_send_streams.specs.Ranking.{IsRanked}
 use Rattle.dcsctp_send_streams.proofs.TurnLemmas.{IsOrdered-with_turn, with_turn-with_turn}
 
@@ -32,7 +32,7 @@ turn_if-id priority last id HandedOut messages t e = cc
 pub turn_of-id : (stream : Stream) (t : Turn) → turn_of stream ≡ Some t → t.stream_id.0 ≡ stream.id
 turn_of-id stream t e = turn_if-id stream.priority stream.last_turn stream.id stream.pause stream.messages t e
 
-pub swap_turns : (a b : Option Turn) (i j : ℕ) (turns : List Turn) → ((t : Turn) → a ≡ Some t → t.stream_id.0 ≡ i) → ((t : Turn) → b ≡ Some t → t.stream_id.0 ≡ j) → i ≢ j → with_turns a (with_turns b turns) ≡ with_turns b (with_turns a turns)
+pub swap_turns : (a b : Option Turn) (i j : ℕ) (turns : List Turn) → ((t : Turn) → a ≡ Some t → t.stream_id.0 ≡ i) → ((t : Turn) → b ≡ Some t → t.stream_id.0 ≡ j) → i ≢ j → with_optional_turn a (with_optional_turn b turns) ≡ with_optional_turn b (with_optional_turn a turns)
 swap_turns None None i j turns ha hb apart = refl
 swap_turns None (Some b) i j turns ha hb apart = refl
 swap_turns (Some a) None i j turns ha hb apart = refl
@@ -40,16 +40,16 @@ swap_turns (Some a) (Some b) i j turns ha hb apart =
     with_turn-with_turn turns a b (λ e. apart (let p = ha a refl in let q = hb b refl in cc))
 
 -- the turns are those of the others with that of the stream at a place
-pub turns_of-split : (streams : List Stream) (p : ℕ) → IsAscending streams → p < length streams → turns_of streams ≡ with_turns (turn_of (stream_at streams p)) (turns_of (remove streams p))
+pub turns_of-split : (streams : List Stream) (p : ℕ) → IsAscending streams → p < length streams → turns_of streams ≡ with_optional_turn (turn_of (stream_at streams p)) (turns_of (remove streams p))
 turns_of-split [] p ascending lt = absurd (omega arith)
 turns_of-split (x ∷ xs) zero ascending lt = refl
 turns_of-split (x ∷ xs) (suc p) ascending lt =
     let less = IsBelow-at x.id xs p ascending.0 (omega arith) in
     let ih = turns_of-split xs p ascending.1 (omega arith) in
-    ap (λ ts. with_turns (turn_of x) ts) ih
+    ap (λ ts. with_optional_turn (turn_of x) ts) ih
     ∙ swap_turns (turn_of x) (turn_of (stream_at xs p)) x.id (stream_at xs p).id (turns_of (remove xs p)) (turn_of-id x) (turn_of-id (stream_at xs p)) (omega arith)
 
-pub IsOrdered-with_turns : (turn : Option Turn) (turns : List Turn) → IsOrdered turns → IsOrdered (with_turns turn turns)
+pub IsOrdered-with_turns : (turn : Option Turn) (turns : List Turn) → IsOrdered turns → IsOrdered (with_optional_turn turn turns)
 IsOrdered-with_turns None turns ordered = ordered
 IsOrdered-with_turns (Some turn) turns ordered = IsOrdered-with_turn turns turn ordered
 
@@ -65,7 +65,7 @@ pub length-with_turn : (t : Turn) (turns : List Turn) → length (with_turn t tu
 length-with_turn t [] = omega arith
 length-with_turn t (x ∷ xs) = let e = length_at x t xs (comes_after x t) (length-with_turn t xs) in omega (arith, e)
 
-pub length-with_turns : (turn : Option Turn) (turns : List Turn) → length (with_turns turn turns) ≤ length turns + 1
+pub length-with_turns : (turn : Option Turn) (turns : List Turn) → length (with_optional_turn turn turns) ≤ length turns + 1
 length-with_turns None turns = omega arith
 length-with_turns (Some turn) turns = let e = length-with_turn turn turns in omega (arith, e)
 
@@ -80,7 +80,7 @@ length_less (x ∷ xs) zero lt = omega arith
 length_less (x ∷ xs) (suc p) lt = let e = length_less xs p (omega arith) in omega (arith, e)
 
 -- what a change of the turn at a place asks for
-pub holds_at : (streams : List Stream) (turns : List Turn) (room p : ℕ) → IsRanked streams turns room → p < length streams → Holds turns (turn_of (stream_at streams p)) room
+pub holds_at : (streams : List Stream) (turns : List Turn) (room p : ℕ) → IsRanked streams turns room → p < length streams → HoldsTurns turns (turn_of (stream_at streams p)) room
 holds_at streams turns room p ranked lt =
     let fewer = length-turns_of (remove streams p) in
     let less = length_less streams p lt in
@@ -118,17 +118,17 @@ length-set_at (x ∷ xs) zero s = refl
 length-set_at (x ∷ xs) (suc p) s = let e = length-set_at xs p s in omega (arith, e)
 
 -- the turns after one stream has changed
-pub turns_of-set : (streams : List Stream) (p : ℕ) (s : Stream) → IsAscending streams → p < length streams → s.id ≡ (stream_at streams p).id → turns_of (set streams p s) ≡ with_turns (turn_of s) (turns_of (remove streams p))
+pub turns_of-set : (streams : List Stream) (p : ℕ) (s : Stream) → IsAscending streams → p < length streams → s.id ≡ (stream_at streams p).id → turns_of (set streams p s) ≡ with_optional_turn (turn_of s) (turns_of (remove streams p))
 turns_of-set streams p s ascending lt same =
     let len = length-set_at streams p s in
     turns_of-split (set streams p s) p (IsAscending-set streams p s ascending lt same) (omega (arith, len))
-    ∙ (ap (λ x. with_turns (turn_of x) (turns_of (remove (set streams p s) p))) (stream_at-set streams p s lt)
-    ∙ ap (λ xs. with_turns (turn_of s) (turns_of xs)) (remove-set streams p s lt))
+    ∙ (ap (λ x. with_optional_turn (turn_of x) (turns_of (remove (set streams p s) p))) (stream_at-set streams p s lt)
+    ∙ ap (λ xs. with_optional_turn (turn_of s) (turns_of xs)) (remove-set streams p s lt))
 
 -- a change of one stream, and of its turn
 pub ranked-set : (streams : List Stream) (turns after : List Turn) (room left p : ℕ) (s : Stream)
     → IsRanked streams turns room → p < length streams → s.id ≡ (stream_at streams p).id
-    → ((others : List Turn) → turns ≡ with_turns (turn_of (stream_at streams p)) others → after ≡ with_turns (turn_of s) others)
+    → ((others : List Turn) → turns ≡ with_optional_turn (turn_of (stream_at streams p)) others → after ≡ with_optional_turn (turn_of s) others)
     → room ≤ left → IsRanked (set streams p s) after left
 ranked-set streams turns after room left p s ranked lt same moved fits =
     let len = length-set_at streams p s in
@@ -144,7 +144,7 @@ pub ranked-set_same : (streams : List Stream) (turns : List Turn) (room p : ℕ)
     → IsRanked streams turns room → p < length streams → s.id ≡ (stream_at streams p).id
     → turn_of s ≡ turn_of (stream_at streams p) → IsRanked (set streams p s) turns room
 ranked-set_same streams turns room p s ranked lt same turn =
-    ranked-set streams turns turns room room p s ranked lt same (λ others are. are ∙ ap (λ t. with_turns t others) (sym turn)) (omega arith)
+    ranked-set streams turns turns room room p s ranked lt same (λ others are. are ∙ ap (λ t. with_optional_turn t others) (sym turn)) (omega arith)
 
 -- a stream that was read at a place
 pub at_place : (streams : List Stream) (p : ℕ) (x : Stream) → p < length streams → x ≡ get_or streams p x → x ≡ stream_at streams p
@@ -154,7 +154,7 @@ at_place (y ∷ ys) (suc p) x lt e = at_place ys p x (omega arith) e
 
 -- what a change of a turn asks for, at a stream that was read
 pub holds_read : (streams : List Stream) (turns : List Turn) (room p : ℕ) (x : Stream) (before : Option Turn)
-    → IsRanked streams turns room → p < length streams → x ≡ get_or streams p x → before ≡ turn_of x → Holds turns before room
+    → IsRanked streams turns room → p < length streams → x ≡ get_or streams p x → before ≡ turn_of x → HoldsTurns turns before room
 holds_read streams turns room p x before ranked lt e is =
     let turn : before ≡ turn_of (stream_at streams p) = is ∙ ap (λ s. turn_of s) (at_place streams p x lt e) in
     rw turn (holds_at streams turns room p ranked lt)
@@ -162,12 +162,12 @@ holds_read streams turns room p x before ranked lt e is =
 -- what is left after a change of a stream that was read, and of its turn
 pub ranked_read : (streams : List Stream) (turns others_turns : List Turn) (room left p : ℕ) (x s : Stream) (before after : Option Turn)
     → IsRanked streams turns room → p < length streams → x ≡ get_or streams p x → before ≡ turn_of x → after ≡ turn_of s → s.id ≡ x.id
-    → ((others : List Turn) → turns ≡ with_turns before others → others_turns ≡ with_turns after others)
+    → ((others : List Turn) → turns ≡ with_optional_turn before others → others_turns ≡ with_optional_turn after others)
     → left ≡ room → IsRanked (set streams p s) others_turns left
 ranked_read streams turns others_turns room left p x s before after ranked lt e is will same moved fits =
     let at = at_place streams p x lt e in
     ranked-set streams turns others_turns room left p s ranked lt (same ∙ ap (λ s. s.id) at)
-    (λ others are. moved others (are ∙ ap (λ t. with_turns t others) (ap (λ s. turn_of s) (sym at) ∙ sym is)) ∙ ap (λ t. with_turns t others) will)
+    (λ others are. moved others (are ∙ ap (λ t. with_optional_turn t others) (ap (λ s. turn_of s) (sym at) ∙ sym is)) ∙ ap (λ t. with_optional_turn t others) will)
     (omega (arith, fits))
 
 -- what is left after a change of a stream that was read, which keeps its turn
@@ -177,25 +177,25 @@ ranked_read_same streams turns room p x s ranked lt e same turn =
     let at = at_place streams p x lt e in
     ranked-set_same streams turns room p s ranked lt (same ∙ ap (λ s. s.id) at) (turn ∙ ap (λ s. turn_of s) at)
 
-pub counted-id : (is_interleaved is_unordered : Bool) (s : Stream) → (counted is_interleaved is_unordered s).id ≡ s.id
+pub counted-id : (is_interleaved is_unordered : Bool) (s : Stream) → (stream_counted is_interleaved is_unordered s).id ≡ s.id
 counted-id false false s = refl
 counted-id false true s = refl
 counted-id true false s = refl
 counted-id true true s = refl
 
-pub counted-turn : (is_interleaved is_unordered : Bool) (s : Stream) → turn_of (counted is_interleaved is_unordered s) ≡ turn_of s
+pub counted-turn : (is_interleaved is_unordered : Bool) (s : Stream) → turn_of (stream_counted is_interleaved is_unordered s) ≡ turn_of s
 counted-turn false false s = refl
 counted-turn false true s = refl
 counted-turn true false s = refl
 counted-turn true true s = refl
 
-pub counted-pausing : (is_interleaved is_unordered : Bool) (s : Stream) → is_pausing (counted is_interleaved is_unordered s).pause ≡ is_pausing s.pause
+pub counted-pausing : (is_interleaved is_unordered : Bool) (s : Stream) → is_pausing (stream_counted is_interleaved is_unordered s).pause ≡ is_pausing s.pause
 counted-pausing false false s = refl
 counted-pausing false true s = refl
 counted-pausing true false s = refl
 counted-pausing true true s = refl
 
-pub counted-messages : (is_interleaved is_unordered : Bool) (s : Stream) → (counted is_interleaved is_unordered s).messages ≡ s.messages
+pub counted-messages : (is_interleaved is_unordered : Bool) (s : Stream) → (stream_counted is_interleaved is_unordered s).messages ≡ s.messages
 counted-messages false false s = refl
 counted-messages false true s = refl
 counted-messages true false s = refl

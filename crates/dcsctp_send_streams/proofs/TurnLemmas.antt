@@ -4,7 +4,7 @@ use Rattle.std.proofs.lemmas.Bool.Decides.{nat_tests}
 use Rattle.std.specs.List.{insert, remove}
 use Rattle.dcsctp_api.specs.types.declared.sending.Turn.{Turn}
 use Rattle.dcsctp_api.specs.types.queues.SendStreams.{comes_after, with_turn}
-use Rattle.dcsctp_send_streams.specs.Turns.{NoneAfter, IsOrdered, IsPlace}
+use Rattle.dcsctp_send_streams.specs.Turns.{NoneAfter, IsOrdered, IsTurnPlace}
 
 -- no two come after each other
 pub not_both_after : (a b : Turn) → comes_after a b ≡ true → comes_after b a ≡ false
@@ -52,14 +52,14 @@ above_too turns t d m ordered h k lt within =
     let g = ordered_at turns m k d ordered lt within in
     above_by (get_or turns m d) (get_or turns k d) t (comes_after (get_or turns k d) t) h g refl
 
-rest_is_place : (x t : Turn) (xs : List Turn) (p : ℕ) → IsPlace (x ∷ xs) t (suc p) → IsPlace xs t p
+rest_is_place : (x t : Turn) (xs : List Turn) (p : ℕ) → IsTurnPlace (x ∷ xs) t (suc p) → IsTurnPlace xs t p
 rest_is_place x t xs p h = record {
   bound = let b = h.bound in omega arith;
   below = λ k lt. h.below (suc k) (omega arith);
   above = λ k le lt. h.above (suc k) (omega arith) (omega arith);
 }
 
-pub insert-with_turn : (turns : List Turn) (t : Turn) (p : ℕ) → IsPlace turns t p → insert turns p t ≡ with_turn t turns
+pub insert-with_turn : (turns : List Turn) (t : Turn) (p : ℕ) → IsTurnPlace turns t p → insert turns p t ≡ with_turn t turns
 insert-with_turn [] t zero h = refl
 insert-with_turn [] t (suc p) h = absurd (let b = h.bound in omega arith)
 insert-with_turn (x ∷ xs) t zero h = let e : comes_after x t ≡ false = h.above zero (omega arith) (omega arith) in rw e refl
@@ -70,25 +70,25 @@ insert-with_turn (x ∷ xs) t (suc p) h =
 not_after_itself : (t : Turn) → comes_after t t ≡ true → ⊥
 not_after_itself t h = let e = not_both_after t t h in cc
 
-within_at : (x t : Turn) (xs : List Turn) (b : Bool) (p : ℕ) → ((q : ℕ) → IsPlace (with_turn t xs) t q → q < length (with_turn t xs)) → IsPlace (if b then x ∷ with_turn t xs else t ∷ x ∷ xs) t p → p < length (if b then x ∷ with_turn t xs else t ∷ x ∷ xs)
+within_at : (x t : Turn) (xs : List Turn) (b : Bool) (p : ℕ) → ((q : ℕ) → IsTurnPlace (with_turn t xs) t q → q < length (with_turn t xs)) → IsTurnPlace (if b then x ∷ with_turn t xs else t ∷ x ∷ xs) t p → p < length (if b then x ∷ with_turn t xs else t ∷ x ∷ xs)
 within_at x t xs true zero ih h = omega arith
 within_at x t xs true (suc p) ih h = let lt = ih p (rest_is_place x t (with_turn t xs) p h) in omega arith
 within_at x t xs false zero ih h = omega arith
 within_at x t xs false (suc p) ih h = absurd (not_after_itself t (h.below zero (omega arith)))
 
 -- the place of a turn that is in is one of the list
-pub place_within : (others : List Turn) (t : Turn) (p : ℕ) → IsPlace (with_turn t others) t p → p < length (with_turn t others)
+pub place_within : (others : List Turn) (t : Turn) (p : ℕ) → IsTurnPlace (with_turn t others) t p → p < length (with_turn t others)
 place_within [] t zero h = omega arith
 place_within [] t (suc p) h = absurd (not_after_itself t (h.below zero (omega arith)))
 place_within (x ∷ xs) t p h = within_at x t xs (comes_after x t) p (place_within xs t) h
 
-remove_at : (x t : Turn) (xs : List Turn) (b : Bool) (p : ℕ) → comes_after x t ≡ b → ((q : ℕ) → IsPlace (with_turn t xs) t q → remove (with_turn t xs) q ≡ xs) → IsPlace (if b then x ∷ with_turn t xs else t ∷ x ∷ xs) t p → remove (if b then x ∷ with_turn t xs else t ∷ x ∷ xs) p ≡ x ∷ xs
+remove_at : (x t : Turn) (xs : List Turn) (b : Bool) (p : ℕ) → comes_after x t ≡ b → ((q : ℕ) → IsTurnPlace (with_turn t xs) t q → remove (with_turn t xs) q ≡ xs) → IsTurnPlace (if b then x ∷ with_turn t xs else t ∷ x ∷ xs) t p → remove (if b then x ∷ with_turn t xs else t ∷ x ∷ xs) p ≡ x ∷ xs
 remove_at x t xs true zero e ih h = let f : comes_after x t ≡ false = h.above zero (omega arith) (omega arith) in cc
 remove_at x t xs true (suc p) e ih h = ap (λ ts. x ∷ ts) (ih p (rest_is_place x t (with_turn t xs) p h))
 remove_at x t xs false zero e ih h = refl
 remove_at x t xs false (suc p) e ih h = absurd (not_after_itself t (h.below zero (omega arith)))
 
-pub remove-with_turn : (others : List Turn) (t : Turn) (p : ℕ) → IsPlace (with_turn t others) t p → remove (with_turn t others) p ≡ others
+pub remove-with_turn : (others : List Turn) (t : Turn) (p : ℕ) → IsTurnPlace (with_turn t others) t p → remove (with_turn t others) p ≡ others
 remove-with_turn [] t zero h = refl
 remove-with_turn [] t (suc p) h = absurd (not_after_itself t (h.below zero (omega arith)))
 remove-with_turn (x ∷ xs) t p h = remove_at x t xs (comes_after x t) p refl (remove-with_turn xs t) h

@@ -16,7 +16,7 @@ abbrev pub count_pausing : List Stream → ℕ
 count_pausing streams = count_by (λ stream. is_pausing stream.pause) streams
 
 -- These are kept beside the streams: their turns, with room, and how many of them are to be reset. Each message has bytes.
-pub record IsKept (streams : List Stream) (turns : List Turn) (room pausing : ℕ) : Type 0 where
+pub record AreStreamsKept (streams : List Stream) (turns : List Turn) (room pausing : ℕ) : Type 0 where
   pub ranked : IsRanked streams turns room
   pub counted : pausing ≡ count_pausing streams
   pub bytes : AllByRecursion HaveBytes streams

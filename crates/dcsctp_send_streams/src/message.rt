@@ -3,7 +3,7 @@
 ghost use Rattle.std.specs.Option.{option_map};
 ghost use Rattle.std.specs.Prelude.{◌≡◌, ◌≤◌, drop, vec_len};
 ghost use Rattle.dcsctp_api.specs.types.Ids.{lifecycle_number};
-ghost use Rattle.dcsctp_api.specs.spec.queues.QueuedParts.{limit_of, name_of};
+ghost use Rattle.dcsctp_api.specs.spec.queues.QueuedParts.{limit_in_part, name_in_part};
 
 use crate::data::DataToSend;
 use dcsctp_api::types::{HandoverStreamMessage, UnderWay, millis_ahead, moment_at};
@@ -22,7 +22,7 @@ pub const NO_LIMIT: u16 = 65535;
 
 /// How often a message may be sent again, by the number that a snapshot has for it.
 pub fn limit_of(count: u16) -> Option<u16>
-    ensures { result ≡ limit_of count }
+    ensures { result ≡ limit_in_part count }
 {
     if count == NO_LIMIT {
         return None;
@@ -32,7 +32,7 @@ pub fn limit_of(count: u16) -> Option<u16>
 
 /// The name of a message, by the number that a snapshot has for it.
 pub fn name_of(number: u64) -> Option<LifecycleId>
-    ensures { option_map lifecycle_number result ≡ name_of number }
+    ensures { option_map lifecycle_number result ≡ name_in_part number }
 {
     if number == 0 {
         return None;

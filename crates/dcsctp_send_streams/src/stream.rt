@@ -63,7 +63,7 @@ impl OutgoingStream {
     ghost use Rattle.std.specs.Prelude.{◌≡◌, ◌-◌, ◌^◌, ◌++◌, min, drop, OnOk, OnErr, if◌then◌else◌};
     ghost use Rattle.dcsctp_send_streams.specs.Telling.{contents, TellsFront};
     ghost use Rattle.dcsctp_api.specs.spec.queues.SendEvents.{expiries};
-    ghost use Rattle.dcsctp_api.specs.types.queues.SendStreams.{size_of, unused, is_pausing, front_of, with_message, without_front, paused, resumed, handed_out, begun_anew, raised, committed, rolled_back, turn_of};
+    ghost use Rattle.dcsctp_api.specs.types.queues.SendStreams.{payload_size, unused, is_pausing, front_of, with_message, without_front, paused, resumed, handed_out, begun_anew, amount_raised, committed, rolled_back, turn_of};
     ghost use Rattle.std.specs.Option.{option_copied};
     ghost use Rattle.dcsctp_api.specs.spec.queues.SendQueue.{HaveBytes, has_live};
     ghost use Rattle.dcsctp_api.specs.spec.queues.Readiness.{is_paused};
@@ -180,7 +180,7 @@ impl OutgoingStream {
 
     /// The payload bytes of its messages except for that many of the oldest; at most the greatest `usize`.
     pub fn size_from(&self, kept: usize) -> usize
-        ensures { result ≡ min (size_of (drop kept self.now.messages)) (2 ^ 64 - 1) }
+        ensures { result ≡ min (payload_size (drop kept self.now.messages)) (2 ^ 64 - 1) }
     {
         let mut size = 0usize;
         for place in kept..self.messages.len() {
@@ -373,7 +373,7 @@ impl OutgoingStream {
 
     /// Adds that much to its amount, which stops at the greatest `usize`.
     pub fn raise(&mut self, size: usize)
-        ensures { self.new ≡ raised size self.old }
+        ensures { self.new ≡ amount_raised size self.old }
     {
         self.amount = self.amount.saturating_add(size);
     }

@@ -23,19 +23,19 @@ pub struct Streams {
 impl Model for Streams {
     ghost use Rattle.std.specs.Prelude.{List, vec_capacity};
     ghost use Rattle.dcsctp_api.specs.types.queues.SendStreams.{Stream};
-    ghost use Rattle.dcsctp_send_streams.specs.Ranking.{IsKept};
+    ghost use Rattle.dcsctp_send_streams.specs.Ranking.{AreStreamsKept};
 
     ghost Value = { List Stream };
 
     ghost view = { λ streams. streams.items.items };
 
-    ghost invariant = { λ streams. IsKept streams.items.items streams.turns.items (vec_capacity streams.turns) streams.pausing };
+    ghost invariant = { λ streams. AreStreamsKept streams.items.items streams.turns.items (vec_capacity streams.turns) streams.pausing };
 }
 
 impl Streams {
     ghost use Rattle.std.specs.List.{list_any, AllByRecursion};
     ghost use Rattle.std.specs.Prelude.{◌≡◌, ◌-◌, ◌<◌, ◌&&◌, [], length, is_some, map, slice_set, insert, OnOk, OnErr, IfSome, IfNone};
-    ghost use Rattle.dcsctp_api.specs.types.queues.SendStreams.{front_of, with_message, without_front, paused, handed_out, begun_anew, raised, counted, served, committed, rolled_back, stream_at, turn_of, turns_of, IsNext, IsAscending};
+    ghost use Rattle.dcsctp_api.specs.types.queues.SendStreams.{front_of, with_message, without_front, paused, handed_out, begun_anew, amount_raised, stream_counted, served, committed, rolled_back, stream_at, turn_of, turns_of, IsNext, IsAscending};
     ghost use Rattle.dcsctp_api.specs.spec.queues.SendQueue.{HaveBytes, has_live};
     ghost use Rattle.dcsctp_api.specs.spec.queues.Readiness.{has_messages, is_paused};
     ghost use Rattle.dcsctp_send_streams.specs.Ranking.{count_pausing, IsFound};
@@ -333,7 +333,7 @@ impl Streams {
     /// Adds that much to the stream's amount, which stops at the greatest `usize`.
     pub fn raise(&mut self, place: usize, size: usize)
         requires { place < length self.old }
-        ensures { self.new ≡ slice_set self.old place (raised size (stream_at self.old place)) }
+        ensures { self.new ≡ slice_set self.old place (amount_raised size (stream_at self.old place)) }
     {
         let stream = &mut self.items[place];
         stream.raise(size);
@@ -342,7 +342,7 @@ impl Streams {
     /// Counts a message of the stream that is begun.
     pub fn count_begun(&mut self, place: usize, is_interleaved: bool, is_unordered: bool)
         requires { place < length self.old }
-        ensures { self.new ≡ slice_set self.old place (counted is_interleaved is_unordered (stream_at self.old place)) }
+        ensures { self.new ≡ slice_set self.old place (stream_counted is_interleaved is_unordered (stream_at self.old place)) }
     {
         let stream = &mut self.items[place];
         stream.count_begun(is_interleaved, is_unordered);

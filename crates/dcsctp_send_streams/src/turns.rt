@@ -3,15 +3,15 @@
 
 ghost use Rattle.std.specs.Prelude.{◌≡◌, ◌+◌, ◌<◌, List, Some, vec_len, vec_capacity};
 ghost use Rattle.dcsctp_api.specs.types.declared.sending.Turn.{Turn};
-ghost use Rattle.dcsctp_api.specs.types.queues.SendStreams.{comes_after, with_turn, with_turns};
-ghost use Rattle.dcsctp_send_streams.specs.Turns.{IsOrdered, IsPlace, Holds};
+ghost use Rattle.dcsctp_api.specs.types.queues.SendStreams.{comes_after, with_turn, with_optional_turn};
+ghost use Rattle.dcsctp_send_streams.specs.Turns.{IsOrdered, IsTurnPlace, HoldsTurns};
 
 use dcsctp_api::types::Turn;
 
 // How many of the turns, which stand in order, come after the given one.
 fn place_of(turns: &[Turn], turn: Turn) -> usize
     requires { IsOrdered turns.now }
-    ensures { IsPlace turns.now turn result }
+    ensures { IsTurnPlace turns.now turn result }
 {
     let mut low = 0;
     let mut high = turns.len();
@@ -39,7 +39,7 @@ fn add_turn(turns: &mut Vec<Turn>, turn: Turn)
 
 // Takes a turn out.
 fn remove_turn(turns: &mut Vec<Turn>, turn: Turn)
-    requires { Holds turns.old.items (Some turn) (vec_capacity turns.old) }
+    requires { HoldsTurns turns.old.items (Some turn) (vec_capacity turns.old) }
     ensures turns { (others : List Turn) → turns.old.items ≡ with_turn turn others → turns.new.items ≡ others }
     ensures capacity { vec_capacity turns.new ≡ vec_capacity turns.old }
 {
@@ -49,8 +49,8 @@ fn remove_turn(turns: &mut Vec<Turn>, turn: Turn)
 
 /// Puts one turn in the place of another, if there are any.
 pub fn move_turn(turns: &mut Vec<Turn>, before: Option<Turn>, after: Option<Turn>)
-    requires { Holds turns.old.items before (vec_capacity turns.old) }
-    ensures turns { (others : List Turn) → turns.old.items ≡ with_turns before others → turns.new.items ≡ with_turns after others }
+    requires { HoldsTurns turns.old.items before (vec_capacity turns.old) }
+    ensures turns { (others : List Turn) → turns.old.items ≡ with_optional_turn before others → turns.new.items ≡ with_optional_turn after others }
     ensures capacity { vec_capacity turns.new ≡ vec_capacity turns.old }
 {
     match before {

@@ -4,7 +4,7 @@
 ghost use Rattle.std.specs.Prelude.{◌≡◌};
 ghost use Rattle.std.specs.Duration.{as_nanos};
 ghost use Rattle.std.specs.Option.{option_map};
-ghost use Rattle.dcsctp_spec.specs.endpoint.Timers.{goes_on, next_wait, bounded};
+ghost use Rattle.dcsctp_spec.specs.endpoint.Timers.{may_restart, next_wait, bounded};
 
 use dcsctp_spec::types::{BackoffAlgorithm, SocketTime};
 use std::marker::Model;
@@ -12,7 +12,7 @@ use std::time::Duration;
 
 // May a timer go on that has expired that often?
 fn goes_on(max_restarts: Option<u32>, expiries: u64) -> bool
-    ensures { result ≡ goes_on max_restarts expiries }
+    ensures { result ≡ may_restart max_restarts expiries }
 {
     match max_restarts {
         None => true,

@@ -7,11 +7,11 @@ use Rattle.dcsctp_core.specs.spec.endpoint.Endpoint.{Endpoint}
 use Rattle.dcsctp_core.specs.spec.endpoint.Outcome.{Outcome, quiet, then_outcome}
 use Rattle.dcsctp_core.specs.spec.endpoint.FlushOutcomes.{Answer}
 use Rattle.dcsctp_core.specs.spec.endpoint.Turn.{user_sends}
-use Rattle.dcsctp_core.specs.spec.endpoint.MessageOutcomes.{MessageRefusal, empty_payload, message_too_large, shutting_down, resource_exhaustion, message_refusal, refusal_events, Sending, sending_of, sending_refusal, name_of, queue_by, queue_one, queue_all, takes_any, RefusedMessage, refused_where, refused_from, SendAnswers, send_by, SendTurn}
-use Rattle.dcsctp_core.specs.spec.endpoint.CallTurns.{Turned, turned, Turns}
+use Rattle.dcsctp_core.specs.spec.endpoint.MessageOutcomes.{MessageRefusal, empty_payload, message_too_large, shutting_down, resource_exhaustion, message_refusal, refusal_events, Sending, sending_of, sending_refusal, lifecycle_name, queue_by, queue_one, queue_all, takes_any, RefusedMessage, refused_where, refused_from, SendAnswers, send_by, SendTurn}
+use Rattle.dcsctp_core.specs.spec.endpoint.CallTurns.{Transition, transition, Turns}
 use Rattle.dcsctp_core.specs.api.declared.errors.SendError.{SendError}
 use Rattle.dcsctp_core.specs.api.declared.errors.SendError.TheVariants.{EmptyPayload, MessageTooLarge, ResourceExhaustion, ShuttingDown}
-use Rattle.dcsctp_core.specs.api.Calls.{UserView, Follows, AddsFront, RanOut}
+use Rattle.dcsctp_core.specs.api.Calls.{UserView, Follows, AddsFirstEvents, RanOutOfMemory}
 use Rattle.dcsctp_core.specs.api.declared.errors.BatchSendError.{BatchSendError}
 use Rattle.dcsctp_core.specs.api.declared.errors.SocketFault.{SocketFault}
 use Rattle.dcsctp_core.specs.api.declared.errors.SocketFault.TheVariants.{OutOfMemory, Failed}
@@ -127,7 +127,7 @@ module _ (options : SendOptions) where
       record {
         queued =
             ap (queue_by e (sent stream ppid front)) of_front
-            ∙ ap (quiet e []) (same_events e.options.max_message_size (length front) (length whole) (name_of (sent stream ppid front)))
+            ∙ ap (quiet e []) (same_events e.options.max_message_size (length front) (length whole) (lifecycle_name (sent stream ppid front)))
             ∙ sym (ap (queue_by e (sent stream ppid whole)) of_whole);
         taken = ap is_none of_front ∙ sym (ap is_none of_whole);
         told = ap refusal_status of_front ∙ sym (ap refusal_status of_whole);
@@ -186,11 +186,11 @@ same_turn options e wholes fronts o all came =
     subst (λ takes. CameOf takes (queue_all e wholes) o) all.taken (subst (λ queued. CameOf (takes_any e fronts) queued o) all.queued came)
 
 module _ (options : SendOptions) (old : UserView) (wholes fronts : List Sending) (all : AllAlike options old.endpoint wholes fronts) where
-  same_call : (new : UserView) (turns : List Turned) → Turns old.endpoint (user_sends fronts ∷ []) turns → Follows old turns new → IsTurnOf (user_sends wholes) old new
+  same_call : (new : UserView) (turns : List Transition) → Turns old.endpoint (user_sends fronts ∷ []) turns → Follows old turns new → IsTurnOf (user_sends wholes) old new
   same_call new [] said follows = absurd said
   same_call new (t ∷ u ∷ turns) said follows = absurd said.1
   same_call new (t ∷ []) said follows = (
-    turned (user_sends wholes) t.outcome ∷ [],
+    transition (user_sends wholes) t.outcome ∷ [],
     (record { is = refl; comes = same_turn options old.endpoint wholes fronts t.outcome all said.0.comes }, tt),
     record { runs = follows.runs; goes_on = follows.goes_on; endpoint = follows.endpoint; events = follows.events; words = follows.words; pairs = follows.pairs },
   )
@@ -198,20 +198,20 @@ module _ (options : SendOptions) (old : UserView) (wholes fronts : List Sending)
   pub same_sent : (new : UserView) → IsTurnOf (user_sends fronts) old new → IsTurnOf (user_sends wholes) old new
   same_sent new (turns, are, follows) = same_call new turns are follows
 
-  same_front : (new : UserView) (turns : List Turned) → old.failed ≡ false → new.failed ≡ true → Turns old.endpoint (user_sends fronts ∷ []) turns
-      → AddsFront (ports_of old.endpoint.options) turns old.events new.events → RanOut old (Turns old.endpoint (user_sends wholes ∷ [])) new
+  same_front : (new : UserView) (turns : List Transition) → old.failed ≡ false → new.failed ≡ true → Turns old.endpoint (user_sends fronts ∷ []) turns
+      → AddsFirstEvents (ports_of old.endpoint.options) turns old.events new.events → RanOutOfMemory old (Turns old.endpoint (user_sends wholes ∷ [])) new
   same_front new [] runs fails said adds = absurd said
   same_front new (t ∷ u ∷ turns) runs fails said adds = absurd said.1
   same_front new (t ∷ []) runs fails said adds =
       record {
         runs = runs;
         fails = fails;
-        turns = turned (user_sends wholes) t.outcome ∷ [];
+        turns = transition (user_sends wholes) t.outcome ∷ [];
         are = (record { is = refl; comes = same_turn options old.endpoint wholes fronts t.outcome all said.0.comes }, tt);
         events = record { added = adds.added; rest = adds.rest; behind = adds.behind; front = adds.front };
       }
 
-  pub same_cut : (new : UserView) → RanOut old (Turns old.endpoint (user_sends fronts ∷ [])) new → RanOut old (Turns old.endpoint (user_sends wholes ∷ [])) new
+  pub same_cut : (new : UserView) → RanOutOfMemory old (Turns old.endpoint (user_sends fronts ∷ [])) new → RanOutOfMemory old (Turns old.endpoint (user_sends wholes ∷ [])) new
   same_cut new cut = same_front new cut.turns cut.runs cut.fails cut.are cut.events
 
 -- ---- the call

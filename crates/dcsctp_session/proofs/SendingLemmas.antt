@@ -7,14 +7,14 @@ use Rattle.dcsctp_core.specs.spec.endpoint.Endpoint.{Endpoint}
 use Rattle.dcsctp_core.specs.spec.endpoint.Outcome.{Outcome, quiet, then_outcome}
 use Rattle.dcsctp_core.specs.spec.endpoint.FlushOutcomes.{Answer}
 use Rattle.dcsctp_core.specs.spec.endpoint.Turn.{user_sends}
-use Rattle.dcsctp_core.specs.spec.endpoint.MessageOutcomes.{message_too_large, message_refusal, refusal_events, Sending, sending_of, sending_refusal, name_of, queue_by, queue_one, queue_all, takes_any, SendAnswers, send_by, SendTurn}
-use Rattle.dcsctp_core.specs.spec.endpoint.CallTurns.{Turned, turned, Turns}
+use Rattle.dcsctp_core.specs.spec.endpoint.MessageOutcomes.{message_too_large, message_refusal, refusal_events, Sending, sending_of, sending_refusal, lifecycle_name, queue_by, queue_one, queue_all, takes_any, SendAnswers, send_by, SendTurn}
+use Rattle.dcsctp_core.specs.spec.endpoint.CallTurns.{Transition, transition, Turns}
 use Rattle.dcsctp_core.specs.api.declared.errors.SendError.{SendError}
 use Rattle.dcsctp_core.specs.api.declared.errors.SendError.TheVariants.{EmptyPayload, MessageTooLarge, ResourceExhaustion, ShuttingDown}
 use Rattle.dcsctp_core.specs.api.declared.errors.SocketFault.{SocketFault}
 use Rattle.dcsctp_core.specs.api.declared.errors.SocketFault.TheVariants.{OutOfMemory, Failed}
-use Rattle.dcsctp_core.specs.api.Calls.{UserView, Follows, AddsFront, RanOut}
-use Rattle.dcsctp_core.specs.api.Messages.{IsTurnOf, Sends}
+use Rattle.dcsctp_core.specs.api.Calls.{UserView, Follows, AddsFirstEvents, RanOutOfMemory}
+use Rattle.dcsctp_core.specs.api.Messages.{IsTurnOf, SendsMessage}
 use Rattle.dcsctp_core.specs.View.{Drawn}
 use Rattle.dcsctp_session.specs.declared.session.Session.{Session}
 use Rattle.dcsctp_session.specs.declared.status.Status.{Status}
@@ -51,7 +51,7 @@ module _ (old : UserView) (options : SendOptions) (stream ppid : ℕ) (front who
   same_queued : queue_one old.endpoint (sending front) ≡ queue_one old.endpoint (sending whole)
   same_queued =
       ap (queue_by old.endpoint (sending front)) (refused front front_long)
-      ∙ ap (quiet old.endpoint []) (same_events limit (length front) (length whole) (name_of (sending front)))
+      ∙ ap (quiet old.endpoint []) (same_events limit (length front) (length whole) (lifecycle_name (sending front)))
       ∙ sym (ap (queue_by old.endpoint (sending whole)) (refused whole whole_long))
 
   none_taken : (payload : List ℕ) → limit < length payload → takes_any old.endpoint (sending payload ∷ []) ≡ false
@@ -66,27 +66,27 @@ module _ (old : UserView) (options : SendOptions) (stream ppid : ℕ) (front who
       subst (λ takes. CameOf takes (queue_all old.endpoint (sending whole ∷ [])) o) (none_taken front front_long ∙ sym (none_taken whole whole_long))
       (subst (λ queued. CameOf (takes_any old.endpoint (sending front ∷ [])) (then_outcome queued (queue_all queued.after [])) o) same_queued came)
 
-  abbrev IsTurn : List ℕ → List Turned → Type 0
+  abbrev IsTurn : List ℕ → List Transition → Type 0
   IsTurn payload turns = Turns old.endpoint (user_sends (sending payload ∷ []) ∷ []) turns
 
-  same_call : (new : UserView) (turns : List Turned) → IsTurn front turns → Follows old turns new → IsTurnOf (user_sends (sending whole ∷ [])) old new
+  same_call : (new : UserView) (turns : List Transition) → IsTurn front turns → Follows old turns new → IsTurnOf (user_sends (sending whole ∷ [])) old new
   same_call new [] said follows = absurd said
   same_call new (t ∷ u ∷ turns) said follows = absurd said.1
   same_call new (t ∷ []) said follows = (
-    turned (user_sends (sending whole ∷ [])) t.outcome ∷ [],
+    transition (user_sends (sending whole ∷ [])) t.outcome ∷ [],
     (record { is = refl; comes = same_turn t.outcome said.0.comes }, tt),
     record { runs = follows.runs; goes_on = follows.goes_on; endpoint = follows.endpoint; events = follows.events; words = follows.words; pairs = follows.pairs },
   )
 
-  same_cut : (new : UserView) (turns : List Turned) → old.failed ≡ false → new.failed ≡ true → IsTurn front turns
-      → AddsFront (ports_of old.endpoint.options) turns old.events new.events → RanOut old (IsTurn whole) new
+  same_cut : (new : UserView) (turns : List Transition) → old.failed ≡ false → new.failed ≡ true → IsTurn front turns
+      → AddsFirstEvents (ports_of old.endpoint.options) turns old.events new.events → RanOutOfMemory old (IsTurn whole) new
   same_cut new [] runs fails said adds = absurd said
   same_cut new (t ∷ u ∷ turns) runs fails said adds = absurd said.1
   same_cut new (t ∷ []) runs fails said adds =
       record {
         runs = runs;
         fails = fails;
-        turns = turned (user_sends (sending whole ∷ [])) t.outcome ∷ [];
+        turns = transition (user_sends (sending whole ∷ [])) t.outcome ∷ [];
         are = (record { is = refl; comes = same_turn t.outcome said.0.comes }, tt);
         events = record { added = adds.added; rest = adds.rest; behind = adds.behind; front = adds.front };
       }
@@ -97,13 +97,13 @@ module _ (old : UserView) (options : SendOptions) (stream ppid : ℕ) (front who
   whole_answer outcome = outcome
 
   same_sends : (new : UserView) (outcome : Result (Result (Unit {0}) SendError) SocketFault)
-      → Sends (message front) options old outcome new → Sends (message whole) options old (whole_answer outcome) new
+      → SendsMessage (message front) options old outcome new → SendsMessage (message whole) options old (whole_answer outcome) new
   same_sends new (Ok (Ok done)) sends = grind arith
   same_sends new (Ok (Err error)) (is, (turns, are, follows)) = (sym (refused whole whole_long), same_call new turns are follows)
   same_sends new (Err OutOfMemory) sends = same_cut new sends.turns sends.runs sends.fails sends.are sends.events
   same_sends new (Err Failed) sends = sends
 
-  same_status : (new : UserView) (outcome : Result (Result (Unit {0}) SendError) SocketFault) → Sends (message front) options old outcome new
+  same_status : (new : UserView) (outcome : Result (Result (Unit {0}) SendError) SocketFault) → SendsMessage (message front) options old outcome new
       → send_status (whole_answer outcome) ≡ send_status outcome
   same_status new (Ok (Ok done)) sends = refl
   same_status new (Ok (Err (MessageTooLarge bytes most))) sends = refl
@@ -121,10 +121,10 @@ module _ (old : UserView) (options : SendOptions) (stream ppid : ℕ) (front who
 
 settled_whole : (options : SendOptions) (stream ppid : ℕ) (front whole : List ℕ) (old : Session) (status : Status) (new : Session)
     → IsFront (view old).endpoint.options.max_message_size whole front
-    → Settled send_status (Sends (record { stream = stream; ppid = ppid; payload = front }) options) old status new
-    → Settled send_status (Sends (record { stream = stream; ppid = ppid; payload = whole }) options) old status new
+    → Settled send_status (SendsMessage (record { stream = stream; ppid = ppid; payload = front }) options) old status new
+    → Settled send_status (SendsMessage (record { stream = stream; ppid = ppid; payload = whole }) options) old status new
 settled_whole options stream ppid front whole old status new (inl is) settled =
-    subst (λ payload. Settled send_status (Sends (record { stream = stream; ppid = ppid; payload = payload }) options) old status new) is settled
+    subst (λ payload. Settled send_status (SendsMessage (record { stream = stream; ppid = ppid; payload = payload }) options) old status new) is settled
 settled_whole options stream ppid front whole old status new (inr (front_long, whole_long)) settled =
     record {
       outcome = whole_answer (view old) options stream ppid front whole front_long whole_long settled.outcome;
@@ -136,7 +136,7 @@ settled_whole options stream ppid front whole old status new (inr (front_long, w
 
 pub message_sent : (numbers : SendOptionsRecord) (options : SendOptions) (stream ppid : ℕ) (front whole : List ℕ) (old : Session) (status : Status) (new : Session)
     → is_valid_sending numbers ≡ true → IsFront (view old).endpoint.options.max_message_size whole front → SaysSendOptions numbers options
-    → Settled send_status (Sends (record { stream = stream; ppid = ppid; payload = front }) options) old status new
+    → Settled send_status (SendsMessage (record { stream = stream; ppid = ppid; payload = front }) options) old status new
     → MessageSent (record { stream = stream; ppid = ppid; payload = whole }) numbers old status new
 message_sent numbers options stream ppid front whole old status new valid front_of says settled =
     subst (λ known. SentIf known (record { stream = stream; ppid = ppid; payload = whole }) numbers old status new) (sym valid)

@@ -8,11 +8,11 @@ use Rattle.dcsctp_core.specs.types.queues.Messages.{MessageContent}
 use Rattle.dcsctp_core.specs.types.Setting.{Setting, longest_message}
 use Rattle.dcsctp_core.specs.api.declared.errors.SocketFault.{SocketFault}
 use Rattle.dcsctp_core.specs.api.declared.metrics.Metrics.{Metrics}
-use Rattle.dcsctp_core.specs.api.Calls.{UserView, Connects, Closes, ShutsDown, HandlesInput, PollsEvent, Sets, with_setting, is_closed, takes_shutdown}
-use Rattle.dcsctp_core.specs.api.Messages.{Sends, TakesNext}
+use Rattle.dcsctp_core.specs.api.Calls.{UserView, Connects, ClosesSocket, ShutsDown, HandlesInput, PollsEvent, Sets, with_setting, is_closed, takes_shutdown}
+use Rattle.dcsctp_core.specs.api.Messages.{SendsMessage, TakesNextMessage}
 use Rattle.dcsctp_core.specs.api.Metrics.{ShowsMetrics}
 use Rattle.dcsctp_core.specs.api.Resets.{ResetsOwn}
-use Rattle.dcsctp_core.specs.api.Time.{Advances, OnlyMovesClock}
+use Rattle.dcsctp_core.specs.api.Time.{AdvancesClock, OnlyMovesClock}
 use Rattle.dcsctp_core.specs.spec.endpoint.TimeTurns.{Waits}
 use Rattle.dcsctp_core.specs.View.{Drawn}
 use Rattle.dcsctp_socket.specs.SocketView.{user_view_of, fresh_socket}
@@ -37,12 +37,12 @@ pub record IsCreated (numbers : OptionsRecord) (seed : List ℕ) (moment : ℕ) 
   pub sized : has_options_size numbers ≡ true
   pub options : Options
   pub says : SaysOptions numbers options
-  pub moves : Advances (user_view_of (fresh_socket options (of_seed seed))) moment (Ok tt) (view session)
+  pub moves : AdvancesClock (user_view_of (fresh_socket options (of_seed seed))) moment (Ok tt) (view session)
   pub draws : Drawn (words_ahead (of_seed seed)) (view session).words (ahead session)
   pub taken : session.taken ≡ nothing_taken
 
 -- No socket can be made with these options.
-pub record IsRefused (numbers : OptionsRecord) : Type 0 where
+pub record AreOptionsRefused (numbers : OptionsRecord) : Type 0 where
   pub sized : has_options_size numbers ≡ true
   pub options : Options
   pub says : SaysOptions numbers options
@@ -53,7 +53,7 @@ abbrev pub Creates : OptionsRecord → List ℕ → ℕ → Result Session Statu
 Creates numbers seed moment (Ok session) = IsCreated numbers seed moment session
 Creates numbers seed moment (Err status) =
     (status ≡ statuses.WrongSize) × (has_options_size numbers ≡ false)
-    ⊎ (status ≡ statuses.InvalidOptions) × IsRefused numbers
+    ⊎ (status ≡ statuses.InvalidOptions) × AreOptionsRefused numbers
     ⊎ (status ≡ statuses.OutOfMemory) × (has_options_size numbers ≡ true)
 
 -- ---- calls that the socket may refuse
@@ -71,8 +71,8 @@ pub record Settled {A : Type 0} (status_of : Result A SocketFault → Status) (C
 abbrev pub ConnectCall : UserView → Result (Unit {0}) SocketFault → UserView → Type 0
 ConnectCall old outcome new = Connects old outcome new × (old.failed ≡ false → is_closed old.endpoint.core ≡ false → IsOk outcome)
 
-abbrev pub Connected : Session → Status → Session → Type 0
-Connected = Settled done_status ConnectCall
+abbrev pub ConnectsSession : Session → Status → Session → Type 0
+ConnectsSession = Settled done_status ConnectCall
 
 -- Those of `shutdown`: where there is nothing to shut down it succeeds.
 abbrev pub ShutdownCall : UserView → Result (Unit {0}) SocketFault → UserView → Type 0
@@ -83,7 +83,7 @@ ShutDown = Settled done_status ShutdownCall
 
 -- Those of `close`: on a closed socket it succeeds.
 abbrev pub CloseCall : UserView → Result (Unit {0}) SocketFault → UserView → Type 0
-CloseCall old outcome new = Closes old outcome new × (old.failed ≡ false → is_closed old.endpoint.core ≡ true → IsOk outcome)
+CloseCall old outcome new = ClosesSocket old outcome new × (old.failed ≡ false → is_closed old.endpoint.core ≡ true → IsOk outcome)
 
 abbrev pub Closed : Session → Status → Session → Type 0
 Closed = Settled done_status CloseCall
@@ -93,7 +93,7 @@ InputHandled packet = Settled done_status (λ old outcome new. HandlesInput old 
 
 -- Those of `advance_time`: an earlier moment succeeds, and one before the next deadline only moves the clock.
 pub record AdvanceCall (moment : ℕ) (old : UserView) (outcome : Result (Unit {0}) SocketFault) (new : UserView) : Type 0 where
-  pub call : Advances old moment outcome new
+  pub call : AdvancesClock old moment outcome new
   pub earlier : old.failed ≡ false → moment < old.endpoint.moment → IsOk outcome
   pub waits : old.failed ≡ false → Waits old.endpoint moment → OnlyMovesClock old moment outcome new
 
@@ -118,7 +118,7 @@ abbrev pub SentIf : Bool → MessageContent → SendOptionsRecord → Session �
 SentIf false message numbers old status new = SendOptionsRefused old status new
 SentIf true message numbers old status new =
     CopyFailed old status new
-    ⊎ (options : SendOptions) × SaysSendOptions numbers options × Settled send_status (Sends message options) old status new
+    ⊎ (options : SendOptions) × SaysSendOptions numbers options × Settled send_status (SendsMessage message options) old status new
 
 -- The message is sent by the options that the numbers say, if they are valid.
 abbrev pub MessageSent : MessageContent → SendOptionsRecord → Session → Status → Session → Type 0
@@ -146,7 +146,7 @@ pub record EventTaken (old : Session) (told : Option EventRecord) (new : Session
 
 -- The next message is taken and kept, and the record says it.
 pub record MessageTaken (old : Session) (told : Option MessageRecord) (new : Session) : Type 0 where
-  pub call : TakesNext (view old) new.taken.message (view new)
+  pub call : TakesNextMessage (view old) new.taken.message (view new)
   pub generator : ahead new ≡ ahead old
   pub says : told ≡ option_map message_record new.taken.message
   pub event : new.taken.event ≡ old.taken.event

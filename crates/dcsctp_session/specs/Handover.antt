@@ -12,7 +12,7 @@ use Rattle.dcsctp_core.specs.api.declared.errors.SocketFault.{SocketFault}
 use Rattle.dcsctp_core.specs.api.declared.errors.HandoverError.{HandoverError}
 use Rattle.dcsctp_core.specs.api.declared.errors.RestoreError.{RestoreError}
 use Rattle.dcsctp_core.specs.api.Calls.{UserView}
-use Rattle.dcsctp_core.specs.api.Handover.{HandsOver, Restores}
+use Rattle.dcsctp_core.specs.api.Handover.{HandsOver, RestoresSocket}
 use Rattle.dcsctp_core.specs.View.{Drawn}
 use Rattle.dcsctp_session.specs.declared.session.Session.{Session}
 use Rattle.dcsctp_session.specs.declared.session.Taken.{Taken}
@@ -35,7 +35,7 @@ HandoverCall old outcome new = HandsOver old outcome new × (old.failed ≡ fals
 
 -- Those of a restore: one that changes nothing succeeds.
 abbrev pub RestoreCall : Snapshot → UserView → Result (Result (Unit {0}) RestoreError) SocketFault → UserView → Type 0
-RestoreCall state old outcome new = Restores state old outcome new × (old.failed ≡ false → inputs_of_restore old.endpoint.core state ≡ [] → IsOk outcome)
+RestoreCall state old outcome new = RestoresSocket state old outcome new × (old.failed ≡ false → inputs_of_restore old.endpoint.core state ≡ [] → IsOk outcome)
 
 -- The socket is handed over, and the status says the outcome.
 pub record HandedOver (old : Session) (status : Status) (new : Session) : Type 0 where

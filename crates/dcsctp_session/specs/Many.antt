@@ -8,7 +8,7 @@ use Rattle.dcsctp_core.specs.spec.endpoint.CallTurns.{Turns}
 use Rattle.dcsctp_core.specs.spec.endpoint.MessageOutcomes.{MessageRefusal, empty_payload, message_too_large, shutting_down, resource_exhaustion, Sending, sending_of, sending_refusal, queue_one}
 use Rattle.dcsctp_core.specs.api.declared.errors.SocketFault.{SocketFault}
 use Rattle.dcsctp_core.specs.api.declared.errors.SocketFault.TheVariants as faults
-use Rattle.dcsctp_core.specs.api.Calls.{UserView, RanOut, StaysFailed}
+use Rattle.dcsctp_core.specs.api.Calls.{UserView, RanOutOfMemory, StaysFailed}
 use Rattle.dcsctp_core.specs.api.Messages.{IsTurnOf}
 use Rattle.dcsctp_core.specs.View.{Drawn}
 use Rattle.dcsctp_session.specs.declared.many.OutgoingRecord.{OutgoingRecord}
@@ -60,7 +60,7 @@ results_after (Err fault) before = before
 abbrev pub ManyCall : List MessageContent → SendOptions → UserView → Result (List Status) SocketFault → UserView → Type 0
 ManyCall messages options old (Ok each) new =
     (each ≡ statuses_of old.endpoint (map (sending_of options) messages)) × IsTurnOf (user_sends (map (sending_of options) messages)) old new
-ManyCall messages options old (Err faults.OutOfMemory) new = RanOut old (Turns old.endpoint (user_sends (map (sending_of options) messages) ∷ [])) new
+ManyCall messages options old (Err faults.OutOfMemory) new = RanOutOfMemory old (Turns old.endpoint (user_sends (map (sending_of options) messages) ∷ [])) new
 ManyCall messages options old (Err faults.Failed) new = StaysFailed old new
 
 -- The socket's call takes place, and the status and the results say its outcome.

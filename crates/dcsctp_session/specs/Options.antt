@@ -25,15 +25,15 @@ optional_time_number (Some time) = time_number time
 abbrev pub optional_nanos : ℕ → Option ℕ
 optional_nanos nanos = if nanos == never then None else Some nanos
 
-abbrev pub no_limit : ℕ
-no_limit = 2 ^ 32 - 1
+abbrev pub no_option_limit : ℕ
+no_option_limit = 2 ^ 32 - 1
 
 abbrev pub limit_number : Option ℕ → ℕ
-limit_number None = no_limit
+limit_number None = no_option_limit
 limit_number (Some limit) = limit
 
 abbrev pub optional_limit : ℕ → Option ℕ
-optional_limit number = if number == no_limit then None else Some number
+optional_limit number = if number == no_option_limit then None else Some number
 
 -- Zero says no, and all else yes.
 abbrev pub flag : ℕ → Bool

@@ -29,24 +29,24 @@ abbrev pub nothing_taken : Taken
 nothing_taken = record { event = None; message = None; snapshot = None }
 
 -- the packet or the text of an event
-abbrev pub bytes_of : SocketEvent → Option (List ℕ)
-bytes_of (events.SendPacket packet) = Some packet.items
-bytes_of (events.OnAborted kind text) = Some (string_bytes text)
-bytes_of (events.OnError kind text) = Some (string_bytes text)
-bytes_of event = None
+abbrev pub bytes_of_event : SocketEvent → Option (List ℕ)
+bytes_of_event (events.SendPacket packet) = Some packet.items
+bytes_of_event (events.OnAborted kind text) = Some (string_bytes text)
+bytes_of_event (events.OnError kind text) = Some (string_bytes text)
+bytes_of_event event = None
 
 abbrev pub bytes_in : Option SocketEvent → Option (List ℕ)
 bytes_in None = None
-bytes_in (Some event) = bytes_of event
+bytes_in (Some event) = bytes_of_event event
 
 -- the packet of an event, as it lies in memory
-abbrev pub packet_of : SocketEvent → Option (Vec ℕ)
-packet_of (events.SendPacket packet) = Some packet
-packet_of event = None
+abbrev pub packet_of_event : SocketEvent → Option (Vec ℕ)
+packet_of_event (events.SendPacket packet) = Some packet
+packet_of_event event = None
 
-abbrev pub packet_in : Option SocketEvent → Option (Vec ℕ)
-packet_in None = None
-packet_in (Some event) = packet_of event
+abbrev pub packet_in_event : Option SocketEvent → Option (Vec ℕ)
+packet_in_event None = None
+packet_in_event (Some event) = packet_of_event event
 
 -- the streams of an event
 abbrev pub streams_of : SocketEvent → Option (List ℕ)
@@ -55,9 +55,9 @@ streams_of (events.OnStreamsResetPerformed ids) = Some (stream_numbers ids.items
 streams_of (events.OnIncomingStreamReset ids) = Some (stream_numbers ids.items)
 streams_of event = None
 
-abbrev pub streams_in : Option SocketEvent → Option (List ℕ)
-streams_in None = None
-streams_in (Some event) = streams_of event
+abbrev pub streams_in_event : Option SocketEvent → Option (List ℕ)
+streams_in_event None = None
+streams_in_event (Some event) = streams_of event
 
 -- the payload of a message
 abbrev pub payload_in : Option Message → Option (List ℕ)

@@ -8,7 +8,7 @@ ghost use Rattle.dcsctp_core.specs.api.Calls.{stream_shown, socket_state_of};
 ghost use Rattle.dcsctp_core.specs.api.Messages.{ready_messages};
 ghost use Rattle.dcsctp_session.specs.Options.{ShowsOptions, never};
 ghost use Rattle.dcsctp_session.specs.Views.{view};
-ghost use Rattle.dcsctp_session.specs.Calls.{Creates, Connected, ShutDown, Closed, InputHandled, Advanced, SettingMade, SizeLimited, MessageSent, StreamsReset};
+ghost use Rattle.dcsctp_session.specs.Calls.{Creates, ConnectsSession, ShutDown, Closed, InputHandled, Advanced, SettingMade, SizeLimited, MessageSent, StreamsReset};
 
 use crate::copying::{front, stream_ids};
 use crate::options::{OptionsRecord, SendOptionsRecord};
@@ -103,7 +103,7 @@ impl Session {
 
     /// Begins an association.
     pub fn connect(&mut self) -> Status
-        ensures { Connected self.old result self.new }
+        ensures { ConnectsSession self.old result self.new }
     {
         Status::of_call(self.socket.connect())
     }
@@ -240,7 +240,7 @@ impl Session {
     /// The payload bytes that wait to be sent on a stream.
     pub fn buffered_amount(&self, stream_id: u16) -> usize
         ensures amount { result ≡ (stream_shown (view self.now) stream_id).amount }
-        ensures queue { IsWellFormed (view self.now).endpoint.below.queue }
+        ensures queue { IsWellFormed (view self.now).endpoint.queues.queue }
     {
         self.socket.buffered_amount(StreamId(stream_id))
     }

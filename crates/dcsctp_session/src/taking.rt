@@ -1,6 +1,6 @@
 //! Taking events, messages and metrics from a session, and copying what they hold.
 
-ghost use Rattle.dcsctp_session.specs.Views.{bytes_in, packet_in, streams_in, payload_in, message_in};
+ghost use Rattle.dcsctp_session.specs.Views.{bytes_in, packet_in_event, streams_in_event, payload_in, message_in};
 ghost use Rattle.dcsctp_session.specs.Calls.{EventTaken, MessageTaken, MetricsShown, CountsShown};
 ghost use Rattle.dcsctp_session.specs.Copying.{CopiesTaken, ShowsPlace};
 
@@ -40,7 +40,7 @@ impl Session {
     /// Says where the packet of the event lies that was taken last, and how many bytes it has. It lies there until
     /// the next event is taken. `Status::NothingToCopy`: it has none.
     pub fn event_view(&self, bytes: &mut *const u8, length: &mut usize) -> Status
-        ensures { ShowsPlace (packet_in self.now.taken.event) bytes.old result bytes.new length.new }
+        ensures { ShowsPlace (packet_in_event self.now.taken.event) bytes.old result bytes.new length.new }
     {
         match &self.taken.event {
             Some(SocketEvent::SendPacket(packet)) => show_place(packet, bytes, length),
@@ -54,7 +54,7 @@ impl Session {
     /// Copies the streams of the event that was taken last, and says how many there are. A buffer that is too
     /// small is unchanged.
     pub fn event_streams(&self, buffer: &mut [u16], count: &mut usize) -> Status
-        ensures { CopiesTaken (streams_in self.now.taken.event) buffer.old result buffer.new count.new }
+        ensures { CopiesTaken (streams_in_event self.now.taken.event) buffer.old result buffer.new count.new }
     {
         match &self.taken.event {
             Some(SocketEvent::OnStreamsResetFailed(ids)) => {

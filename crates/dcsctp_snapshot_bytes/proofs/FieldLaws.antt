@@ -4,7 +4,7 @@ use Rattle.std.specs.Int.{Width, w16, w32, w64, byte_len, from_be_bytes, to_be_b
 use Rattle.std.proofs.lemmas.Bool.{cases_lt, ltb-false, le-ltb}
 use Rattle.std.proofs.lemmas.List.{take_at, drop_at, take-append-drop, length-append, length-take, get_or-drop, get_or-take, get_or_past}
 use Rattle.std.proofs.lemmas.Nat.{be_bytes_2, be_bytes_4, be_bytes_8, from_be_bytes-to_be_bytes_2, from_be_bytes-to_be_bytes_4, from_be_bytes-to_be_bytes_8}
-use Rattle.dcsctp_snapshot_bytes.specs.Fields.{◌>>=◌, number_bytes, number_at}
+use Rattle.dcsctp_snapshot_bytes.specs.Fields.{◌>>=◌, number_bytes, number_of_width}
 use Rattle.dcsctp_snapshot_bytes.specs.Laws.{AreBytes}
 
 pub AreBytes-drop : (n : ℕ) (bytes : List ℕ) → AreBytes bytes → AreBytes (drop n bytes)
@@ -91,15 +91,15 @@ pub guarded : {A : Type 0} (b : Bool) (x y : A) → cond b None (Some x) ≡ Som
 guarded true x y e = absurd cc
 guarded false x y e = (refl, cc)
 
-number_again : (w : Width) (limit : ℕ) → IsWide w limit → (n : ℕ) (rest : List ℕ) → n < limit → number_at w (number_bytes w n ++ rest) ≡ Some (n, rest)
-unfolding number_at number_bytes
+number_again : (w : Width) (limit : ℕ) → IsWide w limit → (n : ℕ) (rest : List ℕ) → n < limit → number_of_width w (number_bytes w n ++ rest) ≡ Some (n, rest)
+unfolding number_of_width number_bytes
 number_again w limit wide n rest lt =
     let len = wide.len n in
     let long : ltb (length (to_be_bytes w n ++ rest)) (byte_len w) ≡ false = le-ltb _ _ (omega (arith, length-append (to_be_bytes w n) rest)) in
     rw (long, take_at (to_be_bytes w n) rest (byte_len w) len, drop_at (to_be_bytes w n) rest (byte_len w) len, wide.again n lt) refl
 
-number_takes : (w : Width) (limit : ℕ) → IsWide w limit → (bytes : List ℕ) (n : ℕ) (rest : List ℕ) → AreBytes bytes → number_at w bytes ≡ Some (n, rest) → Took (number_bytes w) (λ number. number < limit) bytes n rest
-unfolding number_at number_bytes
+number_takes : (w : Width) (limit : ℕ) → IsWide w limit → (bytes : List ℕ) (n : ℕ) (rest : List ℕ) → AreBytes bytes → number_of_width w bytes ≡ Some (n, rest) → Took (number_bytes w) (λ number. number < limit) bytes n rest
+unfolding number_of_width number_bytes
 number_takes w limit wide bytes n rest fits e =
     let g = guarded (ltb (length bytes) (byte_len w)) (from_be_bytes w (take (byte_len w) bytes), drop (byte_len w) bytes) (n, rest) e in
     let long : byte_len w ≤ length bytes = ltb-false _ _ g.0 in
@@ -113,14 +113,14 @@ number_takes w limit wide bytes n rest fits e =
       rest_fits = rw (← rest-is) (AreBytes-drop (byte_len w) bytes fits);
     }
 
-pub number_field : (w : Width) (limit : ℕ) → IsWide w limit → IsField (number_bytes w) (number_at w) (λ number. number < limit)
+pub number_field : (w : Width) (limit : ℕ) → IsWide w limit → IsField (number_bytes w) (number_of_width w) (λ number. number < limit)
 number_field w limit wide = record { again = number_again w limit wide; takes = number_takes w limit wide }
 
-pub field16 : IsField (number_bytes w16) (number_at w16) (λ number. number < 2 ^ 16)
+pub field16 : IsField (number_bytes w16) (number_of_width w16) (λ number. number < 2 ^ 16)
 field16 = number_field w16 (2 ^ 16) wide16
 
-pub field32 : IsField (number_bytes w32) (number_at w32) (λ number. number < 2 ^ 32)
+pub field32 : IsField (number_bytes w32) (number_of_width w32) (λ number. number < 2 ^ 32)
 field32 = number_field w32 (2 ^ 32) wide32
 
-pub field64 : IsField (number_bytes w64) (number_at w64) (λ number. number < 2 ^ 64)
+pub field64 : IsField (number_bytes w64) (number_of_width w64) (λ number. number < 2 ^ 64)
 field64 = number_field w64 (2 ^ 64) wide64

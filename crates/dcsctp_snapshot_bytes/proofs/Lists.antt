@@ -5,7 +5,7 @@ use Rattle.std.proofs.lemmas.List.{append-nil, map_more, flat_map_more}
 use Rattle.dcsctp_snapshot_bytes.specs.declared.reader.ReadError.{ReadError}
 use Rattle.dcsctp_snapshot_bytes.specs.declared.reader.ReadError.TheVariants.{Malformed, OutOfMemory}
 use Rattle.dcsctp_snapshot_bytes.specs.Fields.{◌>>=◌, elements_at}
-use Rattle.dcsctp_snapshot_bytes.specs.Gives.{Fails}
+use Rattle.dcsctp_snapshot_bytes.specs.Gives.{FailsReading}
 
 -- one more element is written
 pub written_more : {X A : Type 0} (part_of : X → A) (bytes_of : A → List ℕ) (front : List ℕ) (elements : List X) (i : ℕ) (d : X) → i < length elements
@@ -30,8 +30,8 @@ goes_on part_at front count i bytes first after total lt h so_far =
     let one : with_front front (elements_at part_at (count - i) bytes) ≡ with_front (front ++ first ∷ []) (elements_at part_at (count - (i + 1)) after) = rw (k, h) (regroup front first (elements_at part_at (count - (i + 1)) after)) in
     sym one ∙ so_far
 
-pub ends : {A : Type 0} (part_at : List ℕ → Option (A × List ℕ)) (error : ReadError) (front : List A) (count i : ℕ) (bytes : List ℕ) (total : Option (List A × List ℕ)) → i < count → Fails error (part_at bytes)
-    → with_front front (elements_at part_at (count - i) bytes) ≡ total → Fails error total
+pub ends : {A : Type 0} (part_at : List ℕ → Option (A × List ℕ)) (error : ReadError) (front : List A) (count i : ℕ) (bytes : List ℕ) (total : Option (List A × List ℕ)) → i < count → FailsReading error (part_at bytes)
+    → with_front front (elements_at part_at (count - i) bytes) ≡ total → FailsReading error total
 unfolding elements_at
 ends part_at OutOfMemory front count i bytes total lt h so_far = tt
 ends part_at Malformed front count i bytes total lt h so_far =

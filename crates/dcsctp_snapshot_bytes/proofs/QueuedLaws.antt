@@ -8,13 +8,13 @@ use Rattle.dcsctp_snapshot_bytes.specs.declared.queued.QueuedProgress.{QueuedPro
 use Rattle.dcsctp_snapshot_bytes.specs.Fields.{number_bytes, signed_bytes, optional_bytes}
 use Rattle.dcsctp_snapshot_bytes.specs.Fits.{FitsQueued}
 use Rattle.dcsctp_snapshot_bytes.specs.Laws.{AreBytes}
-use Rattle.dcsctp_snapshot_bytes.specs.Spelling.{queued_bytes}
+use Rattle.dcsctp_snapshot_bytes.specs.Spelling.{queued_part_bytes}
 use Rattle.dcsctp_snapshot_bytes.specs.ReadingItems.{queued_at, limits_at, progress_at}
 use Rattle.dcsctp_snapshot_bytes.proofs.FieldLaws.{Took, IsField, step, step_by, some_is, field16, field32, field64}
 use Rattle.dcsctp_snapshot_bytes.proofs.ValueLaws.{signed_field, flag_field, payload_field, optional_field}
 
-queued_again : (message : QueuedPart) (rest : List ℕ) → FitsQueued message → queued_at (queued_bytes message ++ rest) ≡ Some (message, rest)
-unfolding queued_at limits_at progress_at queued_bytes
+queued_again : (message : QueuedPart) (rest : List ℕ) → FitsQueued message → queued_at (queued_part_bytes message ++ rest) ≡ Some (message, rest)
+unfolding queued_at limits_at progress_at queued_part_bytes
 queued_again message rest fits = simp append_assoc (rw (
   field16.again _ _ fits.stream_id,
   field32.again _ _ fits.ppid,
@@ -74,8 +74,8 @@ progress_takes bytes progress rest fits e =
       rest_fits = b4;
     })))))
 
-queued_takes : (bytes : List ℕ) (message : QueuedPart) (rest : List ℕ) → AreBytes bytes → queued_at bytes ≡ Some (message, rest) → Took queued_bytes FitsQueued bytes message rest
-unfolding queued_at queued_bytes
+queued_takes : (bytes : List ℕ) (message : QueuedPart) (rest : List ℕ) → AreBytes bytes → queued_at bytes ≡ Some (message, rest) → Took queued_part_bytes FitsQueued bytes message rest
+unfolding queued_at queued_part_bytes
 queued_takes bytes message rest fits e =
     step field16 _ bytes _ fits e (λ stream_id r1 p1 f1 b1 e1.
     step field32 _ r1 _ b1 e1 (λ ppid r2 p2 f2 b2 e2.
@@ -83,7 +83,7 @@ queued_takes bytes message rest fits e =
     step flag_field _ r3 _ b3 e3 (λ unordered r4 p4 f4 b4 e4.
     step_by limits_takes _ r4 _ b4 e4 (λ limits r5 p5 f5 b5 e5.
     step_by progress_takes _ r5 _ b5 e5 (λ progress r6 p6 f6 b6 e6.
-    subst (λ (x : QueuedPart × List ℕ). Took queued_bytes FitsQueued bytes x.0 x.1) (some_is _ _ e6) (record {
+    subst (λ (x : QueuedPart × List ℕ). Took queued_part_bytes FitsQueued bytes x.0 x.1) (some_is _ _ e6) (record {
       parts = rw (p1, p2, p3, p4, p5, p6) (simp append_assoc);
       fits = record {
         stream_id = f1;
@@ -101,5 +101,5 @@ queued_takes bytes message rest fits e =
       rest_fits = b6;
     })))))))
 
-pub queued_field : IsField queued_bytes queued_at FitsQueued
+pub queued_field : IsField queued_part_bytes queued_at FitsQueued
 queued_field = record { again = queued_again; takes = queued_takes }

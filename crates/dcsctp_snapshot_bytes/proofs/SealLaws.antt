@@ -7,7 +7,7 @@ use Rattle.dcsctp_wire_checksum.specs.Crc32c.{crc32c_of}
 use Rattle.dcsctp_types.specs.declared.options.Options.{Options}
 use Rattle.dcsctp_snapshot_bytes.specs.declared.sealing.SealError.TheVariants as errors
 use Rattle.dcsctp_snapshot_bytes.specs.Fields.{number_bytes, flag_bytes}
-use Rattle.dcsctp_snapshot_bytes.specs.Laws.{AreBytes, OpensAgain, OthersAreRefused, TellsOptions}
+use Rattle.dcsctp_snapshot_bytes.specs.Laws.{AreBytes, OpensAgain, OthersAreRefused, IdentifiesOptions}
 use Rattle.dcsctp_snapshot_bytes.specs.Seal.{fingerprint, fingerprint_len, checked}
 use Rattle.dcsctp_snapshot_bytes.proofs.FieldLaws.{IsField, some_is, field16, field32}
 use Rattle.dcsctp_snapshot_bytes.proofs.ValueLaws.{flag_field}
@@ -120,7 +120,7 @@ are_fields : (options : Options) → fingerprint options ≡ fields options
 unfolding fingerprint
 are_fields options = simp (append_assoc, append-nil)
 
-pub tells_options : TellsOptions
+pub tells_options : IdentifiesOptions
 tells_options a b fa fb same =
     let e : fields a ≡ fields b = sym (are_fields a) ∙ same ∙ are_fields b in
     let local = split_field field16 _ _ _ _ fa.local_port fb.local_port e in

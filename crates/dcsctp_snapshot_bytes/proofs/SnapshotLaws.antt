@@ -12,8 +12,8 @@ use Rattle.dcsctp_types.specs.Snapshot.{Snapshot}
 use Rattle.dcsctp_snapshot_bytes.specs.declared.state.Tags.{Tags}
 use Rattle.dcsctp_snapshot_bytes.specs.Fields.{◌>>=◌, number_bytes, flag_bytes}
 use Rattle.dcsctp_snapshot_bytes.specs.Fits.{FitsSnapshot}
-use Rattle.dcsctp_snapshot_bytes.specs.Laws.{AreBytes, ReadsBack, HasOneSpelling}
-use Rattle.dcsctp_snapshot_bytes.specs.Spelling.{magic, version, is_connected, capabilities_bytes, send_bytes, received_bytes, snapshot_bytes}
+use Rattle.dcsctp_snapshot_bytes.specs.Laws.{AreBytes, SnapshotReadsBack, HasOneSpelling}
+use Rattle.dcsctp_snapshot_bytes.specs.Spelling.{snapshot_magic, version, is_connected, capabilities_bytes, send_bytes, received_bytes, snapshot_bytes}
 use Rattle.dcsctp_snapshot_bytes.specs.Reading.{tags_at, state_of, content_at, after_header, read_snapshot}
 use Rattle.dcsctp_snapshot_bytes.proofs.FieldLaws.{Took, bind_some, step, step_by, some_is, field16, field32, field64}
 use Rattle.dcsctp_snapshot_bytes.proofs.ValueLaws.{flag_field}
@@ -21,12 +21,12 @@ use Rattle.dcsctp_snapshot_bytes.proofs.PartLaws.{send_field, received_field, ca
 
 -- ---- the header
 
-header_again : (rest : List ℕ) → after_header (number_bytes w32 magic ++ (number_bytes w16 version ++ rest)) ≡ Some rest
+header_again : (rest : List ℕ) → after_header (number_bytes w32 snapshot_magic ++ (number_bytes w16 version ++ rest)) ≡ Some rest
 unfolding after_header
-header_again rest = rw (field32.again magic (number_bytes w16 version ++ rest) (lit< tt), field16.again version rest (lit< tt)) refl
+header_again rest = rw (field32.again snapshot_magic (number_bytes w16 version ++ rest) (lit< tt), field16.again version rest (lit< tt)) refl
 
 record TookHeader (bytes rest : List ℕ) : Type 0 where
-  parts : bytes ≡ number_bytes w32 magic ++ (number_bytes w16 version ++ rest)
+  parts : bytes ≡ number_bytes w32 snapshot_magic ++ (number_bytes w16 version ++ rest)
   rest_fits : AreBytes rest
 
 header_takes : (bytes rest : List ℕ) → AreBytes bytes → after_header bytes ≡ Some rest → TookHeader bytes rest
@@ -34,9 +34,9 @@ unfolding after_header
 header_takes bytes rest fits e =
     step field32 _ bytes _ fits e (λ first r1 p1 f1 b1 e1.
     step field16 _ r1 _ b1 e1 (λ second r2 p2 f2 b2 e2.
-    let chosen = cond_some (first == magic && second == version) r2 rest e2 in
-    let same = and_parts (first == magic) (second == version) chosen.0 in
-    let first-is : first ≡ magic = eqb-true _ _ same.0 in
+    let chosen = cond_some (first == snapshot_magic && second == version) r2 rest e2 in
+    let same = and_parts (first == snapshot_magic) (second == version) chosen.0 in
+    let first-is : first ≡ snapshot_magic = eqb-true _ _ same.0 in
     let second-is : second ≡ version = eqb-true _ _ same.1 in
     subst (TookHeader bytes) chosen.1 (record { parts = rw (p1, p2, first-is, second-is) refl; rest_fits = b2 })))
 
@@ -121,10 +121,10 @@ content_takes bytes state rest fits e =
 
 -- ---- the whole
 
-pub reads_back : ReadsBack
+pub reads_back : SnapshotReadsBack
 unfolding read_snapshot snapshot_bytes
 reads_back state fits =
-    let whole : snapshot_bytes state ≡ number_bytes w32 magic ++ (number_bytes w16 version ++ (content_bytes state ++ [])) = simp (append_assoc, append-nil) in
+    let whole : snapshot_bytes state ≡ number_bytes w32 snapshot_magic ++ (number_bytes w16 version ++ (content_bytes state ++ [])) = simp (append_assoc, append-nil) in
     ap read_snapshot whole ∙ rw (header_again (content_bytes state ++ []), content_again state [] fits) refl
 
 pub has_one_spelling : HasOneSpelling
@@ -135,7 +135,7 @@ has_one_spelling bytes state fits e =
     step_by content_takes _ header.0 _ took.rest_fits header.2 (λ content rest p1 f1 b1 e1.
     let chosen = cond_some (eqb (length rest) 0) content state e1 in
     let nothing : rest ≡ [] = nil_from_length rest (eqb-true _ _ chosen.0) in
-    let whole : bytes ≡ number_bytes w32 magic ++ (number_bytes w16 version ++ (content_bytes content ++ [])) = rw (took.parts, p1, nothing) refl in
+    let whole : bytes ≡ number_bytes w32 snapshot_magic ++ (number_bytes w16 version ++ (content_bytes content ++ [])) = rw (took.parts, p1, nothing) refl in
     let spelled : snapshot_bytes content ≡ bytes = rw whole (simp (append_assoc, append-nil)) in
     subst (λ (x : Snapshot). snapshot_bytes x ≡ bytes) chosen.1 spelled)
 

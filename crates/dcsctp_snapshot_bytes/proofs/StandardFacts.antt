@@ -9,15 +9,15 @@ use Rattle.dcsctp_types.specs.declared.options.Options.{Options}
 use Rattle.dcsctp_types.specs.SnapshotItems.{QueuedPart}
 use Rattle.dcsctp_types.specs.Snapshot.{empty_snapshot}
 use Rattle.dcsctp_wire_checksum.specs.Crc32c.{bit_step, eight_bit_steps, byte_step, register_after, crc32c_of}
-use Rattle.dcsctp_snapshot_bytes.specs.Fields.{number_bytes, number_at, signed_bytes, signed_at, flag_bytes, flag_at, payload_bytes, payload_at, optional_bytes, optional_at, list_bytes, list_at, elements_at}
+use Rattle.dcsctp_snapshot_bytes.specs.Fields.{number_bytes, number_of_width, signed_bytes, signed_at, flag_bytes, flag_byte_at, payload_bytes, payload_at, optional_bytes, optional_at, element_list_bytes, list_at, elements_at}
 use Rattle.dcsctp_snapshot_bytes.specs.Seal.{fingerprint, checked}
-use Rattle.dcsctp_snapshot_bytes.specs.Spelling.{magic, queued_bytes, outgoing_bytes, ordered_bytes, send_bytes, received_bytes, capabilities_bytes, snapshot_bytes}
+use Rattle.dcsctp_snapshot_bytes.specs.Spelling.{snapshot_magic, queued_part_bytes, outgoing_bytes, ordered_bytes, send_bytes, received_bytes, capabilities_bytes, snapshot_bytes}
 use Rattle.dcsctp_snapshot_bytes.specs.ReadingItems.{queued_at, limits_at, progress_at, ordered_at}
 use Rattle.dcsctp_snapshot_bytes.specs.Reading.{windows_at, send_progress_at, send_at, receive_numbers_at, received_at, capabilities_at, tags_at, content_at, after_header, read_snapshot}
 
 -- ---- fields
 
-magic_is_text : number_bytes w32 magic ≡ codes "dcSn"
+magic_is_text : number_bytes w32 snapshot_magic ≡ codes "dcSn"
 unfolding number_bytes
 magic_is_text = refl
 
@@ -26,7 +26,7 @@ unfolding signed_bytes number_bytes
 minus_two = refl
 
 minus_two_is_read : signed_at (255 ∷ 255 ∷ 255 ∷ 254 ∷ 7 ∷ []) ≡ Some (negsuc 1, 7 ∷ [])
-unfolding signed_at number_at
+unfolding signed_at number_of_width
 minus_two_is_read = refl
 
 text : payload_bytes (codes "hi") ≡ 0 ∷ 0 ∷ 0 ∷ 0 ∷ 0 ∷ 0 ∷ 0 ∷ 2 ∷ 104 ∷ 105 ∷ []
@@ -34,11 +34,11 @@ unfolding payload_bytes number_bytes
 text = refl
 
 text_is_cut_off : payload_at (0 ∷ 0 ∷ 0 ∷ 0 ∷ 0 ∷ 0 ∷ 0 ∷ 2 ∷ 104 ∷ []) ≡ None
-unfolding payload_at number_at
+unfolding payload_at number_of_width
 text_is_cut_off = refl
 
-two_is_no_flag : flag_at (2 ∷ []) ≡ None
-unfolding flag_at
+two_is_no_flag : flag_byte_at (2 ∷ []) ≡ None
+unfolding flag_byte_at
 two_is_no_flag = refl
 
 -- ---- elements
@@ -66,12 +66,12 @@ message_bytes =
     ∷ 0 ∷ 0 ∷ 0 ∷ 0 ∷ 0 ∷ 0 ∷ 0 ∷ 4 ∷ 0 ∷ 0 ∷ 0 ∷ 0 ∷ 0 ∷ 0 ∷ 0 ∷ 5 ∷ 0 ∷ 0 ∷ 0 ∷ 0 ∷ 0 ∷ 0 ∷ 0 ∷ 1
     ∷ 1 ∷ 0 ∷ 0 ∷ 0 ∷ 6 ∷ 0 ∷ 0 ∷ 0 ∷ 0 ∷ 8 ∷ []
 
-message_is_spelled : queued_bytes message ≡ message_bytes
-unfolding queued_bytes number_bytes signed_bytes flag_bytes payload_bytes optional_bytes message message_bytes
+message_is_spelled : queued_part_bytes message ≡ message_bytes
+unfolding queued_part_bytes number_bytes signed_bytes flag_bytes payload_bytes optional_bytes message message_bytes
 message_is_spelled = refl
 
 message_is_read : queued_at message_bytes ≡ Some (message, [])
-unfolding queued_at limits_at progress_at number_at signed_at flag_at payload_at optional_at message message_bytes
+unfolding queued_at limits_at progress_at number_of_width signed_at flag_byte_at payload_at optional_at message message_bytes
 message_is_read = refl
 
 stream : HandoverOutgoingStream
@@ -84,12 +84,12 @@ stream_is_spelled = refl
 ordered : HandoverOrderedStream
 ordered = record { id = 45; next_ssn = 46 }
 
-list_is_spelled : list_bytes ordered_bytes (ordered ∷ []) ≡ 0 ∷ 0 ∷ 0 ∷ 0 ∷ 0 ∷ 0 ∷ 0 ∷ 1 ∷ 0 ∷ 45 ∷ 0 ∷ 0 ∷ 0 ∷ 46 ∷ []
-unfolding list_bytes ordered_bytes number_bytes ordered
+list_is_spelled : element_list_bytes ordered_bytes (ordered ∷ []) ≡ 0 ∷ 0 ∷ 0 ∷ 0 ∷ 0 ∷ 0 ∷ 0 ∷ 1 ∷ 0 ∷ 45 ∷ 0 ∷ 0 ∷ 0 ∷ 46 ∷ []
+unfolding element_list_bytes ordered_bytes number_bytes ordered
 list_is_spelled = refl
 
 list_is_read : list_at ordered_at (0 ∷ 0 ∷ 0 ∷ 0 ∷ 0 ∷ 0 ∷ 0 ∷ 1 ∷ 0 ∷ 45 ∷ 0 ∷ 0 ∷ 0 ∷ 46 ∷ []) ≡ Some (ordered ∷ [], [])
-unfolding list_at elements_at ordered_at number_at ordered
+unfolding list_at elements_at ordered_at number_of_width ordered
 list_is_read = refl
 
 -- ---- the whole
@@ -99,19 +99,19 @@ empty_bytes : List ℕ
 empty_bytes = 0x64 ∷ 0x63 ∷ 0x53 ∷ 0x6e ∷ 0 ∷ 1 ∷ replicate 126 0
 
 empty_is_spelled : snapshot_bytes empty_snapshot ≡ empty_bytes
-unfolding snapshot_bytes capabilities_bytes send_bytes received_bytes list_bytes number_bytes flag_bytes empty_bytes
+unfolding snapshot_bytes capabilities_bytes send_bytes received_bytes element_list_bytes number_bytes flag_bytes empty_bytes
 empty_is_spelled = refl
 
 empty_is_read : read_snapshot empty_bytes ≡ Some empty_snapshot
-unfolding read_snapshot after_header content_at tags_at capabilities_at send_at windows_at send_progress_at received_at receive_numbers_at list_at elements_at number_at flag_at empty_bytes
+unfolding read_snapshot after_header content_at tags_at capabilities_at send_at windows_at send_progress_at received_at receive_numbers_at list_at elements_at number_of_width flag_byte_at empty_bytes
 empty_is_read = refl
 
 other_version_is_refused : read_snapshot (0x64 ∷ 0x63 ∷ 0x53 ∷ 0x6e ∷ 0 ∷ 2 ∷ replicate 126 0) ≡ None
-unfolding read_snapshot after_header number_at
+unfolding read_snapshot after_header number_of_width
 other_version_is_refused = refl
 
 trailing_byte_is_refused : read_snapshot (empty_bytes ++ 0 ∷ []) ≡ None
-unfolding read_snapshot after_header content_at tags_at capabilities_at send_at windows_at send_progress_at received_at receive_numbers_at list_at elements_at number_at flag_at empty_bytes
+unfolding read_snapshot after_header content_at tags_at capabilities_at send_at windows_at send_progress_at received_at receive_numbers_at list_at elements_at number_of_width flag_byte_at empty_bytes
 trailing_byte_is_refused = refl
 
 -- ---- the seal

@@ -6,8 +6,8 @@ use Rattle.std.specs.List.{flat_map, AllByRecursion}
 use Rattle.std.proofs.lemmas.Bool.{ltb-false, le-ltb}
 use Rattle.std.proofs.lemmas.Int.{to_z-of_z, of_z-to_z, ints}
 use Rattle.std.proofs.lemmas.List.{take_at, drop_at, take-append-drop, length-append, length-take}
-use Rattle.dcsctp_snapshot_bytes.specs.Fields.{◌>>=◌, number_bytes, signed_bytes, signed_at, flag_bytes, flag_at, payload_bytes, payload_at, optional_bytes, optional_at, behind_flag, list_bytes, elements_at, list_at}
-use Rattle.dcsctp_snapshot_bytes.specs.Fits.{FitsList}
+use Rattle.dcsctp_snapshot_bytes.specs.Fields.{◌>>=◌, number_bytes, signed_bytes, signed_at, flag_bytes, flag_byte_at, payload_bytes, payload_at, optional_bytes, optional_at, behind_flag, element_list_bytes, elements_at, list_at}
+use Rattle.dcsctp_snapshot_bytes.specs.Fits.{FitsElements}
 use Rattle.dcsctp_snapshot_bytes.specs.Laws.{AreBytes}
 use Rattle.dcsctp_snapshot_bytes.proofs.FieldLaws.{AreBytes-drop, Took, IsField, some_is, guarded, field32, field64, step, step_by}
 
@@ -38,13 +38,13 @@ any_flag flag = Unit {0}
 AreBytes-rest : (b : ℕ) (bytes : List ℕ) → AreBytes (b ∷ bytes) → AreBytes bytes
 AreBytes-rest b bytes h i = h (suc i)
 
-flag_again : (flag : Bool) (rest : List ℕ) → any_flag flag → flag_at (flag_bytes flag ++ rest) ≡ Some (flag, rest)
-unfolding flag_at flag_bytes
+flag_again : (flag : Bool) (rest : List ℕ) → any_flag flag → flag_byte_at (flag_bytes flag ++ rest) ≡ Some (flag, rest)
+unfolding flag_byte_at flag_bytes
 flag_again false rest fits = refl
 flag_again true rest fits = refl
 
-flag_takes : (bytes : List ℕ) (flag : Bool) (rest : List ℕ) → AreBytes bytes → flag_at bytes ≡ Some (flag, rest) → Took flag_bytes any_flag bytes flag rest
-unfolding flag_at flag_bytes
+flag_takes : (bytes : List ℕ) (flag : Bool) (rest : List ℕ) → AreBytes bytes → flag_byte_at bytes ≡ Some (flag, rest) → Took flag_bytes any_flag bytes flag rest
+unfolding flag_byte_at flag_bytes
 flag_takes [] flag rest fits e = absurd cc
 flag_takes (zero ∷ bytes) flag rest fits e =
     subst (λ (x : Bool × List ℕ). Took flag_bytes any_flag (0 ∷ bytes) x.0 x.1) (some_is (false, bytes) (flag, rest) e) (record { parts = refl; fits = tt; rest_fits = AreBytes-rest 0 bytes fits })
@@ -52,7 +52,7 @@ flag_takes (suc zero ∷ bytes) flag rest fits e =
     subst (λ (x : Bool × List ℕ). Took flag_bytes any_flag (1 ∷ bytes) x.0 x.1) (some_is (true, bytes) (flag, rest) e) (record { parts = refl; fits = tt; rest_fits = AreBytes-rest 1 bytes fits })
 flag_takes (suc (suc b) ∷ bytes) flag rest fits e = absurd cc
 
-pub flag_field : IsField flag_bytes flag_at any_flag
+pub flag_field : IsField flag_bytes flag_byte_at any_flag
 flag_field = record { again = flag_again; takes = flag_takes }
 
 -- ---- a payload
@@ -137,14 +137,14 @@ elements_take {A} {bytes_of} {value_at} {Fits} field (suc count) bytes elements 
     (record { parts = whole; fits = (ap suc others_fit.0, (first_fits, others_fit.1)); rest_fits = last_fits })))
 
 list_again : {A : Type 0} {bytes_of : A → List ℕ} {value_at : List ℕ → Option (A × List ℕ)} {Fits : A → Type 0} (field : IsField bytes_of value_at Fits) (elements : List A) (rest : List ℕ)
-    → FitsList Fits elements → list_at value_at (list_bytes bytes_of elements ++ rest) ≡ Some (elements, rest)
-unfolding list_at list_bytes
+    → FitsElements Fits elements → list_at value_at (element_list_bytes bytes_of elements ++ rest) ≡ Some (elements, rest)
+unfolding list_at element_list_bytes
 list_again {bytes_of} field elements rest fits =
     rw (append_assoc, field64.again (length elements) (flat_map bytes_of elements ++ rest) fits.count) (elements_again field elements rest fits.each)
 
 list_takes : {A : Type 0} {bytes_of : A → List ℕ} {value_at : List ℕ → Option (A × List ℕ)} {Fits : A → Type 0} (field : IsField bytes_of value_at Fits) (bytes : List ℕ) (elements : List A) (rest : List ℕ)
-    → AreBytes bytes → list_at value_at bytes ≡ Some (elements, rest) → Took (list_bytes bytes_of) (FitsList Fits) bytes elements rest
-unfolding list_at list_bytes
+    → AreBytes bytes → list_at value_at bytes ≡ Some (elements, rest) → Took (element_list_bytes bytes_of) (FitsElements Fits) bytes elements rest
+unfolding list_at element_list_bytes
 list_takes field bytes elements rest fits e =
     step field64 _ bytes _ fits e (λ count after parts count_fits after_fits next.
     let took = elements_take field count after elements rest after_fits next in
@@ -154,5 +154,5 @@ list_takes field bytes elements rest fits e =
       rest_fits = took.rest_fits;
     })
 
-pub list_field : {A : Type 0} {bytes_of : A → List ℕ} {value_at : List ℕ → Option (A × List ℕ)} {Fits : A → Type 0} → IsField bytes_of value_at Fits → IsField (list_bytes bytes_of) (list_at value_at) (FitsList Fits)
+pub list_field : {A : Type 0} {bytes_of : A → List ℕ} {value_at : List ℕ → Option (A × List ℕ)} {Fits : A → Type 0} → IsField bytes_of value_at Fits → IsField (element_list_bytes bytes_of) (list_at value_at) (FitsElements Fits)
 list_field field = record { again = list_again field; takes = list_takes field }

@@ -28,8 +28,8 @@ optional_bytes value_bytes None = flag_bytes false
 optional_bytes value_bytes (Some value) = flag_bytes true ++ value_bytes value
 
 -- a count of 8 bytes, and that many elements
-unfoldable pub list_bytes : {A : Type 0} → (A → List ℕ) → List A → List ℕ
-list_bytes element_bytes elements = number_bytes w64 (length elements) ++ flat_map element_bytes elements
+unfoldable pub element_list_bytes : {A : Type 0} → (A → List ℕ) → List A → List ℕ
+element_list_bytes element_bytes elements = number_bytes w64 (length elements) ++ flat_map element_bytes elements
 
 -- ---- read
 
@@ -39,26 +39,26 @@ abbrev pub ◌>>=◌ : {A B : Type 0} → Option A → (A → Option B) → Opti
 None >>= next = None
 (Some value) >>= next = next value
 
-unfoldable pub number_at : Width → List ℕ → Option (ℕ × List ℕ)
-number_at width bytes =
+unfoldable pub number_of_width : Width → List ℕ → Option (ℕ × List ℕ)
+number_of_width width bytes =
     if nat_lt (length bytes) (byte_len width) then None
     else Some (from_be_bytes width (take (byte_len width) bytes), drop (byte_len width) bytes)
 
 unfoldable pub signed_at : List ℕ → Option (ℤ × List ℕ)
 signed_at bytes = do
-  number ← number_at w32 bytes
+  number ← number_of_width w32 bytes
   Some (cast_signed w32 number.0, number.1)
 
 -- any byte but 0 and 1 is refused
-unfoldable pub flag_at : List ℕ → Option (Bool × List ℕ)
-flag_at [] = None
-flag_at (zero ∷ rest) = Some (false, rest)
-flag_at (suc zero ∷ rest) = Some (true, rest)
-flag_at (suc (suc byte) ∷ rest) = None
+unfoldable pub flag_byte_at : List ℕ → Option (Bool × List ℕ)
+flag_byte_at [] = None
+flag_byte_at (zero ∷ rest) = Some (false, rest)
+flag_byte_at (suc zero ∷ rest) = Some (true, rest)
+flag_byte_at (suc (suc byte) ∷ rest) = None
 
 unfoldable pub payload_at : List ℕ → Option (List ℕ × List ℕ)
 payload_at bytes = do
-  count ← number_at w64 bytes
+  count ← number_of_width w64 bytes
   if nat_lt (length count.1) count.0 then None else Some (take count.0 count.1, drop count.0 count.1)
 
 -- the value behind a flag that was read
@@ -70,7 +70,7 @@ behind_flag value_at true bytes = do
 
 unfoldable pub optional_at : {A : Type 0} → (List ℕ → Option (A × List ℕ)) → List ℕ → Option (Option A × List ℕ)
 optional_at value_at bytes = do
-  flag ← flag_at bytes
+  flag ← flag_byte_at bytes
   behind_flag value_at flag.0 flag.1
 
 -- that many elements
@@ -83,5 +83,5 @@ elements_at element_at (suc count) bytes = do
 
 unfoldable pub list_at : {A : Type 0} → (List ℕ → Option (A × List ℕ)) → List ℕ → Option (List A × List ℕ)
 list_at element_at bytes = do
-  count ← number_at w64 bytes
+  count ← number_of_width w64 bytes
   elements_at element_at count.0 count.1

@@ -10,7 +10,7 @@ use Rattle.dcsctp_types.specs.SnapshotItems.{QueuedPart, OutstandingPart}
 use Rattle.dcsctp_types.specs.Snapshot.{SendPart, ReceivePart, Snapshot}
 
 -- as many as a count can say, and each fits
-pub record FitsList {A : Type 0} (Fits : A → Type 0) (elements : List A) : Type 0 where
+pub record FitsElements {A : Type 0} (Fits : A → Type 0) (elements : List A) : Type 0 where
   pub count : length elements < 2 ^ 64
   pub each : AllByRecursion Fits elements
 
@@ -70,17 +70,17 @@ pub record FitsSend (tx : SendPart) : Type 0 where
   pub partial_bytes_acked : tx.partial_bytes_acked < 2 ^ 32
   pub last_cumulative_tsn_ack : tx.last_cumulative_tsn_ack < 2 ^ 32
   pub next_outgoing_message_id : tx.next_outgoing_message_id < 2 ^ 64
-  pub streams : FitsList FitsOutgoing tx.streams
-  pub queued_messages : FitsList FitsQueued tx.queued_messages
-  pub outstanding_data : FitsList FitsOutstanding tx.outstanding_data
+  pub streams : FitsElements FitsOutgoing tx.streams
+  pub queued_messages : FitsElements FitsQueued tx.queued_messages
+  pub outstanding_data : FitsElements FitsOutstanding tx.outstanding_data
 
 pub record FitsReceived (rx : ReceivePart) : Type 0 where
   pub last_cumulative_acked_tsn : rx.last_cumulative_acked_tsn < 2 ^ 32
   pub last_assembled_tsn : rx.last_assembled_tsn < 2 ^ 32
   pub last_completed_deferred_reset_req_sn : rx.last_completed_deferred_reset_req_sn < 2 ^ 32
   pub last_completed_reset_req_sn : rx.last_completed_reset_req_sn < 2 ^ 32
-  pub ordered_streams : FitsList FitsOrdered rx.ordered_streams
-  pub unordered_streams : FitsList FitsUnordered rx.unordered_streams
+  pub ordered_streams : FitsElements FitsOrdered rx.ordered_streams
+  pub unordered_streams : FitsElements FitsUnordered rx.unordered_streams
 
 pub record FitsCapabilities (capabilities : HandoverCapabilities) : Type 0 where
   pub negotiated_maximum_incoming_streams : capabilities.negotiated_maximum_incoming_streams < 2 ^ 16

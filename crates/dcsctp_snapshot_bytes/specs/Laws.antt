@@ -6,7 +6,7 @@ use Rattle.dcsctp_snapshot_bytes.specs.Fits.{FitsSnapshot}
 use Rattle.dcsctp_snapshot_bytes.specs.Spelling.{snapshot_bytes}
 use Rattle.dcsctp_snapshot_bytes.specs.declared.sealing.SealError.{SealError}
 use Rattle.dcsctp_snapshot_bytes.specs.declared.sealing.SealError.TheVariants as errors
-use Rattle.dcsctp_snapshot_bytes.specs.Seal.{fingerprint, sealed, IsRefused}
+use Rattle.dcsctp_snapshot_bytes.specs.Seal.{fingerprint, sealed, AreBytesRefused}
 use Rattle.dcsctp_snapshot_bytes.specs.Reading.{read_snapshot}
 
 -- each is below 256
@@ -14,8 +14,8 @@ abbrev pub AreBytes : List ℕ → Type 0
 AreBytes bytes = (i : ℕ) → get_or bytes i 0 < 256
 
 -- A snapshot whose numbers fit their fields is read back from its bytes.
-abbrev pub ReadsBack : Type 0
-ReadsBack = (state : Snapshot) → FitsSnapshot state → read_snapshot (snapshot_bytes state) ≡ Some state
+abbrev pub SnapshotReadsBack : Type 0
+SnapshotReadsBack = (state : Snapshot) → FitsSnapshot state → read_snapshot (snapshot_bytes state) ≡ Some state
 
 -- Bytes that are read as a snapshot are its bytes: no other bytes are read as the same one.
 abbrev pub HasOneSpelling : Type 0
@@ -24,18 +24,18 @@ HasOneSpelling = (bytes : List ℕ) (state : Snapshot) → AreBytes bytes → re
 -- ---- seals
 
 -- the ways to open bytes: they have a body, or are refused
-abbrev pub Opens : Options → List ℕ → Result (List ℕ) SealError → Type 0
-Opens options bytes (Ok body) = bytes ≡ sealed options body
-Opens options bytes (Err error) = IsRefused error options bytes
+abbrev pub OpensSeal : Options → List ℕ → Result (List ℕ) SealError → Type 0
+OpensSeal options bytes (Ok body) = bytes ≡ sealed options body
+OpensSeal options bytes (Err error) = AreBytesRefused error options bytes
 
 -- What was sealed by these options is opened by them as it was.
 abbrev pub OpensAgain : Type 0
-OpensAgain = (options : Options) (body : List ℕ) (opened : Result (List ℕ) SealError) → Opens options (sealed options body) opened → opened ≡ Ok body
+OpensAgain = (options : Options) (body : List ℕ) (opened : Result (List ℕ) SealError) → OpensSeal options (sealed options body) opened → opened ≡ Ok body
 
 -- By options with another fingerprint it is refused as that of others.
 abbrev pub OthersAreRefused : Type 0
 OthersAreRefused = (options others : Options) (body : List ℕ) (opened : Result (List ℕ) SealError)
-    → fingerprint others ≢ fingerprint options → Opens options (sealed others body) opened → opened ≡ Err errors.OtherOptions
+    → fingerprint others ≢ fingerprint options → OpensSeal options (sealed others body) opened → opened ≡ Err errors.OtherOptions
 
 -- Each number of a fingerprint fits its field, as it does in `Options`.
 pub record FitsFingerprint (options : Options) : Type 0 where
@@ -56,5 +56,5 @@ pub record IsSameEnd (a b : Options) : Type 0 where
   pub zero_checksum_method : a.zero_checksum_alternate_error_detection_method.0 ≡ b.zero_checksum_alternate_error_detection_method.0
 
 -- Options with the same fingerprint are the same in these.
-abbrev pub TellsOptions : Type 0
-TellsOptions = (a b : Options) → FitsFingerprint a → FitsFingerprint b → fingerprint a ≡ fingerprint b → IsSameEnd a b
+abbrev pub IdentifiesOptions : Type 0
+IdentifiesOptions = (a b : Options) → FitsFingerprint a → FitsFingerprint b → fingerprint a ≡ fingerprint b → IsSameEnd a b

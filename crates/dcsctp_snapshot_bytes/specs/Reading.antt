@@ -9,26 +9,26 @@ use Rattle.dcsctp_snapshot_bytes.specs.declared.transmission.SendWindows.{SendWi
 use Rattle.dcsctp_snapshot_bytes.specs.declared.transmission.SendProgress.{SendProgress}
 use Rattle.dcsctp_snapshot_bytes.specs.declared.receive.ReceiveNumbers.{ReceiveNumbers}
 use Rattle.dcsctp_snapshot_bytes.specs.declared.state.Tags.{Tags}
-use Rattle.dcsctp_snapshot_bytes.specs.Fields.{◌>>=◌, number_at, flag_at, list_at}
-use Rattle.dcsctp_snapshot_bytes.specs.Spelling.{magic, version}
+use Rattle.dcsctp_snapshot_bytes.specs.Fields.{◌>>=◌, number_of_width, flag_byte_at, list_at}
+use Rattle.dcsctp_snapshot_bytes.specs.Spelling.{snapshot_magic, version}
 use Rattle.dcsctp_snapshot_bytes.specs.ReadingItems.{queued_at, outstanding_at, outgoing_at, ordered_at, unordered_at}
 
 -- ---- sending
 
 unfoldable pub windows_at : List ℕ → Option (SendWindows × List ℕ)
 windows_at bytes = do
-  next_tsn ← number_at w32 bytes
-  next_reset_req_sn ← number_at w32 next_tsn.1
-  cwnd ← number_at w32 next_reset_req_sn.1
-  rwnd ← number_at w32 cwnd.1
+  next_tsn ← number_of_width w32 bytes
+  next_reset_req_sn ← number_of_width w32 next_tsn.1
+  cwnd ← number_of_width w32 next_reset_req_sn.1
+  rwnd ← number_of_width w32 cwnd.1
   Some (record { next_tsn = next_tsn.0; next_reset_req_sn = next_reset_req_sn.0; cwnd = cwnd.0; rwnd = rwnd.0 }, rwnd.1)
 
 unfoldable pub send_progress_at : List ℕ → Option (SendProgress × List ℕ)
 send_progress_at bytes = do
-  ssthresh ← number_at w32 bytes
-  partial_bytes_acked ← number_at w32 ssthresh.1
-  last_cumulative_tsn_ack ← number_at w32 partial_bytes_acked.1
-  next_outgoing_message_id ← number_at w64 last_cumulative_tsn_ack.1
+  ssthresh ← number_of_width w32 bytes
+  partial_bytes_acked ← number_of_width w32 ssthresh.1
+  last_cumulative_tsn_ack ← number_of_width w32 partial_bytes_acked.1
+  next_outgoing_message_id ← number_of_width w64 last_cumulative_tsn_ack.1
   Some (
     record {
       ssthresh = ssthresh.0;
@@ -67,11 +67,11 @@ send_at bytes = do
 
 unfoldable pub receive_numbers_at : List ℕ → Option (ReceiveNumbers × List ℕ)
 receive_numbers_at bytes = do
-  seen_packet ← flag_at bytes
-  last_cumulative_acked_tsn ← number_at w32 seen_packet.1
-  last_assembled_tsn ← number_at w32 last_cumulative_acked_tsn.1
-  last_completed_deferred_reset_req_sn ← number_at w32 last_assembled_tsn.1
-  last_completed_reset_req_sn ← number_at w32 last_completed_deferred_reset_req_sn.1
+  seen_packet ← flag_byte_at bytes
+  last_cumulative_acked_tsn ← number_of_width w32 seen_packet.1
+  last_assembled_tsn ← number_of_width w32 last_cumulative_acked_tsn.1
+  last_completed_deferred_reset_req_sn ← number_of_width w32 last_assembled_tsn.1
+  last_completed_reset_req_sn ← number_of_width w32 last_completed_deferred_reset_req_sn.1
   Some (
     record {
       seen_packet = seen_packet.0;
@@ -105,12 +105,12 @@ received_at bytes = do
 
 unfoldable pub capabilities_at : List ℕ → Option (HandoverCapabilities × List ℕ)
 capabilities_at bytes = do
-  partial_reliability ← flag_at bytes
-  message_interleaving ← flag_at partial_reliability.1
-  reconfig ← flag_at message_interleaving.1
-  zero_checksum ← flag_at reconfig.1
-  incoming ← number_at w16 zero_checksum.1
-  outgoing ← number_at w16 incoming.1
+  partial_reliability ← flag_byte_at bytes
+  message_interleaving ← flag_byte_at partial_reliability.1
+  reconfig ← flag_byte_at message_interleaving.1
+  zero_checksum ← flag_byte_at reconfig.1
+  incoming ← number_of_width w16 zero_checksum.1
+  outgoing ← number_of_width w16 incoming.1
   Some (
     record {
       partial_reliability = partial_reliability.0;
@@ -125,11 +125,11 @@ capabilities_at bytes = do
 
 unfoldable pub tags_at : List ℕ → Option (Tags × List ℕ)
 tags_at bytes = do
-  my_verification_tag ← number_at w32 bytes
-  my_initial_tsn ← number_at w32 my_verification_tag.1
-  peer_verification_tag ← number_at w32 my_initial_tsn.1
-  peer_initial_tsn ← number_at w32 peer_verification_tag.1
-  tie_tag ← number_at w64 peer_initial_tsn.1
+  my_verification_tag ← number_of_width w32 bytes
+  my_initial_tsn ← number_of_width w32 my_verification_tag.1
+  peer_verification_tag ← number_of_width w32 my_initial_tsn.1
+  peer_initial_tsn ← number_of_width w32 peer_verification_tag.1
+  tie_tag ← number_of_width w64 peer_initial_tsn.1
   Some (
     record {
       my_verification_tag = my_verification_tag.0;
@@ -148,7 +148,7 @@ state_of true = Connected
 -- what follows the magic and the version
 unfoldable pub content_at : List ℕ → Option (Snapshot × List ℕ)
 content_at bytes = do
-  connected ← flag_at bytes
+  connected ← flag_byte_at bytes
   tags ← tags_at connected.1
   capabilities ← capabilities_at tags.1
   tx ← send_at capabilities.1
@@ -171,9 +171,9 @@ content_at bytes = do
 -- what follows the magic and this version
 unfoldable pub after_header : List ℕ → Option (List ℕ)
 after_header bytes = do
-  first ← number_at w32 bytes
-  second ← number_at w16 first.1
-  if first.0 == magic && second.0 == version then Some second.1 else None
+  first ← number_of_width w32 bytes
+  second ← number_of_width w16 first.1
+  if first.0 == snapshot_magic && second.0 == version then Some second.1 else None
 
 -- The snapshot that the bytes are, all of them.
 unfoldable pub read_snapshot : List ℕ → Option Snapshot

@@ -11,16 +11,16 @@ use Rattle.dcsctp_snapshot_bytes.specs.declared.outstanding.FragmentNumbers.{Fra
 use Rattle.dcsctp_snapshot_bytes.specs.declared.outstanding.FragmentFlags.{FragmentFlags}
 use Rattle.dcsctp_snapshot_bytes.specs.declared.outstanding.FragmentLimits.{FragmentLimits}
 use Rattle.dcsctp_snapshot_bytes.specs.declared.outstanding.FragmentFate.{FragmentFate}
-use Rattle.dcsctp_snapshot_bytes.specs.Fields.{◌>>=◌, number_at, signed_at, flag_at, payload_at, optional_at}
+use Rattle.dcsctp_snapshot_bytes.specs.Fields.{◌>>=◌, number_of_width, signed_at, flag_byte_at, payload_at, optional_at}
 
 -- ---- a message that waits, or of which a part was sent
 
 unfoldable pub limits_at : List ℕ → Option (QueuedLimits × List ℕ)
 limits_at bytes = do
   expires_in_ms ← optional_at signed_at bytes
-  max_retransmissions ← number_at w16 expires_in_ms.1
-  lifecycle_id ← number_at w64 max_retransmissions.1
-  message_id ← number_at w64 lifecycle_id.1
+  max_retransmissions ← number_of_width w16 expires_in_ms.1
+  lifecycle_id ← number_of_width w64 max_retransmissions.1
+  message_id ← number_of_width w64 lifecycle_id.1
   Some (
     record {
       expires_in_ms = expires_in_ms.0;
@@ -33,18 +33,18 @@ limits_at bytes = do
 
 unfoldable pub progress_at : List ℕ → Option (QueuedProgress × List ℕ)
 progress_at bytes = do
-  remaining_offset ← number_at w64 bytes
-  mid ← optional_at (number_at w32) remaining_offset.1
-  ssn ← optional_at (number_at w16) mid.1
-  fsn ← number_at w32 ssn.1
+  remaining_offset ← number_of_width w64 bytes
+  mid ← optional_at (number_of_width w32) remaining_offset.1
+  ssn ← optional_at (number_of_width w16) mid.1
+  fsn ← number_of_width w32 ssn.1
   Some (record { remaining_offset = remaining_offset.0; mid = mid.0; ssn = ssn.0; fsn = fsn.0 }, fsn.1)
 
 unfoldable pub queued_at : List ℕ → Option (QueuedPart × List ℕ)
 queued_at bytes = do
-  stream_id ← number_at w16 bytes
-  ppid ← number_at w32 stream_id.1
+  stream_id ← number_of_width w16 bytes
+  ppid ← number_of_width w32 stream_id.1
   payload ← payload_at ppid.1
-  unordered ← flag_at payload.1
+  unordered ← flag_byte_at payload.1
   limits ← limits_at unordered.1
   progress ← progress_at limits.1
   Some (
@@ -69,26 +69,26 @@ queued_at bytes = do
 
 unfoldable pub fragment_numbers_at : List ℕ → Option (FragmentNumbers × List ℕ)
 fragment_numbers_at bytes = do
-  stream_id ← number_at w16 bytes
-  ssn ← number_at w16 stream_id.1
-  mid ← number_at w32 ssn.1
-  fsn ← number_at w32 mid.1
-  ppid ← number_at w32 fsn.1
+  stream_id ← number_of_width w16 bytes
+  ssn ← number_of_width w16 stream_id.1
+  mid ← number_of_width w32 ssn.1
+  fsn ← number_of_width w32 mid.1
+  ppid ← number_of_width w32 fsn.1
   Some (record { stream_id = stream_id.0; ssn = ssn.0; mid = mid.0; fsn = fsn.0; ppid = ppid.0 }, ppid.1)
 
 unfoldable pub fragment_flags_at : List ℕ → Option (FragmentFlags × List ℕ)
 fragment_flags_at bytes = do
-  is_beginning ← flag_at bytes
-  is_end ← flag_at is_beginning.1
-  is_unordered ← flag_at is_end.1
+  is_beginning ← flag_byte_at bytes
+  is_end ← flag_byte_at is_beginning.1
+  is_unordered ← flag_byte_at is_end.1
   Some (record { is_beginning = is_beginning.0; is_end = is_end.0; is_unordered = is_unordered.0 }, is_unordered.1)
 
 unfoldable pub fragment_limits_at : List ℕ → Option (FragmentLimits × List ℕ)
 fragment_limits_at bytes = do
-  message_id ← number_at w64 bytes
-  lifecycle_id ← number_at w64 message_id.1
+  message_id ← number_of_width w64 bytes
+  lifecycle_id ← number_of_width w64 message_id.1
   expires_in_ms ← optional_at signed_at lifecycle_id.1
-  max_retransmissions ← number_at w16 expires_in_ms.1
+  max_retransmissions ← number_of_width w16 expires_in_ms.1
   Some (
     record {
       message_id = message_id.0;
@@ -101,10 +101,10 @@ fragment_limits_at bytes = do
 
 unfoldable pub fragment_fate_at : List ℕ → Option (FragmentFate × List ℕ)
 fragment_fate_at bytes = do
-  acked ← flag_at bytes
-  is_abandoned ← flag_at acked.1
-  is_nacked ← flag_at is_abandoned.1
-  is_to_be_retransmitted ← flag_at is_nacked.1
+  acked ← flag_byte_at bytes
+  is_abandoned ← flag_byte_at acked.1
+  is_nacked ← flag_byte_at is_abandoned.1
+  is_to_be_retransmitted ← flag_byte_at is_nacked.1
   Some (
     record {
       acked = acked.0;
@@ -121,7 +121,7 @@ outstanding_at bytes = do
   payload ← payload_at numbers.1
   flags ← fragment_flags_at payload.1
   limits ← fragment_limits_at flags.1
-  retransmission_count ← number_at w16 limits.1
+  retransmission_count ← number_of_width w16 limits.1
   time_since_sent_ms ← signed_at retransmission_count.1
   fate ← fragment_fate_at time_since_sent_ms.1
   Some (
@@ -153,11 +153,11 @@ outstanding_at bytes = do
 
 unfoldable pub outgoing_at : List ℕ → Option (HandoverOutgoingStream × List ℕ)
 outgoing_at bytes = do
-  id ← number_at w16 bytes
-  next_ssn ← number_at w16 id.1
-  next_unordered_mid ← number_at w32 next_ssn.1
-  next_ordered_mid ← number_at w32 next_unordered_mid.1
-  priority ← number_at w16 next_ordered_mid.1
+  id ← number_of_width w16 bytes
+  next_ssn ← number_of_width w16 id.1
+  next_unordered_mid ← number_of_width w32 next_ssn.1
+  next_ordered_mid ← number_of_width w32 next_unordered_mid.1
+  priority ← number_of_width w16 next_ordered_mid.1
   Some (
     record {
       id = id.0;
@@ -171,11 +171,11 @@ outgoing_at bytes = do
 
 unfoldable pub ordered_at : List ℕ → Option (HandoverOrderedStream × List ℕ)
 ordered_at bytes = do
-  id ← number_at w16 bytes
-  next_ssn ← number_at w32 id.1
+  id ← number_of_width w16 bytes
+  next_ssn ← number_of_width w32 id.1
   Some (record { id = id.0; next_ssn = next_ssn.0 }, next_ssn.1)
 
 unfoldable pub unordered_at : List ℕ → Option (HandoverUnorderedStream × List ℕ)
 unordered_at bytes = do
-  id ← number_at w16 bytes
+  id ← number_of_width w16 bytes
   Some (record { id = id.0 }, id.1)

@@ -48,6 +48,6 @@ pub record IsOfOthers (options : Options) (bytes : List ℕ) : Type 0 where
   pub differs : mark ≢ fingerprint options
 
 -- why the bytes are refused
-abbrev pub IsRefused : SealError → Options → List ℕ → Type 0
-IsRefused errors.Broken options bytes = IsBroken bytes
-IsRefused errors.OtherOptions options bytes = IsOfOthers options bytes
+abbrev pub AreBytesRefused : SealError → Options → List ℕ → Type 0
+AreBytesRefused errors.Broken options bytes = IsBroken bytes
+AreBytesRefused errors.OtherOptions options bytes = IsOfOthers options bytes

@@ -9,11 +9,11 @@ use Rattle.dcsctp_types.specs.declared.snapshot.HandoverOrderedStream.{HandoverO
 use Rattle.dcsctp_types.specs.declared.snapshot.HandoverUnorderedStream.{HandoverUnorderedStream}
 use Rattle.dcsctp_types.specs.SnapshotItems.{QueuedPart, OutstandingPart}
 use Rattle.dcsctp_types.specs.Snapshot.{SendPart, ReceivePart, Snapshot}
-use Rattle.dcsctp_snapshot_bytes.specs.Fields.{number_bytes, signed_bytes, flag_bytes, payload_bytes, optional_bytes, list_bytes}
+use Rattle.dcsctp_snapshot_bytes.specs.Fields.{number_bytes, signed_bytes, flag_bytes, payload_bytes, optional_bytes, element_list_bytes}
 
 -- "dcSn", for a snapshot of dcsctp
-abbrev pub magic : ℕ
-magic = 0x6463536e
+abbrev pub snapshot_magic : ℕ
+snapshot_magic = 0x6463536e
 
 -- the version of the format
 abbrev pub version : ℕ
@@ -22,8 +22,8 @@ version = 1
 -- ---- elements of lists
 
 -- a message that waits, or of which a part was sent
-unfoldable pub queued_bytes : QueuedPart → List ℕ
-queued_bytes message =
+unfoldable pub queued_part_bytes : QueuedPart → List ℕ
+queued_part_bytes message =
     number_bytes w16 message.stream_id  -- 2
     ++ number_bytes w32 message.ppid  -- 4
     ++ payload_bytes message.payload  -- 8, and the payload
@@ -99,9 +99,9 @@ send_bytes tx =
     ++ number_bytes w32 tx.partial_bytes_acked  -- 4
     ++ number_bytes w32 tx.last_cumulative_tsn_ack  -- 4
     ++ number_bytes w64 tx.next_outgoing_message_id  -- 8
-    ++ list_bytes outgoing_bytes tx.streams  -- 8, and 14 for each
-    ++ list_bytes queued_bytes tx.queued_messages  -- 8, and each
-    ++ list_bytes outstanding_bytes tx.outstanding_data  -- 8, and each
+    ++ element_list_bytes outgoing_bytes tx.streams  -- 8, and 14 for each
+    ++ element_list_bytes queued_part_bytes tx.queued_messages  -- 8, and each
+    ++ element_list_bytes outstanding_bytes tx.outstanding_data  -- 8, and each
 
 unfoldable pub received_bytes : ReceivePart → List ℕ
 received_bytes rx =
@@ -110,8 +110,8 @@ received_bytes rx =
     ++ number_bytes w32 rx.last_assembled_tsn  -- 4
     ++ number_bytes w32 rx.last_completed_deferred_reset_req_sn  -- 4
     ++ number_bytes w32 rx.last_completed_reset_req_sn  -- 4
-    ++ list_bytes ordered_bytes rx.ordered_streams  -- 8, and 6 for each
-    ++ list_bytes unordered_bytes rx.unordered_streams  -- 8, and 2 for each
+    ++ element_list_bytes ordered_bytes rx.ordered_streams  -- 8, and 6 for each
+    ++ element_list_bytes unordered_bytes rx.unordered_streams  -- 8, and 2 for each
 
 -- what both ends support
 unfoldable pub capabilities_bytes : HandoverCapabilities → List ℕ
@@ -131,7 +131,7 @@ is_connected Connected = true
 
 unfoldable pub snapshot_bytes : Snapshot → List ℕ
 snapshot_bytes state =
-    number_bytes w32 magic  -- 4
+    number_bytes w32 snapshot_magic  -- 4
     ++ number_bytes w16 version  -- 2
     ++ flag_bytes (is_connected state.socket_state)  -- 1
     ++ number_bytes w32 state.my_verification_tag  -- 4

@@ -2,9 +2,9 @@
 
 ghost use Rattle.std.specs.Prelude.{◌≡◌, ℕ, ◌++◌, OnOk, List, Option, map};
 ghost use Rattle.std.specs.List.{flat_map, AllByRecursion};
-ghost use Rattle.dcsctp_snapshot_bytes.specs.Fields.{list_bytes, list_at, elements_at};
-ghost use Rattle.dcsctp_snapshot_bytes.specs.Fits.{FitsList};
-ghost use Rattle.dcsctp_snapshot_bytes.specs.Gives.{Reads};
+ghost use Rattle.dcsctp_snapshot_bytes.specs.Fields.{element_list_bytes, list_at, elements_at};
+ghost use Rattle.dcsctp_snapshot_bytes.specs.Fits.{FitsElements};
+ghost use Rattle.dcsctp_snapshot_bytes.specs.Gives.{ReadsValue};
 
 use crate::reader::{ReadError, Reader};
 use crate::writer::write_u64;
@@ -34,7 +34,7 @@ pub(crate) trait Element: Drop {
 
     /// Reads one from the front of bytes.
     fn read(alloc: Global, reader: &mut Reader) -> Result<Self, ReadError>
-        ensures { Reads part_of part_at reader.old.rest.now result reader.new.rest.now };
+        ensures { ReadsValue part_of part_at reader.old.rest.now result reader.new.rest.now };
 }
 
 // Writes elements one after another.
@@ -50,10 +50,10 @@ fn write_elements<T: Element>(out: &mut Vec<u8>, elements: &[T]) -> Result<(), A
 }
 
 /// Writes a list at the end of bytes: its length, and its elements.
-#[tactic(auto, unfolding(crate::specs::Fields::list_bytes))]
+#[tactic(auto, unfolding(crate::specs::Fields::element_list_bytes))]
 pub(crate) fn write_list<T: Element>(out: &mut Vec<u8>, elements: &[T]) -> Result<(), AllocError>
-    ensures bytes { OnOk result (out.new.items ≡ out.old.items ++ list_bytes T.bytes_of (map T.part_of elements.now)) }
-    ensures fits { OnOk result (FitsList T.fits (map T.part_of elements.now)) }
+    ensures bytes { OnOk result (out.new.items ≡ out.old.items ++ element_list_bytes T.bytes_of (map T.part_of elements.now)) }
+    ensures fits { OnOk result (FitsElements T.fits (map T.part_of elements.now)) }
 {
     write_u64(out, elements.len() as u64)?;
     write_elements(out, elements)
@@ -66,7 +66,7 @@ fn read_elements<T: Element>(
     count: u64,
     reader: &mut Reader,
 ) -> Result<Vec<T>, ReadError>
-    ensures { Reads (λ elements. map T.part_of elements.items) (elements_at T.part_at count)
+    ensures { ReadsValue (λ elements. map T.part_of elements.items) (elements_at T.part_at count)
         reader.old.rest.now result reader.new.rest.now }
 {
     let mut elements = Vec::new(alloc);
@@ -79,7 +79,7 @@ fn read_elements<T: Element>(
 /// Reads a list from the front of bytes: its length, and its elements.
 #[tactic(auto, unfolding(crate::specs::Fields::list_at))]
 pub(crate) fn read_list<T: Element>(alloc: Global, reader: &mut Reader) -> Result<Vec<T>, ReadError>
-    ensures { Reads (λ elements. map T.part_of elements.items) (list_at T.part_at)
+    ensures { ReadsValue (λ elements. map T.part_of elements.items) (list_at T.part_at)
         reader.old.rest.now result reader.new.rest.now }
 {
     let count = reader.u64()?;

@@ -5,7 +5,7 @@ ghost use Rattle.dcsctp_types.specs.SnapshotItems.{OutstandingPart, outstanding_
 ghost use Rattle.dcsctp_snapshot_bytes.specs.Spelling.{fragment_bytes, sending_bytes, outstanding_bytes};
 ghost use Rattle.dcsctp_snapshot_bytes.specs.ReadingItems.{fragment_numbers_at, fragment_flags_at, fragment_limits_at, fragment_fate_at, outstanding_at};
 ghost use Rattle.dcsctp_snapshot_bytes.specs.Fits.{FitsFragment, FitsSending, FitsOutstanding};
-ghost use Rattle.dcsctp_snapshot_bytes.specs.Gives.{Reads};
+ghost use Rattle.dcsctp_snapshot_bytes.specs.Gives.{ReadsValue};
 
 use crate::element::Element;
 use crate::reader::{ReadError, Reader};
@@ -53,7 +53,7 @@ struct FragmentFate {
 
 #[tactic(auto, unfolding(crate::specs::ReadingItems::fragment_numbers_at))]
 fn read_numbers(reader: &mut Reader) -> Result<FragmentNumbers, ReadError>
-    ensures { Reads (λ numbers. numbers) fragment_numbers_at reader.old.rest.now result reader.new.rest.now }
+    ensures { ReadsValue (λ numbers. numbers) fragment_numbers_at reader.old.rest.now result reader.new.rest.now }
 {
     Ok(FragmentNumbers {
         stream_id: reader.u16()?,
@@ -66,7 +66,7 @@ fn read_numbers(reader: &mut Reader) -> Result<FragmentNumbers, ReadError>
 
 #[tactic(auto, unfolding(crate::specs::ReadingItems::fragment_flags_at))]
 fn read_flags(reader: &mut Reader) -> Result<FragmentFlags, ReadError>
-    ensures { Reads (λ flags. flags) fragment_flags_at reader.old.rest.now result reader.new.rest.now }
+    ensures { ReadsValue (λ flags. flags) fragment_flags_at reader.old.rest.now result reader.new.rest.now }
 {
     Ok(FragmentFlags {
         is_beginning: reader.flag()?,
@@ -77,7 +77,7 @@ fn read_flags(reader: &mut Reader) -> Result<FragmentFlags, ReadError>
 
 #[tactic(auto, unfolding(crate::specs::ReadingItems::fragment_limits_at))]
 fn read_limits(reader: &mut Reader) -> Result<FragmentLimits, ReadError>
-    ensures { Reads (λ limits. limits) fragment_limits_at reader.old.rest.now result reader.new.rest.now }
+    ensures { ReadsValue (λ limits. limits) fragment_limits_at reader.old.rest.now result reader.new.rest.now }
 {
     Ok(FragmentLimits {
         message_id: reader.u64()?,
@@ -89,7 +89,7 @@ fn read_limits(reader: &mut Reader) -> Result<FragmentLimits, ReadError>
 
 #[tactic(auto, unfolding(crate::specs::ReadingItems::fragment_fate_at))]
 fn read_fate(reader: &mut Reader) -> Result<FragmentFate, ReadError>
-    ensures { Reads (λ fate. fate) fragment_fate_at reader.old.rest.now result reader.new.rest.now }
+    ensures { ReadsValue (λ fate. fate) fragment_fate_at reader.old.rest.now result reader.new.rest.now }
 {
     Ok(FragmentFate {
         acked: reader.flag()?,

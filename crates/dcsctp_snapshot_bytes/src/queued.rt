@@ -2,10 +2,10 @@
 
 ghost use Rattle.std.specs.Prelude.{◌≡◌, ◌++◌, OnOk};
 ghost use Rattle.dcsctp_types.specs.SnapshotItems.{QueuedPart, queued_part};
-ghost use Rattle.dcsctp_snapshot_bytes.specs.Spelling.{queued_bytes};
+ghost use Rattle.dcsctp_snapshot_bytes.specs.Spelling.{queued_part_bytes};
 ghost use Rattle.dcsctp_snapshot_bytes.specs.ReadingItems.{limits_at, progress_at, queued_at};
 ghost use Rattle.dcsctp_snapshot_bytes.specs.Fits.{FitsQueued};
-ghost use Rattle.dcsctp_snapshot_bytes.specs.Gives.{Reads};
+ghost use Rattle.dcsctp_snapshot_bytes.specs.Gives.{ReadsValue};
 
 use crate::element::Element;
 use crate::reader::{ReadError, Reader};
@@ -36,7 +36,7 @@ struct QueuedProgress {
 
 #[tactic(auto, unfolding(crate::specs::ReadingItems::limits_at))]
 fn read_limits(reader: &mut Reader) -> Result<QueuedLimits, ReadError>
-    ensures { Reads (λ limits. limits) limits_at reader.old.rest.now result reader.new.rest.now }
+    ensures { ReadsValue (λ limits. limits) limits_at reader.old.rest.now result reader.new.rest.now }
 {
     Ok(QueuedLimits {
         expires_in_ms: reader.optional_i32()?,
@@ -48,7 +48,7 @@ fn read_limits(reader: &mut Reader) -> Result<QueuedLimits, ReadError>
 
 #[tactic(auto, unfolding(crate::specs::ReadingItems::progress_at))]
 fn read_progress(reader: &mut Reader) -> Result<QueuedProgress, ReadError>
-    ensures { Reads (λ progress. progress) progress_at reader.old.rest.now result reader.new.rest.now }
+    ensures { ReadsValue (λ progress. progress) progress_at reader.old.rest.now result reader.new.rest.now }
 {
     Ok(QueuedProgress {
         remaining_offset: reader.u64()? as usize,
@@ -63,13 +63,13 @@ impl Element for HandoverStreamMessage {
 
     ghost part_of = { queued_part };
 
-    ghost bytes_of = { queued_bytes };
+    ghost bytes_of = { queued_part_bytes };
 
     ghost part_at = { queued_at };
 
     ghost fits = { FitsQueued };
 
-    #[tactic(auto, unfolding(crate::specs::Spelling::queued_bytes))]
+    #[tactic(auto, unfolding(crate::specs::Spelling::queued_part_bytes))]
     fn write(&self, out: &mut Vec<u8>) -> Result<(), AllocError> {
         write_u16(out, self.stream_id)?;
         write_u32(out, self.ppid)?;

@@ -5,7 +5,7 @@ ghost use Rattle.dcsctp_types.specs.Snapshot.{received_part};
 ghost use Rattle.dcsctp_snapshot_bytes.specs.Spelling.{received_bytes};
 ghost use Rattle.dcsctp_snapshot_bytes.specs.Reading.{receive_numbers_at, received_at};
 ghost use Rattle.dcsctp_snapshot_bytes.specs.Fits.{FitsReceived};
-ghost use Rattle.dcsctp_snapshot_bytes.specs.Gives.{Reads};
+ghost use Rattle.dcsctp_snapshot_bytes.specs.Gives.{ReadsValue};
 
 use crate::element::{read_list, write_list};
 use crate::reader::{ReadError, Reader};
@@ -25,7 +25,7 @@ struct ReceiveNumbers {
 
 #[tactic(auto, unfolding(crate::specs::Reading::receive_numbers_at))]
 fn read_numbers(reader: &mut Reader) -> Result<ReceiveNumbers, ReadError>
-    ensures { Reads (λ numbers. numbers) receive_numbers_at reader.old.rest.now result reader.new.rest.now }
+    ensures { ReadsValue (λ numbers. numbers) receive_numbers_at reader.old.rest.now result reader.new.rest.now }
 {
     Ok(ReceiveNumbers {
         seen_packet: reader.flag()?,
@@ -54,7 +54,7 @@ pub(crate) fn write_receive(out: &mut Vec<u8>, rx: &HandoverReceive) -> Result<(
 /// Reads all that concerns receiving from the front of bytes.
 #[tactic(auto, unfolding(crate::specs::Reading::received_at))]
 pub(crate) fn read_receive(alloc: Global, reader: &mut Reader) -> Result<HandoverReceive, ReadError>
-    ensures { Reads received_part received_at reader.old.rest.now result reader.new.rest.now }
+    ensures { ReadsValue received_part received_at reader.old.rest.now result reader.new.rest.now }
 {
     let numbers = read_numbers(reader)?;
     let ordered_streams = read_list(alloc, reader)?;

@@ -2,7 +2,7 @@
 //! a check value of all before it.
 
 ghost use Rattle.std.specs.Prelude.{◌≡◌, ◌≢◌, ℕ, List, ◌++◌, OnOk, MatchOption, MatchResult};
-ghost use Rattle.dcsctp_snapshot_bytes.specs.Seal.{fingerprint, checked, sealed, IsRefused};
+ghost use Rattle.dcsctp_snapshot_bytes.specs.Seal.{fingerprint, checked, sealed, AreBytesRefused};
 
 use dcsctp_types::Options;
 use dcsctp_wire_checksum::crc32c;
@@ -94,7 +94,7 @@ fn before_check(bytes: &[u8]) -> Option<&[u8]>
 pub fn unseal<'a>(bytes: &'a [u8], options: &Options) -> Result<&'a [u8], SealError>
     ensures { MatchResult result
         (λ body. bytes.now ≡ sealed options.now body.now)
-        (λ error. IsRefused error options.now bytes.now) }
+        (λ error. AreBytesRefused error options.now bytes.now) }
 {
     let Some(front) = before_check(bytes) else {
         return Err(SealError::Broken);

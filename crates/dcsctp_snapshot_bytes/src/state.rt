@@ -6,7 +6,7 @@ ghost use Rattle.dcsctp_types.specs.Snapshot.{snapshot};
 ghost use Rattle.dcsctp_snapshot_bytes.specs.Spelling.{capabilities_bytes, snapshot_bytes};
 ghost use Rattle.dcsctp_snapshot_bytes.specs.Reading.{capabilities_at, tags_at, content_at, after_header, read_snapshot};
 ghost use Rattle.dcsctp_snapshot_bytes.specs.Fits.{FitsCapabilities, FitsSnapshot};
-ghost use Rattle.dcsctp_snapshot_bytes.specs.Gives.{Fails, Reads, ReadsAll};
+ghost use Rattle.dcsctp_snapshot_bytes.specs.Gives.{FailsReading, ReadsValue, ReadsAll};
 
 use crate::reader::{ReadError, Reader};
 use crate::receive::{read_receive, write_receive};
@@ -114,7 +114,7 @@ pub fn to_bytes(alloc: Global, state: &SocketHandoverState) -> Result<Vec<u8>, A
 fn read_header(reader: &mut Reader) -> Result<(), ReadError>
     ensures { MatchResult result
         (λ _. after_header reader.old.rest.now ≡ Some reader.new.rest.now)
-        (λ error. Fails error (after_header reader.old.rest.now)) }
+        (λ error. FailsReading error (after_header reader.old.rest.now)) }
 {
     let magic = reader.u32()?;
     let version = reader.u16()?;
@@ -127,7 +127,7 @@ fn read_header(reader: &mut Reader) -> Result<(), ReadError>
 
 #[tactic(auto, unfolding(crate::specs::Reading::tags_at))]
 fn read_tags(reader: &mut Reader) -> Result<Tags, ReadError>
-    ensures { Reads (λ tags. tags) tags_at reader.old.rest.now result reader.new.rest.now }
+    ensures { ReadsValue (λ tags. tags) tags_at reader.old.rest.now result reader.new.rest.now }
 {
     Ok(Tags {
         my_verification_tag: reader.u32()?,
@@ -140,7 +140,7 @@ fn read_tags(reader: &mut Reader) -> Result<Tags, ReadError>
 
 #[tactic(auto, unfolding(crate::specs::Reading::capabilities_at))]
 fn read_capabilities(reader: &mut Reader) -> Result<HandoverCapabilities, ReadError>
-    ensures { Reads (λ capabilities. capabilities) capabilities_at
+    ensures { ReadsValue (λ capabilities. capabilities) capabilities_at
         reader.old.rest.now result reader.new.rest.now }
 {
     Ok(HandoverCapabilities {
@@ -156,7 +156,7 @@ fn read_capabilities(reader: &mut Reader) -> Result<HandoverCapabilities, ReadEr
 // What follows the header.
 #[tactic(auto, unfolding(crate::specs::Reading::content_at))]
 fn read_content(alloc: Global, reader: &mut Reader) -> Result<SocketHandoverState, ReadError>
-    ensures { Reads snapshot content_at reader.old.rest.now result reader.new.rest.now }
+    ensures { ReadsValue snapshot content_at reader.old.rest.now result reader.new.rest.now }
 {
     let connected = reader.flag()?;
     let tags = read_tags(reader)?;

@@ -7,7 +7,7 @@ ghost use Rattle.dcsctp_types.specs.declared.snapshot.HandoverUnorderedStream.{H
 ghost use Rattle.dcsctp_snapshot_bytes.specs.Spelling.{outgoing_bytes, ordered_bytes, unordered_bytes};
 ghost use Rattle.dcsctp_snapshot_bytes.specs.ReadingItems.{outgoing_at, ordered_at, unordered_at};
 ghost use Rattle.dcsctp_snapshot_bytes.specs.Fits.{FitsOutgoing, FitsOrdered, FitsUnordered};
-ghost use Rattle.dcsctp_snapshot_bytes.specs.Gives.{Reads};
+ghost use Rattle.dcsctp_snapshot_bytes.specs.Gives.{ReadsValue};
 
 use crate::element::Element;
 use crate::reader::{ReadError, Reader};

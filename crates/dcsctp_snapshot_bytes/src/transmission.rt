@@ -5,7 +5,7 @@ ghost use Rattle.dcsctp_types.specs.Snapshot.{send_part};
 ghost use Rattle.dcsctp_snapshot_bytes.specs.Spelling.{send_bytes};
 ghost use Rattle.dcsctp_snapshot_bytes.specs.Reading.{windows_at, send_progress_at, send_at};
 ghost use Rattle.dcsctp_snapshot_bytes.specs.Fits.{FitsSend};
-ghost use Rattle.dcsctp_snapshot_bytes.specs.Gives.{Reads};
+ghost use Rattle.dcsctp_snapshot_bytes.specs.Gives.{ReadsValue};
 
 use crate::element::{read_list, write_list};
 use crate::reader::{ReadError, Reader};
@@ -33,7 +33,7 @@ struct SendProgress {
 
 #[tactic(auto, unfolding(crate::specs::Reading::windows_at))]
 fn read_windows(reader: &mut Reader) -> Result<SendWindows, ReadError>
-    ensures { Reads (λ windows. windows) windows_at reader.old.rest.now result reader.new.rest.now }
+    ensures { ReadsValue (λ windows. windows) windows_at reader.old.rest.now result reader.new.rest.now }
 {
     Ok(SendWindows {
         next_tsn: reader.u32()?,
@@ -45,7 +45,7 @@ fn read_windows(reader: &mut Reader) -> Result<SendWindows, ReadError>
 
 #[tactic(auto, unfolding(crate::specs::Reading::send_progress_at))]
 fn read_progress(reader: &mut Reader) -> Result<SendProgress, ReadError>
-    ensures { Reads (λ progress. progress) send_progress_at reader.old.rest.now result reader.new.rest.now }
+    ensures { ReadsValue (λ progress. progress) send_progress_at reader.old.rest.now result reader.new.rest.now }
 {
     Ok(SendProgress {
         ssthresh: reader.u32()?,
@@ -83,7 +83,7 @@ pub(crate) fn read_transmission(
     alloc: Global,
     reader: &mut Reader,
 ) -> Result<HandoverTransmission, ReadError>
-    ensures { Reads send_part send_at reader.old.rest.now result reader.new.rest.now }
+    ensures { ReadsValue send_part send_at reader.old.rest.now result reader.new.rest.now }
 {
     let windows = read_windows(reader)?;
     let progress = read_progress(reader)?;

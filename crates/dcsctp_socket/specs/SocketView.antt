@@ -22,6 +22,6 @@ fresh_socket options generator =
     record { view = record { endpoint = fresh_endpoint options; events = []; words = []; pairs = []; generator = generator }; failed = false }
 
 -- The answer to a call, and whether the socket has failed after it.
-abbrev pub Settles : {A E : Type 0} → Bool → Result A E → Result A SocketFault → Bool → Type 0
-Settles failed (Ok value) answer fails = (answer ≡ Ok value) × (fails ≡ failed)
-Settles failed (Err error) answer fails = (answer ≡ Err OutOfMemory) × (fails ≡ true)
+abbrev pub SettlesCall : {A E : Type 0} → Bool → Result A E → Result A SocketFault → Bool → Type 0
+SettlesCall failed (Ok value) answer fails = (answer ≡ Ok value) × (fails ≡ failed)
+SettlesCall failed (Err error) answer fails = (answer ≡ Err OutOfMemory) × (fails ≡ true)

@@ -1,6 +1,6 @@
 //! The socket.
 
-ghost use Rattle.dcsctp_socket.specs.SocketView.{Settles};
+ghost use Rattle.dcsctp_socket.specs.SocketView.{SettlesCall};
 
 use dcsctp_core::api::handover::SocketHandoverState;
 use dcsctp_core::api::{
@@ -43,7 +43,7 @@ impl<R: Drop> Drop for Socket<R> {
 impl<R> Model for Socket<R> {
     ghost use Rattle.std.specs.Prelude.{◌≡◌, false};
     ghost use Rattle.dcsctp_core.specs.spec.Soundness.{IsSound};
-    ghost use Rattle.dcsctp_core.specs.Timeout.{IsTold};
+    ghost use Rattle.dcsctp_core.specs.Timeout.{ListsDeadlines};
     ghost use Rattle.dcsctp_core.specs.View.{endpoint_of, view_of};
     ghost use Rattle.dcsctp_socket.specs.SocketView.{SocketView};
 
@@ -53,12 +53,12 @@ impl<R> Model for Socket<R> {
 
     // So that its snapshots are valid, and the list has the deadlines that count, of a socket that has failed
     // too.
-    ghost invariant = { λ s. (s.failed ≡ false → IsSound (view_of s.context.value).endpoint) × IsTold (endpoint_of s.context.value) s.deadlines };
+    ghost invariant = { λ s. (s.failed ≡ false → IsSound (view_of s.context.value).endpoint) × ListsDeadlines (endpoint_of s.context.value) s.deadlines };
 }
 
 // The result of a call. Once an allocation has failed, the socket has failed for good.
 fn settled<T>(failed: &mut bool, outcome: Result<T, AllocError>) -> Result<T, SocketFault>
-    ensures { Settles failed.old outcome result failed.new }
+    ensures { SettlesCall failed.old outcome result failed.new }
 {
     match outcome {
         Ok(answer) => Ok(answer),
@@ -154,16 +154,16 @@ impl<R: Rng + Drop> Socket<R> {
 
 impl<R: Rng + Drop> DcSctpSocket for Socket<R> {
     ghost use Rattle.std.specs.Prelude.{◌≡◌, ◌≢◌, ◌<◌, [], true, false, None, map, IsOk, OnOk, IsErrOf};
-    ghost use Rattle.dcsctp_core.specs.api.Calls.{PollsEvent, HandlesInput, Connects, Closes, ShutsDown, takes_shutdown, Sets, with_setting, is_closed};
+    ghost use Rattle.dcsctp_core.specs.api.Calls.{PollsEvent, HandlesInput, Connects, ClosesSocket, ShutsDown, takes_shutdown, Sets, with_setting, is_closed};
     ghost use Rattle.dcsctp_core.specs.spec.endpoint.PreparedResets.{reset_refusal};
     ghost use Rattle.dcsctp_core.specs.types.Setting.{stream_priority, stream_low_threshold, longest_message};
     ghost use Rattle.dcsctp_core.specs.spec.endpoint.TimeTurns.{Waits, next_moment};
-    ghost use Rattle.dcsctp_core.specs.api.Time.{Advances, OnlyMovesClock};
-    ghost use Rattle.dcsctp_core.specs.api.Handover.{HandsOver, Restores};
+    ghost use Rattle.dcsctp_core.specs.api.Time.{AdvancesClock, OnlyMovesClock};
+    ghost use Rattle.dcsctp_core.specs.api.Handover.{HandsOver, RestoresSocket};
     ghost use Rattle.dcsctp_core.specs.spec.Handover.{readiness_of};
     ghost use Rattle.dcsctp_core.specs.types.Snapshot.{snapshot, is_valid_snapshot};
     ghost use Rattle.dcsctp_core.specs.spec.HandoverInputs.{inputs_of_restore};
-    ghost use Rattle.dcsctp_core.specs.api.Messages.{Sends, SendsMany, TakesNext};
+    ghost use Rattle.dcsctp_core.specs.api.Messages.{SendsMessage, SendsMany, TakesNextMessage};
     ghost use Rattle.dcsctp_core.specs.api.Resets.{ResetsOwn};
     ghost use Rattle.dcsctp_core.specs.types.Ids.{stream_numbers};
     ghost use Rattle.dcsctp_core.specs.types.queues.Messages.{message_content};
@@ -217,7 +217,7 @@ impl<R: Rng + Drop> DcSctpSocket for Socket<R> {
     }
 
     fn close(&mut self) -> Result<(), SocketFault>
-        ensures call { Closes (user_view_of self.old) result (user_view_of self.new) }
+        ensures call { ClosesSocket (user_view_of self.old) result (user_view_of self.new) }
         ensures closed { self.old.failed ≡ false → is_closed self.old.view.endpoint.core ≡ true
             → IsOk result }
         // The words are what the generator gave, in order.
@@ -255,7 +255,7 @@ impl<R: Rng + Drop> DcSctpSocket for Socket<R> {
     }
 
     fn advance_time(&mut self, now: SocketTime) -> Result<(), SocketFault>
-        ensures call { Advances (user_view_of self.old) now result (user_view_of self.new) }
+        ensures call { AdvancesClock (user_view_of self.old) now result (user_view_of self.new) }
         ensures earlier { self.old.failed ≡ false → now < self.old.view.endpoint.moment → IsOk result }
         ensures waits { self.old.failed ≡ false → Waits self.old.view.endpoint now
             → OnlyMovesClock (user_view_of self.old) now result (user_view_of self.new) }
@@ -290,7 +290,7 @@ impl<R: Rng + Drop> DcSctpSocket for Socket<R> {
         message: Message,
         options: &SendOptions,
     ) -> Result<Result<(), SendError>, SocketFault>
-        ensures call { Sends (message_content message) options.now (user_view_of self.old) result
+        ensures call { SendsMessage (message_content message) options.now (user_view_of self.old) result
             (user_view_of self.new) }
         ensures drawn { OnOk result (Drawn (R.stream self.old.view.generator) self.new.view.words
             (R.stream self.new.view.generator)) }
@@ -350,7 +350,7 @@ impl<R: Rng + Drop> DcSctpSocket for Socket<R> {
     }
 
     fn get_next_message(&mut self) -> Option<Message>
-        ensures call { TakesNext (user_view_of self.old) result (user_view_of self.new) }
+        ensures call { TakesNextMessage (user_view_of self.old) result (user_view_of self.new) }
         ensures generator { self.new.view.generator ≡ self.old.view.generator }
         ensures failed { self.new.failed ≡ self.old.failed }
     {
@@ -401,7 +401,7 @@ impl<R: Rng + Drop> DcSctpSocket for Socket<R> {
         state: &SocketHandoverState,
     ) -> Result<Result<(), RestoreError>, SocketFault>
         requires { is_valid_snapshot self.old.view.endpoint.options (snapshot state.now) ≡ true }
-        ensures call { Restores (snapshot state.now) (user_view_of self.old) result (user_view_of self.new) }
+        ensures call { RestoresSocket (snapshot state.now) (user_view_of self.old) result (user_view_of self.new) }
         ensures idle { self.old.failed ≡ false
             → inputs_of_restore self.old.view.endpoint.core (snapshot state.now) ≡ [] → IsOk result }
         // The words are what the generator gave, in order.

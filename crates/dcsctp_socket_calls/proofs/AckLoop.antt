@@ -12,10 +12,10 @@ use Rattle.dcsctp_core.specs.types.declared.association.Held.{Held}
 use Rattle.dcsctp_core.specs.spec.endpoint.Endpoint.{Endpoint, Core, closed, cookie_wait, cookie_echoed, open_in, OpenPhase}
 use Rattle.dcsctp_core.specs.spec.endpoint.Following.{next_chunk, packet_end}
 use Rattle.dcsctp_core.specs.spec.Admission.{shutdown_acks_alone, shutdown_acks_in, admitted_where, admits_by, admits}
-use Rattle.dcsctp_core.specs.spec.endpoint.CallTurns.{Turned, IsTurn, ChunkTurns, after_all}
+use Rattle.dcsctp_core.specs.spec.endpoint.CallTurns.{Transition, IsTurn, ChunkTurns, after_all}
 use Rattle.dcsctp_core.specs.spec.endpoint.Turn.{chunk_input}
 use Rattle.dcsctp_spec_laws.proofs.TurnLemmas.{GoOn, further, and_further, chunk_turns-cut}
-use Rattle.dcsctp_core_ends.specs.Shutdown.{is_open}
+use Rattle.dcsctp_core_ends.specs.Shutdown.{is_open_core}
 use Rattle.dcsctp_socket_calls.proofs.ChunkLoop.{contents_of, contents_append, contents_more, contents_split}
 
 -- ---- where they are worked alone
@@ -34,7 +34,7 @@ open_never phase my held packet None None false true zero is = absurd (cc)
 open_never phase my held packet None None false false true is = where_never _ _ is
 open_never phase my held packet None None false false false is = where_never _ _ is
 
-pub alone_is_shut : (core : Core) (packet : Packet) → admits core packet ≡ shutdown_acks_alone → is_open core ≡ false
+pub alone_is_shut : (core : Core) (packet : Packet) → admits core packet ≡ shutdown_acks_alone → is_open_core core ≡ false
 alone_is_shut closed packet is = refl
 alone_is_shut (cookie_wait my) packet is = refl
 alone_is_shut (cookie_echoed my held cookie) packet is = refl
@@ -86,7 +86,7 @@ no_ack (kinds.Unknown chunk) other = refl
 
 -- ---- turns behind one another
 
-pub turns_append : (e : Endpoint) (tag : ℕ) (xs ys : List Content) (ts us : List Turned) → GoOn ts → ChunkTurns e tag xs [] ts → ChunkTurns (after_all e ts) tag ys [] us
+pub turns_append : (e : Endpoint) (tag : ℕ) (xs ys : List Content) (ts us : List Transition) → GoOn ts → ChunkTurns e tag xs [] ts → ChunkTurns (after_all e ts) tag ys [] us
     → ChunkTurns e tag (xs ++ ys) [] (ts ++ us)
 turns_append e tag [] ys [] us goes_on first second = second
 turns_append e tag [] ys (t ∷ ts) us goes_on first second = absurd first
@@ -94,16 +94,16 @@ turns_append e tag (x ∷ xs) ys [] us goes_on first second = absurd first
 turns_append e tag (x ∷ xs) ys (t ∷ ts) us goes_on first second =
     and_further e tag x (xs ++ ys) [] t (ts ++ us) goes_on.0 first.0 (turns_append t.outcome.after tag xs ys ts us goes_on.1 (further e tag x xs [] t ts goes_on.0 first) second)
 
-pub go_on_of : (ts : List Turned) → AllByRecursion (λ (turn : Turned). turn.outcome.following ≡ next_chunk) ts → GoOn ts
+pub go_on_of : (ts : List Transition) → AllByRecursion (λ (turn : Transition). turn.outcome.following ≡ next_chunk) ts → GoOn ts
 go_on_of [] each = tt
 go_on_of (t ∷ ts) each = (each.0, go_on_of ts each.1)
 
-pub go_on_append : (ts us : List Turned) → GoOn ts → GoOn us → GoOn (ts ++ us)
+pub go_on_append : (ts us : List Transition) → GoOn ts → GoOn us → GoOn (ts ++ us)
 go_on_append [] us first second = second
 go_on_append (t ∷ ts) us first second = (first.0, go_on_append ts us first.1 second)
 
 -- One chunk more had its turn, where it is a SHUTDOWN ACK.
-pub ack_more : (e now : Endpoint) (tag : ℕ) (list : List Chunk) (i : ℕ) (chunk : Chunk) (ts us : List Turned) → i < length list → chunk ≡ get_or list i chunk
+pub ack_more : (e now : Endpoint) (tag : ℕ) (list : List Chunk) (i : ℕ) (chunk : Chunk) (ts us : List Transition) → i < length list → chunk ≡ get_or list i chunk
     → GoOn ts → ChunkTurns e tag (acks_of (take i list)) [] ts → now ≡ after_all e ts → ChunkTurns now tag (shutdown_acks_in (content_in (chunk_content chunk) ∷ [])) [] us
     → ChunkTurns e tag (acks_of (take (i + 1) list)) [] (ts ++ us)
 ack_more e now tag list i chunk ts us below is goes_on first here second =
@@ -112,7 +112,7 @@ ack_more e now tag list i chunk ts us below is goes_on first here second =
     (subst (λ (x : Endpoint). ChunkTurns x tag (shutdown_acks_in (content_in (chunk_content chunk) ∷ [])) [] us) here second))
 
 -- One chunk more had its turn, a SHUTDOWN ACK behind which no other has one.
-pub acks_cut : (e now : Endpoint) (tag : ℕ) (list : List Chunk) (i : ℕ) (chunk : Chunk) (ts : List Turned) (last : Turned) → i < length list → chunk ≡ get_or list i chunk
+pub acks_cut : (e now : Endpoint) (tag : ℕ) (list : List Chunk) (i : ℕ) (chunk : Chunk) (ts : List Transition) (last : Transition) → i < length list → chunk ≡ get_or list i chunk
     → GoOn ts → ChunkTurns e tag (acks_of (take i list)) [] ts → now ≡ after_all e ts → content_in (chunk_content chunk) ≡ shutdown_ack
     → IsTurn now (chunk_input tag (content_in (chunk_content chunk))) last → last.outcome.following ≡ packet_end
     → ChunkTurns e tag (acks_of list) [] (ts ++ last ∷ [])

@@ -8,7 +8,7 @@ use Rattle.dcsctp_core.specs.spec.Packet.{Emission}
 use Rattle.dcsctp_core.specs.spec.endpoint.Outcome.{Outcome}
 use Rattle.dcsctp_core.specs.spec.endpoint.Turn.{ActTurn, act_input}
 use Rattle.dcsctp_core.specs.spec.association.Acts.{Act}
-use Rattle.dcsctp_core.specs.spec.endpoint.CallTurns.{Turned, turned}
+use Rattle.dcsctp_core.specs.spec.endpoint.CallTurns.{Transition, transition}
 use Rattle.dcsctp_core.specs.api.Calls.{user_event}
 use Rattle.dcsctp_core.specs.View.{View, call_start, Moves, CutTurn}
 use Rattle.dcsctp_core.proofs.Moving.{moves_one}
@@ -17,7 +17,7 @@ use Rattle.dcsctp_socket_calls.specs.Parts.{CallMoved, CallCut, ActTurns}
 pub act_done : {R : Type 0} (stream : R → Stream) (act : Act) (turn : View R → Outcome) (old start new : View R) → start ≡ call_start old
     → ((view : View R) → ActTurn view.endpoint act (turn view)) → Moves stream start (turn start) new → CallMoved stream (ActTurns act) old new
 act_done {R = R} stream act turn old start new begins is moves =
-    let one : Turned = turned (act_input act) (turn (call_start old)) in
+    let one : Transition = transition (act_input act) (turn (call_start old)) in
     record {
       turns = one ∷ [];
       are = (record { is = refl; comes = is (call_start old) }, tt);
@@ -30,7 +30,7 @@ cut_at act turn old events is cut =
     let o : Outcome = turn (call_start old) in
     let all : List (Event (List ℕ)) = map (user_event (ports_of old.endpoint.options)) o.events in
     record {
-      turns = turned (act_input act) o ∷ [];
+      turns = transition (act_input act) o ∷ [];
       are = (record { is = refl; comes = is (call_start old) }, tt);
       adds = record {
         added = take cut.count all;

@@ -11,21 +11,21 @@ use Rattle.dcsctp_core.specs.spec.Admission.{Admission, shutdown_acks_alone, ref
 use Rattle.dcsctp_core.specs.spec.endpoint.Endpoint.{Endpoint, Core}
 use Rattle.dcsctp_core.specs.spec.endpoint.Outcome.{Outcome}
 use Rattle.dcsctp_core.specs.spec.endpoint.Turn.{arrival, refusal, packet_ends, EndTurn, arrival_outcome, refusal_outcome, unreadable_text}
-use Rattle.dcsctp_core.specs.spec.endpoint.CallTurns.{Turned, turned, IsTurn, after_all, AdmittedTurns, HandleInput, unreadable, readable, FirstAdmitted, CutInput, unread, read, events_of}
-use Rattle.dcsctp_core.specs.api.Calls.{AddsFront, user_event}
+use Rattle.dcsctp_core.specs.spec.endpoint.CallTurns.{Transition, transition, IsTurn, after_all, AdmittedTurns, HandleInput, unreadable, readable, FirstAdmitted, CutInput, unread, read, events_of}
+use Rattle.dcsctp_core.specs.api.Calls.{AddsFirstEvents, user_event}
 use Rattle.dcsctp_core.proofs.spec_lemmas.TurnLists.{events_of-append}
 use Rattle.dcsctp_core.specs.View.{View, call_start, Moves, MovesAll, CutTurn}
 use Rattle.dcsctp_core.specs.wire.declared.packet.WireOptions.{WireOptions}
 use Rattle.dcsctp_socket_calls.specs.Parts.{MoveToEnd, ChunksMove, ChunksCut, AcksMove, PacketMoves, InputMoves, AcksCut, PacketCut, InputCut}
-use Rattle.dcsctp_core.specs.Handling.{TakesIn, CutIn}
+use Rattle.dcsctp_core.specs.Handling.{TakesPossibleTurn, CutIn}
 use Rattle.dcsctp_core.proofs.Moving.{moves_one, moves_then}
 
 -- the turn of a packet that is handed in, and of one that is refused
-abbrev arrived : Endpoint → Turned
-arrived e = turned arrival (arrival_outcome e)
+abbrev arrived : Endpoint → Transition
+arrived e = transition arrival (arrival_outcome e)
 
-abbrev reported : Endpoint → List ℕ → Turned
-reported e text = turned (refusal text) (refusal_outcome e text)
+abbrev reported : Endpoint → List ℕ → Transition
+reported e text = transition (refusal text) (refusal_outcome e text)
 
 -- A packet that isn't admitted has one turn.
 pub refused_packet : {R : Type 0} (stream : R → Stream) (a b : View R) (packet : PacketContent) (text : List ℕ)
@@ -58,7 +58,7 @@ acks_cut a packet events is cut =
     }
 
 -- After the packet was counted, the rest of the call follows.
-counted_then : {R : Type 0} (stream : R → Stream) (a b c : View R) (turns : List Turned)
+counted_then : {R : Type 0} (stream : R → Stream) (a b c : View R) (turns : List Transition)
     → Moves stream a (arrival_outcome a.endpoint) b → MovesAll stream b turns c → MovesAll stream a (arrived a.endpoint ∷ turns) c
 counted_then stream a b c turns counted moves =
     moves_then stream a b c (arrived a.endpoint ∷ []) turns refl (moves_one stream a b (arrived a.endpoint) counted) moves
@@ -67,9 +67,9 @@ counted_then stream a b c turns counted moves =
 pub unreadable_call : {R : Type 0} (stream : R → Stream) (a b c : View R) (bytes : List ℕ)
     → ((packet : PacketContent) → IsPacket (wire_options a.endpoint.options) packet bytes → ⊥)
     → Moves stream a (arrival_outcome a.endpoint) b → Moves stream b (refusal_outcome b.endpoint unreadable_text) c
-    → (turns : List Turned) × HandleInput a.endpoint bytes turns × MovesAll stream a turns c
+    → (turns : List Transition) × HandleInput a.endpoint bytes turns × MovesAll stream a turns c
 unreadable_call stream a b c bytes none counted moves =
-    let rest : Turned = reported b.endpoint unreadable_text in
+    let rest : Transition = reported b.endpoint unreadable_text in
     let turn : rest.outcome ≡ refusal_outcome (arrival_outcome a.endpoint).after unreadable_text = ap (λ (e : Endpoint). refusal_outcome e unreadable_text) counted.endpoint in (
       arrived a.endpoint ∷ rest ∷ [],
       unreadable (arrived a.endpoint ∷ rest ∷ []) none (record { is = refl; comes = refl }, (record { is = refl; comes = turn }, tt)),
@@ -77,12 +77,12 @@ unreadable_call stream a b c bytes none counted moves =
     )
 
 -- a call with a packet
-pub readable_call : {R : Type 0} (stream : R → Stream) (a b c : View R) (bytes : List ℕ) (packet : PacketContent) (turns : List Turned)
+pub readable_call : {R : Type 0} (stream : R → Stream) (a b c : View R) (bytes : List ℕ) (packet : PacketContent) (turns : List Transition)
     → IsPacket (wire_options a.endpoint.options) packet bytes
     → Moves stream a (arrival_outcome a.endpoint) b
     → AdmittedTurns b.endpoint (packet_in packet) (admits a.endpoint.core (packet_in packet)) turns
     → MovesAll stream b turns c
-    → (all : List Turned) × HandleInput a.endpoint bytes all × MovesAll stream a all c
+    → (all : List Transition) × HandleInput a.endpoint bytes all × MovesAll stream a all c
 readable_call stream a b c bytes packet turns found counted are moves = (
   arrived a.endpoint ∷ turns,
   readable packet (arrived a.endpoint) turns found (record { is = refl; comes = refl })
@@ -94,7 +94,7 @@ readable_call stream a b c bytes packet turns found counted are moves = (
 
 -- the turns of a whole call from one view to another
 abbrev Called : {R : Type 0} → (R → Stream) → List ℕ → View R → View R → Type 0
-Called stream bytes a c = (turns : List Turned) × HandleInput a.endpoint bytes turns × MovesAll stream a turns c
+Called stream bytes a c = (turns : List Transition) × HandleInput a.endpoint bytes turns × MovesAll stream a turns c
 
 called_input : {R : Type 0} (stream : R → Stream) (bytes : List ℕ) (old new : View R) → Called stream bytes (call_start old) new → InputMoves stream bytes old new
 called_input stream bytes old new called = record { turns = called.0; are = called.1; moves = called.2 }
@@ -127,12 +127,12 @@ unreadable_input {R = R} stream old a b c bytes options text begins counted is n
 -- ---- where a growth was refused
 
 -- no turn was finished
-pub adds_none : (ports : Ports) (events : List (Event (List ℕ))) → AddsFront ports [] events events
+pub adds_none : (ports : Ports) (events : List (Event (List ℕ))) → AddsFirstEvents ports [] events events
 adds_none ports events = record { added = []; rest = []; behind = sym (append-nil events); front = refl }
 
 -- These turns were finished, and no event was added behind theirs.
-pub adds_whole : {R : Type 0} (stream : R → Stream) (a b : View R) (turns : List Turned) (events : List (Event (List ℕ))) → MovesAll stream a turns b → events ≡ b.events
-    → AddsFront (ports_of a.endpoint.options) turns a.events events
+pub adds_whole : {R : Type 0} (stream : R → Stream) (a b : View R) (turns : List Transition) (events : List (Event (List ℕ))) → MovesAll stream a turns b → events ≡ b.events
+    → AddsFirstEvents (ports_of a.endpoint.options) turns a.events events
 adds_whole stream a b turns events moves same =
     record {
       added = map (user_event (ports_of a.endpoint.options)) (events_of turns);
@@ -142,9 +142,9 @@ adds_whole stream a b turns events moves same =
     }
 
 -- The turns so far were finished, and the one after them was cut.
-pub adds_cut : {R : Type 0} (stream : R → Stream) (a b : View R) (turns : List Turned) (turn : Turned) (events : List (Event (List ℕ)))
+pub adds_cut : {R : Type 0} (stream : R → Stream) (a b : View R) (turns : List Transition) (turn : Transition) (events : List (Event (List ℕ)))
     → ports_of b.endpoint.options ≡ ports_of a.endpoint.options
-    → MovesAll stream a turns b → CutTurn b turn.outcome events → AddsFront (ports_of a.endpoint.options) (turns ++ turn ∷ []) a.events events
+    → MovesAll stream a turns b → CutTurn b turn.outcome events → AddsFirstEvents (ports_of a.endpoint.options) (turns ++ turn ∷ []) a.events events
 adds_cut stream a b turns turn events same moves cut =
     let outcome : Outcome = turn.outcome in
     let ports = ports_of a.endpoint.options in
@@ -165,7 +165,7 @@ adds_cut stream a b turns turn events same moves cut =
     }
 
 -- a turn in front that adds no event
-pub adds_begun : (ports : Ports) (first : Turned) (turns : List Turned) (old new : List (Event (List ℕ))) → first.outcome.events ≡ [] → AddsFront ports turns old new → AddsFront ports (first ∷ turns) old new
+pub adds_begun : (ports : Ports) (first : Transition) (turns : List Transition) (old new : List (Event (List ℕ))) → first.outcome.events ≡ [] → AddsFirstEvents ports turns old new → AddsFirstEvents ports (first ∷ turns) old new
 adds_begun ports first turns old new quiet adds =
     record {
       added = adds.added;
@@ -176,7 +176,7 @@ adds_begun ports first turns old new quiet adds =
 
 pub unread_cut : {R : Type 0} (view : View R) (bytes : List ℕ) (events : List (Event (List ℕ))) → events ≡ view.events → InputCut bytes view events
 unread_cut view bytes events same =
-    record { turns = []; are = unread; adds = subst (λ (es : List (Event (List ℕ))). AddsFront (ports_of view.endpoint.options) [] view.events es) (sym same) (adds_none (ports_of view.endpoint.options) view.events) }
+    record { turns = []; are = unread; adds = subst (λ (es : List (Event (List ℕ))). AddsFirstEvents (ports_of view.endpoint.options) [] view.events es) (sym same) (adds_none (ports_of view.endpoint.options) view.events) }
 
 -- Counting a packet adds no event.
 pub counted_events : {R : Type 0} (stream : R → Stream) (old a b : View R) → a ≡ call_start old → Moves stream a (arrival_outcome a.endpoint) b → b.events ≡ old.events
@@ -185,7 +185,7 @@ counted_events {R = R} stream old a b begins counted = counted.events ∙ append
 -- a call that was cut, with the turns that it had
 abbrev Cut : {R : Type 0} → List ℕ → View R → List (Event (List ℕ)) → Type 0
 Cut bytes view events =
-    (turns : List Turned) × CutInput view.endpoint bytes turns × AddsFront (ports_of view.endpoint.options) turns view.events events
+    (turns : List Transition) × CutInput view.endpoint bytes turns × AddsFirstEvents (ports_of view.endpoint.options) turns view.events events
 
 input_cut : {R : Type 0} (bytes : List ℕ) (old : View R) (events : List (Event (List ℕ))) → Cut bytes (call_start old) events → InputCut bytes old events
 input_cut bytes old events cut = record { turns = cut.0; are = cut.1; adds = cut.2 }
@@ -223,16 +223,16 @@ packet_cut {R = R} stream old a b bytes packet options events begins counted is 
 -- ---- the end of a packet
 
 -- the turn of a packet's end
-abbrev end_turned : Outcome → Turned
-end_turned o = turned packet_ends o
+abbrev end_turned : Outcome → Transition
+end_turned o = transition packet_ends o
 
 end_is : (e now : Endpoint) (o : Outcome) → now ≡ e → EndTurn now o → IsTurn e packet_ends (end_turned o)
 end_is e now o here turn = record { is = refl; comes = subst (λ (x : Endpoint). EndTurn x o) here turn }
 
 -- The chunks had their turns, and then the packet ended.
-pub ended : {R : Type 0} (stream : R → Stream) (a b c : View R) (packet : PacketContent) → MoveToEnd stream packet a true b → TakesIn stream (λ v o. EndTurn v.endpoint o) b c → ChunksMove stream packet a c
+pub ended : {R : Type 0} (stream : R → Stream) (a b c : View R) (packet : PacketContent) → MoveToEnd stream packet a true b → TakesPossibleTurn stream (λ v o. EndTurn v.endpoint o) b c → ChunksMove stream packet a c
 ended stream a b c packet first end =
-    let last : Turned = end_turned end.outcome in
+    let last : Transition = end_turned end.outcome in
     record {
       turns = first.turns ++ last ∷ [];
       are = first.are last (end_is (after_all a.endpoint first.turns) b.endpoint end.outcome first.moves.endpoint end.turn);
@@ -243,7 +243,7 @@ ended stream a b c packet first end =
 pub ended_cut : {R : Type 0} (stream : R → Stream) (a b : View R) (packet : PacketContent) (events : List (Event (List ℕ))) → MoveToEnd stream packet a true b → CutIn (λ v o. EndTurn v.endpoint o) b events
     → ChunksCut packet a events
 ended_cut stream a b packet events first end =
-    let last : Turned = end_turned end.outcome in
+    let last : Transition = end_turned end.outcome in
     record {
       turns = first.turns ++ last ∷ [];
       are = inr (first.are last (end_is (after_all a.endpoint first.turns) b.endpoint end.outcome first.moves.endpoint end.turn));

@@ -12,22 +12,22 @@ use Rattle.dcsctp_core.specs.spec.endpoint.Following.{next_chunk}
 use Rattle.dcsctp_core.specs.spec.endpoint.Outcome.{Outcome, fits, sends, quiet, to_peer}
 use Rattle.dcsctp_core.specs.spec.endpoint.Turn.{ContentTurn, act_input}
 use Rattle.dcsctp_core.specs.spec.association.Acts.{connect}
-use Rattle.dcsctp_core.specs.spec.endpoint.CallTurns.{Turned, turned}
+use Rattle.dcsctp_core.specs.spec.endpoint.CallTurns.{Transition, transition}
 use Rattle.dcsctp_core.specs.spec.endpoint.HandshakeOutcomes.{pair_from, renewed_pair, init_ack_emission, answer_outcome, init_outcome}
 use Rattle.dcsctp_core.specs.declared.following.Following.TheVariants.{NextChunk}
 use Rattle.dcsctp_core.specs.declared.context.Context.{Context}
 use Rattle.dcsctp_core.specs.declared.following.Following.{Following}
 use Rattle.dcsctp_core.specs.View.{View, endpoint_of, view_of, call_start, Moves}
 use Rattle.dcsctp_core.specs.Drawing.{first_word, second_word}
-use Rattle.dcsctp_core.specs.Handling.{OnlyDrew, Works, WorksWhole, WorksOne}
+use Rattle.dcsctp_core.specs.Handling.{OnlyDrew, HandlesTurn, HandlesWholeTurn, HandlesPossibleTurn}
 use Rattle.dcsctp_core.proofs.Moving.{moves_one}
 use Rattle.dcsctp_core_handshake.specs.Handshake.{init_turn, connect_turn}
-use Rattle.dcsctp_socket_calls.specs.Parts.{ChunkMoves, ChunkCut, ConnectMoves, WorksChunk}
+use Rattle.dcsctp_socket_calls.specs.Parts.{ChunkMoves, ChunkCut, ConnectMoves, HandlesChunk}
 
 -- ---- a chunk's turn by what its handler says
 
 pub works_chunk : {R E : Type 0} (stream : R → Stream) (tag : ℕ) (content : Content) (turn : View R → Outcome) (old : Context R) (result : Result Following E) (new : Context R)
-    → ContentTurn (endpoint_of old) tag content (turn (view_of old)) → Works stream turn old result new → WorksChunk stream tag content old result new
+    → ContentTurn (endpoint_of old) tag content (turn (view_of old)) → HandlesTurn stream turn old result new → HandlesChunk stream tag content old result new
 works_chunk stream tag content turn old (Ok next) new is worked = record { outcome = turn (view_of old); turn = is; following = worked.following; moves = worked.moves }
 works_chunk stream tag content turn old (Err error) new is cut = record { outcome = turn (view_of old); turn = is; cut = cut }
 
@@ -38,7 +38,7 @@ cut_before old tag content outcome events turn same =
     record { outcome = outcome; turn = turn; cut = record { count = 0; added = same ∙ sym (append-nil old.events) } }
 
 pub works_whole : {R E : Type 0} (stream : R → Stream) (tag : ℕ) (content : Content) (turn : View R → Outcome) (old : Context R) (result : Result Following E) (new : Context R)
-    → ContentTurn (endpoint_of old) tag content (turn (view_of old)) → WorksWhole stream turn old result new → WorksChunk stream tag content old result new
+    → ContentTurn (endpoint_of old) tag content (turn (view_of old)) → HandlesWholeTurn stream turn old result new → HandlesChunk stream tag content old result new
 works_whole stream tag content turn old (Ok next) new is worked = record { outcome = turn (view_of old); turn = is; following = worked.following; moves = worked.moves }
 works_whole {R = R} stream tag content turn old (Err error) new is same = cut_before (view_of old) tag content (turn (view_of old)) (view_of new).events is (ap (λ (v : View R). v.events) same)
 
@@ -77,7 +77,7 @@ init_cut {R = R} old new tag theirs same =
     cut_before old tag (init theirs) (init_outcome old.endpoint theirs old.endpoint.core 0 0) new.events (0, 0, refl) (ap (λ (v : View R). v.events) same)
 
 pub works_one : {R E : Type 0} (stream : R → Stream) (tag : ℕ) (content : Content) (Took : View R → Outcome → Type 0) (old : Context R) (result : Result Following E) (new : Context R)
-    → ((o : Outcome) → Took (view_of old) o → ContentTurn (endpoint_of old) tag content o) → WorksOne stream Took old result new → WorksChunk stream tag content old result new
+    → ((o : Outcome) → Took (view_of old) o → ContentTurn (endpoint_of old) tag content o) → HandlesPossibleTurn stream Took old result new → HandlesChunk stream tag content old result new
 works_one stream tag content Took old (Ok next) new is worked = record { outcome = worked.outcome; turn = is worked.outcome worked.turn; following = worked.following; moves = worked.moves }
 works_one stream tag content Took old (Err error) new is cut = record { outcome = cut.outcome; turn = is cut.outcome cut.turn; cut = cut.cut }
 
@@ -86,7 +86,7 @@ works_one stream tag content Took old (Err error) new is cut = record { outcome 
 pub connect_moves : {R : Type 0} (stream : R → Stream) (old start new : View R) → start ≡ call_start old
     → Moves stream start (connect_turn stream start) new → ConnectMoves stream old new
 connect_moves {R = R} stream old start new begins moves =
-    let turn : Turned = turned (act_input connect) (connect_turn stream (call_start old)) in
+    let turn : Transition = transition (act_input connect) (connect_turn stream (call_start old)) in
     record {
       turns = turn ∷ [];
       are = (record { is = refl; comes = (first_word (stream old.generator), second_word (stream old.generator), refl) }, tt);

@@ -9,7 +9,7 @@ use Rattle.dcsctp_core.specs.spec.endpoint.Outcome.{Outcome}
 use Rattle.dcsctp_core.specs.types.Settings.{ports_of}
 use Rattle.dcsctp_core.specs.spec.endpoint.Following.{packet_end, dropped_rest}
 use Rattle.dcsctp_core.specs.spec.endpoint.Turn.{chunk_input, packet_ends, ContentTurn}
-use Rattle.dcsctp_core.specs.spec.endpoint.CallTurns.{Turned, turned, IsTurn, ChunkTurns, FirstTurns, after_all}
+use Rattle.dcsctp_core.specs.spec.endpoint.CallTurns.{Transition, transition, IsTurn, ChunkTurns, FirstTurns, after_all}
 use Rattle.dcsctp_spec_laws.proofs.TurnLemmas.{GoOn, chunk_turns-push, chunk_turns-end, chunk_turns-cut, chunk_turns-whole, content_keeps_options, same_ports}
 use Rattle.dcsctp_core.proofs.spec_lemmas.TurnLists.{after_all-append}
 
@@ -38,14 +38,14 @@ contents_split chunks i chunk below is =
     ∙ append_assoc (contents_of (take i chunks)) (content_in (chunk_content chunk) ∷ []) after
 
 -- a chunk's turn
-abbrev pub worked_as : ℕ → Content → Outcome → Turned
-worked_as tag content outcome = turned (chunk_input tag content) outcome
+abbrev pub worked_as : ℕ → Content → Outcome → Transition
+worked_as tag content outcome = transition (chunk_input tag content) outcome
 
 pub is_worked : (e now : Endpoint) (tag : ℕ) (content : Content) (outcome : Outcome) → now ≡ e → ContentTurn now tag content outcome → IsTurn e (chunk_input tag content) (worked_as tag content outcome)
 is_worked e now tag content outcome here turn = record { is = refl; comes = subst (λ (x : Endpoint). ContentTurn x tag content outcome) here turn }
 
 -- One more chunk is worked.
-pub turns_more : (e now : Endpoint) (tag : ℕ) (chunks : List Chunk) (i : ℕ) (chunk : Chunk) (turns : List Turned) (outcome : Outcome)
+pub turns_more : (e now : Endpoint) (tag : ℕ) (chunks : List Chunk) (i : ℕ) (chunk : Chunk) (turns : List Transition) (outcome : Outcome)
     → i < length chunks → chunk ≡ get_or chunks i chunk
     → GoOn turns → ChunkTurns e tag (contents_of (take i chunks)) [] turns
     → now ≡ after_all e turns
@@ -59,7 +59,7 @@ turns_more e now tag chunks i chunk turns outcome below is goes_on are here turn
 
 -- ---- where the rest of the packet is dropped
 
-pub turns_end : (e now : Endpoint) (tag : ℕ) (chunks : List Chunk) (i : ℕ) (chunk : Chunk) (turns : List Turned) (outcome : Outcome)
+pub turns_end : (e now : Endpoint) (tag : ℕ) (chunks : List Chunk) (i : ℕ) (chunk : Chunk) (turns : List Transition) (outcome : Outcome)
     → i < length chunks → chunk ≡ get_or chunks i chunk
     → GoOn turns → ChunkTurns e tag (contents_of (take i chunks)) [] turns
     → now ≡ after_all e turns
@@ -78,12 +78,12 @@ pub worked_keeps_ports : (e : Endpoint) (tag : ℕ) (content : Content) (o : Out
 worked_keeps_ports e tag content o turn = same_ports e.options o.after.options (content_keeps_options e tag content o turn)
 
 -- All chunks had their turns, and then the packet ends.
-pub turns_whole : (e : Endpoint) (tag : ℕ) (contents : List Content) (turns : List Turned) → GoOn turns → ChunkTurns e tag contents [] turns → (last : Turned) → IsTurn (after_all e turns) packet_ends last
+pub turns_whole : (e : Endpoint) (tag : ℕ) (contents : List Content) (turns : List Transition) → GoOn turns → ChunkTurns e tag contents [] turns → (last : Transition) → IsTurn (after_all e turns) packet_ends last
     → ChunkTurns e tag contents (packet_ends ∷ []) (turns ++ last ∷ [])
 turns_whole e tag contents turns goes_on are last is = chunk_turns-whole e tag contents (packet_ends ∷ []) turns (last ∷ []) goes_on are (is, tt)
 
 -- One chunk cut the others, and then the packet ends.
-pub turns_cut : (e now : Endpoint) (tag : ℕ) (chunks : List Chunk) (i : ℕ) (chunk : Chunk) (turns : List Turned) (outcome : Outcome) (last : Turned)
+pub turns_cut : (e now : Endpoint) (tag : ℕ) (chunks : List Chunk) (i : ℕ) (chunk : Chunk) (turns : List Transition) (outcome : Outcome) (last : Transition)
     → i < length chunks → chunk ≡ get_or chunks i chunk
     → GoOn turns → ChunkTurns e tag (contents_of (take i chunks)) [] turns
     → now ≡ after_all e turns
@@ -93,16 +93,16 @@ pub turns_cut : (e now : Endpoint) (tag : ℕ) (chunks : List Chunk) (i : ℕ) (
     → ChunkTurns e tag (contents_of chunks) (packet_ends ∷ []) ((turns ++ worked_as tag (content_in (chunk_content chunk)) outcome ∷ []) ++ last ∷ [])
 turns_cut e now tag chunks i chunk turns outcome last below is goes_on are here turn cuts ends =
     let content = content_in (chunk_content chunk) in
-    let worked : Turned = worked_as tag content outcome in
+    let worked : Transition = worked_as tag content outcome in
     let last_is : IsTurn outcome.after packet_ends last = subst (λ (x : Endpoint). IsTurn x packet_ends last) (after_all-append e turns (worked ∷ [])) ends in
     let all : ChunkTurns e tag (contents_of chunks) (packet_ends ∷ []) (turns ++ worked ∷ last ∷ []) =
     subst (λ (contents : List Content). ChunkTurns e tag contents (packet_ends ∷ []) (turns ++ worked ∷ last ∷ [])) (sym (contents_split chunks i chunk below is))
     (chunk_turns-cut e tag (contents_of (take i chunks)) (packet_ends ∷ []) turns content worked (contents_of (drop (i + 1) chunks)) (last ∷ []) goes_on are
     (is_worked (after_all e turns) now tag content outcome here turn) cuts (last_is, tt)) in
-    subst (λ (ts : List Turned). ChunkTurns e tag (contents_of chunks) (packet_ends ∷ []) ts) (sym (append_assoc turns (worked ∷ []) (last ∷ []))) all
+    subst (λ (ts : List Transition). ChunkTurns e tag (contents_of chunks) (packet_ends ∷ []) ts) (sym (append_assoc turns (worked ∷ []) (last ∷ []))) all
 
 -- The ports stay over one turn more.
-pub ports_more : (e now : Endpoint) (tag : ℕ) (content : Content) (turns : List Turned) (outcome : Outcome) → now ≡ after_all e turns → ContentTurn now tag content outcome
+pub ports_more : (e now : Endpoint) (tag : ℕ) (content : Content) (turns : List Transition) (outcome : Outcome) → now ≡ after_all e turns → ContentTurn now tag content outcome
     → ports_of (after_all e turns).options ≡ ports_of e.options → ports_of (after_all e (turns ++ worked_as tag content outcome ∷ [])).options ≡ ports_of e.options
 ports_more e now tag content turns outcome here turn same =
     ap (λ (x : Endpoint). ports_of x.options) (after_all-append e turns (worked_as tag content outcome ∷ []))
@@ -117,6 +117,6 @@ contents_taken count chunks =
     ap (λ (cs : List ChunkContent). map content_in cs) (sym (take-map chunk_content count chunks)) ∙ sym (take-map content_in count (map chunk_content chunks))
 
 -- These chunks are the first ones.
-pub first_turns : (e : Endpoint) (tag : ℕ) (chunks : List Chunk) (count : ℕ) (turns : List Turned)
+pub first_turns : (e : Endpoint) (tag : ℕ) (chunks : List Chunk) (count : ℕ) (turns : List Transition)
     → ChunkTurns e tag (contents_of (take count chunks)) [] turns → FirstTurns e tag (contents_of chunks) turns
 first_turns e tag chunks count turns are = (count, subst (λ (contents : List Content). ChunkTurns e tag contents [] turns) (contents_taken count chunks) are)

@@ -6,7 +6,7 @@ use Rattle.rand_core.specs.Stream.{Stream}
 use Rattle.dcsctp_core.specs.spec.endpoint.Endpoint.{Endpoint}
 use Rattle.dcsctp_core.specs.spec.endpoint.Outcome.{still}
 use Rattle.dcsctp_core.specs.spec.endpoint.Turn.{time_passes, clock_at}
-use Rattle.dcsctp_core.specs.spec.endpoint.CallTurns.{Turned, turned}
+use Rattle.dcsctp_core.specs.spec.endpoint.CallTurns.{Transition, transition}
 use Rattle.dcsctp_core.specs.spec.endpoint.TimeTurns.{Timer, timers_in, DueTurns, ExpiryThen, ExpiryTurns, TimeTurns, NoneIsDue}
 use Rattle.dcsctp_core.specs.declared.context.Context.{Context}
 use Rattle.dcsctp_core.specs.View.{View, view_of, endpoint_of, core_of, call_start, MovesAll}

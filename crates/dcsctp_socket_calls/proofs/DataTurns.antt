@@ -18,7 +18,7 @@ use Rattle.dcsctp_core.specs.spec.endpoint.FlushOutcomes.{Answer, first_ask, pac
 use Rattle.dcsctp_core.specs.spec.endpoint.HandshakeOutcomes.{connected_after, cookie_ack_by, CookieAckAnswers, CookieAckTurn}
 use Rattle.dcsctp_core.specs.spec.endpoint.HeardShutdown.{said_by_shutdown, heeds_shutdown, ShutdownWhere, ShutdownBy, ShutdownTurn}
 use Rattle.dcsctp_core.specs.spec.endpoint.ShutdownOutcomes.{may_go_on, step_by, phase_at, shutdown_outcome_in}
-use Rattle.dcsctp_core.specs.spec.endpoint.ResetOutcomes.{responses_outcome, responses_by, ResponseAnswers, worked_in, answered_in, resets_worked, told_of, WorksResets, ResetTurn}
+use Rattle.dcsctp_core.specs.spec.endpoint.ResetOutcomes.{responses_outcome, responses_by, ResponseAnswers, parameters_handled_in, answered_in, resets_handled, reset_events_of, WorksResets, ResetTurn}
 use Rattle.dcsctp_core.proofs.spec_lemmas.FlushKeeps.{flush_keeps}
 
 -- The next chunk follows.
@@ -42,7 +42,7 @@ received_goes e (Some transfer) arrived o turn = goes_as o _ turn.2 refl
 
 data_where : (e : Endpoint) (arrived : Arrival) (payload : List ℕ) (o : Outcome) → DataWhere e arrived payload o → GoesOn o
 data_where e arrived [] o is = goes_as o _ is (no_data_goes e (held_in e.core) arrived.tsn)
-data_where e arrived (byte ∷ bytes) o turn = received_goes e e.below.transfer arrived o turn
+data_where e arrived (byte ∷ bytes) o turn = received_goes e e.queues.transfer arrived o turn
 
 pub data_goes : (e : Endpoint) (arrived : Arrival) (o : Outcome) → DataTurn e arrived o → GoesOn o
 data_goes e arrived o turn = data_where e arrived arrived.chunk.payload o turn
@@ -94,7 +94,7 @@ pub shutdown_goes : (e : Endpoint) (core : Core) (tsn : ℕ) (o : Outcome) → S
 shutdown_goes e closed tsn o is = goes_as o _ is refl
 shutdown_goes e (cookie_wait my) tsn o is = goes_as o _ is refl
 shutdown_goes e (cookie_echoed my held cookie) tsn o is = goes_as o _ is refl
-shutdown_goes e (open_in phase my held) tsn o turn = shutdown_by e phase my held e.below.transfer tsn o turn
+shutdown_goes e (open_in phase my held) tsn o turn = shutdown_by e phase my held e.queues.transfer tsn o turn
 
 -- ---- COOKIE ACK
 
@@ -120,9 +120,9 @@ responses_go false e told held parameters responses answers allowed =
 
 works_go : (e : Endpoint) (my : Pair) (held : Held) (parameters : List ResetParameter) (o : Outcome) → WorksResets e my held parameters o → GoesOn o
 works_go e my held parameters o h =
-    let worked = worked_in e my held parameters in
+    let worked = parameters_handled_in e my held parameters in
     goes_as o _ h.is
-    (responses_go worked.is_refused (resets_worked e (answered_in held worked parameters) worked.held h.left) (told_of e parameters worked.effects) worked.held parameters worked.answers h.answers h.allowed)
+    (responses_go worked.is_refused (resets_handled e (answered_in held worked parameters) worked.held h.left) (reset_events_of e parameters worked.effects) worked.held parameters worked.answers h.answers h.allowed)
 
 reset_by_goes : (e : Endpoint) (core : Core) (parameters : List ResetParameter) (o : Outcome) → ResetTurn e core parameters o → GoesOn o
 reset_by_goes e closed parameters o is = goes_as o _ is refl

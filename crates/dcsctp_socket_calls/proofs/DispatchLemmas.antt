@@ -18,7 +18,7 @@ use Rattle.dcsctp_core.specs.spec.endpoint.Endpoint.{Endpoint, Core, closed, coo
 use Rattle.dcsctp_core.specs.spec.endpoint.Outcome.{Outcome, still, quiet, sends, fits, to_peer}
 use Rattle.dcsctp_core.specs.spec.endpoint.Following.{next_chunk, packet_end, dropped_rest}
 use Rattle.dcsctp_core.specs.spec.endpoint.Turn.{ContentTurn}
-use Rattle.dcsctp_core.specs.spec.endpoint.CallTurns.{Turned, ChunkTurns}
+use Rattle.dcsctp_core.specs.spec.endpoint.CallTurns.{Transition, ChunkTurns}
 use Rattle.dcsctp_core.specs.types.declared.association.Pair.{Pair}
 use Rattle.dcsctp_core.specs.types.declared.association.Held.{Held}
 use Rattle.dcsctp_core.specs.spec.endpoint.EndOutcomes.{aborting_outcome, reflected_outcome}
@@ -28,11 +28,11 @@ use Rattle.dcsctp_core.specs.declared.context.Context.{Context}
 use Rattle.dcsctp_core.specs.declared.following.Following.TheVariants.{NextChunk, PacketEnd, DroppedRest}
 use Rattle.dcsctp_core.specs.declared.following.Following.{Following}
 use Rattle.dcsctp_core.specs.View.{View, core_of, endpoint_of, view_of, Moves, MovesAll, CutTurn}
-use Rattle.dcsctp_core.specs.Handling.{TakesIn, CutIn, Handles, Works}
+use Rattle.dcsctp_core.specs.Handling.{TakesPossibleTurn, CutIn, IsHandledTurn, HandlesTurn}
 use Rattle.dcsctp_core.proofs.Moving.{moves_one}
 use Rattle.dcsctp_spec_laws.proofs.TurnLemmas.{and_further}
 use Rattle.dcsctp_core_ends.specs.Ends.{violation_in, aborting_turn, error_turn}
-use Rattle.dcsctp_core_ends.specs.Shutdown.{is_open, reflected_turn}
+use Rattle.dcsctp_core_ends.specs.Shutdown.{is_open_core, reflected_turn}
 use Rattle.dcsctp_socket_calls.specs.Parts.{ChunkMoves, ChunkCut, AckMoves, AckEnds, WorksAck}
 use Rattle.dcsctp_socket_calls.specs.Unknown.{unknown_turn}
 use Rattle.dcsctp_socket_calls.proofs.AckLoop.{no_ack}
@@ -86,7 +86,7 @@ violation_cut old tag content violation events is cut =
 -- ---- the chunks of a shutdown
 
 -- No association that is set up awaits a SHUTDOWN ACK.
-reflects : (e : Endpoint) (core : Core) (tag : ℕ) → is_open core ≡ false → reflected_outcome e tag ≡ shutdown_ack_outcome e core tag
+reflects : (e : Endpoint) (core : Core) (tag : ℕ) → is_open_core core ≡ false → reflected_outcome e tag ≡ shutdown_ack_outcome e core tag
 reflects e closed tag shut = refl
 reflects e (cookie_wait my) tag shut = refl
 reflects e (cookie_echoed my held cookie) tag shut = refl
@@ -96,10 +96,10 @@ pub moves_none : {R : Type 0} (stream : R → Stream) (view : View R) → MovesA
 moves_none stream view = record { endpoint = refl; events = sym (append-nil view.events); words = sym (append-nil view.words); pairs = sym (append-nil view.pairs); drawn = refl }
 
 -- as a packet's one
-ack_goes_on : {R : Type 0} (stream : R → Stream) (old new : View R) (tag : ℕ) → is_open old.endpoint.core ≡ false
-    → Handles stream old (reflected_turn tag old) NextChunk new → AckMoves stream tag shutdown_ack old new
+ack_goes_on : {R : Type 0} (stream : R → Stream) (old new : View R) (tag : ℕ) → is_open_core old.endpoint.core ≡ false
+    → IsHandledTurn stream old (reflected_turn tag old) NextChunk new → AckMoves stream tag shutdown_ack old new
 ack_goes_on stream old new tag shut h =
-    let turn : Turned = worked_as tag shutdown_ack (reflected_turn tag old) in
+    let turn : Transition = worked_as tag shutdown_ack (reflected_turn tag old) in
     record {
       turns = turn ∷ [];
       goes_on = (h.following, tt);
@@ -108,10 +108,10 @@ ack_goes_on stream old new tag shut h =
       core = ap (λ (e : Endpoint). e.core) h.moves.endpoint;
     }
 
-ack_ends : {R : Type 0} (stream : R → Stream) (old new : View R) (tag : ℕ) → is_open old.endpoint.core ≡ false
-    → Handles stream old (reflected_turn tag old) PacketEnd new → AckEnds stream tag shutdown_ack old new
+ack_ends : {R : Type 0} (stream : R → Stream) (old new : View R) (tag : ℕ) → is_open_core old.endpoint.core ≡ false
+    → IsHandledTurn stream old (reflected_turn tag old) PacketEnd new → AckEnds stream tag shutdown_ack old new
 ack_ends stream old new tag shut h =
-    let turn : Turned = worked_as tag shutdown_ack (reflected_turn tag old) in
+    let turn : Transition = worked_as tag shutdown_ack (reflected_turn tag old) in
     record {
       is = refl;
       turn = turn;
@@ -124,15 +124,15 @@ never_drops : (b : Bool) → (if b then packet_end else next_chunk) ≡ dropped_
 never_drops true is = cc
 never_drops false is = cc
 
-ack_by : {R E : Type 0} (stream : R → Stream) (old new : Context R) (tag : ℕ) (result : Result Following E) → is_open (core_of old.state) ≡ false
-    → Works stream (reflected_turn tag) old result new → OnErr result (view_of new ≡ view_of old) → WorksAck stream tag shutdown_ack old result new
+ack_by : {R E : Type 0} (stream : R → Stream) (old new : Context R) (tag : ℕ) (result : Result Following E) → is_open_core (core_of old.state) ≡ false
+    → HandlesTurn stream (reflected_turn tag) old result new → OnErr result (view_of new ≡ view_of old) → WorksAck stream tag shutdown_ack old result new
 ack_by stream old new tag (Ok NextChunk) shut h same = ack_goes_on stream (view_of old) (view_of new) tag shut h
 ack_by stream old new tag (Ok PacketEnd) shut h same = ack_ends stream (view_of old) (view_of new) tag shut h
 ack_by stream old new tag (Ok DroppedRest) shut h same = absurd (never_drops old.options.follow_rfc h.following)
 ack_by stream old new tag (Err error) shut h same = same
 
-pub ack_done : {R E : Type 0} (stream : R → Stream) (old new : Context R) (tag : ℕ) (chunk : Chunk) (result : Result Following E) → is_open (core_of old.state) ≡ false → chunk ≡ kinds.ShutdownAck
-    → Works stream (reflected_turn tag) old result new → OnErr result (view_of new ≡ view_of old) → WorksAck stream tag (content_in (chunk_content chunk)) old result new
+pub ack_done : {R E : Type 0} (stream : R → Stream) (old new : Context R) (tag : ℕ) (chunk : Chunk) (result : Result Following E) → is_open_core (core_of old.state) ≡ false → chunk ≡ kinds.ShutdownAck
+    → HandlesTurn stream (reflected_turn tag) old result new → OnErr result (view_of new ≡ view_of old) → WorksAck stream tag (content_in (chunk_content chunk)) old result new
 ack_done stream old new tag chunk result shut is h same =
     subst (λ (c : Chunk). WorksAck stream tag (content_in (chunk_content c)) old result new) (sym is) (ack_by stream old new tag result shut h same)
 
@@ -210,7 +210,7 @@ error_is context tag causes none = plain_at (endpoint_of context) (unworked (err
 
 -- What a handler says without naming what follows: the next chunk does.
 pub takes_worked : {R : Type 0} (stream : R → Stream) (old new : View R) (tag : ℕ) (content : Content) (Took : View R → Outcome → Type 0)
-    → ((o : Outcome) → Took old o → ContentTurn old.endpoint tag content o) → ((o : Outcome) → Took old o → o.following ≡ next_chunk) → TakesIn stream Took old new
+    → ((o : Outcome) → Took old o → ContentTurn old.endpoint tag content o) → ((o : Outcome) → Took old o → o.following ≡ next_chunk) → TakesPossibleTurn stream Took old new
     → ChunkMoves stream tag content old NextChunk new
 takes_worked stream old new tag content Took is follows took =
     record { outcome = took.outcome; turn = is took.outcome took.turn; following = follows took.outcome took.turn; moves = took.moves }

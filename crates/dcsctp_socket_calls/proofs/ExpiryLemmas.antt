@@ -12,7 +12,7 @@ use Rattle.dcsctp_core.specs.spec.endpoint.Outcome.{Outcome, still, fits}
 use Rattle.dcsctp_core.specs.types.declared.ends.AbortReason.TheVariants.{TooManyErrors}
 use Rattle.dcsctp_core.specs.spec.endpoint.Turn.{Input, act_input, ActTurn, Turn}
 use Rattle.dcsctp_core.specs.spec.association.Acts.{abort_with, shutdown_repeats, t1_expires, flushes}
-use Rattle.dcsctp_core.specs.spec.endpoint.CallTurns.{Turned, turned, Turns, events_of}
+use Rattle.dcsctp_core.specs.spec.endpoint.CallTurns.{Transition, transition, Turns, events_of}
 use Rattle.dcsctp_core.specs.spec.endpoint.TimeTurns.{Timer, t1_timer, own_timer, t2_timer, t2_input, deadline, has_come, has_restart, expiry_input, inputs_behind, ExpiryThen, ExpiryTurns}
 use Rattle.dcsctp_core.specs.spec.endpoint.DataOutcomes.{with_transfer, flush_by, AnswersTo, FlushTurn, delay_outcome, LossTurn}
 use Rattle.dcsctp_core.specs.spec.endpoint.EndOutcomes.{aborting_outcome}
@@ -28,9 +28,9 @@ use Rattle.dcsctp_core.proofs.spec_lemmas.AnswerLemmas.{any_answers}
 use Rattle.dcsctp_core.proofs.spec_lemmas.TurnLists.{events_of-append}
 use Rattle.dcsctp_spec_laws.proofs.HeartbeatLemmas.{timer_controlled}
 use Rattle.dcsctp_spec_laws.proofs.ControlLemmas.{acts_are_controlled}
-use Rattle.dcsctp_core.specs.api.Calls.{AddsFront, user_event}
+use Rattle.dcsctp_core.specs.api.Calls.{AddsFirstEvents, user_event}
 use Rattle.dcsctp_core.specs.declared.context.Context.{Context}
-use Rattle.dcsctp_core.specs.Handling.{TakesIn, CutIn}
+use Rattle.dcsctp_core.specs.Handling.{TakesPossibleTurn, CutIn}
 use Rattle.dcsctp_core.specs.Timing.{is_timer_due, ExpiryTurn, Expires}
 use Rattle.dcsctp_core.specs.View.{View, view_of, Moves, MovesAll, CutTurn}
 use Rattle.dcsctp_core.proofs.Moving.{moves_one, moves_then}
@@ -44,8 +44,8 @@ use Rattle.dcsctp_socket_calls.proofs.DispatchLemmas.{moves_none}
 abbrev Comes : Endpoint → Input → Type 0
 Comes e input = (o : Outcome) × Turn e input o
 
-abbrev SomeTurns : (Endpoint → List Turned → Type 0) → Endpoint → Type 0
-SomeTurns Allowed e = (turns : List Turned) × Allowed e turns
+abbrev SomeTurns : (Endpoint → List Transition → Type 0) → Endpoint → Type 0
+SomeTurns Allowed e = (turns : List Transition) × Allowed e turns
 
 flush_to : (e : Endpoint) (held : Option Held) → (answers : List Answer) × AnswersTo e held answers
 flush_to e None = ([], refl)
@@ -78,8 +78,8 @@ loss_comes e (Some transfer) =
     (still (record (with_transfer e (lost_all e.moment transfer)) { error_count = error_counted e.options.max_retransmissions e.error_count }), refl)
 
 own_comes : (e : Endpoint) (timer : OwnTimer) → (o : Outcome) × TimerTurn e timer o
-own_comes e acknowledgement_delay = (delay_outcome e e.below.transfer, refl)
-own_comes e retransmission = loss_comes e e.below.transfer
+own_comes e acknowledgement_delay = (delay_outcome e e.queues.transfer, refl)
+own_comes e retransmission = loss_comes e e.queues.transfer
 own_comes e heartbeat_interval = (interval_outcome e e.core, refl)
 own_comes e heartbeat_timeout = (timeout_outcome e, refl)
 own_comes e reconfiguration = (reconfiguration_outcome e (held_in e.core) e.outstanding, refl)
@@ -94,14 +94,14 @@ timer_comes e (own_timer timer) = own_comes e timer
 timer_comes e t2_timer = t2_comes e (has_restart e.timers.t2)
 
 one_of : (e : Endpoint) (input : Input) → Comes e input → SomeTurns (λ x turns. Turns x (input ∷ []) turns) e
-one_of e input some = (turned input some.0 ∷ [], (record { is = refl; comes = some.1 }, tt))
+one_of e input some = (transition input some.0 ∷ [], (record { is = refl; comes = some.1 }, tt))
 
 -- the end of an association that is given up, or else these
 abbrev ends_where : Bool → List Input → List Input
 ends_where many inputs = cond many (act_input (abort_with TooManyErrors) ∷ []) inputs
 
-abbrev abort_turned : Endpoint → Turned
-abort_turned e = turned (act_input (abort_with TooManyErrors)) (aborting_outcome e e.core TooManyErrors)
+abbrev abort_turned : Endpoint → Transition
+abort_turned e = transition (act_input (abort_with TooManyErrors)) (aborting_outcome e e.core TooManyErrors)
 
 unless_some : (e : Endpoint) (many : Bool) (inputs : List Input) → SomeTurns (λ x turns. Turns x inputs turns) e → SomeTurns (λ x turns. Turns x (ends_where many inputs) turns) e
 unless_some e true inputs some = (abort_turned e ∷ [], (record { is = refl; comes = refl }, tt))
@@ -118,7 +118,7 @@ expiry_some : (due : Bool) (e : Endpoint) (has_expired : Bool) (timer : Timer) (
 expiry_some true e has_expired timer timers rest =
     let first : Comes e (expiry_input e timer) = timer_comes e timer in
     let others : SomeTurns (ExpiryTurns timers true) first.0.after = rest true first.0.after in
-    (turned (expiry_input e timer) first.0 ∷ others.0, (record { is = refl; comes = first.1 }, others.1))
+    (transition (expiry_input e timer) first.0 ∷ others.0, (record { is = refl; comes = first.1 }, others.1))
 expiry_some false e has_expired timer timers rest = rest has_expired e
 
 after_some : (has_expired : Bool) (e : Endpoint) → SomeTurns (ExpiryTurns [] has_expired) e
@@ -143,20 +143,20 @@ expiry_keeps e t2_timer o turn = t2_keeps e (has_restart e.timers.t2) o turn
 -- ---- one timer, and those behind it
 
 -- the turn of a timer
-abbrev expired : Endpoint → Timer → Outcome → Turned
-expired e timer o = turned (expiry_input e timer) o
+abbrev expired : Endpoint → Timer → Outcome → Transition
+expired e timer o = transition (expiry_input e timer) o
 
-expired_are : (e : Endpoint) (timer : Timer) (timers : List Timer) (has_expired : Bool) (o : Outcome) (turns : List Turned) → is_timer_due e timer ≡ true → Turn e (expiry_input e timer) o
+expired_are : (e : Endpoint) (timer : Timer) (timers : List Timer) (has_expired : Bool) (o : Outcome) (turns : List Transition) → is_timer_due e timer ≡ true → Turn e (expiry_input e timer) o
     → ExpiryTurns timers true o.after turns → ExpiryTurns (timer ∷ timers) has_expired e (expired e timer o ∷ turns)
 expired_are e timer timers has_expired o turns due turn rest =
     subst (λ (d : Bool). ExpiryThen d (ExpiryTurns timers) e has_expired timer (expired e timer o ∷ turns)) (sym due) (record { is = refl; comes = turn }, rest)
 
-rested_are : (e : Endpoint) (timer : Timer) (timers : List Timer) (has_expired : Bool) (turns : List Turned) → is_timer_due e timer ≡ false → ExpiryTurns timers has_expired e turns
+rested_are : (e : Endpoint) (timer : Timer) (timers : List Timer) (has_expired : Bool) (turns : List Transition) → is_timer_due e timer ≡ false → ExpiryTurns timers has_expired e turns
     → ExpiryTurns (timer ∷ timers) has_expired e turns
 rested_are e timer timers has_expired turns due rest = subst (λ (d : Bool). ExpiryThen d (ExpiryTurns timers) e has_expired timer turns) (sym due) rest
 
 expired_moves : {R : Type 0} (stream : R → Stream) (a b c : View R) (timer : Timer) (timers : List Timer) (has_expired : Bool) → is_timer_due a.endpoint timer ≡ true
-    → TakesIn stream (ExpiryTurn timer) a b → TurnsMove stream (ExpiryTurns timers true) b c → TurnsMove stream (ExpiryTurns (timer ∷ timers) has_expired) a c
+    → TakesPossibleTurn stream (ExpiryTurn timer) a b → TurnsMove stream (ExpiryTurns timers true) b c → TurnsMove stream (ExpiryTurns (timer ∷ timers) has_expired) a c
 expired_moves stream a b c timer timers has_expired due first rest =
     let o : Outcome = first.outcome in
     record {
@@ -174,7 +174,7 @@ rested_moves {R = R} stream a b c timer timers has_expired due same rest =
 -- ---- where a growth was refused
 
 -- further turns behind those that were cut
-adds_more : (ports : Ports) (turns more : List Turned) (old new : List (Event (List ℕ))) → AddsFront ports turns old new → AddsFront ports (turns ++ more) old new
+adds_more : (ports : Ports) (turns more : List Transition) (old new : List (Event (List ℕ))) → AddsFirstEvents ports turns old new → AddsFirstEvents ports (turns ++ more) old new
 adds_more ports turns more old new adds =
     record {
       added = adds.added;
@@ -187,8 +187,8 @@ adds_more ports turns more old new adds =
     }
 
 -- turns that were finished before those that were cut
-pub adds_behind : {R : Type 0} (stream : R → Stream) (a b : View R) (turns more : List Turned) (events : List (Event (List ℕ))) → ports_of b.endpoint.options ≡ ports_of a.endpoint.options
-    → MovesAll stream a turns b → AddsFront (ports_of b.endpoint.options) more b.events events → AddsFront (ports_of a.endpoint.options) (turns ++ more) a.events events
+pub adds_behind : {R : Type 0} (stream : R → Stream) (a b : View R) (turns more : List Transition) (events : List (Event (List ℕ))) → ports_of b.endpoint.options ≡ ports_of a.endpoint.options
+    → MovesAll stream a turns b → AddsFirstEvents (ports_of b.endpoint.options) more b.events events → AddsFirstEvents (ports_of a.endpoint.options) (turns ++ more) a.events events
 adds_behind stream a b turns more events same moves adds =
     let ports : Ports = ports_of a.endpoint.options in
     let before : List (Event (List ℕ)) = map (user_event ports) (events_of turns) in
@@ -206,7 +206,7 @@ adds_behind stream a b turns more events same moves adds =
     }
 
 -- The one turn was cut.
-pub adds_one : {R : Type 0} (stream : R → Stream) (a : View R) (turn : Turned) (events : List (Event (List ℕ))) → CutTurn a turn.outcome events → AddsFront (ports_of a.endpoint.options) (turn ∷ []) a.events events
+pub adds_one : {R : Type 0} (stream : R → Stream) (a : View R) (turn : Transition) (events : List (Event (List ℕ))) → CutTurn a turn.outcome events → AddsFirstEvents (ports_of a.endpoint.options) (turn ∷ []) a.events events
 adds_one stream a turn events cut = adds_cut stream a a [] turn events refl (moves_none stream a) cut
 
 pub expiry_cut : {R : Type 0} (stream : R → Stream) (a : View R) (timer : Timer) (timers : List Timer) (has_expired : Bool) (events : List (Event (List ℕ))) → is_timer_due a.endpoint timer ≡ true
@@ -221,7 +221,7 @@ expiry_cut stream a timer timers has_expired events due cut =
     }
 
 expired_adds : {R : Type 0} (stream : R → Stream) (a b : View R) (timer : Timer) (timers : List Timer) (has_expired : Bool) (events : List (Event (List ℕ))) → is_timer_due a.endpoint timer ≡ true
-    → TakesIn stream (ExpiryTurn timer) a b → TurnsCut (ExpiryTurns timers true) b events → TurnsCut (ExpiryTurns (timer ∷ timers) has_expired) a events
+    → TakesPossibleTurn stream (ExpiryTurn timer) a b → TurnsCut (ExpiryTurns timers true) b events → TurnsCut (ExpiryTurns (timer ∷ timers) has_expired) a events
 expired_adds stream a b timer timers has_expired events due first cut =
     let o : Outcome = first.outcome in
     record {
@@ -251,7 +251,7 @@ timer_then stream old mid new timer timers before false (Err error) handled work
 -- ---- what follows the timers
 
 -- the turns behind, by whether too many errors were counted
-abbrev TurnsWhere : Bool → List Input → Endpoint → List Turned → Type 0
+abbrev TurnsWhere : Bool → List Input → Endpoint → List Transition → Type 0
 TurnsWhere many inputs e turns = Turns e (ends_where many inputs) turns
 
 abbrev counts_many : {R : Type 0} → View R → Bool
@@ -277,10 +277,10 @@ abort_cut stream a inputs events many cut =
     }
 
 -- What waits goes out.
-abbrev flushed : Outcome → Turned
-flushed o = turned (act_input flushes) o
+abbrev flushed : Outcome → Transition
+flushed o = transition (act_input flushes) o
 
-pub send_moves : {R : Type 0} (stream : R → Stream) (a b : View R) → counts_many a ≡ false → TakesIn stream (λ v o. FlushTurn v.endpoint o) a b → TurnsMove stream (EndTurns (act_input flushes ∷ [])) a b
+pub send_moves : {R : Type 0} (stream : R → Stream) (a b : View R) → counts_many a ≡ false → TakesPossibleTurn stream (λ v o. FlushTurn v.endpoint o) a b → TurnsMove stream (EndTurns (act_input flushes ∷ [])) a b
 send_moves stream a b many flush =
     record {
       turns = flushed flush.outcome ∷ [];

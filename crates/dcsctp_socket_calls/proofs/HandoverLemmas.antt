@@ -12,20 +12,20 @@ use Rattle.dcsctp_core.specs.spec.endpoint.Outcome.{Outcome}
 use Rattle.dcsctp_core.specs.types.Settings.{Ports, ports_of}
 use Rattle.dcsctp_core.specs.types.Snapshot.{Snapshot, snapshot, is_valid_snapshot}
 use Rattle.dcsctp_core.specs.spec.SocketSnapshot.{snapshot_of}
-use Rattle.dcsctp_core.specs.spec.Soundness.{IsSound, IsSoundBelow}
+use Rattle.dcsctp_core.specs.spec.Soundness.{IsSound, AreQueuesSound}
 use Rattle.dcsctp_spec_laws.specs.SoundnessLaws.{SnapshotsAreValid}
 use Rattle.dcsctp_core.specs.spec.endpoint.Turn.{act_input, restores}
 use Rattle.dcsctp_core.specs.spec.association.Acts.{flushes, hands_over}
 use Rattle.dcsctp_core.specs.spec.endpoint.DataOutcomes.{FlushTurn}
 use Rattle.dcsctp_core.specs.spec.endpoint.RestoreOutcomes.{RestoreTurn}
-use Rattle.dcsctp_core.specs.spec.endpoint.CallTurns.{Turned, turned, Turns}
+use Rattle.dcsctp_core.specs.spec.endpoint.CallTurns.{Transition, transition, Turns}
 use Rattle.dcsctp_core.specs.spec.HandoverInputs.{inputs_of_handover, inputs_of_snapshot, inputs_of_restore}
 use Rattle.dcsctp_core.specs.api.declared.errors.HandoverError.TheVariants.{NotReady}
 use Rattle.dcsctp_core.specs.api.declared.errors.RestoreError.TheVariants.{SocketNotClosed}
-use Rattle.dcsctp_core.specs.api.Calls.{AddsFront, is_closed}
+use Rattle.dcsctp_core.specs.api.Calls.{AddsFirstEvents, is_closed}
 use Rattle.dcsctp_core.specs.api.Handover.{IsHandoverAnswer, RestoreTurns}
 use Rattle.dcsctp_core.specs.View.{View, call_start, Moves, MovesAll, CallMoves}
-use Rattle.dcsctp_core.specs.Handling.{TakesIn, CutIn, FlushAt}
+use Rattle.dcsctp_core.specs.Handling.{TakesPossibleTurn, CutIn, FlushAt}
 use Rattle.dcsctp_core.proofs.Moving.{moves_one, moves_then}
 use Rattle.dcsctp_core_handover.specs.Handover.{hand_over_turn, restore_turn}
 use Rattle.dcsctp_socket_calls.specs.HandoverParts.{HandoverTurns}
@@ -51,7 +51,7 @@ handover_refused {R} stream old start begins some =
 pub handed_over : {R : Type 0} (stream : R → Stream) (old start new : View R) → start ≡ call_start old → readiness_of old.endpoint ≡ 0
     → Moves stream start (hand_over_turn start) new → CallMoved stream HandoverTurns old new
 handed_over {R} stream old start new begins ready moves =
-    let one : Turned = turned (act_input hands_over) (hand_over_turn (call_start old)) in
+    let one : Transition = transition (act_input hands_over) (hand_over_turn (call_start old)) in
     record {
       turns = one ∷ [];
       are = subst (λ (n : ℕ). Turns old.endpoint (inputs_of_handover n) (one ∷ [])) (sym ready) (record { is = refl; comes = refl }, tt);
@@ -73,20 +73,20 @@ no_turn_from_closed e (cookie_echoed my held cookie) connection state none is = 
 no_turn_from_closed e (open_in phase my held) connection state none is = tt
 
 unmoved : {R : Type 0} (stream : R → Stream) (old start : View R) (state : Snapshot) → start ≡ call_start old → Turns old.endpoint (inputs_of_restore old.endpoint.core state) []
-    → CallMoved stream (λ (e : Endpoint) (turns : List Turned). RestoreTurns e state turns) old start
+    → CallMoved stream (λ (e : Endpoint) (turns : List Transition). RestoreTurns e state turns) old start
 unmoved {R} stream old start state begins none =
     record { turns = []; are = none; moves = subst (λ (v : View R). CallMoves stream old [] v) (sym begins) (moves_none stream (call_start old)) }
 
 pub restore_refused : {R : Type 0} (stream : R → Stream) (old start : View R) (state : Snapshot) → start ≡ call_start old → is_closed old.endpoint.core ≡ false
-    → CallMoved stream (λ (e : Endpoint) (turns : List Turned). RestoreTurns e state turns) old start
+    → CallMoved stream (λ (e : Endpoint) (turns : List Transition). RestoreTurns e state turns) old start
 restore_refused stream old start state begins is_open = unmoved stream old start state begins (no_turn_open old.endpoint old.endpoint.core state is_open)
 
 pub nothing_restored : {R : Type 0} (stream : R → Stream) (old start : View R) (state : Snapshot) → start ≡ call_start old → state.socket_state ≡ states.Closed
-    → CallMoved stream (λ (e : Endpoint) (turns : List Turned). RestoreTurns e state turns) old start
+    → CallMoved stream (λ (e : Endpoint) (turns : List Transition). RestoreTurns e state turns) old start
 nothing_restored stream old start state begins none = unmoved stream old start state begins (no_turn_from_closed old.endpoint old.endpoint.core state.socket_state state none refl)
 
 -- the turn of a restore, and that of the flush behind it
-both_at : (e : Endpoint) (core : Core) (state : Snapshot) (connection : HandoverSocketState) (first second : Turned) → core ≡ closed → connection ≡ states.Connected
+both_at : (e : Endpoint) (core : Core) (state : Snapshot) (connection : HandoverSocketState) (first second : Transition) → core ≡ closed → connection ≡ states.Connected
     → Turns e (restores state ∷ act_input flushes ∷ []) (first ∷ second ∷ []) → (state.socket_state ≡ connection) → Turns e (inputs_of_restore core state) (first ∷ second ∷ [])
 both_at e closed state connection first second none connected turns is =
     subst (λ (c : HandoverSocketState). Turns e (inputs_of_snapshot c state) (first ∷ second ∷ [])) (sym (is ∙ connected)) turns
@@ -100,24 +100,24 @@ options_stay e (cookie_wait my) state o turn = ap (λ (x : Outcome). ports_of x.
 options_stay e (cookie_echoed my held cookie) state o turn = ap (λ (x : Outcome). ports_of x.after.options) turn
 options_stay e (open_in phase my held) state o turn = ap (λ (x : Outcome). ports_of x.after.options) turn
 
-turns_of_both : {R : Type 0} (stream : R → Stream) (a b : View R) (state : Snapshot) (h : TakesIn stream (restore_turn state) a b) (o : Outcome) → a.endpoint.core ≡ closed → state.socket_state ≡ states.Connected
-    → FlushAt b o → Turns a.endpoint (inputs_of_restore a.endpoint.core state) (turned (restores state) h.outcome ∷ turned (act_input flushes) o ∷ [])
+turns_of_both : {R : Type 0} (stream : R → Stream) (a b : View R) (state : Snapshot) (h : TakesPossibleTurn stream (restore_turn state) a b) (o : Outcome) → a.endpoint.core ≡ closed → state.socket_state ≡ states.Connected
+    → FlushAt b o → Turns a.endpoint (inputs_of_restore a.endpoint.core state) (transition (restores state) h.outcome ∷ transition (act_input flushes) o ∷ [])
 turns_of_both stream a b state h o none connected flush =
-    both_at a.endpoint a.endpoint.core state state.socket_state (turned (restores state) h.outcome) (turned (act_input flushes) o) none connected
+    both_at a.endpoint a.endpoint.core state state.socket_state (transition (restores state) h.outcome) (transition (act_input flushes) o) none connected
     (record { is = refl; comes = h.turn }, (record { is = refl; comes = subst (λ (e : Endpoint). FlushTurn e o) h.moves.endpoint flush }, tt)) refl
 
-both_moved : {R : Type 0} (stream : R → Stream) (a b c : View R) (state : Snapshot) (h : TakesIn stream (restore_turn state) a b) (f : TakesIn stream FlushAt b c)
-    → MovesAll stream a (turned (restores state) h.outcome ∷ turned (act_input flushes) f.outcome ∷ []) c
+both_moved : {R : Type 0} (stream : R → Stream) (a b c : View R) (state : Snapshot) (h : TakesPossibleTurn stream (restore_turn state) a b) (f : TakesPossibleTurn stream FlushAt b c)
+    → MovesAll stream a (transition (restores state) h.outcome ∷ transition (act_input flushes) f.outcome ∷ []) c
 both_moved stream a b c state h f =
-    moves_then stream a b c (turned (restores state) h.outcome ∷ []) (turned (act_input flushes) f.outcome ∷ []) (options_stay a.endpoint a.endpoint.core state h.outcome h.turn)
-    (moves_one stream a b (turned (restores state) h.outcome) h.moves) (moves_one stream b c (turned (act_input flushes) f.outcome) f.moves)
+    moves_then stream a b c (transition (restores state) h.outcome ∷ []) (transition (act_input flushes) f.outcome ∷ []) (options_stay a.endpoint a.endpoint.core state h.outcome h.turn)
+    (moves_one stream a b (transition (restores state) h.outcome) h.moves) (moves_one stream b c (transition (act_input flushes) f.outcome) f.moves)
 
 pub restored : {R : Type 0} (stream : R → Stream) (old start mid new : View R) (state : Snapshot) → start ≡ call_start old → old.endpoint.core ≡ closed → state.socket_state ≡ states.Connected
-    → TakesIn stream (restore_turn state) start mid → TakesIn stream FlushAt mid new → CallMoved stream (λ (e : Endpoint) (turns : List Turned). RestoreTurns e state turns) old new
+    → TakesPossibleTurn stream (restore_turn state) start mid → TakesPossibleTurn stream FlushAt mid new → CallMoved stream (λ (e : Endpoint) (turns : List Transition). RestoreTurns e state turns) old new
 restored {R} stream old start mid new state begins none connected first f =
-    let h : TakesIn stream (restore_turn state) (call_start old) mid = subst (λ (v : View R). TakesIn stream (restore_turn state) v mid) begins first in
+    let h : TakesPossibleTurn stream (restore_turn state) (call_start old) mid = subst (λ (v : View R). TakesPossibleTurn stream (restore_turn state) v mid) begins first in
     record {
-      turns = turned (restores state) h.outcome ∷ turned (act_input flushes) f.outcome ∷ [];
+      turns = transition (restores state) h.outcome ∷ transition (act_input flushes) f.outcome ∷ [];
       are = turns_of_both stream (call_start old) mid state h f.outcome none connected f.turn;
       moves = both_moved stream (call_start old) mid new state h f;
     }
@@ -125,21 +125,21 @@ restored {R} stream old start mid new state begins none connected first f =
 -- ---- an allocation failed
 
 pub restore_unmade : {R : Type 0} (old : View R) (state : Snapshot) (events : List (Event (List ℕ))) → events ≡ old.events
-    → CallCut (λ (e : Endpoint) (turns : List Turned). (turns ≡ []) ⊎ RestoreTurns e state turns) old events
+    → CallCut (λ (e : Endpoint) (turns : List Transition). (turns ≡ []) ⊎ RestoreTurns e state turns) old events
 restore_unmade old state events same =
-    record { turns = []; are = inl refl; adds = subst (λ (es : List (Event (List ℕ))). AddsFront (ports_of old.endpoint.options) [] old.events es) (sym same) (adds_none (ports_of old.endpoint.options) old.events) }
+    record { turns = []; are = inl refl; adds = subst (λ (es : List (Event (List ℕ))). AddsFirstEvents (ports_of old.endpoint.options) [] old.events es) (sym same) (adds_none (ports_of old.endpoint.options) old.events) }
 
 pub restore_cut : {R : Type 0} (stream : R → Stream) (old start mid : View R) (state : Snapshot) (events : List (Event (List ℕ))) → start ≡ call_start old → old.endpoint.core ≡ closed
-    → state.socket_state ≡ states.Connected → TakesIn stream (restore_turn state) start mid → CutIn FlushAt mid events
-    → CallCut (λ (e : Endpoint) (turns : List Turned). (turns ≡ []) ⊎ RestoreTurns e state turns) old events
+    → state.socket_state ≡ states.Connected → TakesPossibleTurn stream (restore_turn state) start mid → CutIn FlushAt mid events
+    → CallCut (λ (e : Endpoint) (turns : List Transition). (turns ≡ []) ⊎ RestoreTurns e state turns) old events
 restore_cut {R} stream old start mid state events begins none connected first f =
-    let h : TakesIn stream (restore_turn state) (call_start old) mid = subst (λ (v : View R). TakesIn stream (restore_turn state) v mid) begins first in
+    let h : TakesPossibleTurn stream (restore_turn state) (call_start old) mid = subst (λ (v : View R). TakesPossibleTurn stream (restore_turn state) v mid) begins first in
     let ports : ports_of mid.endpoint.options ≡ ports_of old.endpoint.options = ap (λ (e : Endpoint). ports_of e.options) h.moves.endpoint ∙ options_stay old.endpoint old.endpoint.core state h.outcome h.turn in
     record {
-      turns = turned (restores state) h.outcome ∷ turned (act_input flushes) f.outcome ∷ [];
+      turns = transition (restores state) h.outcome ∷ transition (act_input flushes) f.outcome ∷ [];
       are = inr (turns_of_both stream (call_start old) mid state h f.outcome none connected f.turn);
-      adds = adds_cut stream (call_start old) mid (turned (restores state) h.outcome ∷ []) (turned (act_input flushes) f.outcome) events ports
-          (moves_one stream (call_start old) mid (turned (restores state) h.outcome) h.moves) f.cut;
+      adds = adds_cut stream (call_start old) mid (transition (restores state) h.outcome ∷ []) (transition (act_input flushes) f.outcome) events ports
+          (moves_one stream (call_start old) mid (transition (restores state) h.outcome) h.moves) f.cut;
     }
 
 -- ---- by what was asked
@@ -164,28 +164,28 @@ works_refused {R} stream old start is_ready readiness begins is ready test =
     ((some, own), handover_refused stream old start begins some)
 
 pub works_handed_over : {R : Type 0} (stream : R → Stream) (old start new : View R) (is_ready : Bool) (readiness : ℕ) (state : Snapshot) → SnapshotsAreValid
-    → IsSound old.endpoint → IsSoundBelow start.endpoint → start ≡ call_start old
+    → IsSound old.endpoint → AreQueuesSound start.endpoint → start ≡ call_start old
     → readiness ≡ readiness_of start.endpoint → is_ready ≡ (readiness == 0) → is_ready ≡ true → state ≡ snapshot_of start.endpoint → Moves stream start (hand_over_turn start) new
     → ((readiness_of old.endpoint ≡ 0) × (state ≡ snapshot_of old.endpoint) × (is_valid_snapshot old.endpoint.options state ≡ true)) × CallMoved stream HandoverTurns old new
 works_handed_over {R} stream old start new is_ready readiness state law sound below begins is ready test same moves =
     let none : readiness_of old.endpoint ≡ 0 = sym (ap (λ (v : View R). readiness_of v.endpoint) begins) ∙ sym is ∙ ready_by is_ready readiness ready test in
     let own : state ≡ snapshot_of old.endpoint = same ∙ ap (λ (v : View R). snapshot_of v.endpoint) begins in
-    let here : IsSoundBelow old.endpoint = subst (λ (v : View R). IsSoundBelow v.endpoint) begins below in
+    let here : AreQueuesSound old.endpoint = subst (λ (v : View R). AreQueuesSound v.endpoint) begins below in
     let valid : is_valid_snapshot old.endpoint.options state ≡ true =
     subst (λ (s : Snapshot). is_valid_snapshot old.endpoint.options s ≡ true) (sym own) (law old.endpoint sound here none) in
     ((none, own, valid), handed_over stream old start new begins none moves)
 
 pub works_restored : {R : Type 0} (stream : R → Stream) (old start mid new : View R) (is_closed_now : Bool) (state : Snapshot) → start ≡ call_start old
     → is_closed_now ≡ is_closed start.endpoint.core → is_closed_now ≡ true → state.socket_state ≡ states.Connected
-    → TakesIn stream (restore_turn state) start mid → TakesIn stream FlushAt mid new
-    → (is_closed old.endpoint.core ≡ true) × CallMoved stream (λ (e : Endpoint) (turns : List Turned). RestoreTurns e state turns) old new
+    → TakesPossibleTurn stream (restore_turn state) start mid → TakesPossibleTurn stream FlushAt mid new
+    → (is_closed old.endpoint.core ≡ true) × CallMoved stream (λ (e : Endpoint) (turns : List Transition). RestoreTurns e state turns) old new
 works_restored {R} stream old start mid new is_closed_now state begins is test connected first f =
     let none : old.endpoint.core ≡ closed = sym (ap (λ (v : View R). v.endpoint.core) begins) ∙ closed_by is_closed_now start.endpoint.core is test in
     (ap is_closed none, restored stream old start mid new state begins none connected first f)
 
 pub works_restore_cut : {R : Type 0} (stream : R → Stream) (old start mid : View R) (is_closed_now : Bool) (state : Snapshot) (events : List (Event (List ℕ))) → start ≡ call_start old
     → is_closed_now ≡ is_closed start.endpoint.core → is_closed_now ≡ true → state.socket_state ≡ states.Connected
-    → TakesIn stream (restore_turn state) start mid → CutIn FlushAt mid events
-    → CallCut (λ (e : Endpoint) (turns : List Turned). (turns ≡ []) ⊎ RestoreTurns e state turns) old events
+    → TakesPossibleTurn stream (restore_turn state) start mid → CutIn FlushAt mid events
+    → CallCut (λ (e : Endpoint) (turns : List Transition). (turns ≡ []) ⊎ RestoreTurns e state turns) old events
 works_restore_cut {R} stream old start mid is_closed_now state events begins is test connected first f =
     restore_cut stream old start mid state events begins (sym (ap (λ (v : View R). v.endpoint.core) begins) ∙ closed_by is_closed_now start.endpoint.core is test) connected first f

@@ -10,14 +10,14 @@ use Rattle.dcsctp_core.specs.types.queues.Messages.{MessageContent}
 use Rattle.dcsctp_core.specs.spec.endpoint.Outcome.{Outcome}
 use Rattle.dcsctp_core.specs.spec.endpoint.Turn.{user_sends}
 use Rattle.dcsctp_core.specs.spec.endpoint.MessageOutcomes.{Sending, message_refusal, sending_of, refused_from}
-use Rattle.dcsctp_core.specs.spec.endpoint.CallTurns.{Turned, turned}
+use Rattle.dcsctp_core.specs.spec.endpoint.CallTurns.{Transition, transition}
 use Rattle.dcsctp_core.specs.api.declared.errors.BatchSendError.{BatchSendError}
 use Rattle.dcsctp_core.specs.api.declared.errors.SendError.{SendError}
 use Rattle.dcsctp_core.specs.api.Calls.{user_event}
 use Rattle.dcsctp_core.specs.api.Messages.{IsBatchAnswer}
 use Rattle.dcsctp_core.specs.declared.context.Context.{Context}
 use Rattle.dcsctp_core.specs.View.{View, view_of, call_start}
-use Rattle.dcsctp_core.specs.Handling.{TakesIn, CutIn}
+use Rattle.dcsctp_core.specs.Handling.{TakesPossibleTurn, CutIn}
 use Rattle.dcsctp_core.proofs.Moving.{moves_one}
 use Rattle.dcsctp_core_messages.specs.Sending.{SendAt, SendsOne, SendsAll}
 use Rattle.dcsctp_socket_calls.specs.Parts.{CallMoved, CallCut}
@@ -25,16 +25,16 @@ use Rattle.dcsctp_socket_calls.specs.MessageParts.{SendTurns, WorksSend, WorksSe
 
 -- ---- the one turn of the call
 
-sent_at : {R : Type 0} (stream : R → Stream) (messages : List Sending) (old new : View R) → TakesIn stream (SendAt messages) (call_start old) new
+sent_at : {R : Type 0} (stream : R → Stream) (messages : List Sending) (old new : View R) → TakesPossibleTurn stream (SendAt messages) (call_start old) new
     → CallMoved stream (SendTurns messages) old new
 sent_at stream messages old new sent =
-    let one : Turned = turned (user_sends messages) sent.outcome in
+    let one : Transition = transition (user_sends messages) sent.outcome in
     record { turns = one ∷ []; are = (record { is = refl; comes = sent.turn }, tt); moves = moves_one stream (call_start old) new one sent.moves }
 
-send_moved : {R : Type 0} (stream : R → Stream) (messages : List Sending) (old start new : View R) → start ≡ call_start old → TakesIn stream (SendAt messages) start new
+send_moved : {R : Type 0} (stream : R → Stream) (messages : List Sending) (old start new : View R) → start ≡ call_start old → TakesPossibleTurn stream (SendAt messages) start new
     → CallMoved stream (SendTurns messages) old new
 send_moved {R = R} stream messages old start new begins sent =
-    sent_at stream messages old new (subst (λ (v : View R). TakesIn stream (SendAt messages) v new) begins sent)
+    sent_at stream messages old new (subst (λ (v : View R). TakesPossibleTurn stream (SendAt messages) v new) begins sent)
 
 cut_at : {R : Type 0} (messages : List Sending) (old : View R) (events : List (Event (List ℕ))) → CutIn (SendAt messages) (call_start old) events
     → CallCut (SendTurns messages) old events
@@ -42,7 +42,7 @@ cut_at messages old events cut =
     let o : Outcome = cut.outcome in
     let all : List (Event (List ℕ)) = map (user_event (ports_of old.endpoint.options)) o.events in
     record {
-      turns = turned (user_sends messages) o ∷ [];
+      turns = transition (user_sends messages) o ∷ [];
       are = (record { is = refl; comes = cut.turn }, tt);
       adds = record {
         added = take cut.cut.count all;

@@ -8,8 +8,8 @@ use Rattle.dcsctp_core.specs.spec.endpoint.Event.{Event}
 use Rattle.dcsctp_core.specs.spec.endpoint.Endpoint.{Endpoint, Core, closed, cookie_wait, cookie_echoed, open_in}
 use Rattle.dcsctp_core.specs.spec.endpoint.Outcome.{still}
 use Rattle.dcsctp_core.specs.spec.endpoint.Turn.{time_passes, clock_at}
-use Rattle.dcsctp_core.specs.spec.endpoint.CallTurns.{Turned, turned}
-use Rattle.dcsctp_core.specs.spec.endpoint.TimeTurns.{t1_timer, timers_in, timers_told, deadlines_of, next_of, DueTurns, TimeTurns, AdvanceTurns, AwaitsNoCookieAck, NoneIsDue, Waits}
+use Rattle.dcsctp_core.specs.spec.endpoint.CallTurns.{Transition, transition}
+use Rattle.dcsctp_core.specs.spec.endpoint.TimeTurns.{t1_timer, timers_in, timers_counted, deadlines_of, next_of, DueTurns, TimeTurns, AdvanceTurns, AwaitsNoCookieAck, NoneIsDue, Waits}
 use Rattle.dcsctp_spec_laws.proofs.TimerLemmas.{none_is_due}
 use Rattle.dcsctp_core.specs.declared.context.Context.{Context}
 use Rattle.dcsctp_core.specs.View.{View, view_of, endpoint_of, core_of, call_start, MovesAll}
@@ -20,15 +20,15 @@ use Rattle.dcsctp_socket_calls.proofs.CallLemmas.{adds_begun}
 -- ---- the call
 
 -- the turns of a moment that isn't earlier
-abbrev pub moment_turns : Endpoint → ℕ → List Turned → List Turned
-moment_turns e moment due = turned (time_passes moment) (still (clock_at moment e)) ∷ due
+abbrev pub moment_turns : Endpoint → ℕ → List Transition → List Transition
+moment_turns e moment due = transition (time_passes moment) (still (clock_at moment e)) ∷ due
 
-pub moment_are : (e : Endpoint) (moment : ℕ) (due : List Turned) → e.moment ≤ moment → DueTurns (clock_at moment e) due → AdvanceTurns e moment (moment_turns e moment due)
+pub moment_are : (e : Endpoint) (moment : ℕ) (due : List Transition) → e.moment ≤ moment → DueTurns (clock_at moment e) due → AdvanceTurns e moment (moment_turns e moment due)
 moment_are e moment due later are =
     subst (λ (b : Bool). TimeTurns b e moment (moment_turns e moment due)) (let is : true ≡ nat_le e.moment moment = grind arith in is)
     (record { is = refl; comes = refl }, are)
 
-pub clock_moves : {R : Type 0} (stream : R → Stream) (a : View R) (moment : ℕ) → MovesAll stream a (turned (time_passes moment) (still (clock_at moment a.endpoint)) ∷ []) (record a { endpoint = clock_at moment a.endpoint })
+pub clock_moves : {R : Type 0} (stream : R → Stream) (a : View R) (moment : ℕ) → MovesAll stream a (transition (time_passes moment) (still (clock_at moment a.endpoint)) ∷ []) (record a { endpoint = clock_at moment a.endpoint })
 clock_moves stream a moment =
     record { endpoint = refl; events = sym (append-nil a.events); words = sym (append-nil a.words); pairs = sym (append-nil a.pairs); drawn = refl }
 
@@ -47,7 +47,7 @@ time_moves {R = R} stream old start new moment begins later m =
     record {
       turns = moment_turns a.endpoint moment moved.turns;
       are = moment_are a.endpoint moment moved.turns (subst (λ (v : View R). v.endpoint.moment ≤ moment) begins later) moved.are;
-      moves = moves_then stream a here (view_of new) (turned (time_passes moment) (still (clock_at moment a.endpoint)) ∷ []) moved.turns refl (clock_moves stream a moment) moved.moves;
+      moves = moves_then stream a here (view_of new) (transition (time_passes moment) (still (clock_at moment a.endpoint)) ∷ []) moved.turns refl (clock_moves stream a moment) moved.moves;
     }
 
 -- A growth was refused in what was due.
@@ -61,13 +61,13 @@ time_cut {R = R} old start moment es begins later cut =
     record {
       turns = moment_turns a.endpoint moment moved.turns;
       are = moment_are a.endpoint moment moved.turns (subst (λ (v : View R). v.endpoint.moment ≤ moment) begins later) moved.are;
-      adds = adds_begun (ports_of a.endpoint.options) (turned (time_passes moment) (still (clock_at moment a.endpoint))) moved.turns a.events es refl moved.adds;
+      adds = adds_begun (ports_of a.endpoint.options) (transition (time_passes moment) (still (clock_at moment a.endpoint))) moved.turns a.events es refl moved.adds;
     }
 
 -- ---- where nothing is due
 
 -- What waits in a phase has no deadline but those that are told.
-none_due_in : (e : Endpoint) (moment : ℕ) (core : Core) → AwaitsNoCookieAck core → e.moment ≤ moment → moment < next_of e.moment (deadlines_of e (timers_told core)) → NoneIsDue (clock_at moment e) (timers_in core)
+none_due_in : (e : Endpoint) (moment : ℕ) (core : Core) → AwaitsNoCookieAck core → e.moment ≤ moment → moment < next_of e.moment (deadlines_of e (timers_counted core)) → NoneIsDue (clock_at moment e) (timers_in core)
 none_due_in e moment closed phase present next = none_is_due moment e [] present next
 none_due_in e moment (cookie_wait my) phase present next = none_is_due moment e (t1_timer ∷ []) present next
 none_due_in e moment (cookie_echoed my held cookie) phase present next = absurd phase

@@ -15,17 +15,17 @@ use Rattle.dcsctp_core.specs.spec.endpoint.Event.{error}
 use Rattle.dcsctp_core.specs.spec.Packet.{plain}
 use Rattle.dcsctp_core.specs.spec.endpoint.Endpoint.{Endpoint}
 use Rattle.dcsctp_core.specs.spec.endpoint.Outcome.{Outcome, sends, reports}
-use Rattle.dcsctp_core.specs.spec.endpoint.PlainOutcomes.{unknown_text, unknown_error, unknown_report, unknown_told}
+use Rattle.dcsctp_core.specs.spec.endpoint.PlainOutcomes.{unknown_text, unknown_error, unknown_report, unknown_chunk_outcome}
 use Rattle.dcsctp_core.specs.api.Calls.{user_event}
 use Rattle.dcsctp_core.specs.declared.state.State.{State}
 use Rattle.dcsctp_core.specs.declared.state.State.TheVariants.{Closed, CookieWait, CookieEchoed, Open}
 use Rattle.dcsctp_core.specs.declared.transmission_control_block.TransmissionControlBlock.{TransmissionControlBlock}
 use Rattle.dcsctp_core.specs.declared.context.Context.{Context}
 use Rattle.dcsctp_core.specs.View.{View, core_of, tcb_of, held_of, endpoint_of, view_of, Moves, CutTurn}
-use Rattle.dcsctp_core.specs.Handling.{emitted}
+use Rattle.dcsctp_core.specs.Handling.{chunk_emitted}
 use Rattle.dcsctp_core.proofs.Composing.{behind, Adds, Draws, moves_behind, moves_as, cut_after}
 use Rattle.dcsctp_core.proofs.SentLemmas.{emitted_sends}
-use Rattle.dcsctp_socket_calls.specs.Unknown.{reported_outcome, reported_turn, told_turn}
+use Rattle.dcsctp_socket_calls.specs.Unknown.{reported_outcome, reported_turn, unknown_chunk_turn}
 
 -- As much of it as fits, does.
 short : (options : Options) (chunk : List ℕ) → length (take (packet_size_limit options - 20) chunk) ≤ packet_size_limit options - 20
@@ -64,21 +64,21 @@ reported_at e (Open opened) tcb chunk is =
 
 pub report_moves : {R : Type 0} (stream : R → Stream) (old new : Context R) (tcb : TransmissionControlBlock) (chunk bytes : List ℕ) (limit : ℕ) (with_checksum : Bool)
     → tcb_of old.state ≡ Some tcb → with_checksum ≡ (tcb.capabilities.zero_checksum_method.0 == 0) → limit ≡ packet_size_limit old.options - 20 → bytes ≡ take limit chunk
-    → view_of new ≡ emitted with_checksum tcb.peer.tag (error_chunk (unrecognized_chunk_type bytes ∷ [])) (view_of old)
+    → view_of new ≡ chunk_emitted with_checksum tcb.peer.tag (error_chunk (unrecognized_chunk_type bytes ∷ [])) (view_of old)
     → Moves stream (view_of old) (reported_turn chunk (view_of old)) (view_of new)
 report_moves {R = R} stream old new tcb chunk bytes limit with_checksum held checks limits cut here =
     let e : Endpoint = endpoint_of old in
     let taken : bytes ≡ take (packet_size_limit old.options - 20) chunk = cut ∙ ap (λ (n : ℕ). take n chunk) limits in
-    let out : view_of new ≡ emitted (tcb.capabilities.zero_checksum_method.0 == 0) tcb.peer.tag (error_chunk (unrecognized_chunk_type (take (packet_size_limit old.options - 20) chunk) ∷ [])) (view_of old) =
-    here ∙ ap (λ (b : Bool). emitted b tcb.peer.tag (error_chunk (unrecognized_chunk_type bytes ∷ [])) (view_of old)) checks
-    ∙ ap (λ (bs : List ℕ). emitted (tcb.capabilities.zero_checksum_method.0 == 0) tcb.peer.tag (error_chunk (unrecognized_chunk_type bs ∷ [])) (view_of old)) taken in
+    let out : view_of new ≡ chunk_emitted (tcb.capabilities.zero_checksum_method.0 == 0) tcb.peer.tag (error_chunk (unrecognized_chunk_type (take (packet_size_limit old.options - 20) chunk) ∷ [])) (view_of old) =
+    here ∙ ap (λ (b : Bool). chunk_emitted b tcb.peer.tag (error_chunk (unrecognized_chunk_type bytes ∷ [])) (view_of old)) checks
+    ∙ ap (λ (bs : List ℕ). chunk_emitted (tcb.capabilities.zero_checksum_method.0 == 0) tcb.peer.tag (error_chunk (unrecognized_chunk_type bs ∷ [])) (view_of old)) taken in
     moves_as stream (view_of old) (view_of new) _ _ (reported_at e old.state tcb chunk held)
     (emitted_sends stream (view_of old) (view_of new) (tcb.capabilities.zero_checksum_method.0 == 0) tcb.peer.tag (plain (unknown_error e chunk)) (report_fits old.options chunk old.valid) out)
 
 -- ---- the user is told, and then the peer
 
 told_is : (e : Endpoint) (state : State) (type : ℕ) (chunk : List ℕ)
-    → unknown_told e (core_of state) type chunk ≡ behind [] (error ParseFailed (unknown_text type) ∷ []) (reported_outcome e (core_of state) chunk)
+    → unknown_chunk_outcome e (core_of state) type chunk ≡ behind [] (error ParseFailed (unknown_text type) ∷ []) (reported_outcome e (core_of state) chunk)
 told_is e Closed type chunk = refl
 told_is e (CookieWait wait) type chunk = refl
 told_is e (CookieEchoed echoed) type chunk = refl
@@ -98,7 +98,7 @@ told_draws stream a b text moves = record { words = moves.words; pairs = moves.p
 
 pub told_moves : {R : Type 0} (stream : R → Stream) (old mid : Context R) (c : View R) (type : ℕ) (text chunk : List ℕ) → text ≡ unknown_text type
     → Moves stream (view_of old) (reports (endpoint_of old) ParseFailed text) (view_of mid) → Moves stream (view_of mid) (reported_turn chunk (view_of mid)) c
-    → Moves stream (view_of old) (told_turn type chunk (view_of old)) c
+    → Moves stream (view_of old) (unknown_chunk_turn type chunk (view_of old)) c
 told_moves {R = R} stream old mid c type text chunk is first second =
     let here : Moves stream (view_of mid) (reported_outcome (endpoint_of old) (core_of old.state) chunk) c =
     subst (λ (e : Endpoint). Moves stream (view_of mid) (reported_outcome e e.core chunk) c) first.endpoint second in
@@ -109,8 +109,8 @@ told_moves {R = R} stream old mid c type text chunk is first second =
 -- The user alone was told.
 pub told_cut : {R : Type 0} (stream : R → Stream) (old mid : Context R) (c : View R) (type : ℕ) (text chunk : List ℕ) → text ≡ unknown_text type
     → Moves stream (view_of old) (reports (endpoint_of old) ParseFailed text) (view_of mid) → c ≡ view_of mid
-    → CutTurn (view_of old) (told_turn type chunk (view_of old)) c.events
+    → CutTurn (view_of old) (unknown_chunk_turn type chunk (view_of old)) c.events
 told_cut {R = R} stream old mid c type text chunk is first same =
-    cut_after (view_of old) (told_turn type chunk (view_of old)) c.events (error ParseFailed (unknown_text type) ∷ []) (reported_outcome (endpoint_of old) (core_of old.state) chunk).events
+    cut_after (view_of old) (unknown_chunk_turn type chunk (view_of old)) c.events (error ParseFailed (unknown_text type) ∷ []) (reported_outcome (endpoint_of old) (core_of old.state) chunk).events
     (ap (λ (o : Outcome). o.events) (told_is (endpoint_of old) old.state type chunk))
     (ap (λ (v : View R). v.events) same ∙ (told_adds stream (view_of old) (view_of mid) type text is first).events)

@@ -9,13 +9,13 @@ use Rattle.dcsctp_core.specs.spec.endpoint.Event.{Event}
 use Rattle.dcsctp_core.specs.spec.Packet.{packet_in}
 use Rattle.dcsctp_core.specs.spec.endpoint.Endpoint.{Endpoint, Core, closed, cookie_wait, cookie_echoed, open_in, OpenPhase, established, shutdown_pending, shutdown_sent, shutdown_received, shutdown_ack_sent}
 use Rattle.dcsctp_core.specs.spec.endpoint.Outcome.{still}
-use Rattle.dcsctp_core.specs.spec.endpoint.Turn.{packet_begins, has_data, BeginTurn}
-use Rattle.dcsctp_core.specs.spec.endpoint.CallTurns.{Turned, turned, IsTurn, FirstTurns}
+use Rattle.dcsctp_core.specs.spec.endpoint.Turn.{packet_begins, has_data_chunk, BeginTurn}
+use Rattle.dcsctp_core.specs.spec.endpoint.CallTurns.{Transition, transition, IsTurn, FirstTurns}
 use Rattle.dcsctp_core.specs.declared.context.Context.{Context}
 use Rattle.dcsctp_core.specs.View.{View, Moves, view_of}
 use Rattle.dcsctp_core.proofs.Moving.{moves_one, moves_then}
 use Rattle.dcsctp_core_ends.specs.Shutdown.{where_open, repeated_in}
-use Rattle.dcsctp_socket_calls.specs.Parts.{begun_by, begin_turn, ChunksToEnd, ChunksMove, WholeMoves, ChunksCut, WholeCut, WorksChunks, WorksWhole}
+use Rattle.dcsctp_socket_calls.specs.Parts.{packet_begun, begin_turn, ChunksToEnd, ChunksMove, WholeMoves, ChunksCut, WholeCut, WorksChunks, HandlesWholePacket}
 use Rattle.dcsctp_socket_calls.proofs.ExpiryLemmas.{adds_behind}
 
 -- ---- what stands before the chunks
@@ -43,15 +43,15 @@ begins_without e (open_in shutdown_sent my held) = refl
 begins_without e (open_in shutdown_received my held) = refl
 begins_without e (open_in shutdown_ack_sent my held) = refl
 
-begins : {R : Type 0} (view : View R) (has : Bool) → BeginTurn view.endpoint view.endpoint.core has (begun_by has view)
+begins : {R : Type 0} (view : View R) (has : Bool) → BeginTurn view.endpoint view.endpoint.core has (packet_begun has view)
 begins view true = begins_with view.endpoint view.endpoint.core
 begins view false = begins_without view.endpoint view.endpoint.core
 
-abbrev begun : {R : Type 0} → PacketContent → View R → Turned
-begun packet view = turned (packet_begins (packet_in packet).contents) (begin_turn packet view)
+abbrev begun : {R : Type 0} → PacketContent → View R → Transition
+begun packet view = transition (packet_begins (packet_in packet).contents) (begin_turn packet view)
 
 begun_is : {R : Type 0} (packet : PacketContent) (view : View R) → IsTurn view.endpoint (packet_begins (packet_in packet).contents) (begun packet view)
-begun_is packet view = record { is = refl; comes = begins view (has_data (packet_in packet).contents) }
+begun_is packet view = record { is = refl; comes = begins view (has_data_chunk (packet_in packet).contents) }
 
 repeated_keeps : (e : Endpoint) (phase : OpenPhase) (my : Pair) (held : Held) → (repeated_in e phase my held).after.options ≡ e.options
 repeated_keeps e established my held = refl
@@ -66,12 +66,12 @@ answer_keeps e (cookie_wait my) = refl
 answer_keeps e (cookie_echoed my held cookie) = refl
 answer_keeps e (open_in phase my held) = repeated_keeps e phase my held
 
-begun_keeps : {R : Type 0} (view : View R) (has : Bool) → (begun_by has view).after.options ≡ view.endpoint.options
+begun_keeps : {R : Type 0} (view : View R) (has : Bool) → (packet_begun has view).after.options ≡ view.endpoint.options
 begun_keeps view true = answer_keeps view.endpoint view.endpoint.core
 begun_keeps view false = refl
 
 begun_ports : {R : Type 0} (packet : PacketContent) (view : View R) → ports_of (begin_turn packet view).after.options ≡ ports_of view.endpoint.options
-begun_ports packet view = ap ports_of (begun_keeps view (has_data (packet_in packet).contents))
+begun_ports packet view = ap ports_of (begun_keeps view (has_data_chunk (packet_in packet).contents))
 
 pub worked_whole : {R : Type 0} (stream : R → Stream) (a b c : View R) (packet : PacketContent) → Moves stream a (begin_turn packet a) b → ChunksMove stream packet b c → WholeMoves stream packet a c
 worked_whole stream a b c packet first rest =
@@ -100,6 +100,6 @@ whole_cut_rest stream a b packet events first cut =
 
 -- by what its chunks and its end answer
 pub whole_by : {R E : Type 0} (stream : R → Stream) (old mid : Context R) (packet : PacketContent) (result : Result (Unit {0}) E) (new : Context R)
-    → Moves stream (view_of old) (begin_turn packet (view_of old)) (view_of mid) → WorksChunks stream packet mid result new → WorksWhole stream packet old result new
+    → Moves stream (view_of old) (begin_turn packet (view_of old)) (view_of mid) → WorksChunks stream packet mid result new → HandlesWholePacket stream packet old result new
 whole_by stream old mid packet (Ok done) new first rest = worked_whole stream (view_of old) (view_of mid) (view_of new) packet first rest
 whole_by stream old mid packet (Err error) new first cut = whole_cut_rest stream (view_of old) (view_of mid) packet (view_of new).events first cut

@@ -7,14 +7,14 @@ use Rattle.dcsctp_socket_calls.specs.declared.admission.Admission.TheVariants.{A
 use Rattle.dcsctp_socket_calls.specs.declared.admission.Refusal.{Refusal}
 use Rattle.dcsctp_socket_calls.specs.declared.admission.Refusal.TheVariants.{WrongAbortTag, WrongShutdownCompleteTag, WrongShutdownAckTag, NotASingleInit, WrongTag}
 
-abbrev pub refusal_text : Refusal → List ℕ
-refusal_text WrongAbortTag = abort_text
-refusal_text WrongShutdownCompleteTag = shutdown_complete_text
-refusal_text WrongShutdownAckTag = shutdown_ack_text
-refusal_text NotASingleInit = single_init_text
-refusal_text (WrongTag header expected) = wrong_tag_text header expected
+abbrev pub admission_refusal_text : Refusal → List ℕ
+admission_refusal_text WrongAbortTag = abort_text
+admission_refusal_text WrongShutdownCompleteTag = shutdown_complete_text
+admission_refusal_text WrongShutdownAckTag = shutdown_ack_text
+admission_refusal_text NotASingleInit = single_init_text
+admission_refusal_text (WrongTag header expected) = wrong_tag_text header expected
 
 abbrev pub admission_of : Admission → machine.Admission
 admission_of AllChunks = all_chunks
 admission_of ShutdownAcksAlone = shutdown_acks_alone
-admission_of (Refused refusal) = refused (refusal_text refusal)
+admission_of (Refused refusal) = refused (admission_refusal_text refusal)

@@ -4,7 +4,7 @@ use Rattle.rand_core.specs.Stream.{Stream}
 use Rattle.dcsctp_core.specs.spec.endpoint.Endpoint.{Endpoint}
 use Rattle.dcsctp_core.specs.spec.Handover.{readiness_of}
 use Rattle.dcsctp_core.specs.spec.HandoverInputs.{inputs_of_handover}
-use Rattle.dcsctp_core.specs.spec.endpoint.CallTurns.{Turned, Turns}
+use Rattle.dcsctp_core.specs.spec.endpoint.CallTurns.{Transition, Turns}
 use Rattle.dcsctp_core.specs.types.declared.snapshot.SocketHandoverState.{SocketHandoverState}
 use Rattle.dcsctp_core.specs.api.declared.errors.HandoverError.{HandoverError}
 use Rattle.dcsctp_core.specs.types.Snapshot.{Snapshot}
@@ -15,7 +15,7 @@ use Rattle.dcsctp_core.specs.View.{view_of, call_start}
 use Rattle.dcsctp_socket_calls.specs.Parts.{CallMoved, CallCut}
 
 -- the turns of a handover
-abbrev pub HandoverTurns : Endpoint → List Turned → Type 0
+abbrev pub HandoverTurns : Endpoint → List Transition → Type 0
 HandoverTurns e turns = Turns e (inputs_of_handover (readiness_of e)) turns
 
 -- The socket was handed over, or that was refused, as the result says. Or an allocation failed, and nothing has changed.

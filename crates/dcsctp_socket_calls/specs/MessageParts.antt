@@ -7,7 +7,7 @@ use Rattle.dcsctp_core.specs.types.queues.Messages.{MessageContent}
 use Rattle.dcsctp_core.specs.spec.endpoint.Endpoint.{Endpoint}
 use Rattle.dcsctp_core.specs.spec.endpoint.Turn.{user_sends}
 use Rattle.dcsctp_core.specs.spec.endpoint.MessageOutcomes.{Sending, message_refusal, sending_of, refused_from}
-use Rattle.dcsctp_core.specs.spec.endpoint.CallTurns.{Turned, Turns}
+use Rattle.dcsctp_core.specs.spec.endpoint.CallTurns.{Transition, Turns}
 use Rattle.dcsctp_core.specs.api.declared.errors.BatchSendError.{BatchSendError}
 use Rattle.dcsctp_core.specs.api.declared.errors.SendError.{SendError}
 use Rattle.dcsctp_core.specs.api.Messages.{refusal_in, IsBatchAnswer}
@@ -17,7 +17,7 @@ use Rattle.dcsctp_core_messages.specs.Taking.{TakesNextOf}
 use Rattle.dcsctp_socket_calls.specs.Parts.{CallMoved, CallCut}
 
 -- the turns of a call that sends these messages
-abbrev pub SendTurns : List Sending → Endpoint → List Turned → Type 0
+abbrev pub SendTurns : List Sending → Endpoint → List Transition → Type 0
 SendTurns messages e turns = Turns e (user_sends messages ∷ []) turns
 
 -- The message was sent or refused, as the result says; or an allocation failed, and the first of the call's events may have been

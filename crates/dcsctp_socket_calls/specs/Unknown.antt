@@ -2,7 +2,7 @@
 use Rattle.std.specs.Prelude.{ℕ, List, []}
 use Rattle.dcsctp_core.specs.spec.endpoint.Endpoint.{Endpoint, Core, cookie_echoed, open_in}
 use Rattle.dcsctp_core.specs.spec.endpoint.Outcome.{Outcome, still, sends}
-use Rattle.dcsctp_core.specs.spec.endpoint.PlainOutcomes.{unknown_report, unknown_told, unknown_outcome}
+use Rattle.dcsctp_core.specs.spec.endpoint.PlainOutcomes.{unknown_report, unknown_chunk_outcome, unknown_outcome}
 use Rattle.dcsctp_core.specs.View.{View}
 
 -- The peer is told, if it is known.
@@ -15,8 +15,8 @@ abbrev pub reported_turn : {R : Type 0} → List ℕ → View R → Outcome
 reported_turn chunk view = reported_outcome view.endpoint view.endpoint.core chunk
 
 -- The user is told, and then the peer.
-abbrev pub told_turn : {R : Type 0} → ℕ → List ℕ → View R → Outcome
-told_turn type chunk view = unknown_told view.endpoint view.endpoint.core type chunk
+abbrev pub unknown_chunk_turn : {R : Type 0} → ℕ → List ℕ → View R → Outcome
+unknown_chunk_turn type chunk view = unknown_chunk_outcome view.endpoint view.endpoint.core type chunk
 
 abbrev pub unknown_turn : {R : Type 0} → ℕ → ℕ → List ℕ → View R → Outcome
 unknown_turn type flags value view = unknown_outcome view.endpoint view.endpoint.core type flags value

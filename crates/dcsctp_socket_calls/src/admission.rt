@@ -5,7 +5,7 @@ ghost use Rattle.dcsctp_core.specs.wire.Content.{chunk_content, packet_content};
 ghost use Rattle.dcsctp_core.specs.spec.Admission.{first_abort, first_shutdown_complete, has_shutdown_ack, is_echo_in_front, is_single_init, bears_tag, admitted_where, admits_shutdown_ack, admits_by, admits, eight_hex_digits, wrong_tag_text};
 ghost use Rattle.dcsctp_core.specs.spec.Packet.{content_in, packet_in};
 ghost use Rattle.dcsctp_core.specs.View.{core_of};
-ghost use Rattle.dcsctp_socket_calls.specs.Admission.{admission_of, refusal_text};
+ghost use Rattle.dcsctp_socket_calls.specs.Admission.{admission_of, admission_refusal_text};
 
 use crate::admission_texts::{
     EXPECTED, NOT_A_SINGLE_INIT, WRONG_ABORT_TAG, WRONG_SHUTDOWN_ACK_TAG,
@@ -119,7 +119,7 @@ fn bears_tag(state: &State, header: u32, tag_reflected: bool) -> bool
 
 // All chunks if this holds, else none, for this reason.
 fn admit_where(admitted: bool, refusal: Refusal) -> Admission
-    ensures { admission_of result ≡ admitted_where admitted (refusal_text refusal) }
+    ensures { admission_of result ≡ admitted_where admitted (admission_refusal_text refusal) }
 {
     if admitted {
         return Admission::AllChunks;
@@ -189,7 +189,7 @@ pub fn admit(state: &State, packet: &SctpPacket<'_>) -> Admission
 impl Refusal {
     /// The text of the error.
     pub fn text(&self, alloc: Global) -> Result<String, AllocError>
-        ensures { IfOk result (λ text. string_bytes text ≡ refusal_text self.now) }
+        ensures { IfOk result (λ text. string_bytes text ≡ admission_refusal_text self.now) }
     {
         match self {
             Refusal::WrongAbortTag => String::from_str(alloc, WRONG_ABORT_TAG),

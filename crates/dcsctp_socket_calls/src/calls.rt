@@ -6,12 +6,12 @@ ghost use Rattle.dcsctp_core.specs.spec.Packet.{content_in};
 ghost use Rattle.dcsctp_core.specs.spec.association.Acts.{abort_with, shut_down};
 ghost use Rattle.dcsctp_core.specs.types.Settings.{wire_options};
 ghost use Rattle.dcsctp_core.specs.spec.endpoint.TimeTurns.{Waits};
-ghost use Rattle.dcsctp_core.specs.spec.endpoint.Turn.{has_data};
+ghost use Rattle.dcsctp_core.specs.spec.endpoint.Turn.{has_data_chunk};
 ghost use Rattle.dcsctp_core.specs.api.Calls.{is_closed, takes_shutdown};
 ghost use Rattle.dcsctp_core.specs.View.{core_of, endpoint_of};
 ghost use Rattle.dcsctp_core.specs.Handling.{Tries};
-ghost use Rattle.dcsctp_core_ends.specs.Shutdown.{is_open};
-ghost use Rattle.dcsctp_socket_calls.specs.Parts.{begin_turn, WorksToEnd, WorksChunks, WorksWhole, WorksAck, WorksAcks, WorksPacket, WorksInput, WorksCall, ActTurns, WorksConnect};
+ghost use Rattle.dcsctp_core_ends.specs.Shutdown.{is_open_core};
+ghost use Rattle.dcsctp_socket_calls.specs.Parts.{begin_turn, WorksToEnd, WorksChunks, HandlesWholePacket, WorksAck, WorksAcks, WorksPacket, WorksInput, WorksCall, ActTurns, WorksConnect};
 ghost use Rattle.dcsctp_socket_calls.specs.TimeParts.{WorksTime};
 
 use crate::admission::{Admission, admit};
@@ -62,7 +62,7 @@ fn handle_chunks<R: Rng>(
 
 // Is there a DATA chunk among these?
 fn has_data(chunks: &[Chunk<'_>]) -> bool
-    ensures { result ≡ has_data (map content_in (map chunk_content chunks.now)) }
+    ensures { result ≡ has_data_chunk (map content_in (map chunk_content chunks.now)) }
 {
     for chunk in chunks {
         if let Chunk::Data(_) = chunk {
@@ -85,7 +85,7 @@ fn begin_packet<R: Rng>(context: &mut Context<R>, packet: &SctpPacket<'_>) -> Re
 
 // Handles a packet that is admitted whole.
 fn handle_whole<R: Rng>(context: &mut Context<R>, packet: &SctpPacket<'_>) -> Result<(), AllocError>
-    ensures { WorksWhole R.stream (packet_content packet.now) context.old result context.new }
+    ensures { HandlesWholePacket R.stream (packet_content packet.now) context.old result context.new }
 {
     begin_packet(context, packet)?;
     handle_chunks(context, packet)
@@ -97,7 +97,7 @@ fn answer_shutdown_ack<R: Rng>(
     header_tag: u32,
     chunk: &Chunk<'_>,
 ) -> Result<Following, AllocError>
-    requires { is_open (core_of context.old.state) ≡ false }
+    requires { is_open_core (core_of context.old.state) ≡ false }
     ensures { WorksAck R.stream header_tag (content_in (chunk_content chunk.now)) context.old result
         context.new }
 {
@@ -113,7 +113,7 @@ fn handle_shutdown_acks<R: Rng>(
     context: &mut Context<R>,
     packet: &SctpPacket<'_>,
 ) -> Result<(), AllocError>
-    requires { is_open (core_of context.old.state) ≡ false }
+    requires { is_open_core (core_of context.old.state) ≡ false }
     ensures { WorksAcks R.stream (packet_content packet.now) context.old result context.new }
 {
     let header_tag = packet.common_header.verification_tag;

@@ -5,7 +5,7 @@ ghost use Rattle.dcsctp_core.specs.wire.Content.{chunk_content};
 ghost use Rattle.dcsctp_core.specs.spec.Packet.{content_in};
 ghost use Rattle.dcsctp_core.specs.View.{core_of};
 ghost use Rattle.dcsctp_core_ends.specs.Ends.{violation_in};
-ghost use Rattle.dcsctp_socket_calls.specs.Parts.{WorksChunk};
+ghost use Rattle.dcsctp_socket_calls.specs.Parts.{HandlesChunk};
 
 use crate::unknown::handle_unknown;
 use dcsctp_core::types::AbortReason;
@@ -31,7 +31,7 @@ pub(crate) fn handle_chunk<R: Rng>(
     header_tag: u32,
     chunk: &Chunk<'_>,
 ) -> Result<Following, AllocError>
-    ensures { WorksChunk R.stream header_tag (content_in (chunk_content chunk.now)) context.old
+    ensures { HandlesChunk R.stream header_tag (content_in (chunk_content chunk.now)) context.old
         result context.new }
 {
     match violation_of(&context.state, chunk) {
@@ -50,7 +50,7 @@ fn dispatch_chunk<R: Rng>(
     chunk: &Chunk<'_>,
 ) -> Result<Following, AllocError>
     requires { violation_in (core_of context.old.state) (content_in (chunk_content chunk.now)) ≡ None }
-    ensures { WorksChunk R.stream header_tag (content_in (chunk_content chunk.now)) context.old
+    ensures { HandlesChunk R.stream header_tag (content_in (chunk_content chunk.now)) context.old
         result context.new }
 {
     match chunk {

@@ -4,8 +4,8 @@ ghost use Rattle.std.specs.Prelude.{◌≡◌, ◌-◌, false, take, IfOk, [], �
 ghost use Rattle.dcsctp_core.specs.wire.Content.{error_chunk, unrecognized_chunk_type};
 ghost use Rattle.dcsctp_core.specs.types.Settings.{packet_size_limit};
 ghost use Rattle.dcsctp_core.specs.spec.endpoint.PlainOutcomes.{is_reported, after_unknown, unknown_text, unknown_bytes};
-ghost use Rattle.dcsctp_core.specs.Handling.{Emits, Takes, Tries, Works, following_of};
-ghost use Rattle.dcsctp_socket_calls.specs.Unknown.{unknown_turn, told_turn, reported_turn};
+ghost use Rattle.dcsctp_core.specs.Handling.{Emits, TakesTurn, Tries, HandlesTurn, following_of};
+ghost use Rattle.dcsctp_socket_calls.specs.Unknown.{unknown_turn, unknown_chunk_turn, reported_turn};
 
 use dcsctp_core::api::ErrorKind;
 use dcsctp_core::wire::{Chunk, ErrorCause, ErrorChunk, UnknownChunk};
@@ -94,7 +94,7 @@ fn report_to_peer<R: Rng>(
 // Tells the user of the chunk, and the peer, if it is known. `Err`: an allocation failed; the first of its
 // events may already have been added.
 fn tell<R: Rng>(context: &mut Context<R>, chunk: &UnknownChunk<'_>) -> Result<(), AllocError>
-    ensures { Takes R.stream (told_turn chunk.now.chunk_type (unknown_bytes chunk.now.chunk_type
+    ensures { TakesTurn R.stream (unknown_chunk_turn chunk.now.chunk_type (unknown_bytes chunk.now.chunk_type
         chunk.now.flags chunk.now.value.now)) context.old result context.new }
 {
     let text = text_of(context.alloc, chunk.chunk_type)?;
@@ -112,7 +112,7 @@ pub(crate) fn handle_unknown<R: Rng>(
     context: &mut Context<R>,
     chunk: &UnknownChunk<'_>,
 ) -> Result<Following, AllocError>
-    ensures { Works R.stream (unknown_turn chunk.now.chunk_type chunk.now.flags chunk.now.value.now)
+    ensures { HandlesTurn R.stream (unknown_turn chunk.now.chunk_type chunk.now.flags chunk.now.value.now)
         context.old result context.new }
 {
     if is_reported(chunk.chunk_type) {

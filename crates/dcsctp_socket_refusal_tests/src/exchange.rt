@@ -1,7 +1,7 @@
 //! What an exchange of packets is: what each side does, step by step, and which events follow.
 
 use crate::shown::Shown;
-use dcsctp_refusal_testing::{How, Told, is_told};
+use dcsctp_refusal_testing::{ExpectedEvent, How, is_told};
 use dcsctp_socket::{HandoverReadiness, Options, ResetStreamsError, SocketEvent, StreamId};
 use dcsctp_testing::Counting;
 
@@ -117,7 +117,7 @@ pub enum Memoryless {
 }
 
 /// One step: which side, what it does, and what it tells then.
-pub type Step = (Name, Act, &'static [Told]);
+pub type Step = (Name, Act, &'static [ExpectedEvent]);
 
 /// An exchange.
 pub struct Exchange {
@@ -151,7 +151,7 @@ impl Exchange {
     }
 
     /// What a side tells in a step: nothing if it is the other side's.
-    pub fn tells_at(&self, name: Name, index: usize) -> &'static [Told] {
+    pub fn tells_at(&self, name: Name, index: usize) -> &'static [ExpectedEvent] {
         match self.steps.get(index) {
             Some((side, _, tells)) if *side == name => tells,
             Some(_) | None => &[],

@@ -11,8 +11,8 @@ use crate::exchange::Memoryless::{
 };
 use crate::exchange::Name::{A, B};
 use crate::shown::Shown;
+use dcsctp_refusal_testing::ExpectedEvent::{Event, Packet};
 use dcsctp_refusal_testing::How::{Named, Plain};
-use dcsctp_refusal_testing::Told::{Event, Packet};
 use dcsctp_refusal_testing::{
     ABORT, COOKIE_ACK, COOKIE_ECHO, DATA, INIT, INIT_ACK, SACK, SHUTDOWN, SHUTDOWN_ACK,
     SHUTDOWN_COMPLETE,

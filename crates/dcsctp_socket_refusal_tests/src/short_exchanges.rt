@@ -10,8 +10,8 @@ use crate::exchange::Act::{
 use crate::exchange::Exchange;
 use crate::exchange::Memoryless::{RefusesHandover, RefusesReset, RefusesRestore};
 use crate::exchange::Name::{A, B};
+use dcsctp_refusal_testing::ExpectedEvent::{Event, Packet};
 use dcsctp_refusal_testing::How::{Plain, Unordered};
-use dcsctp_refusal_testing::Told::{Event, Packet};
 use dcsctp_refusal_testing::{
     ABORT, COOKIE_ACK, COOKIE_ECHO, DATA, INIT, INIT_ACK, RE_CONFIG, SACK,
 };

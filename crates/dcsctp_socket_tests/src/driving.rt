@@ -1,7 +1,7 @@
 //! The loop that README shows.
 
 use crate::checks::same;
-use dcsctp_example::{Told, client, drain, say, serve};
+use dcsctp_example::{SocketOutput, client, drain, say, serve};
 use dcsctp_socket::{
     DcSctpSocket, ErrorKind, Options, PpId, Socket, SocketEvent, SocketTime, StreamId,
 };
@@ -36,7 +36,7 @@ fn incoming(rt: &impl Abort, alloc: Global) -> Vec<Vec<u8>> {
 }
 
 // INIT and COOKIE ECHO have to come, and an error.
-fn connects(rt: &impl Abort, alloc: Global, told: &Told) {
+fn connects(rt: &impl Abort, alloc: Global, told: &SocketOutput) {
     let [init, cookie_echo] = told.packets.as_slice() else {
         rt.panic("there are not two packets")
     };
@@ -66,8 +66,8 @@ fn a_client_is_driven_by_a_loop(rt: HostRuntime) {
 }
 
 // Nothing was given yet.
-fn nothing_told(alloc: Global) -> Told {
-    Told {
+fn nothing_told(alloc: Global) -> SocketOutput {
+    SocketOutput {
         packets: Vec::new(alloc),
         messages: Vec::new(alloc),
         events: Vec::new(alloc),
@@ -75,7 +75,12 @@ fn nothing_told(alloc: Global) -> Told {
 }
 
 // Hands the packets that one socket gave to the other.
-fn hand_over<S: DcSctpSocket>(rt: &impl Abort, from: &mut Told, to: &mut S, told: &mut Told) {
+fn hand_over<S: DcSctpSocket>(
+    rt: &impl Abort,
+    from: &mut SocketOutput,
+    to: &mut S,
+    told: &mut SocketOutput,
+) {
     for packet in &from.packets {
         let _due = serve(to, SocketTime::zero(), Some(packet), told).expect(rt, "a call failed");
     }

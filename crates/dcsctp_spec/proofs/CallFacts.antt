@@ -8,9 +8,9 @@ use Rattle.dcsctp_spec.specs.Packet.{Content, shutdown, cookie_ack, shutdown_ack
 use Rattle.dcsctp_spec.specs.endpoint.Endpoint.{Endpoint, open_in, established, shutdown_sent}
 use Rattle.dcsctp_spec.specs.endpoint.Outcome.{Outcome, still}
 use Rattle.dcsctp_spec.specs.endpoint.Following.{next_chunk, packet_end, dropped_rest}
-use Rattle.dcsctp_spec.specs.endpoint.Turn.{Input, chunk_input, BeginTurn, has_data}
+use Rattle.dcsctp_spec.specs.endpoint.Turn.{Input, chunk_input, BeginTurn, has_data_chunk}
 use Rattle.dcsctp_spec.specs.endpoint.ShutdownOutcomes.{shutdown_repeated}
-use Rattle.dcsctp_spec.specs.endpoint.CallTurns.{Turned, turned, IsTurn, Turns, ChunkTurns}
+use Rattle.dcsctp_spec.specs.endpoint.CallTurns.{Transition, transition, IsTurn, Turns, ChunkTurns}
 
 -- ---- before the chunks
 
@@ -23,39 +23,39 @@ with_sack = shutdown 5 ∷ plain (unworked (sack_chunk (record { cumulative_tsn_
 
 -- Where a SHUTDOWN waits for its answer, data is answered by another;
 data_asks : (e : Endpoint) (mine : Pair) (held : Held) (o : Outcome)
-    → BeginTurn e (open_in shutdown_sent mine held) (has_data with_data) o ≡ (o ≡ shutdown_repeated e held)
+    → BeginTurn e (open_in shutdown_sent mine held) (has_data_chunk with_data) o ≡ (o ≡ shutdown_repeated e held)
 data_asks e mine held o = refl
 
 -- an acknowledgement isn't,
 sack_rests : (e : Endpoint) (mine : Pair) (held : Held) (o : Outcome)
-    → BeginTurn e (open_in shutdown_sent mine held) (has_data with_sack) o ≡ (o ≡ still e)
+    → BeginTurn e (open_in shutdown_sent mine held) (has_data_chunk with_sack) o ≡ (o ≡ still e)
 sack_rests e mine held o = refl
 
 -- nor is data where the association is established.
 data_rests : (e : Endpoint) (mine : Pair) (held : Held) (o : Outcome)
-    → BeginTurn e (open_in established mine held) (has_data with_data) o ≡ (o ≡ still e)
+    → BeginTurn e (open_in established mine held) (has_data_chunk with_data) o ≡ (o ≡ still e)
 data_rests e mine held o = refl
 
 -- ---- after a chunk
 
 -- The first of two chunks has had its turn, with an outcome that is made up.
-abbrev worked_first : Outcome → Turned
-worked_first o = turned (chunk_input 7 cookie_ack) o
+abbrev worked_first : Outcome → Transition
+worked_first o = transition (chunk_input 7 cookie_ack) o
 
 -- Where it goes on, the second has its turn.
-second_is_worked : (e : Endpoint) (ends : List Input) (turns : List Turned) → let o : Outcome = record (still e) { following = next_chunk } in
+second_is_worked : (e : Endpoint) (ends : List Input) (turns : List Transition) → let o : Outcome = record (still e) { following = next_chunk } in
     ChunkTurns e 7 (cookie_ack ∷ shutdown_ack ∷ []) ends (worked_first o ∷ turns)
     ≡ (IsTurn e (chunk_input 7 cookie_ack) (worked_first o) × ChunkTurns e 7 (shutdown_ack ∷ []) ends turns)
 second_is_worked e ends turns = refl
 
 -- Where no other chunk is worked, the packet's end comes all the same;
-end_comes : (e : Endpoint) (ends : List Input) (turns : List Turned) → let o : Outcome = record (still e) { following = packet_end } in
+end_comes : (e : Endpoint) (ends : List Input) (turns : List Transition) → let o : Outcome = record (still e) { following = packet_end } in
     ChunkTurns e 7 (cookie_ack ∷ shutdown_ack ∷ []) ends (worked_first o ∷ turns)
     ≡ (IsTurn e (chunk_input 7 cookie_ack) (worked_first o) × Turns e ends turns)
 end_comes e ends turns = refl
 
 -- and where the rest is dropped, nothing does.
-nothing_comes : (e : Endpoint) (ends : List Input) (turns : List Turned) → let o : Outcome = record (still e) { following = dropped_rest } in
+nothing_comes : (e : Endpoint) (ends : List Input) (turns : List Transition) → let o : Outcome = record (still e) { following = dropped_rest } in
     ChunkTurns e 7 (cookie_ack ∷ shutdown_ack ∷ []) ends (worked_first o ∷ turns)
     ≡ (IsTurn e (chunk_input 7 cookie_ack) (worked_first o) × (turns ≡ []))
 nothing_comes e ends turns = refl

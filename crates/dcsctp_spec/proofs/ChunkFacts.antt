@@ -3,7 +3,7 @@
 use Rattle.std.proofs.Common.{◌≡◌, ℕ, true, false, List, [], ◌∷◌, refl}
 use Rattle.std.specs.Prelude.{codes}
 use Rattle.dcsctp_types.specs.wire.declared.reconfiguration.ReconfigurationResponseResult.TheVariants.{SuccessNothingToDo, SuccessPerformed, Denied, ErrorWrongSSN, ErrorRequestAlreadyInProgress, ErrorBadSequenceNumber, InProgress}
-use Rattle.dcsctp_types.specs.wire.Spelling.{result_code, parameter_bytes, parameters_len, list_bytes, other_bytes, header_bytes, checksum_field, packet_bytes_of, chunk_bytes}
+use Rattle.dcsctp_types.specs.wire.Spelling.{result_code, parameter_bytes, parameters_len, parameter_chunk_bytes, other_bytes, header_bytes, checksum_field, packet_bytes_of, chunk_bytes}
 use Rattle.dcsctp_spec.specs.endpoint.Cause.{missing_mandatory_parameter, cookie_received_while_shutting_down, user_initiated_abort, protocol_violation}
 use Rattle.dcsctp_types.specs.wire.Content.{unknown_cause, unknown_parameter}
 use Rattle.dcsctp_spec.specs.Reconfiguration.{outgoing_reset_request, incoming_reset_request, reconfiguration_response, other_reset_parameter}
@@ -44,51 +44,51 @@ shutdown_complete_has_t_bit = refl
 -- ---- ABORT and error causes (RFC 9260, sections 3.3.7 and 3.3.10)
 
 abort_is_6 : bytes_of (abort false []) ≡ 6 ∷ 0 ∷ 0 ∷ 4 ∷ []
-unfolding parameters_len list_bytes
+unfolding parameters_len parameter_chunk_bytes
 abort_is_6 = refl
 
 abort_has_t_bit : bytes_of (abort true []) ≡ 6 ∷ 1 ∷ 0 ∷ 4 ∷ []
-unfolding parameters_len list_bytes
+unfolding parameters_len parameter_chunk_bytes
 abort_has_t_bit = refl
 
 -- The State Cookie, parameter 7, is missing. Two bytes of padding are no part of the length.
 missing_parameter_is_2 : bytes_of (abort false (missing_mandatory_parameter (7 ∷ []) ∷ []))
     ≡ 6 ∷ 0 ∷ 0 ∷ 14 ∷ 0 ∷ 2 ∷ 0 ∷ 10 ∷ 0 ∷ 0 ∷ 0 ∷ 1 ∷ 0 ∷ 7 ∷ 0 ∷ 0 ∷ []
-unfolding parameter_bytes parameters_len list_bytes
+unfolding parameter_bytes parameters_len parameter_chunk_bytes
 missing_parameter_is_2 = refl
 
 two_missing_parameters : bytes_of (abort false (missing_mandatory_parameter (7 ∷ 0x8008 ∷ []) ∷ []))
     ≡ 6 ∷ 0 ∷ 0 ∷ 16 ∷ 0 ∷ 2 ∷ 0 ∷ 12 ∷ 0 ∷ 0 ∷ 0 ∷ 2 ∷ 0 ∷ 7 ∷ 0x80 ∷ 8 ∷ []
-unfolding parameter_bytes parameters_len list_bytes
+unfolding parameter_bytes parameters_len parameter_chunk_bytes
 two_missing_parameters = refl
 
 cookie_while_shutting_down_is_10 : bytes_of (abort false (cookie_received_while_shutting_down ∷ [])) ≡ 6 ∷ 0 ∷ 0 ∷ 8 ∷ 0 ∷ 10 ∷ 0 ∷ 4 ∷ []
-unfolding parameter_bytes parameters_len list_bytes
+unfolding parameter_bytes parameters_len parameter_chunk_bytes
 cookie_while_shutting_down_is_10 = refl
 
 -- in an ERROR chunk, type 9
 error_is_9 : bytes_of shutting_down_error ≡ 9 ∷ 0 ∷ 0 ∷ 8 ∷ 0 ∷ 10 ∷ 0 ∷ 4 ∷ []
-unfolding parameter_bytes parameters_len list_bytes
+unfolding parameter_bytes parameters_len parameter_chunk_bytes
 error_is_9 = refl
 
 user_initiated_abort_is_12 : bytes_of (abort false (user_initiated_abort (codes "Close called") ∷ []))
     ≡ 6 ∷ 0 ∷ 0 ∷ 20 ∷ 0 ∷ 12 ∷ 0 ∷ 16 ∷ 0x43 ∷ 0x6c ∷ 0x6f ∷ 0x73 ∷ 0x65 ∷ 0x20 ∷ 0x63 ∷ 0x61 ∷ 0x6c ∷ 0x6c ∷ 0x65 ∷ 0x64 ∷ []
-unfolding parameter_bytes parameters_len list_bytes
+unfolding parameter_bytes parameters_len parameter_chunk_bytes
 user_initiated_abort_is_12 = refl
 
 protocol_violation_is_13 : bytes_of (abort false (protocol_violation (codes "bad") ∷ [])) ≡ 6 ∷ 0 ∷ 0 ∷ 11 ∷ 0 ∷ 13 ∷ 0 ∷ 7 ∷ 0x62 ∷ 0x61 ∷ 0x64 ∷ 0 ∷ []
-unfolding parameter_bytes parameters_len list_bytes
+unfolding parameter_bytes parameters_len parameter_chunk_bytes
 protocol_violation_is_13 = refl
 
 -- The padding of the first cause counts, and that of the last doesn't.
 two_causes : bytes_of (abort false (protocol_violation (codes "x") ∷ missing_mandatory_parameter (7 ∷ []) ∷ []))
     ≡ 6 ∷ 0 ∷ 0 ∷ 22 ∷ 0 ∷ 13 ∷ 0 ∷ 5 ∷ 0x78 ∷ 0 ∷ 0 ∷ 0 ∷ 0 ∷ 2 ∷ 0 ∷ 10 ∷ 0 ∷ 0 ∷ 0 ∷ 1 ∷ 0 ∷ 7 ∷ 0 ∷ 0 ∷ []
-unfolding parameter_bytes parameters_len list_bytes
+unfolding parameter_bytes parameters_len parameter_chunk_bytes
 two_causes = refl
 
 -- Out of Resource, a cause without a value (RFC 9260, section 3.3.10.4)
 out_of_resource : bytes_of (abort false (unknown_cause 4 [] ∷ [])) ≡ 6 ∷ 0 ∷ 0 ∷ 8 ∷ 0 ∷ 4 ∷ 0 ∷ 4 ∷ []
-unfolding parameter_bytes parameters_len list_bytes
+unfolding parameter_bytes parameters_len parameter_chunk_bytes
 out_of_resource = refl
 
 -- ---- RE-CONFIG (RFC 6525, sections 3.1 and 4)
@@ -96,42 +96,42 @@ out_of_resource = refl
 -- One stream: the parameter is 18 bytes long, the chunk 22, and two bytes of padding follow.
 outgoing_request_is_13 : bytes_of (re_config (outgoing_reset_request 0x01020304 0x05060708 (record { last_tsn = 0x090a0b0c; streams = 0x0d0e ∷ [] }) ∷ []))
     ≡ 130 ∷ 0 ∷ 0 ∷ 22 ∷ 0 ∷ 13 ∷ 0 ∷ 18 ∷ 1 ∷ 2 ∷ 3 ∷ 4 ∷ 5 ∷ 6 ∷ 7 ∷ 8 ∷ 9 ∷ 10 ∷ 11 ∷ 12 ∷ 13 ∷ 14 ∷ 0 ∷ 0 ∷ []
-unfolding parameter_bytes parameters_len list_bytes
+unfolding parameter_bytes parameters_len parameter_chunk_bytes
 outgoing_request_is_13 = refl
 
 two_streams_have_no_padding : bytes_of (re_config (outgoing_reset_request 1 2 (record { last_tsn = 3; streams = 4 ∷ 5 ∷ [] }) ∷ []))
     ≡ 130 ∷ 0 ∷ 0 ∷ 24 ∷ 0 ∷ 13 ∷ 0 ∷ 20 ∷ 0 ∷ 0 ∷ 0 ∷ 1 ∷ 0 ∷ 0 ∷ 0 ∷ 2 ∷ 0 ∷ 0 ∷ 0 ∷ 3 ∷ 0 ∷ 4 ∷ 0 ∷ 5 ∷ []
-unfolding parameter_bytes parameters_len list_bytes
+unfolding parameter_bytes parameters_len parameter_chunk_bytes
 two_streams_have_no_padding = refl
 
 incoming_request_is_14 : bytes_of (re_config (incoming_reset_request 0x01020304 (5 ∷ 6 ∷ 7 ∷ []) ∷ []))
     ≡ 130 ∷ 0 ∷ 0 ∷ 18 ∷ 0 ∷ 14 ∷ 0 ∷ 14 ∷ 1 ∷ 2 ∷ 3 ∷ 4 ∷ 0 ∷ 5 ∷ 0 ∷ 6 ∷ 0 ∷ 7 ∷ 0 ∷ 0 ∷ []
-unfolding parameter_bytes parameters_len list_bytes
+unfolding parameter_bytes parameters_len parameter_chunk_bytes
 incoming_request_is_14 = refl
 
 -- No stream number stands for all streams.
 request_for_all_streams : bytes_of (re_config (incoming_reset_request 0x01020304 [] ∷ [])) ≡ 130 ∷ 0 ∷ 0 ∷ 12 ∷ 0 ∷ 14 ∷ 0 ∷ 8 ∷ 1 ∷ 2 ∷ 3 ∷ 4 ∷ []
-unfolding parameter_bytes parameters_len list_bytes
+unfolding parameter_bytes parameters_len parameter_chunk_bytes
 request_for_all_streams = refl
 
 response_is_16 : bytes_of (re_config (reconfiguration_response 0x01020304 InProgress ∷ [])) ≡ 130 ∷ 0 ∷ 0 ∷ 16 ∷ 0 ∷ 16 ∷ 0 ∷ 12 ∷ 1 ∷ 2 ∷ 3 ∷ 4 ∷ 0 ∷ 0 ∷ 0 ∷ 6 ∷ []
-unfolding parameter_bytes parameters_len list_bytes
+unfolding parameter_bytes parameters_len parameter_chunk_bytes
 response_is_16 = refl
 
 -- The padding of a request counts where a response stands behind it, and doesn't where it is the last.
 request_before_response : bytes_of (re_config (outgoing_reset_request 1 2 (record { last_tsn = 3; streams = 4 ∷ [] }) ∷ reconfiguration_response 5 SuccessPerformed ∷ []))
     ≡ 130 ∷ 0 ∷ 0 ∷ 36 ∷ 0 ∷ 13 ∷ 0 ∷ 18 ∷ 0 ∷ 0 ∷ 0 ∷ 1 ∷ 0 ∷ 0 ∷ 0 ∷ 2 ∷ 0 ∷ 0 ∷ 0 ∷ 3 ∷ 0 ∷ 4 ∷ 0 ∷ 0 ∷ 0 ∷ 16 ∷ 0 ∷ 12 ∷ 0 ∷ 0 ∷ 0 ∷ 5 ∷ 0 ∷ 0 ∷ 0 ∷ 1 ∷ []
-unfolding parameter_bytes parameters_len list_bytes
+unfolding parameter_bytes parameters_len parameter_chunk_bytes
 request_before_response = refl
 
 request_after_response : bytes_of (re_config (reconfiguration_response 5 SuccessPerformed ∷ outgoing_reset_request 1 2 (record { last_tsn = 3; streams = 4 ∷ [] }) ∷ []))
     ≡ 130 ∷ 0 ∷ 0 ∷ 34 ∷ 0 ∷ 16 ∷ 0 ∷ 12 ∷ 0 ∷ 0 ∷ 0 ∷ 5 ∷ 0 ∷ 0 ∷ 0 ∷ 1 ∷ 0 ∷ 13 ∷ 0 ∷ 18 ∷ 0 ∷ 0 ∷ 0 ∷ 1 ∷ 0 ∷ 0 ∷ 0 ∷ 2 ∷ 0 ∷ 0 ∷ 0 ∷ 3 ∷ 0 ∷ 4 ∷ 0 ∷ 0 ∷ []
-unfolding parameter_bytes parameters_len list_bytes
+unfolding parameter_bytes parameters_len parameter_chunk_bytes
 request_after_response = refl
 
 -- SSN/TSN Reset Request (RFC 6525, section 4.3)
 another_parameter : bytes_of (re_config (other_reset_parameter (unknown_parameter 15 (1 ∷ 2 ∷ 3 ∷ 4 ∷ [])) ∷ [])) ≡ 130 ∷ 0 ∷ 0 ∷ 12 ∷ 0 ∷ 15 ∷ 0 ∷ 8 ∷ 1 ∷ 2 ∷ 3 ∷ 4 ∷ []
-unfolding parameter_bytes parameters_len list_bytes
+unfolding parameter_bytes parameters_len parameter_chunk_bytes
 another_parameter = refl
 
 -- results (RFC 6525, section 4.4)

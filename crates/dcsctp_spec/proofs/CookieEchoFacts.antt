@@ -30,7 +30,7 @@ made e waiting packets_sent =
       tie = 55;
       outstanding = None;
       timers = record stopped_timers { heartbeat_interval = heartbeats_due 35_000_000_000 30_000_000_000; heartbeat_timeout = e.timers.heartbeat_timeout };
-      below = record { queue = waiting; transfer = transfer_begun 1191 11910 4764 };
+      queues = record { queue = waiting; transfer = transfer_begun 1191 11910 4764 };
       left = [];
     }
 
@@ -43,7 +43,7 @@ unfolding cookie_at
 echo_where_closed e = refl
 
 -- By the RFC's rules it begins again.
-echo_where_closed_by_rfc : (e : Endpoint) → (cookie_echo_outcome (by_rfc (socket e 1191 (pos 4) closed 4)) closed 7 (cookie_at (own_cookie 0)) 55).after.below.queue ≡ queue_at_start
+echo_where_closed_by_rfc : (e : Endpoint) → (cookie_echo_outcome (by_rfc (socket e 1191 (pos 4) closed 4)) closed 7 (cookie_at (own_cookie 0)) 55).after.queues.queue ≡ queue_at_start
 unfolding cookie_at
 echo_where_closed_by_rfc e = refl
 

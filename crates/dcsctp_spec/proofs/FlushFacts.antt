@@ -6,10 +6,10 @@ use Rattle.dcsctp_types.specs.wire.declared.chunk.user_data.DataFlags.{DataFlags
 use Rattle.dcsctp_types.specs.wire.Content.{data_chunk}
 use Rattle.dcsctp_spec.specs.endpoint.Event.{buffered_amount_low, lifecycle_message_fully_sent}
 use Rattle.dcsctp_spec.specs.Packet.{Plain, plain, unworked, cookie_ack, Emission}
-use Rattle.dcsctp_spec.specs.queues.Transfer.{Below}
+use Rattle.dcsctp_spec.specs.queues.Transfer.{EndpointQueues}
 use Rattle.dcsctp_spec.specs.endpoint.Endpoint.{Endpoint, cookie_echoed, open_in, established}
 use Rattle.dcsctp_spec.specs.endpoint.Following.{next_chunk}
-use Rattle.dcsctp_spec.specs.endpoint.FlushOutcomes.{Answer, Told, amount_is_low, message_is_sent, flush_of, packets_allowed}
+use Rattle.dcsctp_spec.specs.endpoint.FlushOutcomes.{Answer, FillingEvent, amount_is_low, message_is_sent, flush_of, packets_allowed}
 use Rattle.dcsctp_spec.proofs.HandshakeTurnFacts.{socket, mine, held, packet_of}
 
 -- the flags of a whole message
@@ -27,8 +27,8 @@ second = unworked (data_chunk (record { flags = whole; tsn = 101; stream_id = 1;
 abbrev flushing : Endpoint → ℕ → Endpoint
 flushing e count = socket e 1191 (pos 4) (open_in established mine held) count
 
-abbrev answering : Endpoint → List Plain → List Told → Below → Answer
-answering e chunks told below = record { acknowledgements = []; begun = None; data_chunks = chunks; told = told; after = record e { below = below } }
+abbrev answering : Endpoint → List Plain → List FillingEvent → EndpointQueues → Answer
+answering e chunks told below = record { acknowledgements = []; begun = None; data_chunks = chunks; told = told; after = record e { queues = below } }
 
 abbrev acknowledgement : Emission
 acknowledgement = record { with_checksum = false; packet = record { tag = 9; contents = cookie_ack ∷ [] } }
@@ -36,25 +36,25 @@ acknowledgement = record { with_checksum = false; packet = record { tag = 9; con
 -- The first packet takes one message behind its COOKIE ACK, and the second takes the other message, under
 -- the peer's tag 9. The user is told what fell before the packet that it fell for, and the transfer layer is as the second
 -- answer leaves it.
-two_packets : (e : Endpoint) (one two : Below) → flush_of (flushing e 4) acknowledgement
+two_packets : (e : Endpoint) (one two : EndpointQueues) → flush_of (flushing e 4) acknowledgement
     (answering (flushing e 4) (first ∷ []) [] one
     ∷ answering (flushing e 5) (second ∷ []) (amount_is_low 1 ∷ message_is_sent 7 ∷ []) two ∷ [])
     ≡ record {
       words = [];
       effects = [];
-      after = record (flushing e 6) { below = two };
+      after = record (flushing e 6) { queues = two };
       events = packet_of false 9 (cookie_ack ∷ plain first ∷ []) ∷ buffered_amount_low 1 ∷ lifecycle_message_fully_sent 7 ∷ packet_of false 9 (plain second ∷ []) ∷ [];
       following = next_chunk;
     }
 two_packets e one two = refl
 
 -- The second ask finds nothing: an empty packet isn't sent, and not counted.
-one_packet : (e : Endpoint) (one two : Below) → flush_of (flushing e 4) acknowledgement
+one_packet : (e : Endpoint) (one two : EndpointQueues) → flush_of (flushing e 4) acknowledgement
     (answering (flushing e 4) (first ∷ []) [] one ∷ answering (flushing e 5) [] [] two ∷ [])
     ≡ record {
       words = [];
       effects = [];
-      after = record (flushing e 5) { below = two };
+      after = record (flushing e 5) { queues = two };
       events = packet_of false 9 (cookie_ack ∷ plain first ∷ []) ∷ [];
       following = next_chunk;
     }

@@ -12,7 +12,7 @@ use Rattle.dcsctp_spec.specs.queues.Reassembly.{ReassemblyState, bytes_to_waterm
 use Rattle.dcsctp_spec.specs.queues.SendQueue.{SendQueueState, empty_queue}
 use Rattle.dcsctp_spec.specs.queues.Sending.{next_turn}
 use Rattle.dcsctp_spec.specs.queues.Tracker.{TrackerState, observed, hastened, is_below_highest}
-use Rattle.dcsctp_spec.specs.queues.Transfer.{Transfer, window_told}
+use Rattle.dcsctp_spec.specs.queues.Transfer.{Transfer, advertised_window}
 use Rattle.dcsctp_spec.specs.endpoint.DataOutcomes.{heeds_window, opens_window, taken_to}
 use Rattle.dcsctp_spec.specs.endpoint.Endpoint.{Endpoint}
 use Rattle.dcsctp_spec.specs.endpoint.EndOutcomes.{closed_after}
@@ -71,10 +71,10 @@ answered : (transfer : Transfer) → (dropping true (full true transfer)).tracke
 answered transfer = refl
 
 -- Nothing is left for new data, though a byte is left of the window.
-nothing_told : (transfer : Transfer) → window_told (full true transfer) ≡ 0
+nothing_told : (transfer : Transfer) → advertised_window (full true transfer) ≡ 0
 nothing_told transfer = refl
 
-one_told_by_port : (transfer : Transfer) → window_told (full false transfer) ≡ 1
+one_told_by_port : (transfer : Transfer) → advertised_window (full false transfer) ≡ 1
 one_told_by_port transfer = refl
 
 -- A window of 15 bytes has room for new data up to 13.5 of them, so with 13 in use one more is told.
@@ -160,7 +160,7 @@ by_option options = refl
 -- an association with two messages that are ready, and none that an earlier one left
 abbrev ending : Bool → Endpoint → Transfer → Endpoint
 ending follows e transfer =
-    record e { options = record e.options { follow_rfc = follows }; below = record e.below { transfer = Some (full follows transfer) }; left = [] }
+    record e { options = record e.options { follow_rfc = follows }; queues = record e.queues { transfer = Some (full follows transfer) }; left = [] }
 
 both_are_left : (e : Endpoint) (transfer : Transfer) → (closed_after (ending true e transfer)).left ≡ message 5 ∷ message 4 ∷ []
 both_are_left e transfer = refl
@@ -169,11 +169,11 @@ none_is_left_by_port : (e : Endpoint) (transfer : Transfer) → (closed_after (e
 none_is_left_by_port e transfer = refl
 
 -- An association that wasn't there leaves those of the one before.
-earlier_are_left : (e : Endpoint) → (closed_after (record e { below = record e.below { transfer = None }; left = message 5 ∷ [] })).left ≡ message 5 ∷ []
+earlier_are_left : (e : Endpoint) → (closed_after (record e { queues = record e.queues { transfer = None }; left = message 5 ∷ [] })).left ≡ message 5 ∷ []
 earlier_are_left e = refl
 
 -- The older one is taken first.
 left_is_taken : (e : Endpoint) (o : Outcome)
-    → Turn (record e { below = record e.below { transfer = None }; left = message 5 ∷ message 4 ∷ [] }) user_takes o
-    → o ≡ still (record e { below = record e.below { transfer = None }; left = message 4 ∷ [] })
+    → Turn (record e { queues = record e.queues { transfer = None }; left = message 5 ∷ message 4 ∷ [] }) user_takes o
+    → o ≡ still (record e { queues = record e.queues { transfer = None }; left = message 4 ∷ [] })
 left_is_taken e o taken = taken

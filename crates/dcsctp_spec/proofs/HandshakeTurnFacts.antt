@@ -3,7 +3,7 @@
 use Rattle.std.proofs.Common.{◌≡◌, ℕ, Bool, true, false, Option, None, Some, List, [], ◌∷◌, refl}
 use Rattle.std.specs.Prelude.{ℤ, pos, negsuc, codes}
 use Rattle.dcsctp_types.specs.wire.declared.reconfiguration.ReconfigurationResponseResult.TheVariants.{SuccessNothingToDo}
-use Rattle.dcsctp_types.specs.wire.Spelling.{parameter_bytes, parameters_len, init_fields, list_bytes, other_bytes}
+use Rattle.dcsctp_types.specs.wire.Spelling.{parameter_bytes, parameters_len, init_fields, parameter_chunk_bytes, other_bytes}
 use Rattle.dcsctp_types.specs.declared.association.Pair.{Pair}
 use Rattle.dcsctp_types.specs.declared.association.Held.{Held}
 use Rattle.dcsctp_types.specs.declared.kinds.BackoffAlgorithm.TheVariants.{Fixed, Exponential}
@@ -23,7 +23,7 @@ use Rattle.dcsctp_spec.specs.queues.Transfer.{Transfer}
 use Rattle.dcsctp_spec.specs.endpoint.Endpoint.{Endpoint, Core, closed, cookie_wait, cookie_echoed, open_in, established, stopped_timers}
 use Rattle.dcsctp_spec.specs.endpoint.Timers.{RunningTimer}
 use Rattle.dcsctp_spec.specs.endpoint.Following.{next_chunk, dropped_rest}
-use Rattle.dcsctp_spec.specs.association.Effect.{Link, draws, holds, connects, ends}
+use Rattle.dcsctp_spec.specs.association.Effect.{AssociationIdentity, draws, holds, connects, ends}
 use Rattle.dcsctp_spec.specs.endpoint.EndOutcomes.{closed_after}
 use Rattle.dcsctp_spec.specs.endpoint.HandshakeOutcomes.{connect_outcome, implementation_of, init_ack_outcome, cookie_ack_outcome}
 
@@ -109,7 +109,7 @@ socket e mtu max_burst core packets_sent =
       core = core;
       tie = 77;
       counts = record { packets_received = 3; packets_sent = packets_sent; messages_queued = 5 };
-      below = record { queue = queue; transfer = None };
+      queues = record { queue = queue; transfer = None };
     }
 
 -- with the RFC's rules
@@ -192,7 +192,7 @@ transfer_begun mtu cwnd least =
     })
 
 -- the association that the two hold
-abbrev pub link : Link
+abbrev pub link : AssociationIdentity
 link = record { my = mine; peer = held.peer; capabilities = held.capabilities }
 
 abbrev pub packet_of : Bool → ℕ → List Content → Event Emission
@@ -217,13 +217,13 @@ connect_sends_init : (e : Endpoint) → connect_outcome (socket e 52 (pos 4) clo
       }) ∷ []) ∷ [];
       following = next_chunk;
     }
-unfolding list_bytes init_fields parameters_len parameter_bytes
+unfolding parameter_chunk_bytes init_fields parameters_len parameter_bytes
 connect_sends_init e = refl
 
 -- It has 52 bytes: 12, 20, 4, 8 and 8. Where it doesn't fit, T1 runs all the same.
 init_that_does_not_fit : (e : Endpoint) → connect_outcome (socket e 51 (pos 4) closed 4) closed 100 6
     ≡ record { words = U32 100 ∷ U32 6 ∷ []; effects = draws mine ∷ []; after = connecting e 51 4; events = []; following = next_chunk }
-unfolding list_bytes init_fields parameters_len parameter_bytes
+unfolding parameter_chunk_bytes init_fields parameters_len parameter_bytes
 init_that_does_not_fit e = refl
 
 connect_in_established : (e : Endpoint) → connect_outcome e (open_in established mine held) 100 6 ≡ record { words = []; effects = []; after = e; events = []; following = next_chunk }
@@ -243,7 +243,7 @@ echoing e mtu max_burst cwnd least packets_sent =
       outstanding = None;
       timers = record e.timers { t1 = t1_due 7_000_000_000 2_000_000_000; reconfiguration = None };
       peer_implementation = DcsctpCc;
-      below = record { queue = queue_at_start; transfer = transfer_begun mtu cwnd least };
+      queues = record { queue = queue_at_start; transfer = transfer_begun mtu cwnd least };
       left = [];
     }
 
@@ -279,10 +279,10 @@ init_ack_without_cookie : (e : Endpoint) → init_ack_outcome (socket e 1191 (po
       events = packet_of true 9 (abort false (missing_mandatory_parameter (7 ∷ []) ∷ []) ∷ []) ∷ aborted ProtocolViolation (codes "InitAck chunk doesn't contain a cookie") ∷ [];
       following = dropped_rest;
     }
-unfolding parameter_bytes parameters_len list_bytes
+unfolding parameter_bytes parameters_len parameter_chunk_bytes
 init_ack_without_cookie e = refl
 
-end_leaves_queue : (e : Endpoint) → (closed_after e).below ≡ record { queue = e.below.queue; transfer = None }
+end_leaves_queue : (e : Endpoint) → (closed_after e).queues ≡ record { queue = e.queues.queue; transfer = None }
 end_leaves_queue e = refl
 
 init_ack_in_cookie_echoed : (e : Endpoint) → init_ack_outcome e theirs None (cookie_echoed mine held []) 55 ≡ record { words = []; effects = []; after = e; events = []; following = next_chunk }

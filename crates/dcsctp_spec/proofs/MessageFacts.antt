@@ -15,7 +15,7 @@ socket e core queue =
     record e {
       options = record e.options { max_message_size = 262144; max_send_buffer_size = 2000000; per_stream_send_queue_limit = 2000000 };
       core = core;
-      below = record e.below { queue = queue };
+      queues = record e.queues { queue = queue };
     }
 
 -- 2,000,000 bytes wait

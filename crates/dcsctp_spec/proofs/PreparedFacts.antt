@@ -9,7 +9,7 @@ use Rattle.dcsctp_spec.specs.endpoint.Event.{Event, buffered_amount_low, total_b
 use Rattle.dcsctp_spec.specs.Packet.{Emission}
 use Rattle.dcsctp_types.specs.queues.SendStreams.{Waiting, Stream}
 use Rattle.dcsctp_spec.specs.queues.SendEvents.{falls_low}
-use Rattle.dcsctp_spec.specs.queues.SendQueue.{SendQueueState, has_data}
+use Rattle.dcsctp_spec.specs.queues.SendQueue.{SendQueueState, has_queued_data}
 use Rattle.dcsctp_spec.specs.queues.OwnResets.{prepared, prepared_all, prepare_all_events, ready_streams}
 use Rattle.dcsctp_spec.specs.endpoint.Endpoint.{Endpoint, closed, cookie_wait, open_in, established}
 use Rattle.dcsctp_spec.specs.endpoint.PreparedResets.{not_connected, not_supported, reset_refusal}
@@ -89,7 +89,7 @@ unfolding queue stream
 never_used = refl
 
 -- No message of them is begun then.
-none_is_begun : has_data (prepared_all (2 ∷ 5 ∷ []) two) ≡ false
+none_is_begun : has_queued_data (prepared_all (2 ∷ 5 ∷ []) two) ≡ false
 unfolding queue stream message
 none_is_begun = refl
 

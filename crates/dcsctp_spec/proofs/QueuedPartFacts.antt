@@ -2,7 +2,7 @@
 use Rattle.std.proofs.Common.{◌≡◌, true, false, None, Some, [], ◌∷◌, refl}
 use Rattle.dcsctp_types.specs.declared.sending.Pause.TheVariants.{Open}
 use Rattle.dcsctp_types.specs.Snapshot.{empty_send_part}
-use Rattle.dcsctp_spec.specs.queues.QueuedParts.{with_queue, queue_restored}
+use Rattle.dcsctp_spec.specs.queues.QueuedParts.{part_with_queue, queue_restored}
 use Rattle.dcsctp_spec.specs.queues.SendQueue.{SendQueueState}
 use Rattle.dcsctp_types.specs.queues.SendStreams.{Stream, Waiting}
 
@@ -35,10 +35,10 @@ abbrev other : SendQueueState
 other = record queue { streams = []; under_way = None; total_amount = 0; next_message_id = 0 }
 
 -- It comes back whole, at the moment at which it was given.
-comes_back : queue_restored 0 (with_queue 0 true queue empty_send_part) other ≡ queue
+comes_back : queue_restored 0 (part_with_queue 0 true queue empty_send_part) other ≡ queue
 comes_back = refl
 
 -- Without messages the numbers come back.
-numbers_come_back : queue_restored 0 (with_queue 0 false queue empty_send_part) other
+numbers_come_back : queue_restored 0 (part_with_queue 0 false queue empty_send_part) other
     ≡ record queue { streams = record stream { amount = 0; messages = [] } ∷ []; under_way = None; total_amount = 0 }
 numbers_come_back = refl

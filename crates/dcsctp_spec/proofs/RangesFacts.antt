@@ -1,11 +1,11 @@
 -- The functions on examples, worked out by hand.
 use Rattle.std.proofs.Common.{◌≡◌, List, [], ◌∷◌, refl}
 use Rattle.dcsctp_types.specs.declared.tracking.TsnRange.{TsnRange}
-use Rattle.dcsctp_spec.specs.queues.Ranges.{all_to, run_of, received, forwarded}
+use Rattle.dcsctp_spec.specs.queues.Ranges.{all_to, tsn_range_of, received, forwarded}
 
 -- all up to 10, 13 to 15 and 18 to 20
 abbrev two : List TsnRange
-two = run_of 13 15 ∷ (run_of 18 20 ∷ [])
+two = tsn_range_of 13 15 ∷ (tsn_range_of 18 20 ∷ [])
 
 -- nothing changes
 repeated_below : received 10 10 two ≡ all_to 10 two
@@ -21,35 +21,35 @@ next_alone = refl
 next_none : received 11 10 [] ≡ all_to 11 []
 next_none = refl
 
-next_joins : received 12 11 two ≡ all_to 15 (run_of 18 20 ∷ [])
+next_joins : received 12 11 two ≡ all_to 15 (tsn_range_of 18 20 ∷ [])
 next_joins = refl
 
 -- among the ranges
-left : received 12 10 two ≡ all_to 10 (run_of 12 15 ∷ (run_of 18 20 ∷ []))
+left : received 12 10 two ≡ all_to 10 (tsn_range_of 12 15 ∷ (tsn_range_of 18 20 ∷ []))
 left = refl
 
-left_second : received 17 10 two ≡ all_to 10 (run_of 13 15 ∷ (run_of 17 20 ∷ []))
+left_second : received 17 10 two ≡ all_to 10 (tsn_range_of 13 15 ∷ (tsn_range_of 17 20 ∷ []))
 left_second = refl
 
-right : received 16 10 two ≡ all_to 10 (run_of 13 16 ∷ (run_of 18 20 ∷ []))
+right : received 16 10 two ≡ all_to 10 (tsn_range_of 13 16 ∷ (tsn_range_of 18 20 ∷ []))
 right = refl
 
-right_last : received 21 10 two ≡ all_to 10 (run_of 13 15 ∷ (run_of 18 21 ∷ []))
+right_last : received 21 10 two ≡ all_to 10 (tsn_range_of 13 15 ∷ (tsn_range_of 18 21 ∷ []))
 right_last = refl
 
-joins : received 17 10 (run_of 13 16 ∷ (run_of 18 20 ∷ [])) ≡ all_to 10 (run_of 13 20 ∷ [])
+joins : received 17 10 (tsn_range_of 13 16 ∷ (tsn_range_of 18 20 ∷ [])) ≡ all_to 10 (tsn_range_of 13 20 ∷ [])
 joins = refl
 
-first : received 12 10 [] ≡ all_to 10 (run_of 12 12 ∷ [])
+first : received 12 10 [] ≡ all_to 10 (tsn_range_of 12 12 ∷ [])
 first = refl
 
-front : received 12 10 (run_of 14 15 ∷ []) ≡ all_to 10 (run_of 12 12 ∷ (run_of 14 15 ∷ []))
+front : received 12 10 (tsn_range_of 14 15 ∷ []) ≡ all_to 10 (tsn_range_of 12 12 ∷ (tsn_range_of 14 15 ∷ []))
 front = refl
 
-between : received 17 10 (run_of 13 15 ∷ (run_of 19 20 ∷ [])) ≡ all_to 10 (run_of 13 15 ∷ (run_of 17 17 ∷ (run_of 19 20 ∷ [])))
+between : received 17 10 (tsn_range_of 13 15 ∷ (tsn_range_of 19 20 ∷ [])) ≡ all_to 10 (tsn_range_of 13 15 ∷ (tsn_range_of 17 17 ∷ (tsn_range_of 19 20 ∷ [])))
 between = refl
 
-behind : received 22 10 two ≡ all_to 10 (run_of 13 15 ∷ (run_of 18 20 ∷ (run_of 22 22 ∷ [])))
+behind : received 22 10 two ≡ all_to 10 (tsn_range_of 13 15 ∷ (tsn_range_of 18 20 ∷ (tsn_range_of 22 22 ∷ [])))
 behind = refl
 
 -- all up to a number; nothing changes where they were received before
@@ -62,16 +62,16 @@ forwarded_repeated = refl
 forwarded_short : forwarded 11 10 two ≡ all_to 11 two
 forwarded_short = refl
 
-forwarded_touching : forwarded 12 10 two ≡ all_to 15 (run_of 18 20 ∷ [])
+forwarded_touching : forwarded 12 10 two ≡ all_to 15 (tsn_range_of 18 20 ∷ [])
 forwarded_touching = refl
 
-forwarded_first : forwarded 13 10 two ≡ all_to 15 (run_of 18 20 ∷ [])
+forwarded_first : forwarded 13 10 two ≡ all_to 15 (tsn_range_of 18 20 ∷ [])
 forwarded_first = refl
 
-forwarded_last : forwarded 15 10 two ≡ all_to 15 (run_of 18 20 ∷ [])
+forwarded_last : forwarded 15 10 two ≡ all_to 15 (tsn_range_of 18 20 ∷ [])
 forwarded_last = refl
 
-forwarded_behind : forwarded 16 10 two ≡ all_to 16 (run_of 18 20 ∷ [])
+forwarded_behind : forwarded 16 10 two ≡ all_to 16 (tsn_range_of 18 20 ∷ [])
 forwarded_behind = refl
 
 forwarded_second : forwarded 17 10 two ≡ all_to 20 []

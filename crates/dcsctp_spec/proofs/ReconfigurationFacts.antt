@@ -2,7 +2,7 @@
 -- wrong rule in specs/ would not check here.
 use Rattle.std.proofs.Common.{◌≡◌, ℕ, Bool, true, false, Option, None, Some, [], ◌∷◌, refl}
 use Rattle.std.specs.Prelude.{pos}
-use Rattle.dcsctp_types.specs.wire.Spelling.{parameter_bytes, parameters_len, list_bytes}
+use Rattle.dcsctp_types.specs.wire.Spelling.{parameter_bytes, parameters_len, parameter_chunk_bytes}
 use Rattle.dcsctp_types.specs.declared.association.Held.{Held}
 use Rattle.dcsctp_types.specs.declared.kinds.BackoffAlgorithm.TheVariants.{Exponential}
 use Rattle.dcsctp_spec.specs.endpoint.Event.{Event}
@@ -65,7 +65,7 @@ not_answered : (e : Endpoint) → expires (awaiting e 36 0 (Some (request false)
       events = packet ∷ [];
       following = next_chunk;
     }
-unfolding parameter_bytes parameters_len list_bytes
+unfolding parameter_bytes parameters_len parameter_chunk_bytes
 not_answered e = refl
 
 -- It was answered as in progress: no error is counted.
@@ -77,7 +77,7 @@ in_progress : (e : Endpoint) → expires (awaiting e 36 1 (Some (request true)) 
       events = packet ∷ [];
       following = next_chunk;
     }
-unfolding parameter_bytes parameters_len list_bytes
+unfolding parameter_bytes parameters_len parameter_chunk_bytes
 in_progress e = refl
 
 -- With the option it goes out under the next number, and its own is given up.
@@ -98,18 +98,18 @@ in_progress_by_rfc : (e : Endpoint) → expires (by_rfc (awaiting e 36 1 (Some (
       events = renewed ∷ [];
       following = next_chunk;
     }
-unfolding parameter_bytes parameters_len list_bytes
+unfolding parameter_bytes parameters_len parameter_chunk_bytes
 in_progress_by_rfc e = refl
 
 -- It keeps its number if the packet doesn't fit.
 in_progress_too_long : (e : Endpoint) → expires (by_rfc (awaiting e 35 1 (Some (request true)) (timer 5_000_000_000 500_000_000 0)))
     ≡ still (by_rfc (awaiting e 35 1 (Some (request false)) (timer 6_000_000_000 1_000_000_000 1)))
-unfolding parameter_bytes parameters_len list_bytes
+unfolding parameter_bytes parameters_len parameter_chunk_bytes
 in_progress_too_long e = refl
 
 -- Where the peer didn't answer, it goes out under its own number with the option too.
 not_answered_by_rfc : (e : Endpoint) → (expires (by_rfc (awaiting e 36 0 (Some (request false)) (timer 5_000_000_000 500_000_000 0)))).events ≡ packet ∷ []
-unfolding parameter_bytes parameters_len list_bytes
+unfolding parameter_bytes parameters_len parameter_chunk_bytes
 not_answered_by_rfc e = refl
 
 -- The second error is one too many: nothing goes out.
@@ -120,13 +120,13 @@ too_many e = refl
 -- It doesn't fit.
 too_long : (e : Endpoint) → expires (awaiting e 35 0 (Some (request false)) (timer 5_000_000_000 500_000_000 0))
     ≡ quiet (awaiting e 35 1 (Some (request false)) (timer 6_000_000_000 1_000_000_000 1)) [] []
-unfolding parameter_bytes parameters_len list_bytes
+unfolding parameter_bytes parameters_len parameter_chunk_bytes
 too_long e = refl
 
 -- Each wait is twice the last one, from the moment that the socket was told, which may be late, and without a limit.
 twentieth_time : (e : Endpoint) → (expires (awaiting e 36 0 (Some (request false)) (timer 4_000_000_000 524_288_000_000_000 19))).after.timers.reconfiguration
     ≡ timer 1_048_581_000_000_000 1_048_576_000_000_000 20
-unfolding parameter_bytes parameters_len list_bytes
+unfolding parameter_bytes parameters_len parameter_chunk_bytes
 twentieth_time e = refl
 
 -- Without a request the timer alone moves, and so without a peer.
@@ -147,7 +147,7 @@ begun = record { number = 100; reset = record { last_tsn = 99; streams = 4 ∷ 2
 abbrev before : Endpoint → Endpoint
 before e =
     let base : Endpoint = awaiting e 36 0 None None in
-    record base { core = open_in established mine held; below = record base.below { transfer = transfer_begun 36 360 144 } }
+    record base { core = open_in established mine held; queues = record base.queues { transfer = transfer_begun 36 360 144 } }
 
 -- It is due half a second later,
 due_later : (e : Endpoint) → deadline (after_begun (Some begun) (before e)) (own_timer reconfiguration) ≡ Some 5_500_000_000
@@ -161,5 +161,5 @@ then_it_is e = refl
 
 -- and what goes out then is what went out first, under the same number.
 same_again : (e : Endpoint) → (expires (record (after_begun (Some begun) (before e)) { moment = 5_500_000_000 })).events ≡ packet ∷ []
-unfolding parameter_bytes parameters_len list_bytes
+unfolding parameter_bytes parameters_len parameter_chunk_bytes
 same_again e = refl

@@ -8,20 +8,20 @@ use Rattle.dcsctp_types.specs.declared.association.Held.{Held}
 use Rattle.dcsctp_types.specs.declared.capabilities.Capabilities.{Capabilities}
 use Rattle.dcsctp_spec.specs.endpoint.Event.{incoming_stream_reset, streams_reset_failed, streams_reset_performed}
 use Rattle.dcsctp_spec.specs.Packet.{re_config, content_in}
-use Rattle.dcsctp_spec.specs.Reconfiguration.{ResetParameter, outgoing_reset_request, incoming_reset_request, reconfiguration_response, other_reset_parameter, streams_in}
+use Rattle.dcsctp_spec.specs.Reconfiguration.{ResetParameter, outgoing_reset_request, incoming_reset_request, reconfiguration_response, other_reset_parameter, reset_streams_in}
 use Rattle.dcsctp_spec.specs.endpoint.Endpoint.{Endpoint, closed, cookie_wait}
 use Rattle.dcsctp_spec.specs.endpoint.Outcome.{still}
 use Rattle.dcsctp_spec.specs.association.Effect.{accepts, performs}
-use Rattle.dcsctp_spec.specs.association.ResetChanges.{WorkedParameters, work_chunk}
+use Rattle.dcsctp_spec.specs.association.ResetChanges.{HandledParameters, work_chunk}
 use Rattle.dcsctp_spec.specs.endpoint.ResetOutcomes.{requested_in, unanswered, retried, was_performed, has_failed, answered_in, own_moved, reset_events, their_streams, ResetTurn}
 use Rattle.dcsctp_spec.specs.queues.Numbers.{is_tsn_beyond}
 
 -- ---- what is read
 
-two_streams : streams_in (0 ∷ 1 ∷ 1 ∷ 2 ∷ []) ≡ 1 ∷ 258 ∷ []
+two_streams : reset_streams_in (0 ∷ 1 ∷ 1 ∷ 2 ∷ []) ≡ 1 ∷ 258 ∷ []
 two_streams = refl
 
-no_streams : streams_in [] ≡ []
+no_streams : reset_streams_in [] ≡ []
 no_streams = refl
 
 three_kinds : content_in (re_config_chunk (outgoing_ssn_reset_request 10 3 11 (0 ∷ 1 ∷ []) ∷ wire.reconfiguration_response 4 SuccessPerformed None ∷ forward_tsn_supported ∷ []))
@@ -56,13 +56,13 @@ held c last = record { peer = theirs; capabilities = c; own_next = 3; own_outsta
 abbrev request : ResetParameter
 request = outgoing_reset_request 10 3 (record { last_tsn = 11; streams = 1 ∷ [] })
 
-abbrev first_time : (c : Capabilities) → WorkedParameters
+abbrev first_time : (c : Capabilities) → HandledParameters
 first_time c = work_chunk own false (held c 9) (request ∷ [])
 
-abbrev second_time : (c : Capabilities) → WorkedParameters
+abbrev second_time : (c : Capabilities) → HandledParameters
 second_time c = work_chunk own true (first_time c).held (request ∷ [])
 
-abbrev third_time : (c : Capabilities) → WorkedParameters
+abbrev third_time : (c : Capabilities) → HandledParameters
 third_time c = work_chunk own true (second_time c).held (request ∷ [])
 
 in_progress : (c : Capabilities) → (first_time c).answers ≡ reconfiguration_response 10 InProgress ∷ []
@@ -101,7 +101,7 @@ no_parameters : (c : Capabilities) → (work_chunk own true (held c 9) []).is_re
 no_parameters c = refl
 
 -- The first of two was worked, and no answer goes out.
-abbrev twice : (c : Capabilities) → WorkedParameters
+abbrev twice : (c : Capabilities) → HandledParameters
 twice c = work_chunk own true (held c 9) (request ∷ outgoing_reset_request 11 3 (record { last_tsn = 11; streams = 2 ∷ [] }) ∷ [])
 
 second_is_refused : (c : Capabilities) → (twice c).is_refused ≡ true
@@ -115,7 +115,7 @@ first_was_worked c = refl
 abbrev asking : (c : Capabilities) → Held
 asking c = record (held c 9) { own_next = 4; own_outstanding = Some 3 }
 
-abbrev after_answer : (c : Capabilities) → ResetParameter → WorkedParameters
+abbrev after_answer : (c : Capabilities) → ResetParameter → HandledParameters
 after_answer c answer = work_chunk own true (asking c) (answer ∷ [])
 
 performed : (c : Capabilities) → reset_events [] (4 ∷ []) (after_answer c (reconfiguration_response 3 SuccessPerformed)).effects ≡ streams_reset_performed (4 ∷ []) ∷ []

@@ -6,7 +6,7 @@ use Rattle.dcsctp_types.specs.declared.sending.Pause.TheVariants.{Open, Pausing}
 use Rattle.dcsctp_types.specs.declared.sending.UnderWay.{UnderWay}
 use Rattle.dcsctp_types.specs.Ids.{lifecycle_number}
 use Rattle.dcsctp_types.specs.queues.SendStreams.{Waiting, Stream}
-use Rattle.dcsctp_spec.specs.queues.SendQueue.{SendQueueState, has_data, numbered_for, restarted}
+use Rattle.dcsctp_spec.specs.queues.SendQueue.{SendQueueState, has_queued_data, numbered_for, queue_restarted}
 use Rattle.dcsctp_spec.specs.queues.Sending.{fragment, after_part, after_last}
 use Rattle.dcsctp_spec.specs.queues.OwnResets.{queue_handing_out, queue_committed, queue_rolled_back}
 use Rattle.dcsctp_spec.specs.endpoint.MessageOutcomes.{Sending, sending_queued}
@@ -70,15 +70,15 @@ unfolding queue fresh stream plain plain_waits
 second_waits name = refl
 
 -- There is data to send once a message waits, unless its stream is to be reset.
-none_to_send : has_data (queue 0 0 None (stream 1 Open 0 [] ∷ [])) ≡ false
+none_to_send : has_queued_data (queue 0 0 None (stream 1 Open 0 [] ∷ [])) ≡ false
 unfolding queue stream
 none_to_send = refl
 
-one_to_send : has_data (queue 2 1 None (stream 1 Open 2 (plain_waits 0 ∷ []) ∷ [])) ≡ true
+one_to_send : has_queued_data (queue 2 1 None (stream 1 Open 2 (plain_waits 0 ∷ []) ∷ [])) ≡ true
 unfolding queue stream
 one_to_send = refl
 
-none_while_paused : has_data (queue 2 1 None (stream 1 Pausing 2 (plain_waits 0 ∷ []) ∷ [])) ≡ false
+none_while_paused : has_queued_data (queue 2 1 None (stream 1 Pausing 2 (plain_waits 0 ∷ []) ∷ [])) ≡ false
 unfolding queue stream
 none_while_paused = refl
 
@@ -131,7 +131,7 @@ unfolding queue stream plain_waits begun_now one_sent
 renumbered_now = refl
 
 -- For another association it waits whole again, and all numbers begin at 0.
-begins_again : restarted (queue 1 5 (Some one_sent) (stream 1 Open 1 (plain_waits 4 ∷ []) ∷ stream 3 Pausing 0 [] ∷ []))
+begins_again : queue_restarted (queue 1 5 (Some one_sent) (stream 1 Open 1 (plain_waits 4 ∷ []) ∷ stream 3 Pausing 0 [] ∷ []))
     ≡ queue 2 5 None (fresh 1 2 (plain_waits 4 ∷ []) ∷ fresh 3 0 [] ∷ [])
 unfolding queue stream fresh plain_waits begun_now one_sent
 begins_again = refl

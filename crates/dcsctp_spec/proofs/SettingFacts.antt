@@ -2,7 +2,7 @@
 use Rattle.std.proofs.Common.{◌≡◌, ℕ, false, None, List, [], ◌∷◌, refl}
 use Rattle.dcsctp_types.specs.declared.sending.Pause.TheVariants.{Open}
 use Rattle.dcsctp_types.specs.queues.SendStreams.{Stream}
-use Rattle.dcsctp_spec.specs.queues.SendQueue.{SendQueueState, stream_of}
+use Rattle.dcsctp_spec.specs.queues.SendQueue.{SendQueueState, queue_stream}
 use Rattle.dcsctp_spec.specs.endpoint.Endpoint.{Endpoint}
 use Rattle.dcsctp_types.specs.Setting.{stream_priority, stream_low_threshold, longest_message}
 use Rattle.dcsctp_spec.specs.endpoint.SettingOutcomes.{set_in_queue, endpoint_with}
@@ -31,11 +31,11 @@ unfolding queue stream
 again_is_set = refl
 
 -- What the user is told: 5 for a stream with that priority, and 256, the default, for another.
-priorities_are_told : (stream_of (queue (stream 1 0 5 ∷ [])) 1).priority ≡ 5
+priorities_are_told : (queue_stream (queue (stream 1 0 5 ∷ [])) 1).priority ≡ 5
 unfolding queue stream
 priorities_are_told = refl
 
-defaults_are_told : stream_of (queue (stream 1 0 5 ∷ [])) 2 ≡ stream 2 0 256
+defaults_are_told : queue_stream (queue (stream 1 0 5 ∷ [])) 2 ≡ stream 2 0 256
 unfolding queue stream
 defaults_are_told = refl
 
@@ -43,7 +43,7 @@ defaults_are_told = refl
 longest_is_set : (e : Endpoint) → (endpoint_with (longest_message 12) e).options.max_message_size ≡ 12
 longest_is_set e = refl
 
-streams_stay : (e : Endpoint) → (endpoint_with (longest_message 12) e).below ≡ e.below
+streams_stay : (e : Endpoint) → (endpoint_with (longest_message 12) e).queues ≡ e.queues
 streams_stay e = refl
 
 longest_stays : (e : Endpoint) → (endpoint_with (stream_priority 1 5) e).options ≡ e.options

@@ -58,7 +58,7 @@ at e core transfer items =
       options = record e.options { max_retransmissions = Some 2; follow_rfc = false };
       core = core;
       counts = record e.counts { packets_sent = 4 };
-      below = record { queue = queue; transfer = Some (moved transfer items) };
+      queues = record { queue = queue; transfer = Some (moved transfer items) };
     }
 
 -- by the RFC's rules, with this `max_burst`

@@ -8,9 +8,9 @@ use Rattle.dcsctp_types.specs.declared.association.Held.{Held}
 use Rattle.dcsctp_types.specs.declared.kinds.BackoffAlgorithm.TheVariants.{Fixed, Exponential}
 use Rattle.dcsctp_types.specs.declared.kinds.ErrorKind.TheVariants.{TooManyRetries}
 use Rattle.dcsctp_spec.specs.endpoint.Event.{aborted}
-use Rattle.dcsctp_spec.specs.queues.Transfer.{nothing_below}
+use Rattle.dcsctp_spec.specs.queues.Transfer.{empty_queues}
 use Rattle.dcsctp_spec.specs.endpoint.Endpoint.{Endpoint, Core, closed, cookie_wait, cookie_echoed, open_in, established}
-use Rattle.dcsctp_spec.specs.endpoint.Timers.{RunningTimer, started, expired, is_due}
+use Rattle.dcsctp_spec.specs.endpoint.Timers.{RunningTimer, started, expired, is_timer_expired}
 use Rattle.dcsctp_spec.specs.association.Acts.{t1_expires, abort_with, flushes}
 use Rattle.dcsctp_types.specs.declared.ends.AbortReason.TheVariants.{TooManyErrors}
 use Rattle.dcsctp_spec.specs.endpoint.Turn.{act_input}
@@ -66,11 +66,11 @@ last_moment : expired max_nanos (cut max_nanos 40 1) ≡ Some (cut max_nanos 80 
 unfolding cut
 last_moment = refl
 
-due_at_its_deadline : is_due 1_000 (fixed 1_000 0) ≡ true
+due_at_its_deadline : is_timer_expired 1_000 (fixed 1_000 0) ≡ true
 unfolding fixed
 due_at_its_deadline = refl
 
-not_due_before : is_due 999 (fixed 1_000 0) ≡ false
+not_due_before : is_timer_expired 999 (fixed 1_000 0) ≡ false
 unfolding fixed
 not_due_before = refl
 
@@ -98,7 +98,7 @@ never_where_closed e = refl
 -- an open association with these timers of heartbeats
 beating_at : Endpoint → Held → Option RunningTimer → Option RunningTimer → Endpoint
 beating_at e held interval timeout =
-    record e { moment = 10; core = open_in established mine held; timers = record e.timers { t1 = Some (second (Some 8) 5 5 0); heartbeat_interval = interval; heartbeat_timeout = timeout; reconfiguration = None; t2 = None }; below = nothing_below e.options }
+    record e { moment = 10; core = open_in established mine held; timers = record e.timers { t1 = Some (second (Some 8) 5 5 0); heartbeat_interval = interval; heartbeat_timeout = timeout; reconfiguration = None; t2 = None }; queues = empty_queues e.options }
 
 never_without_heartbeats : (e : Endpoint) (held : Held) → next_moment (beating_at e held None None) ≡ max_nanos
 unfolding beating_at

@@ -2,7 +2,7 @@
 -- would not check here.
 use Rattle.std.proofs.Common.{◌≡◌, ℕ, true, false, Some, Err, List, [], ◌∷◌, ◌++◌, refl, arith}
 use Rattle.std.specs.Prelude.{codes, replicate}
-use Rattle.dcsctp_types.specs.wire.Spelling.{parameter_bytes, parameters_len, init_fields, list_bytes, other_bytes, header_bytes, checksum_field, packet_bytes_of}
+use Rattle.dcsctp_types.specs.wire.Spelling.{parameter_bytes, parameters_len, init_fields, parameter_chunk_bytes, other_bytes, header_bytes, checksum_field, packet_bytes_of}
 use Rattle.dcsctp_types.specs.declared.association.Pair.{Pair}
 use Rattle.dcsctp_types.specs.declared.association.Held.{Held}
 use Rattle.dcsctp_types.specs.declared.association.Phase.TheVariants as phases
@@ -24,7 +24,7 @@ use Rattle.dcsctp_spec.specs.endpoint.Outcome.{Outcome}
 use Rattle.dcsctp_spec.specs.endpoint.Following.{next_chunk}
 use Rattle.dcsctp_spec.specs.endpoint.Turn.{arrival, arrival_outcome, refusal_outcome, unreadable_text}
 use Rattle.dcsctp_spec.specs.association.Effect.{draws}
-use Rattle.dcsctp_spec.specs.endpoint.CallTurns.{Turned, words_of, events_of}
+use Rattle.dcsctp_spec.specs.endpoint.CallTurns.{Transition, words_of, events_of}
 use Rattle.dcsctp_spec.specs.endpoint.HandshakeOutcomes.{init_outcome}
 
 -- ---- options
@@ -130,7 +130,7 @@ socket e mtu packets_sent =
       options = configured e.options mtu;
       tie = 77;
       counts = record { packets_received = 3; packets_sent = packets_sent; messages_queued = 5 };
-      below = record { queue = empty_queue e.options; transfer = Some (record (new_transfer e.options nothing_negotiated 0 0 0) { retransmission = new_retransmission e.options 0xffffffff 0 false false }) };
+      queues = record { queue = empty_queue e.options; transfer = Some (record (new_transfer e.options nothing_negotiated 0 0 0) { retransmission = new_retransmission e.options 0xffffffff 0 false false }) };
     }
 
 -- the answer without a checksum, of this pair and with this tie tag in the cookie
@@ -145,17 +145,17 @@ closed_cookie =
 
 init_where_closed : (e : Endpoint) → init_outcome (socket e 1191 4) theirs closed 5 9
     ≡ record { words = U32 5 ∷ U32 9 ∷ []; effects = draws (record { tag = 10; first_tsn = 5 }) ∷ []; after = socket e 1191 5; events = sent (record { with_checksum = false; packet = record { tag = 7; contents = answer 10 5 5242880 closed_cookie ∷ [] } }) ∷ []; following = next_chunk }
-unfolding configured theirs socket answer closed_cookie cookie_bytes list_bytes init_fields parameters_len parameter_bytes
+unfolding configured theirs socket answer closed_cookie cookie_bytes parameter_chunk_bytes init_fields parameters_len parameter_bytes
 init_where_closed e = refl
 
 -- The answer has 112 bytes: 12, 20, 4, 8, 8 and 60.
 answer_that_fits : (e : Endpoint) → (init_outcome (socket e 112 4) theirs closed 5 9).after ≡ socket e 112 5
-unfolding configured theirs socket cookie_bytes list_bytes init_fields parameters_len parameter_bytes
+unfolding configured theirs socket cookie_bytes parameter_chunk_bytes init_fields parameters_len parameter_bytes
 answer_that_fits e = refl
 
 -- It is neither sent nor counted, and yet two words are drawn.
 answer_that_does_not_fit : (e : Endpoint) → init_outcome (socket e 111 4) theirs closed 5 9 ≡ record { words = U32 5 ∷ U32 9 ∷ []; effects = draws (record { tag = 10; first_tsn = 5 }) ∷ []; after = socket e 111 4; events = []; following = next_chunk }
-unfolding configured theirs socket cookie_bytes list_bytes init_fields parameters_len parameter_bytes
+unfolding configured theirs socket cookie_bytes parameter_chunk_bytes init_fields parameters_len parameter_bytes
 answer_that_does_not_fit e = refl
 
 waiting_cookie : List ℕ
@@ -169,12 +169,12 @@ mine = record { tag = 11; first_tsn = 22 }
 
 init_in_cookie_wait : (e : Endpoint) → init_outcome (socket e 1191 4) theirs (cookie_wait mine) 5 9
     ≡ record { words = []; effects = []; after = socket e 1191 5; events = sent (record { with_checksum = false; packet = record { tag = 7; contents = answer 11 22 5242880 waiting_cookie ∷ [] } }) ∷ []; following = next_chunk }
-unfolding configured theirs socket answer waiting_cookie mine cookie_bytes list_bytes init_fields parameters_len parameter_bytes
+unfolding configured theirs socket answer waiting_cookie mine cookie_bytes parameter_chunk_bytes init_fields parameters_len parameter_bytes
 init_in_cookie_wait e = refl
 
 init_in_cookie_echoed : (e : Endpoint) (held : Held) → init_outcome (socket e 1191 4) theirs (cookie_echoed mine held []) 5 9
     ≡ record { words = []; effects = []; after = socket e 1191 5; events = sent (record { with_checksum = false; packet = record { tag = 7; contents = answer 11 22 5242880 waiting_cookie ∷ [] } }) ∷ []; following = next_chunk }
-unfolding configured theirs socket answer waiting_cookie mine cookie_bytes list_bytes init_fields parameters_len parameter_bytes
+unfolding configured theirs socket answer waiting_cookie mine cookie_bytes parameter_chunk_bytes init_fields parameters_len parameter_bytes
 init_in_cookie_echoed e held = refl
 
 -- a fresh tag from one word, a TSN that is a million on, round 2^32, and the tie tag
@@ -187,19 +187,19 @@ answered_where_open : Endpoint → Outcome
 answered_where_open e = record { words = U32 5 ∷ []; effects = draws (record { tag = 6; first_tsn = 999999 }) ∷ []; after = socket e 1191 5; events = sent (record { with_checksum = false; packet = record { tag = 7; contents = answer 6 999999 5242880 open_cookie ∷ [] } }) ∷ []; following = next_chunk }
 
 init_in_established : (e : Endpoint) (held : Held) → init_outcome (socket e 1191 4) theirs (open_in established mine held) 5 9 ≡ answered_where_open e
-unfolding configured theirs socket answer open_cookie answered_where_open cookie_bytes list_bytes init_fields parameters_len parameter_bytes
+unfolding configured theirs socket answer open_cookie answered_where_open cookie_bytes parameter_chunk_bytes init_fields parameters_len parameter_bytes
 init_in_established e held = refl
 
 init_in_shutdown_pending : (e : Endpoint) (held : Held) → init_outcome (socket e 1191 4) theirs (open_in shutdown_pending mine held) 5 9 ≡ answered_where_open e
-unfolding configured theirs socket answer open_cookie answered_where_open cookie_bytes list_bytes init_fields parameters_len parameter_bytes
+unfolding configured theirs socket answer open_cookie answered_where_open cookie_bytes parameter_chunk_bytes init_fields parameters_len parameter_bytes
 init_in_shutdown_pending e held = refl
 
 init_in_shutdown_sent : (e : Endpoint) (held : Held) → init_outcome (socket e 1191 4) theirs (open_in shutdown_sent mine held) 5 9 ≡ answered_where_open e
-unfolding configured theirs socket answer open_cookie answered_where_open cookie_bytes list_bytes init_fields parameters_len parameter_bytes
+unfolding configured theirs socket answer open_cookie answered_where_open cookie_bytes parameter_chunk_bytes init_fields parameters_len parameter_bytes
 init_in_shutdown_sent e held = refl
 
 init_in_shutdown_received : (e : Endpoint) (held : Held) → init_outcome (socket e 1191 4) theirs (open_in shutdown_received mine held) 5 9 ≡ answered_where_open e
-unfolding configured theirs socket answer open_cookie answered_where_open cookie_bytes list_bytes init_fields parameters_len parameter_bytes
+unfolding configured theirs socket answer open_cookie answered_where_open cookie_bytes parameter_chunk_bytes init_fields parameters_len parameter_bytes
 init_in_shutdown_received e held = refl
 
 -- Here SHUTDOWN ACK goes to the peer that is held, and no word is drawn (RFC 9260, section 9.2).
@@ -237,7 +237,7 @@ phase_is_shown : (held : Held) → association_of (open_in shutdown_sent mine he
 phase_is_shown held = refl
 
 -- Turns keep their order.
-taken : Endpoint → ℕ → Event Emission → Turned
+taken : Endpoint → ℕ → Event Emission → Transition
 taken e word event = record { input = arrival; outcome = record { words = U32 word ∷ []; effects = []; after = e; events = event ∷ []; following = next_chunk } }
 
 turns_in_order : (e : Endpoint) → events_of (taken e 1 connected ∷ taken e 2 is_closed ∷ []) ≡ connected ∷ is_closed ∷ []

@@ -18,8 +18,8 @@ pub record Cookie : Type 0 where
   pub moment : ℕ
 
 -- "dcSC" and "TPr0"
-abbrev pub magic : List ℕ
-magic = codes "dcSCTPr0"
+abbrev pub cookie_magic : List ℕ
+cookie_magic = codes "dcSCTPr0"
 
 abbrev pub flag_byte : Bool → ℕ
 flag_byte true = 1
@@ -28,7 +28,7 @@ flag_byte false = 0
 -- The 56 bytes of a cookie. The outbound streams of the INIT's sender are incoming ones here, its inbound streams outgoing ones.
 unfoldable pub cookie_bytes : Cookie → List ℕ
 cookie_bytes cookie =
-    magic
+    cookie_magic
     ++ to_be_bytes w32 cookie.addressee.tag
     ++ to_be_bytes w32 cookie.maker.tag
     ++ to_be_bytes w32 cookie.addressee.first_tsn
@@ -47,8 +47,8 @@ abbrev pub u64_at : ℕ → List ℕ → ℕ
 u64_at at bytes = from_be_bytes w64 (take 8 (drop at bytes))
 
 -- Any byte but 0 reads as true.
-abbrev pub flag_at : ℕ → List ℕ → Bool
-flag_at at bytes = not (slice_index bytes at == 0)
+abbrev pub cookie_flag : ℕ → List ℕ → Bool
+cookie_flag at bytes = not (slice_index bytes at == 0)
 
 abbrev pub size_text : List ℕ
 size_text = codes "Invalid state cookie size"
@@ -66,9 +66,9 @@ cookie_fields bytes =
       maker = record { tag = u32_at 12 bytes; first_tsn = u32_at 20 bytes };
       addressee = record { tag = u32_at 8 bytes; first_tsn = u32_at 16 bytes };
       offer = record {
-        partial_reliability = flag_at 36 bytes;
-        message_interleaving = flag_at 37 bytes;
-        reconfig = flag_at 38 bytes;
+        partial_reliability = cookie_flag 36 bytes;
+        message_interleaving = cookie_flag 37 bytes;
+        reconfig = cookie_flag 38 bytes;
         zero_checksum_method = u32_at 40 bytes;
         inbound_streams = u16_at 46 bytes;
         outbound_streams = u16_at 44 bytes;

@@ -7,15 +7,15 @@ use Rattle.dcsctp_spec.specs.queues.Readiness.{queue_readiness, transfer_readine
 use Rattle.dcsctp_spec.specs.queues.Transfer.{Transfer}
 
 -- that of the transfer layer, once the peer is known
-abbrev pub readiness_below : Endpoint → Option Transfer → ℕ
-readiness_below e None = 0
-readiness_below e (Some transfer) = transfer_readiness e.options.enable_handover_with_outstanding_data transfer
+abbrev pub transfer_layer_readiness : Endpoint → Option Transfer → ℕ
+transfer_layer_readiness e None = 0
+transfer_layer_readiness e (Some transfer) = transfer_readiness e.options.enable_handover_with_outstanding_data transfer
 
 -- by the phase of an open association
 abbrev pub readiness_open : Endpoint → OpenPhase → Held → ℕ
 readiness_open e established held =
-    bit_or (queue_readiness e.options.enable_handover_with_outstanding_data e.below.queue)
-    (bit_or (reason_where (is_some held.own_outstanding) pending_stream_reset_request) (readiness_below e e.below.transfer))
+    bit_or (queue_readiness e.options.enable_handover_with_outstanding_data e.queues.queue)
+    (bit_or (reason_where (is_some held.own_outstanding) pending_stream_reset_request) (transfer_layer_readiness e e.queues.transfer))
 readiness_open e shutdown_pending held = wrong_connection_state
 readiness_open e shutdown_sent held = wrong_connection_state
 readiness_open e shutdown_received held = wrong_connection_state

@@ -8,8 +8,8 @@ use Rattle.dcsctp_types.specs.declared.snapshot.HandoverSocketState.TheVariants.
 use Rattle.dcsctp_spec.specs.endpoint.Endpoint.{Endpoint, Core, closed, cookie_wait, cookie_echoed, open_in}
 use Rattle.dcsctp_types.specs.Snapshot.{SendPart, ReceivePart, Snapshot, empty_send_part, empty_received_part, empty_snapshot}
 use Rattle.dcsctp_spec.specs.queues.OutstandingParts.{with_retransmission}
-use Rattle.dcsctp_spec.specs.queues.QueuedParts.{with_queue}
-use Rattle.dcsctp_spec.specs.queues.ReceivedParts.{with_tracker, with_reassembly}
+use Rattle.dcsctp_spec.specs.queues.QueuedParts.{part_with_queue}
+use Rattle.dcsctp_spec.specs.queues.ReceivedParts.{part_with_tracker, with_reassembly}
 use Rattle.dcsctp_spec.specs.queues.Transfer.{Transfer}
 
 -- ---- the association
@@ -36,18 +36,18 @@ with_flight e (Some transfer) tx = with_retransmission e.moment e.options.enable
 -- What waits and what is in flight, and the number of the next own request to reset streams.
 abbrev pub sending_given : Endpoint → Held → SendPart
 sending_given e held =
-    with_flight e e.below.transfer (with_queue e.moment e.options.enable_handover_with_outstanding_data e.below.queue
+    with_flight e e.queues.transfer (part_with_queue e.moment e.options.enable_handover_with_outstanding_data e.queues.queue
     (record empty_send_part { next_reset_req_sn = held.own_next }))
 
 -- ---- receiving
 
 abbrev pub with_received : Option Transfer → ReceivePart → ReceivePart
 with_received None rx = rx
-with_received (Some transfer) rx = with_reassembly transfer.reassembly (with_tracker transfer.tracker rx)
+with_received (Some transfer) rx = with_reassembly transfer.reassembly (part_with_tracker transfer.tracker rx)
 
 -- What was received, and the number of the peer's last request to reset streams that was accepted.
 abbrev pub receiving_given : Endpoint → Held → ReceivePart
-receiving_given e held = with_received e.below.transfer (record empty_received_part { last_completed_reset_req_sn = held.peer_last })
+receiving_given e held = with_received e.queues.transfer (record empty_received_part { last_completed_reset_req_sn = held.peer_last })
 
 -- ---- the whole
 

@@ -53,6 +53,6 @@ IsSoundIfKnown (Some held) None = ⊥
 IsSoundIfKnown (Some held) (Some transfer) = IsSoundTransfer transfer
 
 -- what lies below the association
-pub record IsSoundBelow (e : Endpoint) : Type 0 where
-  pub queue : IsWellFormed e.below.queue
-  pub transfer : IsSoundIfKnown (held_in e.core) e.below.transfer
+pub record AreQueuesSound (e : Endpoint) : Type 0 where
+  pub queue : IsWellFormed e.queues.queue
+  pub transfer : IsSoundIfKnown (held_in e.core) e.queues.transfer

@@ -19,13 +19,13 @@ use Rattle.dcsctp_spec_lemmas.specs.spec.endpoint.HeartbeatOutcomes.{is_exhauste
 use Rattle.dcsctp_spec_lemmas.specs.spec.endpoint.MessageOutcomes.{Sending, sending_of}
 use Rattle.dcsctp_spec_lemmas.specs.spec.endpoint.OwnTimers.{OwnTimer}
 use Rattle.dcsctp_spec_lemmas.specs.types.Setting.{Setting}
-use Rattle.dcsctp_spec_lemmas.specs.spec.endpoint.CallTurns.{Turned, IsTurn, Turns, AlongTurns, AfterChunk, ChunkTurns, WholeTurns, AdmittedTurns, HandleInput, unreadable, readable, after_all}
+use Rattle.dcsctp_spec_lemmas.specs.spec.endpoint.CallTurns.{Transition, IsTurn, Turns, AlongTurns, AfterChunk, ChunkTurns, WholeTurns, AdmittedTurns, HandleInput, unreadable, readable, after_all}
 use Rattle.dcsctp_spec_lemmas.specs.spec.Handover.{readiness_of}
 use Rattle.dcsctp_spec_lemmas.specs.spec.HandoverInputs.{inputs_of_handover}
 use Rattle.dcsctp_spec_lemmas.specs.spec.endpoint.UserTurns.{UserTurns}
 use Rattle.dcsctp_spec_laws.proofs.ReadMinima.{chunks_have_minima}
 
-pub along_append : (Good : Endpoint → Turned → Type 0) (e : Endpoint) (xs ys : List Turned) → AlongTurns Good e xs → AlongTurns Good (after_all e xs) ys → AlongTurns Good e (xs ++ ys)
+pub along_append : (Good : Endpoint → Transition → Type 0) (e : Endpoint) (xs ys : List Transition) → AlongTurns Good e xs → AlongTurns Good (after_all e xs) ys → AlongTurns Good e (xs ++ ys)
 along_append Good e [] ys first second = second
 along_append Good e (t ∷ xs) ys first second = (first.0, along_append Good t.outcome.after xs ys first.1 second)
 
@@ -130,25 +130,25 @@ handover_may May come (suc reasons) = tt
 
 -- ---- each call
 
-module _ (Good : Endpoint → Turned → Type 0) (May : Input → Type 0) (come : MayCome May)
-    (each : (e : Endpoint) (input : Input) (t : Turned) → May input → IsTurn e input t → Good e t) where
-  none_along : (e : Endpoint) (ts : List Turned) → ts ≡ [] → AlongTurns Good e ts
+module _ (Good : Endpoint → Transition → Type 0) (May : Input → Type 0) (come : MayCome May)
+    (each : (e : Endpoint) (input : Input) (t : Transition) → May input → IsTurn e input t → Good e t) where
+  none_along : (e : Endpoint) (ts : List Transition) → ts ≡ [] → AlongTurns Good e ts
   none_along e ts none = subst (AlongTurns Good e) (sym none) tt
 
-  pub turns_along : (e : Endpoint) (inputs : List Input) (ts : List Turned) → AllByRecursion May inputs → Turns e inputs ts → AlongTurns Good e ts
+  pub turns_along : (e : Endpoint) (inputs : List Input) (ts : List Transition) → AllByRecursion May inputs → Turns e inputs ts → AlongTurns Good e ts
   turns_along e [] [] may turns = tt
   turns_along e [] (t ∷ ts) may turns = absurd turns
   turns_along e (input ∷ inputs) [] may turns = absurd turns
   turns_along e (input ∷ inputs) (t ∷ ts) may turns = (each e input t may.0 turns.0, turns_along t.outcome.after inputs ts may.1 turns.1)
 
   -- whatever follows a chunk in its packet
-  rest_along : (following : Following) (e : Endpoint) (tail : List Input) (ts : List Turned) (More : Type 0) → AllByRecursion May tail → (More → AlongTurns Good e ts)
+  rest_along : (following : Following) (e : Endpoint) (tail : List Input) (ts : List Transition) (More : Type 0) → AllByRecursion May tail → (More → AlongTurns Good e ts)
       → AfterChunk following More (Turns e tail ts) (ts ≡ []) → AlongTurns Good e ts
   rest_along next_chunk e tail ts More may more rest = more rest
   rest_along packet_end e tail ts More may more rest = turns_along e tail ts may rest
   rest_along dropped_rest e tail ts More may more rest = none_along e ts rest
 
-  chunks_along : (e : Endpoint) (tag : ℕ) (contents : List Content) (tail : List Input) (ts : List Turned) → EachMay May contents → AllByRecursion May tail
+  chunks_along : (e : Endpoint) (tag : ℕ) (contents : List Content) (tail : List Input) (ts : List Transition) → EachMay May contents → AllByRecursion May tail
       → ChunkTurns e tag contents tail ts → AlongTurns Good e ts
   chunks_along e tag [] tail ts chunks may turns = turns_along e tail ts may turns
   chunks_along e tag (content ∷ contents) tail [] chunks may turns = absurd turns
@@ -158,20 +158,20 @@ module _ (Good : Endpoint → Turned → Type 0) (May : Input → Type 0) (come 
         (λ (rest : ChunkTurns t.outcome.after tag contents tail ts). chunks_along t.outcome.after tag contents tail ts chunks.1 may rest) turns.1,
   )
 
-  whole_along : (e : Endpoint) (packet : Packet) (ts : List Turned) → EachMay May packet.contents → WholeTurns e packet ts → AlongTurns Good e ts
+  whole_along : (e : Endpoint) (packet : Packet) (ts : List Transition) → EachMay May packet.contents → WholeTurns e packet ts → AlongTurns Good e ts
   whole_along e packet [] chunks turns = absurd turns
   whole_along e packet (t ∷ ts) chunks turns = (
     each e (packet_begins packet.contents) t (come.begins packet.contents) turns.0,
     chunks_along t.outcome.after packet.tag packet.contents (packet_ends ∷ []) ts chunks (come.ends, tt) turns.1,
   )
 
-  admitted_along : (e : Endpoint) (packet : Packet) (admission : Admission) (ts : List Turned) → EachMay May packet.contents → AdmittedTurns e packet admission ts → AlongTurns Good e ts
+  admitted_along : (e : Endpoint) (packet : Packet) (admission : Admission) (ts : List Transition) → EachMay May packet.contents → AdmittedTurns e packet admission ts → AlongTurns Good e ts
   admitted_along e packet all_chunks ts chunks turns = whole_along e packet ts chunks turns
   admitted_along e packet shutdown_acks_alone ts chunks turns =
       chunks_along e packet.tag (shutdown_acks_in packet.contents) [] ts (acks_may May packet.contents chunks) tt turns
   admitted_along e packet (refused text) ts chunks turns = turns_along e (refusal text ∷ []) ts (come.refuses text, tt) turns
 
-  pub input_along_where : (e : Endpoint) (bytes : List ℕ) (ts : List Turned) → HandleInput e bytes ts → AlongTurns Good e ts
+  pub input_along_where : (e : Endpoint) (bytes : List ℕ) (ts : List Transition) → HandleInput e bytes ts → AlongTurns Good e ts
   input_along_where e bytes _ (unreadable ts none turns) = turns_along e (arrival ∷ refusal unreadable_text ∷ []) ts (come.arrives, (come.refuses unreadable_text, tt)) turns
   input_along_where e bytes _ (readable packet counted ts found counts turns) = (
     each e arrival counted come.arrives counts,
@@ -179,31 +179,31 @@ module _ (Good : Endpoint → Turned → Type 0) (May : Input → Type 0) (come 
   )
 
   -- a timer that may be due, and what follows it
-  expiry_along : (due : Bool) (Rest : Bool → Endpoint → List Turned → Type 0)
-      → ((has_expired : Bool) (e : Endpoint) (ts : List Turned) → Rest has_expired e ts → AlongTurns Good e ts)
-      → (e : Endpoint) (has_expired : Bool) (timer : Timer) (ts : List Turned) → ExpiryThen due Rest e has_expired timer ts → AlongTurns Good e ts
+  expiry_along : (due : Bool) (Rest : Bool → Endpoint → List Transition → Type 0)
+      → ((has_expired : Bool) (e : Endpoint) (ts : List Transition) → Rest has_expired e ts → AlongTurns Good e ts)
+      → (e : Endpoint) (has_expired : Bool) (timer : Timer) (ts : List Transition) → ExpiryThen due Rest e has_expired timer ts → AlongTurns Good e ts
   expiry_along true Rest along e has_expired timer [] turns = absurd turns
   expiry_along true Rest along e has_expired timer (t ∷ ts) turns = (each e (expiry_input e timer) t (expiry_may May come e timer) turns.0, along true t.outcome.after ts turns.1)
   expiry_along false Rest along e has_expired timer ts turns = along has_expired e ts turns
 
-  expiries_along : (timers : List Timer) (has_expired : Bool) (e : Endpoint) (ts : List Turned) → ExpiryTurns timers has_expired e ts → AlongTurns Good e ts
+  expiries_along : (timers : List Timer) (has_expired : Bool) (e : Endpoint) (ts : List Transition) → ExpiryTurns timers has_expired e ts → AlongTurns Good e ts
   expiries_along [] has_expired e ts turns = turns_along e (after_expiries e has_expired) ts (after_may May come e has_expired) turns
   expiries_along (timer ∷ timers) has_expired e ts turns =
       expiry_along (has_come e.moment (deadline e timer)) (ExpiryTurns timers) (expiries_along timers) e has_expired timer ts turns
 
-  moment_along : (e : Endpoint) (moment : ℕ) (ts : List Turned) → MomentTurns e moment ts → AlongTurns Good e ts
+  moment_along : (e : Endpoint) (moment : ℕ) (ts : List Transition) → MomentTurns e moment ts → AlongTurns Good e ts
   moment_along e moment [] turns = absurd turns
   moment_along e moment (t ∷ ts) turns = (
     each e (time_passes moment) t (come.passes moment) turns.0,
     expiries_along (timers_in t.outcome.after.core) false t.outcome.after ts turns.1,
   )
 
-  time_along : (later : Bool) (e : Endpoint) (moment : ℕ) (ts : List Turned) → TimeTurns later e moment ts → AlongTurns Good e ts
+  time_along : (later : Bool) (e : Endpoint) (moment : ℕ) (ts : List Transition) → TimeTurns later e moment ts → AlongTurns Good e ts
   time_along true e moment ts turns = moment_along e moment ts turns
   time_along false e moment ts none = none_along e ts none
 
   -- the turns of each call of a user
-  pub call_along : (e : Endpoint) (call : CallContent) (ts : List Turned) → UserTurns e call ts → AlongTurns Good e ts
+  pub call_along : (e : Endpoint) (call : CallContent) (ts : List Transition) → UserTurns e call ts → AlongTurns Good e ts
   call_along e connect_call ts turns = turns_along e (act_input connect ∷ []) ts (come.connects, tt) turns
   call_along e close_call ts turns = turns_along e (act_input (abort_with CloseCalled) ∷ []) ts (come.aborts CloseCalled, tt) turns
   call_along e shutdown_call ts turns = turns_along e (act_input shut_down ∷ []) ts (come.shuts_down, tt) turns
@@ -217,9 +217,9 @@ module _ (Good : Endpoint → Turned → Type 0) (May : Input → Type 0) (come 
   call_along e take_call ts turns = turns_along e (user_takes ∷ []) ts (come.takes, tt) turns
   call_along e hand_over_call ts turns = turns_along e (inputs_of_handover (readiness_of e)) ts (handover_may May come (readiness_of e)) turns
 
-module _ (Good : Endpoint → Turned → Type 0) (each : (e : Endpoint) (input : Input) (t : Turned) → IsTurn e input t → Good e t) where
-  pub any_along : (e : Endpoint) (input : Input) (t : Turned) → Anything input → IsTurn e input t → Good e t
+module _ (Good : Endpoint → Transition → Type 0) (each : (e : Endpoint) (input : Input) (t : Transition) → IsTurn e input t → Good e t) where
+  pub any_along : (e : Endpoint) (input : Input) (t : Transition) → Anything input → IsTurn e input t → Good e t
   any_along e input t may turn = each e input t turn
 
-  pub input_along : (e : Endpoint) (bytes : List ℕ) (ts : List Turned) → HandleInput e bytes ts → AlongTurns Good e ts
+  pub input_along : (e : Endpoint) (bytes : List ℕ) (ts : List Transition) → HandleInput e bytes ts → AlongTurns Good e ts
   input_along e bytes ts turns = input_along_where Good Anything anything_may_come any_along e bytes ts turns

@@ -13,12 +13,12 @@ use Rattle.dcsctp_spec_lemmas.specs.spec.endpoint.HandoverOutcomes.{hand_over_ou
 use Rattle.dcsctp_spec_lemmas.specs.spec.association.Effect.{ended, emitted_alone}
 use Rattle.dcsctp_spec_lemmas.specs.spec.association.Choices.{Choices}
 use Rattle.dcsctp_spec_lemmas.specs.spec.association.Acts.{abort_with, hands_over, act_change}
-use Rattle.dcsctp_spec_lemmas.specs.spec.association.Controlled.{Sign, packet_sent, has_ended, signs_of_events, IsControlled, ControlledAct}
+use Rattle.dcsctp_spec_lemmas.specs.spec.association.Controlled.{Observation, packet_sent, has_ended, observations_of_events, IsControlled, ControlledAct}
 use Rattle.dcsctp_spec_lemmas.proofs.ControlHandshake.{no_choices, still_controlled}
 
 -- ---- the own abort
 
-told_end : (reason : AbortReason) → signs_of_events (end_of reason ∷ []) ≡ has_ended ∷ []
+told_end : (reason : AbortReason) → observations_of_events (end_of reason ∷ []) ≡ has_ended ∷ []
 told_end reasons.CloseCalled = refl
 told_end (reasons.Violation violation) = refl
 told_end reasons.TooManyErrors = refl
@@ -27,13 +27,13 @@ pub aborts_where : (b : Bool) (e : Endpoint) (held : Held) (reason : AbortReason
     → IsControlled e (ended_outcome (if b then sends e [] [] (abort_to held reason) else quiet e [] []) (end_of reason))
     (ended (emitted_alone b held.peer.tag (abort false (causes_of reason))))
 aborts_where true e held reason =
-    record { core = refl; options = refl; signs = ap (λ (signs : List Sign). packet_sent (abort_to held reason).packet ∷ signs) (told_end reason); effects = refl; following = refl }
-aborts_where false e held reason = record { core = refl; options = refl; signs = told_end reason; effects = refl; following = refl }
+    record { core = refl; options = refl; observations = ap (λ (observations : List Observation). packet_sent (abort_to held reason).packet ∷ observations) (told_end reason); effects = refl; following = refl }
+aborts_where false e held reason = record { core = refl; options = refl; observations = told_end reason; effects = refl; following = refl }
 
 aborting_at : (e : Endpoint) (core : Core) (reason : AbortReason) → e.core ≡ core
     → (choices : Choices) × IsControlled e (aborting_outcome e core reason) (act_change e.options core (abort_with reason) choices)
 aborting_at e closed reason is = (no_choices e true, still_controlled e closed is)
-aborting_at e (cookie_wait my) reason is = (no_choices e true, record { core = refl; options = refl; signs = told_end reason; effects = refl; following = refl })
+aborting_at e (cookie_wait my) reason is = (no_choices e true, record { core = refl; options = refl; observations = told_end reason; effects = refl; following = refl })
 aborting_at e (cookie_echoed my held cookie) reason is = (no_choices e (fits e (abort_to held reason)), aborts_where (fits e (abort_to held reason)) e held reason)
 aborting_at e (open_in phase my held) reason is = (no_choices e (fits e (abort_to held reason)), aborts_where (fits e (abort_to held reason)) e held reason)
 
@@ -47,7 +47,7 @@ hand_over_at : (e : Endpoint) (core : Core) → e.core ≡ core
 hand_over_at e closed is = (no_choices e true, still_controlled e closed is)
 hand_over_at e (cookie_wait my) is = (no_choices e true, still_controlled e (cookie_wait my) is)
 hand_over_at e (cookie_echoed my held cookie) is = (no_choices e true, still_controlled e (cookie_echoed my held cookie) is)
-hand_over_at e (open_in established my held) is = (no_choices e true, record { core = refl; options = refl; signs = refl; effects = refl; following = refl })
+hand_over_at e (open_in established my held) is = (no_choices e true, record { core = refl; options = refl; observations = refl; effects = refl; following = refl })
 hand_over_at e (open_in shutdown_pending my held) is = (no_choices e true, still_controlled e (open_in shutdown_pending my held) is)
 hand_over_at e (open_in shutdown_sent my held) is = (no_choices e true, still_controlled e (open_in shutdown_sent my held) is)
 hand_over_at e (open_in shutdown_received my held) is = (no_choices e true, still_controlled e (open_in shutdown_received my held) is)

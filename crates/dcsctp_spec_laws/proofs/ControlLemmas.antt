@@ -15,7 +15,7 @@ use Rattle.dcsctp_spec_lemmas.specs.spec.endpoint.Following.{next_chunk}
 use Rattle.dcsctp_spec_lemmas.specs.spec.endpoint.Event.{sent}
 use Rattle.dcsctp_spec_lemmas.specs.types.declared.options.Options.{Options}
 use Rattle.dcsctp_spec_lemmas.specs.spec.endpoint.Turn.{BeginTurn}
-use Rattle.dcsctp_spec_lemmas.specs.spec.endpoint.HandshakeOutcomes.{pair_from, renewed_pair, renewed_outcome, cookie_for, init_ack_for, init_ack_emission, answer_outcome, init_outcome}
+use Rattle.dcsctp_spec_lemmas.specs.spec.endpoint.HandshakeOutcomes.{pair_from, renewed_pair, renewed_pair_outcome, cookie_for, init_ack_for, init_ack_emission, answer_outcome, init_outcome}
 use Rattle.dcsctp_spec_lemmas.specs.spec.association.Effect.{Effect, draws, unchanged, emitted_alone}
 use Rattle.dcsctp_spec_lemmas.specs.spec.association.Choices.{Choices}
 use Rattle.dcsctp_spec_lemmas.specs.spec.association.HandshakeChanges.{IsCookieOf}
@@ -56,14 +56,14 @@ one_packet : (b : Bool) (e : Endpoint) (words : List Word) (with_checksum : Bool
       events = sent (record { with_checksum = with_checksum; packet = record { tag = tag; contents = content ∷ [] } }) ∷ [];
       following = next_chunk;
     }) (record { words = words; effects = []; after = e; events = []; following = next_chunk })) (record { core = core; effects = emitted_alone b tag content; following = next_chunk })
-one_packet true e words with_checksum tag content core is = record { core = is; options = refl; signs = refl; effects = refl; following = refl }
-one_packet false e words with_checksum tag content core is = record { core = is; options = refl; signs = refl; effects = refl; following = refl }
+one_packet true e words with_checksum tag content core is = record { core = is; options = refl; observations = refl; effects = refl; following = refl }
+one_packet false e words with_checksum tag content core is = record { core = is; options = refl; observations = refl; effects = refl; following = refl }
 
 -- what is drawn beside it leaves no sign
 pub drawing_controlled : (e : Endpoint) (o : Outcome) (core : Core) (pair : Pair) (effects : List Effect)
     → IsControlled e o (record { core = core; effects = effects; following = next_chunk }) → IsControlled e (drawing pair o) (record { core = core; effects = draws pair ∷ effects; following = next_chunk })
 drawing_controlled e o core pair effects h =
-    record { core = h.core; options = h.options; signs = h.signs; effects = ap (λ (es : List Effect). draws pair ∷ es) h.effects; following = h.following }
+    record { core = h.core; options = h.options; observations = h.observations; effects = ap (λ (es : List Effect). draws pair ∷ es) h.effects; following = h.following }
 
 pub answered : (e : Endpoint) (tag : ℕ) (theirs : Introduction) (mine : Pair) (tie : ℕ) (words : List Word) (core : Core) → e.core ≡ core
     → IsControlled e (answer_outcome e theirs words mine tie) (record { core = core; effects = emitted_alone (fits e (init_ack_emission e theirs mine tie)) theirs.pair.tag (init_ack_for e theirs mine tie); following = next_chunk })
@@ -72,7 +72,7 @@ answered e tag theirs mine tie words core is =
 
 renewed : (e : Endpoint) (tag : ℕ) (theirs : Introduction) (word : ℕ) (core : Core) → e.core ≡ core → FitsAnswer e theirs
     → IsCookieOf theirs (renewed_pair e word) (cookie_bytes (cookie_for e.moment theirs (renewed_pair e word) e.tie))
-    × IsControlled e (renewed_outcome e theirs word)
+    × IsControlled e (renewed_pair_outcome e theirs word)
     (record { core = core; effects = draws (renewed_pair e word) ∷ emitted_alone (fits e (init_ack_emission e theirs (renewed_pair e word) e.tie)) theirs.pair.tag (init_ack_for e theirs (renewed_pair e word) e.tie); following = next_chunk })
 renewed e tag theirs word core is h = (
   is_cookie e theirs (renewed_pair e word) e.tie h (renewed_fits e word),

@@ -21,7 +21,7 @@ pub record Resumes (e : Endpoint) (state : Snapshot) (o : Outcome) : Type 0 wher
   pub controlled : IsControlled e o (resumed_by e state)
 
 outcome_controlled : (e : Endpoint) (state : Snapshot) (transfer : Transfer) → IsControlled e (restored_outcome e state transfer) (resumed_by e state)
-outcome_controlled e state transfer = record { core = refl; options = refl; signs = refl; effects = refl; following = refl }
+outcome_controlled e state transfer = record { core = refl; options = refl; observations = refl; effects = refl; following = refl }
 
 restored_at : (e : Endpoint) (core : Core) (state : Snapshot) (o : Outcome) → e.core ≡ core → RestoreTurn e core state o → (o ≡ still e) ⊎ Resumes e state o
 restored_at e closed state o is turn =

@@ -17,18 +17,18 @@ use Rattle.dcsctp_spec_lemmas.specs.spec.endpoint.Outcome.{Outcome, still, quiet
 use Rattle.dcsctp_spec_lemmas.specs.spec.association.Effect.{Effect, emitted}
 use Rattle.dcsctp_spec_lemmas.specs.spec.association.Choices.{Choices, plain_contents}
 use Rattle.dcsctp_spec_lemmas.specs.spec.association.FlushChanges.{further_packets, flush}
-use Rattle.dcsctp_spec_lemmas.specs.spec.association.Acts.{flushes, sent_by, flush_change, plain_change}
-use Rattle.dcsctp_spec_lemmas.specs.spec.association.Controlled.{Sign, signs_of_events, signs_of_effects, IsControlled, ControlledAct}
+use Rattle.dcsctp_spec_lemmas.specs.spec.association.Acts.{flushes, sent_then_flushed, flush_change, plain_change}
+use Rattle.dcsctp_spec_lemmas.specs.spec.association.Controlled.{Observation, observations_of_events, observations_of_effects, IsControlled, ControlledAct}
 use Rattle.dcsctp_spec_lemmas.specs.spec.endpoint.FlushOutcomes.{own_sack, Answer, filled, draft_to, flush_of, room_in, where_fits, FlushAnswers, packets_allowed}
 use Rattle.dcsctp_spec_lemmas.specs.spec.endpoint.TransferMoves.{lost_all}
 use Rattle.dcsctp_spec_lemmas.specs.spec.endpoint.HeartbeatOutcomes.{error_counted}
 use Rattle.dcsctp_spec_lemmas.specs.spec.queues.OwnResets.{prepared_all, prepare_all_events}
 use Rattle.dcsctp_spec_lemmas.proofs.SendEventLemmas.{told_prepared}
-use Rattle.dcsctp_spec_lemmas.specs.spec.endpoint.MessageOutcomes.{sending_refusal, name_of, MessageRefusal, refusal_events, Sending, queue_by, queue_one, queue_all, takes_any, SendAnswers, send_by, SendTurn}
-use Rattle.dcsctp_spec_lemmas.specs.spec.endpoint.PreparedResets.{ResetRefusal, reset_refusal, with_queue, PreparesResets, OwnResetsWhere, OwnResetsTurn}
+use Rattle.dcsctp_spec_lemmas.specs.spec.endpoint.MessageOutcomes.{sending_refusal, lifecycle_name, MessageRefusal, refusal_events, Sending, queue_by, queue_one, queue_all, takes_any, SendAnswers, send_by, SendTurn}
+use Rattle.dcsctp_spec_lemmas.specs.spec.endpoint.PreparedResets.{ResetRefusal, reset_refusal, endpoint_with_queue, PreparesResets, OwnResetsWhere, OwnResetsTurn}
 use Rattle.dcsctp_spec_lemmas.specs.types.declared.arrivals.SkippedTo.{SkippedTo}
 use Rattle.dcsctp_spec_lemmas.specs.spec.queues.Arrivals.{Arrival}
-use Rattle.dcsctp_spec_lemmas.specs.spec.endpoint.DataOutcomes.{DataWhere, with_transfer, with_tracker, flush_by, AnswersTo, FlushTurn, no_user_data_text, no_user_data_outcome, not_connected_text, ReceiveTurn, DataTurn, ForwardTurn, acknowledging, EndWhere, EndsBy, taken_to, TakeWhere, TakeLeft, TakeTurn, delay_outcome, LossTurn}
+use Rattle.dcsctp_spec_lemmas.specs.spec.endpoint.DataOutcomes.{DataWhere, with_transfer, endpoint_with_tracker, flush_by, AnswersTo, FlushTurn, no_user_data_text, no_user_data_outcome, not_connected_text, ReceiveTurn, DataTurn, ForwardTurn, acknowledging, EndWhere, EndsBy, taken_to, TakeWhere, TakeLeft, TakeTurn, delay_outcome, LossTurn}
 use Rattle.dcsctp_spec_lemmas.proofs.ControlHandshake.{no_choices, ControlledAt}
 use Rattle.dcsctp_spec_lemmas.proofs.FlushKeeps.{IsPeerTag, all_chunks, begun_by, filling_of, flush_effects, IsBegun, flush_is, first_begins, Rebuilds, rebuilds_open, rebuilds_echoed, FlushesTo, flush_controlled, further_then, further_notes_then, told_signs, signs_append}
 use Rattle.dcsctp_spec_lemmas.specs.spec.endpoint.BegunResets.{BegunReset, request_contents, begun_effects, held_begun}
@@ -63,12 +63,12 @@ flushed_chunk e core tag chunk o h = (flush_change core (chosen e h.0 h.1), (cho
 -- ---- a turn without a flush
 
 -- nothing is seen of it but these events, which are no signs
-pub quiet_at : (e after : Endpoint) (events : List (Event Emission)) (core : Core) → after.core ≡ core → SameOptions e.options after.options → signs_of_events events ≡ []
+pub quiet_at : (e after : Endpoint) (events : List (Event Emission)) (core : Core) → after.core ≡ core → SameOptions e.options after.options → observations_of_events events ≡ []
     → FlushedAt e core (quiet after [] events)
-quiet_at e after events closed is same none = ([], [], record { core = is; options = same; signs = none; effects = refl; following = refl })
-quiet_at e after events (cookie_wait my) is same none = ([], [], record { core = is; options = same; signs = none; effects = refl; following = refl })
-quiet_at e after events (cookie_echoed my held cookie) is same none = ([], [], record { core = is; options = same; signs = none; effects = refl; following = refl })
-quiet_at e after events (open_in phase my held) is same none = ([], [], record { core = is; options = same; signs = none; effects = refl; following = refl })
+quiet_at e after events closed is same none = ([], [], record { core = is; options = same; observations = none; effects = refl; following = refl })
+quiet_at e after events (cookie_wait my) is same none = ([], [], record { core = is; options = same; observations = none; effects = refl; following = refl })
+quiet_at e after events (cookie_echoed my held cookie) is same none = ([], [], record { core = is; options = same; observations = none; effects = refl; following = refl })
+quiet_at e after events (open_in phase my held) is same none = ([], [], record { core = is; options = same; observations = none; effects = refl; following = refl })
 
 pub still_at : (e after : Endpoint) (core : Core) → after.core ≡ core → SameOptions e.options after.options → FlushedAt e core (still after)
 still_at e after core is same = quiet_at e after [] core is same refl
@@ -80,9 +80,9 @@ flushed_as e core o p is h = subst (FlushedAt e core) (sym is) h
 
 sent_change : (e base : Endpoint) (rebuilt : Held → Core) (held : Held) (events : List (Event Emission)) (packets : List (List Plain)) (answers : List Answer) → Rebuilds rebuilt held
     → base.core ≡ rebuilt held → SameOptions e.options base.options → IsPeerTag (rebuilt held) held.peer.tag → FlushAnswers base (draft_to held) answers
-    → signs_of_events events ≡ signs_of_effects (further_packets held.peer.tag packets)
+    → observations_of_events events ≡ observations_of_effects (further_packets held.peer.tag packets)
     → IsControlled e (behind [] events (flush_of base (draft_to held) answers))
-    (record { core = rebuilt (sent_by held (chosen e packets answers)).held; effects = (sent_by held (chosen e packets answers)).effects; following = next_chunk })
+    (record { core = rebuilt (sent_then_flushed held (chosen e packets answers)).held; effects = (sent_then_flushed held (chosen e packets answers)).effects; following = next_chunk })
 sent_change e base rebuilt held events packets answers builds is same peer h told =
     let tag : ℕ = held.peer.tag in
     flush_controlled e base [] events (draft_to held) answers rebuilt held (further_packets tag packets) [] builds is same
@@ -91,18 +91,18 @@ sent_change e base rebuilt held events packets answers builds is same peer h tol
 
 pub sent_at : (e base : Endpoint) (core : Core) (held : Held) (events : List (Event Emission)) (packets : List (List Plain)) (answers : List Answer)
     → held_in core ≡ Some held → base.core ≡ core → SameOptions e.options base.options → FlushAnswers base (draft_to held) answers
-    → signs_of_events events ≡ signs_of_effects (further_packets held.peer.tag packets)
+    → observations_of_events events ≡ observations_of_effects (further_packets held.peer.tag packets)
     → FlushedAt e core (behind [] events (flush_of base (draft_to held) answers))
 sent_at e base closed held events packets answers holds is same h told = absurd (cc)
 sent_at e base (cookie_wait my) held events packets answers holds is same h told = absurd (cc)
 sent_at e base (cookie_echoed my own cookie) held events packets answers holds is same h told =
     let here : own ≡ held = cc in
-    subst (λ (x : Held). FlushAnswers base (draft_to x) answers → signs_of_events events ≡ signs_of_effects (further_packets x.peer.tag packets)
+    subst (λ (x : Held). FlushAnswers base (draft_to x) answers → observations_of_events events ≡ observations_of_effects (further_packets x.peer.tag packets)
     → FlushedAt e (cookie_echoed my own cookie) (behind [] events (flush_of base (draft_to x) answers))) here
     (λ a t. (packets, answers, sent_change e base (λ (x : Held). cookie_echoed my x cookie) own events packets answers (rebuilds_echoed my cookie own) is same refl a t)) h told
 sent_at e base (open_in phase my own) held events packets answers holds is same h told =
     let here : own ≡ held = cc in
-    subst (λ (x : Held). FlushAnswers base (draft_to x) answers → signs_of_events events ≡ signs_of_effects (further_packets x.peer.tag packets)
+    subst (λ (x : Held). FlushAnswers base (draft_to x) answers → observations_of_events events ≡ observations_of_effects (further_packets x.peer.tag packets)
     → FlushedAt e (open_in phase my own) (behind [] events (flush_of base (draft_to x) answers))) here
     (λ a t. (packets, answers, sent_change e base (λ (x : Held). open_in phase my x) own events packets answers (rebuilds_open phase my own) is same refl a t)) h told
 
@@ -127,12 +127,12 @@ reported_at b e closed held tsn holds is = absurd (cc)
 reported_at b e (cookie_wait my) held tsn holds is = absurd (cc)
 reported_at true e (cookie_echoed my own cookie) held tsn holds is =
     let here : own ≡ held = cc in
-    ((error_of (no_user_data tsn ∷ []) ∷ []) ∷ [], [], record { core = is; options = refl; signs = ap (λ (x : Held). signs_of_events (reported e x tsn true).events) (sym here); effects = refl; following = refl })
+    ((error_of (no_user_data tsn ∷ []) ∷ []) ∷ [], [], record { core = is; options = refl; observations = ap (λ (x : Held). observations_of_events (reported e x tsn true).events) (sym here); effects = refl; following = refl })
 reported_at true e (open_in phase my own) held tsn holds is =
     let here : own ≡ held = cc in
-    ((error_of (no_user_data tsn ∷ []) ∷ []) ∷ [], [], record { core = is; options = refl; signs = ap (λ (x : Held). signs_of_events (reported e x tsn true).events) (sym here); effects = refl; following = refl })
-reported_at false e (cookie_echoed my own cookie) held tsn holds is = ([], [], record { core = is; options = refl; signs = refl; effects = refl; following = refl })
-reported_at false e (open_in phase my own) held tsn holds is = ([], [], record { core = is; options = refl; signs = refl; effects = refl; following = refl })
+    ((error_of (no_user_data tsn ∷ []) ∷ []) ∷ [], [], record { core = is; options = refl; observations = ap (λ (x : Held). observations_of_events (reported e x tsn true).events) (sym here); effects = refl; following = refl })
+reported_at false e (cookie_echoed my own cookie) held tsn holds is = ([], [], record { core = is; options = refl; observations = refl; effects = refl; following = refl })
+reported_at false e (open_in phase my own) held tsn holds is = ([], [], record { core = is; options = refl; observations = refl; effects = refl; following = refl })
 
 no_data_at : (e : Endpoint) (core : Core) (peer : Option Held) (tsn : ℕ) → held_in core ≡ peer → e.core ≡ core → FlushedAt e core (no_user_data_outcome e peer tsn)
 no_data_at e core None tsn holds is = quiet_at e e (error ProtocolViolation no_user_data_text ∷ []) core is refl refl
@@ -144,7 +144,7 @@ receive_at e (Some transfer) arrived o turn = flushed_as e e.core o (still (with
 
 data_where_at : (e : Endpoint) (arrived : Arrival) (payload : List ℕ) (o : Outcome) → DataWhere e arrived payload o → FlushedAt e e.core o
 data_where_at e arrived [] o turn = flushed_as e e.core o (no_user_data_outcome e (held_in e.core) arrived.tsn) turn (no_data_at e e.core (held_in e.core) arrived.tsn refl refl)
-data_where_at e arrived (byte ∷ bytes) o turn = receive_at e e.below.transfer arrived o turn
+data_where_at e arrived (byte ∷ bytes) o turn = receive_at e e.queues.transfer arrived o turn
 
 pub data_at : (e : Endpoint) (arrived : Arrival) (o : Outcome) → DataTurn e arrived o → FlushedAt e e.core o
 data_at e arrived o turn = data_where_at e arrived arrived.chunk.payload o turn
@@ -188,7 +188,7 @@ same_flush tag held front answers begun =
 front_controlled : (e base : Endpoint) (rebuilt : Held → Core) (held : Held) (front : List Plain) (answers : List Answer) → Rebuilds rebuilt held
     → base.core ≡ rebuilt held → SameOptions e.options base.options → IsPeerTag (rebuilt held) held.peer.tag → FlushAnswers base (filled (draft_to held) (plain_contents front)) answers
     → IsControlled e (flush_of base (filled (draft_to held) (plain_contents front)) answers)
-    (record { core = rebuilt (sent_by held (chosen e [] (fronted front answers))).held; effects = (sent_by held (chosen e [] (fronted front answers))).effects; following = next_chunk })
+    (record { core = rebuilt (sent_then_flushed held (chosen e [] (fronted front answers))).held; effects = (sent_then_flushed held (chosen e [] (fronted front answers))).effects; following = next_chunk })
 front_controlled e base rebuilt held front answers builds is same peer h =
     let tag : ℕ = held.peer.tag in
     let draft : Emission = filled (draft_to held) (plain_contents front) in
@@ -215,10 +215,10 @@ front_at e base (open_in phase my own) held front answers holds is same h =
 end_where_at : (b : Bool) (e : Endpoint) (core : Core) (peer : Option Held) (transfer : Transfer) (tracker : TrackerState) (o : Outcome) → held_in core ≡ peer → e.core ≡ core
     → EndWhere b e peer transfer tracker o → FlushedAt e core o
 end_where_at true e core (Some held) transfer tracker o holds is turn =
-    flushed_as e core o (flush_of (with_tracker e transfer (sacked tracker)) (acknowledging e held (own_sack (record transfer { tracker = tracker }))) turn.answers) turn.is
-    (front_at e (with_tracker e transfer (sacked tracker)) core held (where_fits (room_in e (draft_to held)) (own_sack (record transfer { tracker = tracker }))) turn.answers holds is refl turn.allowed)
-end_where_at true e core None transfer tracker o holds is turn = flushed_as e core o (still (with_tracker e transfer tracker)) turn (still_at e (with_tracker e transfer tracker) core is refl)
-end_where_at false e core peer transfer tracker o holds is turn = flushed_as e core o (still (with_tracker e transfer tracker)) turn (still_at e (with_tracker e transfer tracker) core is refl)
+    flushed_as e core o (flush_of (endpoint_with_tracker e transfer (sacked tracker)) (acknowledging e held (own_sack (record transfer { tracker = tracker }))) turn.answers) turn.is
+    (front_at e (endpoint_with_tracker e transfer (sacked tracker)) core held (where_fits (room_in e (draft_to held)) (own_sack (record transfer { tracker = tracker }))) turn.answers holds is refl turn.allowed)
+end_where_at true e core None transfer tracker o holds is turn = flushed_as e core o (still (endpoint_with_tracker e transfer tracker)) turn (still_at e (endpoint_with_tracker e transfer tracker) core is refl)
+end_where_at false e core peer transfer tracker o holds is turn = flushed_as e core o (still (endpoint_with_tracker e transfer tracker)) turn (still_at e (endpoint_with_tracker e transfer tracker) core is refl)
 
 pub end_at : (e : Endpoint) (transfer : Option Transfer) (o : Outcome) → EndsBy e transfer o → FlushedAt e e.core o
 end_at e None o turn = flushed_as e e.core o (still e) turn (still_at e e e.core refl refl)
@@ -247,18 +247,18 @@ record Queues (e : Endpoint) (o : Outcome) : Type 0 where
   options : o.after.options ≡ e.options
   words : o.words ≡ []
   effects : o.effects ≡ []
-  signs : signs_of_events o.events ≡ []
+  observations : observations_of_events o.events ≡ []
 
-refusal_signs : (refusal : MessageRefusal) (lifecycle : Option ℕ) → signs_of_events (refusal_events refusal lifecycle) ≡ []
+refusal_signs : (refusal : MessageRefusal) (lifecycle : Option ℕ) → observations_of_events (refusal_events refusal lifecycle) ≡ []
 refusal_signs refusal None = refl
 refusal_signs refusal (Some id) = refl
 
 queues_one : (e : Endpoint) (message : Sending) (refusal : Option MessageRefusal) → Queues e (queue_by e message refusal)
-queues_one e message None = record { core = refl; options = refl; words = refl; effects = refl; signs = refl }
-queues_one e message (Some refusal) = record { core = refl; options = refl; words = refl; effects = refl; signs = refusal_signs refusal (name_of message) }
+queues_one e message None = record { core = refl; options = refl; words = refl; effects = refl; observations = refl }
+queues_one e message (Some refusal) = record { core = refl; options = refl; words = refl; effects = refl; observations = refusal_signs refusal (lifecycle_name message) }
 
 queues_all : (e : Endpoint) (messages : List Sending) → Queues e (queue_all e messages)
-queues_all e [] = record { core = refl; options = refl; words = refl; effects = refl; signs = refl }
+queues_all e [] = record { core = refl; options = refl; words = refl; effects = refl; observations = refl }
 queues_all e (message ∷ messages) =
     let first : Outcome = queue_one e message in
     let one : Queues e first = queues_one e message (sending_refusal e message) in
@@ -268,8 +268,8 @@ queues_all e (message ∷ messages) =
       options = rest.options ∙ one.options;
       words = ap (λ (ws : List Word). ws ++ (queue_all first.after messages).words) one.words ∙ rest.words;
       effects = ap (λ (es : List Effect). es ++ (queue_all first.after messages).effects) one.effects ∙ rest.effects;
-      signs = signs_append first.events (queue_all first.after messages).events
-          ∙ ap (λ (ss : List Sign). ss ++ signs_of_events (queue_all first.after messages).events) one.signs ∙ rest.signs;
+      observations = signs_append first.events (queue_all first.after messages).events
+          ∙ ap (λ (ss : List Observation). ss ++ observations_of_events (queue_all first.after messages).events) one.observations ∙ rest.observations;
     }
 
 -- what goes out behind the events of the messages
@@ -282,11 +282,11 @@ quiet_then : (e after : Endpoint) (events : List (Event Emission)) → behind []
 quiet_then e after events = ap (quiet after []) (append-nil events)
 
 sends_to : (e base : Endpoint) (core : Core) (peer : Option Held) (events : List (Event Emission)) (answers : List Answer) → held_in core ≡ peer → base.core ≡ core → SameOptions e.options base.options
-    → signs_of_events events ≡ [] → AnswersTo base peer answers → FlushedAt e core (behind [] events (flush_by base peer answers))
+    → observations_of_events events ≡ [] → AnswersTo base peer answers → FlushedAt e core (behind [] events (flush_by base peer answers))
 sends_to e base core None events answers holds is same none h = flushed_as e core _ (quiet base [] events) (quiet_then e base events) (quiet_at e base events core is same none)
 sends_to e base core (Some held) events answers holds is same none h = sent_at e base core held events [] answers holds is same h none
 
-sends_where : (b : Bool) (e base : Endpoint) (events : List (Event Emission)) (answers : List Answer) → base.core ≡ e.core → SameOptions e.options base.options → signs_of_events events ≡ []
+sends_where : (b : Bool) (e base : Endpoint) (events : List (Event Emission)) (answers : List Answer) → base.core ≡ e.core → SameOptions e.options base.options → observations_of_events events ≡ []
     → SendAnswers b base answers → FlushedAt e e.core (behind [] events (send_by b base answers))
 sends_where false e base events answers is same none h = flushed_as e e.core _ (quiet base [] events) (quiet_then e base events) (quiet_at e base events e.core is same none)
 sends_where true e base events answers is same none h = sends_to e base e.core (held_in base.core) events answers (ap held_in (sym is)) is same none h
@@ -297,18 +297,18 @@ send_at e messages o turn =
     let q : Queues e queued = queues_all e messages in
     flushed_as e e.core o (behind [] queued.events (send_by (takes_any e messages) queued.after turn.0))
     (turn.2 ∙ behind_messages queued (send_by (takes_any e messages) queued.after turn.0) q.words q.effects)
-    (sends_where (takes_any e messages) e queued.after queued.events turn.0 q.core (subst (SameOptions e.options) (sym q.options) refl) q.signs turn.1)
+    (sends_where (takes_any e messages) e queued.after queued.events turn.0 q.core (subst (SameOptions e.options) (sym q.options) refl) q.observations turn.1)
 
 -- ---- own streams that the user resets
 
 prepares_at : (e : Endpoint) (ids : List ℕ) (o : Outcome) → PreparesResets e ids o → FlushedAt e e.core o
 prepares_at e ids o turn =
-    let base : Endpoint = with_queue e (prepared_all ids e.below.queue) in
+    let base : Endpoint = endpoint_with_queue e (prepared_all ids e.queues.queue) in
     let peer : Option Held = held_in e.core in
-    let events : List (Event Emission) = prepare_all_events ids e.below.queue in
-    let told = told_prepared ids e.below.queue in
+    let events : List (Event Emission) = prepare_all_events ids e.queues.queue in
+    let told = told_prepared ids e.queues.queue in
     flushed_as e e.core o (behind [] events (flush_by base peer turn.flushes.0)) (turn.is ∙ ap (behind [] events) turn.flushes.2)
-    (sends_to e base e.core peer events turn.flushes.0 refl refl refl (ap signs_of_events told.is ∙ told_signs told.told) turn.flushes.1)
+    (sends_to e base e.core peer events turn.flushes.0 refl refl refl (ap observations_of_events told.is ∙ told_signs told.told) turn.flushes.1)
 
 resets_where_at : (refusal : Option ResetRefusal) (e : Endpoint) (ids : List ℕ) (o : Outcome) → OwnResetsWhere refusal e ids o → FlushedAt e e.core o
 resets_where_at None e ids o turn = prepares_at e ids o turn
@@ -321,7 +321,7 @@ resets_at e ids o turn = resets_where_at (reset_refusal e) e ids o turn
 
 pub delay_at : (e : Endpoint) (transfer : Option Transfer) → FlushedAt e e.core (delay_outcome e transfer)
 delay_at e None = still_at e e e.core refl refl
-delay_at e (Some transfer) = still_at e (with_tracker e transfer (delay_over transfer.tracker)) e.core refl refl
+delay_at e (Some transfer) = still_at e (endpoint_with_tracker e transfer (delay_over transfer.tracker)) e.core refl refl
 
 pub loss_at : (e : Endpoint) (transfer : Option Transfer) (o : Outcome) → LossTurn e transfer o → FlushedAt e e.core o
 loss_at e None o turn = flushed_as e e.core o (still e) turn (still_at e e e.core refl refl)

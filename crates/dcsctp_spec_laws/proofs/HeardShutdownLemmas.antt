@@ -18,20 +18,20 @@ use Rattle.dcsctp_spec_laws.proofs.SackLemmas.{SteppedAt, stepped, acknowledges_
 -- the association in ShutdownReceived, and a step from there
 received_at : (b : Bool) (e : Endpoint) (my : Pair) (held : Held)
     → IsControlled e (step_by b (phase_at e shutdown_received my held) shutdown_received my held)
-    (shutdown_chunk_change (open_in established my held) (stepped e (received_tsn e.below.transfer) b [] []))
-received_at true e my held = record { core = refl; options = refl; signs = refl; effects = refl; following = refl }
-received_at false e my held = record { core = refl; options = refl; signs = refl; effects = refl; following = refl }
+    (shutdown_chunk_change (open_in established my held) (stepped e (received_tsn e.queues.transfer) b [] []))
+received_at true e my held = record { core = refl; options = refl; observations = refl; effects = refl; following = refl }
+received_at false e my held = record { core = refl; options = refl; observations = refl; effects = refl; following = refl }
 
 -- Nothing is sent beside it.
 shutdown_at : (e : Endpoint) (core : Core) (tag tsn : ℕ) → e.core ≡ core → ControlledAt e core tag (shutdown tsn) (shutdown_outcome e core)
 shutdown_at e closed tag tsn is = (_, (stepped e 0 false [] [], tt, refl), still_controlled e closed is)
 shutdown_at e (cookie_wait my) tag tsn is = (_, (stepped e 0 false [] [], tt, refl), still_controlled e (cookie_wait my) is)
 shutdown_at e (cookie_echoed my held cookie) tag tsn is = (_, (stepped e 0 false [] [], tt, refl), still_controlled e (cookie_echoed my held cookie) is)
-shutdown_at e (open_in established my held) tag tsn is = (_, (stepped e (received_tsn e.below.transfer) (may_go_on e) [] [], tt, refl), received_at (may_go_on e) e my held)
-shutdown_at e (open_in shutdown_pending my held) tag tsn is = (_, (stepped e (received_tsn e.below.transfer) (may_go_on e) [] [], tt, refl), received_at (may_go_on e) e my held)
-shutdown_at e (open_in shutdown_sent my held) tag tsn is = (_, (stepped e 0 false [] [], tt, refl), record { core = refl; options = refl; signs = refl; effects = refl; following = refl })
+shutdown_at e (open_in established my held) tag tsn is = (_, (stepped e (received_tsn e.queues.transfer) (may_go_on e) [] [], tt, refl), received_at (may_go_on e) e my held)
+shutdown_at e (open_in shutdown_pending my held) tag tsn is = (_, (stepped e (received_tsn e.queues.transfer) (may_go_on e) [] [], tt, refl), received_at (may_go_on e) e my held)
+shutdown_at e (open_in shutdown_sent my held) tag tsn is = (_, (stepped e 0 false [] [], tt, refl), record { core = refl; options = refl; observations = refl; effects = refl; following = refl })
 shutdown_at e (open_in shutdown_received my held) tag tsn is = (_, (stepped e 0 false [] [], tt, refl), still_controlled e (open_in shutdown_received my held) is)
-shutdown_at e (open_in shutdown_ack_sent my held) tag tsn is = (_, (stepped e 0 false [] [], tt, refl), record { core = refl; options = refl; signs = refl; effects = refl; following = refl })
+shutdown_at e (open_in shutdown_ack_sent my held) tag tsn is = (_, (stepped e 0 false [] [], tt, refl), record { core = refl; options = refl; observations = refl; effects = refl; following = refl })
 
 -- ---- one that does
 

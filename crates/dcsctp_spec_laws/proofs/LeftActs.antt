@@ -14,9 +14,9 @@ use Rattle.dcsctp_spec_lemmas.specs.spec.endpoint.HandoverOutcomes.{hand_over_ou
 use Rattle.dcsctp_spec_lemmas.specs.spec.endpoint.HandshakeOutcomes.{pair_from, connect_outcome, awaits_init_ack, init_emission, echo_emission}
 use Rattle.dcsctp_spec_lemmas.specs.spec.endpoint.HeartbeatOutcomes.{is_exhausted, interval_expired, beating, heartbeat_emission, interval_outcome}
 use Rattle.dcsctp_spec_lemmas.specs.spec.endpoint.OwnTimers.{OwnTimer, TimerTurn, acknowledgement_delay, retransmission, heartbeat_interval, heartbeat_timeout, reconfiguration}
-use Rattle.dcsctp_spec_lemmas.specs.spec.endpoint.ReconfigurationOutcomes.{reset_again, request_emitted, renewed_where, request_renewed as renewed_outcome, is_renewed, request_unless, request_expired, reconfiguration_outcome}
+use Rattle.dcsctp_spec_lemmas.specs.spec.endpoint.ReconfigurationOutcomes.{reset_again, request_emitted, renewed_request_where, request_renewed as renewed_outcome, is_renewed, request_unless, request_expired, reconfiguration_outcome}
 use Rattle.dcsctp_spec_lemmas.specs.spec.association.FlushChanges.{reset_request}
-use Rattle.dcsctp_spec_lemmas.specs.spec.endpoint.ShutdownOutcomes.{t1_stopped, may_go_on, shut_down_outcome, t2_goes_on, sent_again}
+use Rattle.dcsctp_spec_lemmas.specs.spec.endpoint.ShutdownOutcomes.{t1_stopped, may_go_on, shut_down_outcome, t2_goes_on, shutdown_sent_again}
 use Rattle.dcsctp_spec_lemmas.specs.spec.endpoint.TimerOutcomes.{t1_goes_on, AgainAnswers, t1_again_by, t1_gives_up_outcome}
 use Rattle.dcsctp_spec_lemmas.specs.spec.endpoint.Turn.{act_input, ActTurn}
 use Rattle.dcsctp_spec_lemmas.specs.types.declared.word.Word.TheVariants.{U32}
@@ -73,7 +73,7 @@ shut_down_leaves e (open_in shutdown_sent my held) = inl (unmoved e)
 shut_down_leaves e (open_in shutdown_received my held) = inl (unmoved e)
 shut_down_leaves e (open_in shutdown_ack_sent my held) = inl (unmoved e)
 
-repeated_stays : (e : Endpoint) (core : Core) → StaysIn e (sent_again (t2_goes_on e) core)
+repeated_stays : (e : Endpoint) (core : Core) → StaysIn e (shutdown_sent_again (t2_goes_on e) core)
 repeated_stays e closed = record { left = refl; there = refl }
 repeated_stays e (cookie_wait my) = record { left = refl; there = refl }
 repeated_stays e (cookie_echoed my held cookie) = record { left = refl; there = refl }
@@ -122,7 +122,7 @@ emitted_stays : (e : Endpoint) (held : Held) (number : Option ℕ) (reset : Requ
 emitted_stays e held None reset = unmoved e
 emitted_stays e held (Some number) reset = emits_stays e [] (to_peer held (reset_request number reset))
 
-renewed_stays : (b : Bool) (e : Endpoint) (held : Held) (number : ℕ) (request : Content) → StaysIn e (renewed_where b e held number request)
+renewed_stays : (b : Bool) (e : Endpoint) (held : Held) (number : ℕ) (request : Content) → StaysIn e (renewed_request_where b e held number request)
 renewed_stays true e held number request = record { left = refl; there = refl }
 renewed_stays false e held number request = unmoved e
 
@@ -144,8 +144,8 @@ reconfiguration_stays e (Some held) (Some request) =
     (unless_stays (is_exhausted after.options.max_retransmissions after.error_count) (is_renewed e (Some request)) after held (reset_again (Some request)))
 
 pub timer_stays : (e : Endpoint) (timer : OwnTimer) (o : Outcome) → TimerTurn e timer o → StaysIn e o
-timer_stays e acknowledgement_delay o turn = subst (StaysIn e) (sym turn) (delay_stays e e.below.transfer refl)
-timer_stays e retransmission o turn = loss_stays e e.below.transfer o refl turn
+timer_stays e acknowledgement_delay o turn = subst (StaysIn e) (sym turn) (delay_stays e e.queues.transfer refl)
+timer_stays e retransmission o turn = loss_stays e e.queues.transfer o refl turn
 timer_stays e heartbeat_interval o turn = subst (StaysIn e) (sym turn) (interval_stays e e.core)
 timer_stays e heartbeat_timeout o turn = subst (StaysIn e) (sym turn) (record { left = refl; there = refl })
 timer_stays e reconfiguration o turn = subst (StaysIn e) (sym turn) (reconfiguration_stays e (held_in e.core) e.outstanding)

@@ -10,7 +10,7 @@ use Rattle.dcsctp_spec_lemmas.specs.spec.Cookie.{Cookie, cookie_at}
 use Rattle.dcsctp_spec_lemmas.specs.spec.Packet.{Introduction, cookie_echo, shutdown_ack, re_config, Emission}
 use Rattle.dcsctp_spec_lemmas.specs.spec.Reconfiguration.{RequestedReset, ResetParameter}
 use Rattle.dcsctp_spec_lemmas.specs.spec.association.CookieEchoChanges.{Resolution, establish_new, restart, simultaneous_init, discard, maintain_existing, invalid_tag, stale, held_by_cookie}
-use Rattle.dcsctp_spec_lemmas.specs.spec.association.ResetChanges.{WorkedParameters}
+use Rattle.dcsctp_spec_lemmas.specs.spec.association.ResetChanges.{HandledParameters}
 use Rattle.dcsctp_spec_lemmas.specs.spec.queues.SendQueue.{SendQueueState}
 use Rattle.dcsctp_spec_lemmas.specs.spec.queues.Transfer.{Transfer}
 use Rattle.dcsctp_spec_lemmas.specs.spec.endpoint.Cause.{Cause}
@@ -20,8 +20,8 @@ use Rattle.dcsctp_spec_lemmas.specs.spec.endpoint.Outcome.{Outcome, quiet, sends
 use Rattle.dcsctp_spec_lemmas.specs.spec.endpoint.FlushOutcomes.{Answer, draft_to, flush_of, flush_answered}
 use Rattle.dcsctp_spec_lemmas.specs.spec.endpoint.EndOutcomes.{ended_outcome, abort_outcome}
 use Rattle.dcsctp_spec_lemmas.specs.spec.endpoint.HandshakeOutcomes.{pair_from, renewed_pair, init_ack_emission, init_outcome, InitTurn, no_cookie_text, abort_emission, awaits_cookie_ack, echo_emission, EchoAnswers, init_ack_by, InitAckAnswers, InitAckTurn, connected_after, cookie_ack_by, CookieAckAnswers, CookieAckTurn}
-use Rattle.dcsctp_spec_lemmas.specs.spec.endpoint.CookieEchoOutcomes.{established_by, acknowledgement, establish_by, queue_begun, queue_kept, restart_by_in, restart_by_where, maintain_by, resolved_by, resolved_now, cookie_echo_by, EstablishAnswers, RestartAnswersIn, RestartAnswers, MaintainAnswers, ResolvedAnswers, EchoedAnswers, CookieEchoTurn}
-use Rattle.dcsctp_spec_lemmas.specs.spec.endpoint.ResetOutcomes.{requested_in, has_reset, answers_in_progress, ResetsBelow, OwnAnswer, unanswered, retried, was_performed, has_failed, worked_in, answered_in, told_of, resets_worked, responses_outcome, responses_by, ResponseAnswers, WorksResets, ResetTurn}
+use Rattle.dcsctp_spec_lemmas.specs.spec.endpoint.CookieEchoOutcomes.{established_by, cookie_ack_emission, establish_by, queue_begun, queue_kept, restart_by_in, restart_by_where, maintain_by, resolved_by, resolved_now, cookie_echo_by, EstablishAnswers, RestartAnswersIn, RestartAnswers, MaintainAnswers, ResolvedAnswers, EchoedAnswers, CookieEchoTurn}
+use Rattle.dcsctp_spec_lemmas.specs.spec.endpoint.ResetOutcomes.{requested_in, has_reset, answers_in_progress, ResetsInQueues, OwnAnswer, unanswered, retried, was_performed, has_failed, parameters_handled_in, answered_in, reset_events_of, resets_handled, responses_outcome, responses_by, ResponseAnswers, WorksResets, ResetTurn}
 use Rattle.dcsctp_spec_lemmas.specs.spec.endpoint.ShutdownOutcomes.{shutdown_ack_outcome, shutdown_complete_outcome}
 use Rattle.dcsctp_spec_laws.proofs.LeftLemmas.{is_there, Stays, Ends, StaysIn, LeavesIn, unmoved, stays_then, begins_then, emits_stays, flush_stays}
 
@@ -72,7 +72,7 @@ established_begins : (e : Endpoint) (cookie : Cookie) (queue : SendQueueState) (
     → LeavesIn e (establish_by (flush_answered answers) e cookie queue tie events)
 established_begins e cookie queue tie events answers h =
     let begun : Endpoint = established_by e cookie queue tie in
-    inr (inl (begins_then begun _ (record { left = refl; there = refl }) (flush_stays begun (acknowledgement (held_by_cookie e.options cookie) cookie) answers h)))
+    inr (inl (begins_then begun _ (record { left = refl; there = refl }) (flush_stays begun (cookie_ack_emission (held_by_cookie e.options cookie) cookie) answers h)))
 
 restart_in : (e : Endpoint) (cookie : Cookie) (tie : ℕ) (phase : OpenPhase) (held : Held) (answers : List Answer) → RestartAnswersIn e cookie tie phase answers
     → LeavesIn e (restart_by_in (flush_answered answers) e cookie tie phase held)
@@ -96,8 +96,8 @@ maintain_stays : (e : Endpoint) (cookie : Cookie) (core : Core) (answers : List 
 maintain_stays e cookie closed answers h = unmoved e
 maintain_stays e cookie (cookie_wait mine) answers h = unmoved e
 maintain_stays e cookie (cookie_echoed mine held echoed) answers h =
-    stays_then e (connected_after e mine held) _ (connected_stays e mine held) (flush_stays (connected_after e mine held) (acknowledgement held cookie) answers h)
-maintain_stays e cookie (open_in phase mine held) answers h = flush_stays e (acknowledgement held cookie) answers h
+    stays_then e (connected_after e mine held) _ (connected_stays e mine held) (flush_stays (connected_after e mine held) (cookie_ack_emission held cookie) answers h)
+maintain_stays e cookie (open_in phase mine held) answers h = flush_stays e (cookie_ack_emission held cookie) answers h
 
 resolved_leaves : (e : Endpoint) (cookie : Cookie) (core : Core) (word : ℕ) (resolution : Resolution) (answers : List Answer) → ResolvedAnswers e cookie core word resolution answers
     → LeavesIn e (resolved_by (flush_answered answers) e cookie core word resolution)
@@ -131,7 +131,7 @@ cookie_ack_leaves e o turn = subst (LeavesIn e) (sym turn.2) (inl (cookie_ack_st
 
 -- ---- RE-CONFIG
 
-below_there : (performed in_progress : Bool) (reset : Option RequestedReset) (old new : Option Transfer) → ResetsBelow performed in_progress reset old new → is_there new ≡ is_there old
+below_there : (performed in_progress : Bool) (reset : Option RequestedReset) (old new : Option Transfer) → ResetsInQueues performed in_progress reset old new → is_there new ≡ is_there old
 below_there true in_progress (Some reset) (Some old) new h = ap is_there h.1
 below_there true in_progress (Some reset) None new h = ap is_there h
 below_there true in_progress None old new h = ap is_there h
@@ -140,7 +140,7 @@ below_there false true (Some reset) None new h = ap is_there h
 below_there false true None old new h = ap is_there h
 below_there false false reset old new h = ap is_there h
 
-worked_stays : (e : Endpoint) (answer : OwnAnswer) (held : Held) (left : Option Transfer) → is_there left ≡ is_there e.below.transfer → Stays e (resets_worked e answer held left)
+worked_stays : (e : Endpoint) (answer : OwnAnswer) (held : Held) (left : Option Transfer) → is_there left ≡ is_there e.queues.transfer → Stays e (resets_handled e answer held left)
 worked_stays e unanswered held left same = record { left = refl; there = same }
 worked_stays e retried held left same = record { left = refl; there = same }
 worked_stays e was_performed held left same = record { left = refl; there = same }
@@ -159,12 +159,12 @@ responses_stay false e told held parameters responses answers h =
 
 works_resets_stay : (e : Endpoint) (my : Pair) (held : Held) (parameters : List ResetParameter) (o : Outcome) → WorksResets e my held parameters o → StaysIn e o
 works_resets_stay e my held parameters o turn =
-    let w : WorkedParameters = worked_in e my held parameters in
-    let base : Endpoint = resets_worked e (answered_in held w parameters) w.held turn.left in
+    let w : HandledParameters = parameters_handled_in e my held parameters in
+    let base : Endpoint = resets_handled e (answered_in held w parameters) w.held turn.left in
     subst (StaysIn e) (sym turn.is)
     (stays_then e base _
-    (worked_stays e (answered_in held w parameters) w.held turn.left (below_there (has_reset w.effects) (answers_in_progress w.answers) (requested_in parameters) e.below.transfer turn.left turn.below))
-    (responses_stay w.is_refused base (told_of e parameters w.effects) w.held parameters w.answers turn.answers turn.allowed))
+    (worked_stays e (answered_in held w parameters) w.held turn.left (below_there (has_reset w.effects) (answers_in_progress w.answers) (requested_in parameters) e.queues.transfer turn.left turn.below))
+    (responses_stay w.is_refused base (reset_events_of e parameters w.effects) w.held parameters w.answers turn.answers turn.allowed))
 
 resets_stay : (e : Endpoint) (core : Core) (parameters : List ResetParameter) (o : Outcome) → ResetTurn e core parameters o → StaysIn e o
 resets_stay e closed parameters o turn = subst (StaysIn e) (sym turn) (unmoved e)

@@ -16,10 +16,10 @@ use Rattle.dcsctp_spec_lemmas.specs.spec.queues.Transfer.{Transfer}
 use Rattle.dcsctp_spec_lemmas.specs.spec.endpoint.Endpoint.{Endpoint, Core, closed, cookie_wait, cookie_echoed, open_in, OpenPhase, established, shutdown_pending, shutdown_sent, shutdown_received, shutdown_ack_sent, held_in}
 use Rattle.dcsctp_spec_lemmas.specs.spec.endpoint.Outcome.{Outcome, to_peer}
 use Rattle.dcsctp_spec_lemmas.specs.spec.endpoint.FlushOutcomes.{Answer, draft_to, own_sack}
-use Rattle.dcsctp_spec_lemmas.specs.spec.endpoint.DataOutcomes.{with_transfer, with_tracker, no_user_data_outcome, ReceiveTurn, DataWhere, DataTurn, ForwardTurn, FastRetransmits, sack_taken, AcknowledgesBy, SackWhere, SackBy, SackTurn, acknowledging, EndWhere, EndsBy, TakeWhere, TakeLeft, TakeTurn, delay_outcome, LossTurn, FlushTurn}
+use Rattle.dcsctp_spec_lemmas.specs.spec.endpoint.DataOutcomes.{with_transfer, endpoint_with_tracker, no_user_data_outcome, ReceiveTurn, DataWhere, DataTurn, ForwardTurn, FastRetransmits, sack_taken, AcknowledgesBy, SackWhere, SackBy, SackTurn, acknowledging, EndWhere, EndsBy, TakeWhere, TakeLeft, TakeTurn, delay_outcome, LossTurn, FlushTurn}
 use Rattle.dcsctp_spec_lemmas.specs.spec.endpoint.HeardShutdown.{said_by_shutdown, ShutdownTurn}
 use Rattle.dcsctp_spec_lemmas.specs.spec.endpoint.MessageOutcomes.{MessageRefusal, Sending, sending_refusal, queue_by, queue_one, queue_all, takes_any, SendAnswers, send_by, SendTurn}
-use Rattle.dcsctp_spec_lemmas.specs.spec.endpoint.PreparedResets.{ResetRefusal, reset_refusal, with_queue, OwnResetsWhere, OwnResetsTurn}
+use Rattle.dcsctp_spec_lemmas.specs.spec.endpoint.PreparedResets.{ResetRefusal, reset_refusal, endpoint_with_queue, OwnResetsWhere, OwnResetsTurn}
 use Rattle.dcsctp_spec_lemmas.specs.spec.endpoint.ShutdownOutcomes.{phase_at, may_go_on, step_by, step_outcome, shutdown_outcome}
 use Rattle.dcsctp_spec_lemmas.specs.spec.endpoint.Turn.{user_takes}
 use Rattle.dcsctp_spec_lemmas.proofs.HeardShutdowns.{Heeds, heard}
@@ -29,30 +29,30 @@ use Rattle.dcsctp_spec_laws.proofs.LeftLemmas.{is_there, Stays, StaysIn, unmoved
 -- ---- what is received
 
 -- There is an association before and after it.
-pub moved_stays : (e : Endpoint) (transfer left : Transfer) → e.below.transfer ≡ Some transfer → Stays e (with_transfer e left)
+pub moved_stays : (e : Endpoint) (transfer left : Transfer) → e.queues.transfer ≡ Some transfer → Stays e (with_transfer e left)
 moved_stays e transfer left is = record { left = refl; there = sym (ap is_there is) }
 
 no_data_stays : (e : Endpoint) (peer : Option Held) (tsn : ℕ) → StaysIn e (no_user_data_outcome e peer tsn)
 no_data_stays e None tsn = unmoved e
 no_data_stays e (Some held) tsn = emits_stays e [] (to_peer held (plain (error_of (no_user_data tsn ∷ []))))
 
-receive_stays : (e : Endpoint) (transfer : Option Transfer) (arrival : Arrival) (o : Outcome) → e.below.transfer ≡ transfer → ReceiveTurn e transfer arrival o → StaysIn e o
+receive_stays : (e : Endpoint) (transfer : Option Transfer) (arrival : Arrival) (o : Outcome) → e.queues.transfer ≡ transfer → ReceiveTurn e transfer arrival o → StaysIn e o
 receive_stays e None arrival o is turn = subst (StaysIn e) (sym turn) (unmoved e)
 receive_stays e (Some transfer) arrival o is turn = subst (StaysIn e) (sym turn.2) (moved_stays e transfer turn.0 is)
 
 data_where_stays : (e : Endpoint) (arrival : Arrival) (payload : List ℕ) (o : Outcome) → DataWhere e arrival payload o → StaysIn e o
 data_where_stays e arrival [] o turn = subst (StaysIn e) (sym turn) (no_data_stays e (held_in e.core) arrival.tsn)
-data_where_stays e arrival (byte ∷ bytes) o turn = receive_stays e e.below.transfer arrival o refl turn
+data_where_stays e arrival (byte ∷ bytes) o turn = receive_stays e e.queues.transfer arrival o refl turn
 
 pub data_stays : (e : Endpoint) (arrival : Arrival) (o : Outcome) → DataTurn e arrival o → StaysIn e o
 data_stays e arrival o turn = data_where_stays e arrival arrival.chunk.payload o turn
 
-forward_where_stays : (e : Endpoint) (transfer : Option Transfer) (tsn : ℕ) (entries : List SkippedTo) (o : Outcome) → e.below.transfer ≡ transfer → ForwardTurn e transfer tsn entries o → StaysIn e o
+forward_where_stays : (e : Endpoint) (transfer : Option Transfer) (tsn : ℕ) (entries : List SkippedTo) (o : Outcome) → e.queues.transfer ≡ transfer → ForwardTurn e transfer tsn entries o → StaysIn e o
 forward_where_stays e None tsn entries o is turn = subst (StaysIn e) (sym turn) (unmoved e)
 forward_where_stays e (Some transfer) tsn entries o is turn = subst (StaysIn e) (sym turn.2) (moved_stays e transfer turn.0 is)
 
-pub forward_stays : (e : Endpoint) (tsn : ℕ) (entries : List SkippedTo) (o : Outcome) → ForwardTurn e e.below.transfer tsn entries o → StaysIn e o
-forward_stays e tsn entries o turn = forward_where_stays e e.below.transfer tsn entries o refl turn
+pub forward_stays : (e : Endpoint) (tsn : ℕ) (entries : List SkippedTo) (o : Outcome) → ForwardTurn e e.queues.transfer tsn entries o → StaysIn e o
+forward_stays e tsn entries o turn = forward_where_stays e e.queues.transfer tsn entries o refl turn
 
 -- ---- a step of a shutdown
 
@@ -76,7 +76,7 @@ step_from_stays b e phase my held = stays_then e (phase_at e phase my held) _ (r
 
 -- ---- SACK, and a SHUTDOWN that acknowledges
 
-fast_stays : (b : Bool) (e : Endpoint) (held : Held) (transfer : Transfer) (o : Outcome) → is_there e.below.transfer ≡ true → FastRetransmits b e held transfer o → StaysIn e o
+fast_stays : (b : Bool) (e : Endpoint) (held : Held) (transfer : Transfer) (o : Outcome) → is_there e.queues.transfer ≡ true → FastRetransmits b e held transfer o → StaysIn e o
 fast_stays false e held transfer o there turn = subst (StaysIn e) (sym turn) (unmoved e)
 fast_stays true e held transfer o there turn =
     let moved : Endpoint = with_transfer e (record transfer { retransmission = turn.left }) in
@@ -84,7 +84,7 @@ fast_stays true e held transfer o there turn =
     (stays_then e moved _ (record { left = refl; there = sym there })
     (goes_out_stays moved [] (draft_to held).with_checksum (draft_to held).packet.tag (plain_contents turn.chunks)))
 
-acknowledges_stay : (e : Endpoint) (held : Held) (transfer : Transfer) (sack : SackContent) (o : Outcome) → e.below.transfer ≡ Some transfer → AcknowledgesBy e held transfer sack o → StaysIn e o
+acknowledges_stay : (e : Endpoint) (held : Held) (transfer : Transfer) (sack : SackContent) (o : Outcome) → e.queues.transfer ≡ Some transfer → AcknowledgesBy e held transfer sack o → StaysIn e o
 acknowledges_stay e held transfer sack o is turn =
     let base : Endpoint = sack_taken e transfer turn.left in
     let taken : Stays e base = record { left = refl; there = sym (ap is_there is) } in
@@ -95,20 +95,20 @@ acknowledges_stay e held transfer sack o is turn =
     (stays_then base turn.stepped.after _ step
     (stays_then turn.stepped.after turn.fast.after _ fast (flush_stays turn.fast.after (draft_to held) turn.answers turn.allowed))))
 
-sack_where_stays : (b : Bool) (e : Endpoint) (held : Held) (transfer : Transfer) (sack : SackContent) (o : Outcome) → e.below.transfer ≡ Some transfer → SackWhere b e held transfer sack o → StaysIn e o
+sack_where_stays : (b : Bool) (e : Endpoint) (held : Held) (transfer : Transfer) (sack : SackContent) (o : Outcome) → e.queues.transfer ≡ Some transfer → SackWhere b e held transfer sack o → StaysIn e o
 sack_where_stays false e held transfer sack o is turn = subst (StaysIn e) (sym turn) (unmoved e)
 sack_where_stays true e held transfer sack o is turn = acknowledges_stay e held transfer sack o is turn
 
-sack_by_stays : (e : Endpoint) (peer : Option Held) (transfer : Transfer) (sack : SackContent) (o : Outcome) → e.below.transfer ≡ Some transfer → SackBy e peer transfer sack o → StaysIn e o
+sack_by_stays : (e : Endpoint) (peer : Option Held) (transfer : Transfer) (sack : SackContent) (o : Outcome) → e.queues.transfer ≡ Some transfer → SackBy e peer transfer sack o → StaysIn e o
 sack_by_stays e None transfer sack o is turn = subst (StaysIn e) (sym turn) (unmoved e)
 sack_by_stays e (Some held) transfer sack o is turn = sack_where_stays (is_sack_valid transfer.retransmission sack.cumulative_tsn_ack) e held transfer sack o is turn
 
-sack_turn_stays : (e : Endpoint) (transfer : Option Transfer) (sack : SackContent) (o : Outcome) → e.below.transfer ≡ transfer → SackTurn e transfer sack o → StaysIn e o
+sack_turn_stays : (e : Endpoint) (transfer : Option Transfer) (sack : SackContent) (o : Outcome) → e.queues.transfer ≡ transfer → SackTurn e transfer sack o → StaysIn e o
 sack_turn_stays e None sack o is turn = subst (StaysIn e) (sym turn) (unmoved e)
 sack_turn_stays e (Some transfer) sack o is turn = sack_by_stays e (held_in e.core) transfer sack o is turn
 
-pub sack_stays : (e : Endpoint) (sack : SackContent) (o : Outcome) → SackTurn e e.below.transfer sack o → StaysIn e o
-sack_stays e sack o turn = sack_turn_stays e e.below.transfer sack o refl turn
+pub sack_stays : (e : Endpoint) (sack : SackContent) (o : Outcome) → SackTurn e e.queues.transfer sack o → StaysIn e o
+sack_stays e sack o turn = sack_turn_stays e e.queues.transfer sack o refl turn
 
 shutdown_at : (e : Endpoint) (core : Core) → StaysIn e (shutdown_outcome e core)
 shutdown_at e closed = unmoved e
@@ -134,23 +134,23 @@ shutdown_stays e tsn o turn = elim (heard e e.core tsn o turn) [
 
 -- ---- the end of a packet
 
-end_where_stays : (b : Bool) (e : Endpoint) (peer : Option Held) (transfer : Transfer) (tracker : TrackerState) (o : Outcome) → e.below.transfer ≡ Some transfer
+end_where_stays : (b : Bool) (e : Endpoint) (peer : Option Held) (transfer : Transfer) (tracker : TrackerState) (o : Outcome) → e.queues.transfer ≡ Some transfer
     → EndWhere b e peer transfer tracker o → StaysIn e o
 end_where_stays true e (Some held) transfer tracker o is turn =
-    let moved : Endpoint = with_tracker e transfer (sacked tracker) in
+    let moved : Endpoint = endpoint_with_tracker e transfer (sacked tracker) in
     subst (StaysIn e) (sym turn.is)
     (stays_then e moved _ (moved_stays e transfer (record transfer { tracker = sacked tracker }) is)
     (flush_stays moved (acknowledging e held (own_sack (record transfer { tracker = tracker }))) turn.answers turn.allowed))
 end_where_stays true e None transfer tracker o is turn = subst (StaysIn e) (sym turn) (moved_stays e transfer (record transfer { tracker = tracker }) is)
 end_where_stays false e peer transfer tracker o is turn = subst (StaysIn e) (sym turn) (moved_stays e transfer (record transfer { tracker = tracker }) is)
 
-end_by_stays : (e : Endpoint) (transfer : Option Transfer) (o : Outcome) → e.below.transfer ≡ transfer → EndsBy e transfer o → StaysIn e o
+end_by_stays : (e : Endpoint) (transfer : Option Transfer) (o : Outcome) → e.queues.transfer ≡ transfer → EndsBy e transfer o → StaysIn e o
 end_by_stays e None o is turn = subst (StaysIn e) (sym turn) (unmoved e)
 end_by_stays e (Some transfer) o is turn =
     let tracker = after_packet_end e.moment transfer.tracker in end_where_stays (is_acknowledgement_due tracker) e (held_in e.core) transfer tracker o is turn
 
-pub end_stays : (e : Endpoint) (o : Outcome) → EndsBy e e.below.transfer o → StaysIn e o
-end_stays e o turn = end_by_stays e e.below.transfer o refl turn
+pub end_stays : (e : Endpoint) (o : Outcome) → EndsBy e e.queues.transfer o → StaysIn e o
+end_stays e o turn = end_by_stays e e.queues.transfer o refl turn
 
 -- ---- what the user sends, and streams that the user resets
 
@@ -180,7 +180,7 @@ send_stays e messages o turn =
 resets_where_stay : (refusal : Option ResetRefusal) (e : Endpoint) (ids : List ℕ) (o : Outcome) → OwnResetsWhere refusal e ids o → StaysIn e o
 resets_where_stay (Some refusal) e ids o turn = subst (StaysIn e) (sym turn) (unmoved e)
 resets_where_stay None e ids o turn =
-    let prepared : Endpoint = with_queue e (prepared_all ids e.below.queue) in
+    let prepared : Endpoint = endpoint_with_queue e (prepared_all ids e.queues.queue) in
     subst (StaysIn e) (sym turn.is)
     (stays_then e prepared turn.flushed.after (record { left = refl; there = refl }) (flush_turn_stays prepared turn.flushed turn.flushes))
 
@@ -191,32 +191,32 @@ own_resets_stay e ids o turn = resets_where_stay (reset_refusal e) e ids o turn
 
 -- The first of those that are left is taken.
 abbrev TakenWhere : Endpoint → Option Transfer → Outcome → Type 0
-TakenWhere e old o = LeftWhere e user_takes old o.after.below.transfer o.after.left
+TakenWhere e old o = LeftWhere e user_takes old o.after.queues.transfer o.after.left
 
-take_left : (e : Endpoint) (messages : List MessageContent) (o : Outcome) → e.below.transfer ≡ None → e.left ≡ messages → TakeLeft e messages o → TakenWhere e None o
+take_left : (e : Endpoint) (messages : List MessageContent) (o : Outcome) → e.queues.transfer ≡ None → e.left ≡ messages → TakeLeft e messages o → TakenWhere e None o
 take_left e [] o none left turn =
     subst (TakenWhere e None) (sym turn) (subst (λ (t : Option Transfer). LeftWhere e user_takes None t e.left) (sym none) (left ∙ sym (ap (left_once user_takes) left)))
 take_left e (message ∷ messages) o none left turn =
     subst (TakenWhere e None) (sym turn) (subst (λ (t : Option Transfer). LeftWhere e user_takes None t messages) (sym none) (sym (ap (left_once user_takes) left)))
 
-take_where : (e : Endpoint) (transfer : Transfer) (messages : List MessageContent) (o : Outcome) → e.below.transfer ≡ Some transfer → TakeWhere e transfer messages o → TakenWhere e (Some transfer) o
+take_where : (e : Endpoint) (transfer : Transfer) (messages : List MessageContent) (o : Outcome) → e.queues.transfer ≡ Some transfer → TakeWhere e transfer messages o → TakenWhere e (Some transfer) o
 take_where e transfer [] o is turn =
     subst (TakenWhere e (Some transfer)) (sym turn) (subst (λ (t : Option Transfer). LeftWhere e user_takes (Some transfer) t e.left) (sym is) (inl refl))
 take_where e transfer (message ∷ messages) o is turn = subst (TakenWhere e (Some transfer)) (sym turn) (inl refl)
 
-take_by : (e : Endpoint) (transfer : Option Transfer) (o : Outcome) → e.below.transfer ≡ transfer → TakeTurn e transfer o → TakenWhere e transfer o
+take_by : (e : Endpoint) (transfer : Option Transfer) (o : Outcome) → e.queues.transfer ≡ transfer → TakeTurn e transfer o → TakenWhere e transfer o
 take_by e None o is turn = take_left e e.left o is refl turn
 take_by e (Some transfer) o is turn = take_where e transfer transfer.reassembly.incoming.ready o is turn
 
-pub take_leaves : (e : Endpoint) (o : Outcome) → TakeTurn e e.below.transfer o → TakenWhere e e.below.transfer o
-take_leaves e o turn = take_by e e.below.transfer o refl turn
+pub take_leaves : (e : Endpoint) (o : Outcome) → TakeTurn e e.queues.transfer o → TakenWhere e e.queues.transfer o
+take_leaves e o turn = take_by e e.queues.transfer o refl turn
 
 -- ---- timers
 
-pub delay_stays : (e : Endpoint) (transfer : Option Transfer) → e.below.transfer ≡ transfer → StaysIn e (delay_outcome e transfer)
+pub delay_stays : (e : Endpoint) (transfer : Option Transfer) → e.queues.transfer ≡ transfer → StaysIn e (delay_outcome e transfer)
 delay_stays e None is = unmoved e
 delay_stays e (Some transfer) is = record { left = refl; there = sym (ap is_there is) }
 
-pub loss_stays : (e : Endpoint) (transfer : Option Transfer) (o : Outcome) → e.below.transfer ≡ transfer → LossTurn e transfer o → StaysIn e o
+pub loss_stays : (e : Endpoint) (transfer : Option Transfer) (o : Outcome) → e.queues.transfer ≡ transfer → LossTurn e transfer o → StaysIn e o
 loss_stays e None o is turn = subst (StaysIn e) (sym turn) (unmoved e)
 loss_stays e (Some transfer) o is turn = subst (StaysIn e) (sym turn) (record { left = refl; there = sym (ap is_there is) })

@@ -4,13 +4,13 @@ use Rattle.std.specs.Prelude.{if◌then◌else◌}
 use Rattle.dcsctp_spec_lemmas.specs.types.declared.association.Held.{Held}
 use Rattle.dcsctp_spec_lemmas.specs.types.declared.word.Word.{Word}
 use Rattle.dcsctp_spec_lemmas.specs.spec.Packet.{Content, Emission}
-use Rattle.dcsctp_spec_lemmas.specs.spec.queues.Transfer.{Transfer, Below, is_idle}
+use Rattle.dcsctp_spec_lemmas.specs.spec.queues.Transfer.{Transfer, EndpointQueues, is_idle}
 use Rattle.dcsctp_spec_lemmas.specs.spec.endpoint.BegunResets.{BegunReset, after_begun}
 use Rattle.dcsctp_spec_lemmas.specs.spec.endpoint.EndOutcomes.{left_by}
 use Rattle.dcsctp_spec_lemmas.specs.spec.endpoint.Endpoint.{Endpoint}
 use Rattle.dcsctp_spec_lemmas.specs.spec.endpoint.Event.{Event}
 use Rattle.dcsctp_spec_lemmas.specs.spec.endpoint.Outcome.{Outcome, quiet, sends, emits, fits}
-use Rattle.dcsctp_spec_lemmas.specs.spec.endpoint.FlushOutcomes.{told_event, Answer, answer_contents, filled, goes_out, asked, draft_to, next_draft, flush_of, Ask, first_ask, later_ask, GivesWhere, AnsweredBelow, Answered, Answers, at_limit, at_empty, after_packet, FlushAnswers, packets_allowed}
+use Rattle.dcsctp_spec_lemmas.specs.spec.endpoint.FlushOutcomes.{filling_event, Answer, answer_contents, filled, goes_out, asked, draft_to, next_draft, flush_of, Ask, first_ask, later_ask, GivesWhere, IsAnswerOfQueues, IsFlushAnswer, AreFlushAnswers, at_limit, at_empty, after_packet, FlushAnswers, packets_allowed}
 use Rattle.dcsctp_spec_lemmas.specs.spec.endpoint.DataOutcomes.{flush_by, AnswersTo}
 use Rattle.dcsctp_spec_lemmas.specs.spec.endpoint.Turn.{Input}
 use Rattle.dcsctp_spec_laws.specs.LeftLaws.{left_once, LeftWhere}
@@ -24,17 +24,17 @@ is_there (Some transfer) = true
 -- They stay, and there is an association where there was one.
 pub record Stays (e after : Endpoint) : Type 0 where
   pub left : after.left ≡ e.left
-  pub there : is_there after.below.transfer ≡ is_there e.below.transfer
+  pub there : is_there after.queues.transfer ≡ is_there e.queues.transfer
 
 -- An association begins.
 pub record Begins (after : Endpoint) : Type 0 where
   pub left : after.left ≡ []
-  pub there : is_there after.below.transfer ≡ true
+  pub there : is_there after.queues.transfer ≡ true
 
 -- There is none any more.
 pub record Ends (e after : Endpoint) : Type 0 where
-  pub left : after.left ≡ left_by e.options e.below.transfer e.left
-  pub none : after.below.transfer ≡ None
+  pub left : after.left ≡ left_by e.options e.queues.transfer e.left
+  pub none : after.queues.transfer ≡ None
 
 abbrev pub Leaves : Endpoint → Endpoint → Type 0
 Leaves e after = Stays e after ⊎ (Begins after ⊎ Ends e after)
@@ -57,7 +57,7 @@ begins_then begun after first second = record { left = second.left ∙ first.lef
 
 -- ---- what the law says of each
 
-stays_where : (e after : Endpoint) (input : Input) (old new : Option Transfer) → left_once input e.left ≡ e.left → e.below.transfer ≡ old → after.below.transfer ≡ new → Stays e after
+stays_where : (e after : Endpoint) (input : Input) (old new : Option Transfer) → left_once input e.left ≡ e.left → e.queues.transfer ≡ old → after.queues.transfer ≡ new → Stays e after
     → LeftWhere e input old new after.left
 stays_where e after input None None keeps before behind h = h.left ∙ sym keeps
 stays_where e after input None (Some new) keeps before behind h =
@@ -66,25 +66,25 @@ stays_where e after input (Some old) None keeps before behind h =
     let same : false ≡ true = sym (ap is_there behind) ∙ h.there ∙ ap is_there before in absurd (cc)
 stays_where e after input (Some old) (Some new) keeps before behind h = inl h.left
 
-begins_where : (e after : Endpoint) (input : Input) (old new : Option Transfer) → after.below.transfer ≡ new → Begins after → LeftWhere e input old new after.left
+begins_where : (e after : Endpoint) (input : Input) (old new : Option Transfer) → after.queues.transfer ≡ new → Begins after → LeftWhere e input old new after.left
 begins_where e after input None None behind h = let same : false ≡ true = sym (ap is_there behind) ∙ h.there in absurd (cc)
 begins_where e after input None (Some new) behind h = h.left
 begins_where e after input (Some old) None behind h = let same : false ≡ true = sym (ap is_there behind) ∙ h.there in absurd (cc)
 begins_where e after input (Some old) (Some new) behind h = inr h.left
 
-ends_where : (e after : Endpoint) (input : Input) (old new : Option Transfer) → left_once input e.left ≡ e.left → e.below.transfer ≡ old → after.below.transfer ≡ new → Ends e after
+ends_where : (e after : Endpoint) (input : Input) (old new : Option Transfer) → left_once input e.left ≡ e.left → e.queues.transfer ≡ old → after.queues.transfer ≡ new → Ends e after
     → LeftWhere e input old new after.left
 ends_where e after input None None keeps before behind h = h.left ∙ ap (λ (t : Option Transfer). left_by e.options t e.left) before ∙ sym keeps
 ends_where e after input (Some old) None keeps before behind h = h.left ∙ ap (λ (t : Option Transfer). left_by e.options t e.left) before
 ends_where e after input None (Some new) keeps before behind h = let same : true ≡ false = sym (ap is_there behind) ∙ ap is_there h.none in absurd (cc)
 ends_where e after input (Some old) (Some new) keeps before behind h = let same : true ≡ false = sym (ap is_there behind) ∙ ap is_there h.none in absurd (cc)
 
-pub left_where : (e : Endpoint) (input : Input) (o : Outcome) → left_once input e.left ≡ e.left → Leaves e o.after → LeftWhere e input e.below.transfer o.after.below.transfer o.after.left
+pub left_where : (e : Endpoint) (input : Input) (o : Outcome) → left_once input e.left ≡ e.left → Leaves e o.after → LeftWhere e input e.queues.transfer o.after.queues.transfer o.after.left
 left_where e input o keeps h = elim h [
-  | inl stays ↦ stays_where e o.after input e.below.transfer o.after.below.transfer keeps refl refl stays
+  | inl stays ↦ stays_where e o.after input e.queues.transfer o.after.queues.transfer keeps refl refl stays
   | inr moved ↦ elim moved [
-    | inl begins ↦ begins_where e o.after input e.below.transfer o.after.below.transfer refl begins
-    | inr ends ↦ ends_where e o.after input e.below.transfer o.after.below.transfer keeps refl refl ends
+    | inl begins ↦ begins_where e o.after input e.queues.transfer o.after.queues.transfer refl begins
+    | inr ends ↦ ends_where e o.after input e.queues.transfer o.after.queues.transfer keeps refl refl ends
   ]
 ]
 
@@ -107,23 +107,23 @@ begun_left : (begun : Option BegunReset) (e : Endpoint) → (after_begun begun e
 begun_left None e = refl
 begun_left (Some begun) e = refl
 
-given_there : (b : Bool) (ask : Ask) (e : Endpoint) (draft : Emission) (transfer : Transfer) (answer : Answer) → e.below.transfer ≡ Some transfer → GivesWhere b ask e draft transfer answer
-    → is_there answer.after.below.transfer ≡ is_there e.below.transfer
-given_there true ask e draft transfer answer is h = ap (λ (a : Answer). is_there a.after.below.transfer) h
-given_there false ask e draft transfer answer is h = ap (λ (b : Below). is_there b.transfer) h.below ∙ sym (ap is_there is)
+given_there : (b : Bool) (ask : Ask) (e : Endpoint) (draft : Emission) (transfer : Transfer) (answer : Answer) → e.queues.transfer ≡ Some transfer → GivesWhere b ask e draft transfer answer
+    → is_there answer.after.queues.transfer ≡ is_there e.queues.transfer
+given_there true ask e draft transfer answer is h = ap (λ (a : Answer). is_there a.after.queues.transfer) h
+given_there false ask e draft transfer answer is h = ap (λ (b : EndpointQueues). is_there b.transfer) h.below ∙ sym (ap is_there is)
 
-answered_there : (ask : Ask) (e : Endpoint) (draft : Emission) (answer : Answer) (transfer : Option Transfer) → e.below.transfer ≡ transfer → AnsweredBelow ask e draft answer transfer
-    → is_there answer.after.below.transfer ≡ is_there e.below.transfer
-answered_there ask e draft answer None is h = ap (λ (a : Answer). is_there a.after.below.transfer) h
-answered_there ask e draft answer (Some transfer) is h = given_there (is_idle e.below.queue transfer) ask e draft transfer answer is h
+answered_there : (ask : Ask) (e : Endpoint) (draft : Emission) (answer : Answer) (transfer : Option Transfer) → e.queues.transfer ≡ transfer → IsAnswerOfQueues ask e draft answer transfer
+    → is_there answer.after.queues.transfer ≡ is_there e.queues.transfer
+answered_there ask e draft answer None is h = ap (λ (a : Answer). is_there a.after.queues.transfer) h
+answered_there ask e draft answer (Some transfer) is h = given_there (is_idle e.queues.queue transfer) ask e draft transfer answer is h
 
-asked_stays : (ask : Ask) (e : Endpoint) (draft : Emission) (answer : Answer) → Answered ask e draft answer → Stays e (asked e draft answer).after
+asked_stays : (ask : Ask) (e : Endpoint) (draft : Emission) (answer : Answer) → IsFlushAnswer ask e draft answer → Stays e (asked e draft answer).after
 asked_stays ask e draft answer h =
     stays_then e answer.after (asked e draft answer).after
-    (record { left = ap (λ (x : Endpoint). x.left) h.kept ∙ begun_left answer.begun e; there = answered_there ask e draft answer e.below.transfer refl h.by_transfer })
-    (goes_out_stays answer.after (map told_event answer.told) draft.with_checksum draft.packet.tag (filled draft (answer_contents answer)).packet.contents)
+    (record { left = ap (λ (x : Endpoint). x.left) h.kept ∙ begun_left answer.begun e; there = answered_there ask e draft answer e.queues.transfer refl h.by_transfer })
+    (goes_out_stays answer.after (map filling_event answer.told) draft.with_checksum draft.packet.tag (filled draft (answer_contents answer)).packet.contents)
 
-pub answers_stay : (ask : Ask) (n : ℕ) (e : Endpoint) (draft : Emission) (answers : List Answer) → Answers ask n e draft answers → Stays e (flush_of e draft answers).after
+pub answers_stay : (ask : Ask) (n : ℕ) (e : Endpoint) (draft : Emission) (answers : List Answer) → AreFlushAnswers ask n e draft answers → Stays e (flush_of e draft answers).after
 answers_stay _ _ _ _ _ (at_limit ask e draft) = unmoved e
 answers_stay _ _ _ _ _ (at_empty ask more e draft answer is empty) = asked_stays ask e draft answer is
 answers_stay _ _ _ _ _ (after_packet ask more e draft answer answers is some rest) =

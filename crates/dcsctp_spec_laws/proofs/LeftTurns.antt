@@ -10,9 +10,9 @@ use Rattle.dcsctp_spec_lemmas.specs.spec.endpoint.Cause.{Cause}
 use Rattle.dcsctp_spec_lemmas.specs.spec.endpoint.Endpoint.{Endpoint, Core, closed, cookie_wait, cookie_echoed, open_in, established, shutdown_pending, shutdown_sent, shutdown_received, shutdown_ack_sent}
 use Rattle.dcsctp_spec_lemmas.specs.spec.endpoint.Outcome.{Outcome, still, to_peer}
 use Rattle.dcsctp_spec_lemmas.specs.spec.endpoint.HeartbeatOutcomes.{heartbeat_outcome, heartbeat_ack_outcome, answered, info_in, counter_of}
-use Rattle.dcsctp_spec_lemmas.specs.spec.endpoint.PlainOutcomes.{PlainTurnBy, violation_at, is_reported, after_unknown, unknown_bytes, unknown_told, error_outcome}
+use Rattle.dcsctp_spec_lemmas.specs.spec.endpoint.PlainOutcomes.{PlainTurnBy, violation_at, is_reported, after_unknown, unknown_bytes, unknown_chunk_outcome, error_outcome}
 use Rattle.dcsctp_spec_lemmas.specs.spec.endpoint.RestoreOutcomes.{RestoreTurn}
-use Rattle.dcsctp_spec_lemmas.specs.spec.endpoint.Turn.{arrival, refusal, packet_begins, chunk_input, packet_ends, act_input, user_sets, user_sends, user_resets, user_takes, timer_expires, time_passes, restores, has_data, BeginTurn, ContentTurn}
+use Rattle.dcsctp_spec_lemmas.specs.spec.endpoint.Turn.{arrival, refusal, packet_begins, chunk_input, packet_ends, act_input, user_sets, user_sends, user_resets, user_takes, timer_expires, time_passes, restores, has_data_chunk, BeginTurn, ContentTurn}
 use Rattle.dcsctp_spec_lemmas.specs.spec.queues.Arrivals.{data_arrival, i_data_arrival, skipped_in, messages_skipped_in}
 use Rattle.dcsctp_spec_laws.specs.LeftLaws.{MessagesLeftStay}
 use Rattle.dcsctp_spec_laws.proofs.LeftLemmas.{StaysIn, LeavesIn, unmoved, emits_stays, left_where}
@@ -22,14 +22,14 @@ use Rattle.dcsctp_spec_laws.proofs.LeftData.{data_stays, forward_stays, sack_sta
 
 -- ---- chunks that don't concern the association
 
-told_stays : (e : Endpoint) (core : Core) (type : ℕ) (chunk : List ℕ) → StaysIn e (unknown_told e core type chunk)
+told_stays : (e : Endpoint) (core : Core) (type : ℕ) (chunk : List ℕ) → StaysIn e (unknown_chunk_outcome e core type chunk)
 told_stays e closed type chunk = unmoved e
 told_stays e (cookie_wait my) type chunk = unmoved e
 told_stays e (cookie_echoed my held cookie) type chunk = record { left = refl; there = refl }
 told_stays e (open_in phase my held) type chunk = record { left = refl; there = refl }
 
 unknown_where : (reported : Bool) (e : Endpoint) (core : Core) (type : ℕ) (chunk : List ℕ)
-    → StaysIn e (record (if reported then unknown_told e core type chunk else still e) { following = after_unknown type })
+    → StaysIn e (record (if reported then unknown_chunk_outcome e core type chunk else still e) { following = after_unknown type })
 unknown_where true e core type chunk = told_stays e core type chunk
 unknown_where false e core type chunk = unmoved e
 
@@ -114,7 +114,7 @@ restore_leaves e (open_in phase my held) state o turn = rests e o turn
 pub messages_left_stay : MessagesLeftStay
 messages_left_stay e arrival o own turn = left_where e arrival o refl (subst (LeavesIn e) (sym turn) (inl (record { left = refl; there = refl })))
 messages_left_stay e (refusal text) o own turn = left_where e (refusal text) o refl (subst (LeavesIn e) (sym turn) (inl (unmoved e)))
-messages_left_stay e (packet_begins contents) o own turn = left_where e (packet_begins contents) o refl (inl (begin_stays e e.core (has_data contents) o turn))
+messages_left_stay e (packet_begins contents) o own turn = left_where e (packet_begins contents) o refl (inl (begin_stays e e.core (has_data_chunk contents) o turn))
 messages_left_stay e (chunk_input tag content) o own turn = left_where e (chunk_input tag content) o refl (content_leaves e tag content o turn)
 messages_left_stay e packet_ends o own turn = left_where e packet_ends o refl (inl (end_stays e o turn))
 messages_left_stay e (act_input act) o own turn = left_where e (act_input act) o refl (act_leaves e act o own turn)

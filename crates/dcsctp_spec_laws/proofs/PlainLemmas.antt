@@ -11,7 +11,7 @@ use Rattle.dcsctp_spec_lemmas.specs.spec.Packet.{Plain, plain, unknown, heartbea
 use Rattle.dcsctp_spec_lemmas.specs.spec.endpoint.Endpoint.{Endpoint, Core, closed, cookie_wait, cookie_echoed, open_in, OpenPhase, established, shutdown_pending, shutdown_sent, shutdown_received, shutdown_ack_sent}
 use Rattle.dcsctp_spec_lemmas.specs.spec.endpoint.Outcome.{Outcome, still, reports, quiet, sends, fits, to_peer}
 use Rattle.dcsctp_spec_lemmas.specs.spec.endpoint.EndOutcomes.{abort_to, aborting_outcome}
-use Rattle.dcsctp_spec_lemmas.specs.spec.endpoint.PlainOutcomes.{PlainTurn, PlainTurnBy, violation_at, is_reported, after_unknown, unknown_text, unknown_bytes, unknown_error, unknown_report, unknown_told, error_outcome}
+use Rattle.dcsctp_spec_lemmas.specs.spec.endpoint.PlainOutcomes.{PlainTurn, PlainTurnBy, violation_at, is_reported, after_unknown, unknown_text, unknown_bytes, unknown_error, unknown_report, unknown_chunk_outcome, error_outcome}
 use Rattle.dcsctp_spec_lemmas.specs.spec.association.Effect.{Change, unchanged}
 use Rattle.dcsctp_spec_lemmas.specs.spec.association.Effect as effects
 use Rattle.dcsctp_spec_lemmas.specs.spec.association.Choices.{Choices}
@@ -23,7 +23,7 @@ use Rattle.dcsctp_spec_lemmas.specs.wire.Texts.{causes_text}
 use Rattle.dcsctp_spec_lemmas.specs.spec.queues.Arrivals.{data_arrival, i_data_arrival, skipped_in, messages_skipped_in}
 use Rattle.dcsctp_spec_laws.proofs.DataLemmas.{flushed_chunk, data_at, forward_at}
 use Rattle.dcsctp_spec_laws.proofs.SackLemmas.{stepped_chunk, sack_at}
-use Rattle.dcsctp_spec_lemmas.specs.spec.association.Controlled.{signs_of_events, IsControlled, ControlledChunk}
+use Rattle.dcsctp_spec_lemmas.specs.spec.association.Controlled.{observations_of_events, IsControlled, ControlledChunk}
 use Rattle.dcsctp_spec_lemmas.proofs.ControlHandshake.{no_choices, filling_where, still_controlled, ControlledAt}
 use Rattle.dcsctp_spec_laws.proofs.ControlEnds.{aborts_where}
 
@@ -53,19 +53,19 @@ abbrev reporting : Endpoint → ℕ → List ℕ → Choices
 reporting e type chunk = record (follows e type) { plain = (unknown_error e chunk ∷ []) ∷ [] }
 
 -- what it is to the association, where the user alone is told, or nobody
-silent : (e : Endpoint) (core : Core) → e.core ≡ core → (type : ℕ) (events : List (Event Emission)) → signs_of_events events ≡ []
+silent : (e : Endpoint) (core : Core) → e.core ≡ core → (type : ℕ) (events : List (Event Emission)) → observations_of_events events ≡ []
     → IsControlled e (record { words = []; effects = []; after = e; events = events; following = after_unknown type }) (record { core = core; effects = []; following = after_unknown type })
-silent e core is type events none = record { core = is; options = refl; signs = none; effects = refl; following = refl }
+silent e core is type events none = record { core = is; options = refl; observations = none; effects = refl; following = refl }
 
 -- where the peer is told too
 told : (e : Endpoint) (core : Core) (held : Held) (type : ℕ) (chunk : List ℕ) → e.core ≡ core
     → IsControlled e (record (sends e [] (error ParseFailed (unknown_text type) ∷ []) (unknown_report e held chunk)) { following = after_unknown type })
     (record { core = core; effects = effects.sends (unknown_report e held chunk).packet ∷ []; following = after_unknown type })
-told e core held type chunk is = record { core = is; options = refl; signs = refl; effects = refl; following = refl }
+told e core held type chunk is = record { core = is; options = refl; observations = refl; effects = refl; following = refl }
 
 unknown_at : (e : Endpoint) (core : Core) (tag type flags : ℕ) (value : List ℕ) (reported : Bool) → e.core ≡ core
     → ControlledAt e core tag (plain (unknown type flags value))
-    (record (cond reported (unknown_told e core type (unknown_bytes type flags value)) (still e)) { following = after_unknown type })
+    (record (cond reported (unknown_chunk_outcome e core type (unknown_bytes type flags value)) (still e)) { following = after_unknown type })
 unknown_at e closed tag type flags value true is = (_, (follows e type, tt, refl), silent e closed is type (error ParseFailed (unknown_text type) ∷ []) refl)
 unknown_at e closed tag type flags value false is = (_, (follows e type, tt, refl), silent e closed is type [] refl)
 unknown_at e (cookie_wait my) tag type flags value true is = (_, (follows e type, tt, refl), silent e (cookie_wait my) is type (error ParseFailed (unknown_text type) ∷ []) refl)
@@ -128,9 +128,9 @@ answer_where : (b : Bool) (e : Endpoint) (core : Core) (held : Held) (tag : ℕ)
     → answers_with core held parameters ≡ plain_change core false (answering e parameters)
     → ControlledAt e core tag (plain (heartbeat parameters)) (cond b (sends e [] [] (answer_to held parameters)) (quiet e [] []))
 answer_where true e core held tag parameters is change =
-    (answers_with core held parameters, (answering e parameters, tt, change), record { core = is; options = refl; signs = refl; effects = refl; following = refl })
+    (answers_with core held parameters, (answering e parameters, tt, change), record { core = is; options = refl; observations = refl; effects = refl; following = refl })
 answer_where false e core held tag parameters is change =
-    quietly e core tag (heartbeat parameters) (quiet e [] []) (record { core = is; options = refl; signs = refl; effects = refl; following = refl })
+    quietly e core tag (heartbeat parameters) (quiet e [] []) (record { core = is; options = refl; observations = refl; effects = refl; following = refl })
 
 heartbeat_at : (e : Endpoint) (core : Core) (tag : ℕ) (parameters : List ParameterContent) → e.core ≡ core → ControlledAt e core tag (plain (heartbeat parameters)) (heartbeat_outcome e core parameters)
 heartbeat_at e closed tag parameters is = rests_at e closed tag (heartbeat parameters) is
@@ -139,18 +139,18 @@ heartbeat_at e (cookie_echoed my held cookie) tag parameters is = answer_where (
 heartbeat_at e (open_in phase my held) tag parameters is = answer_where (fits e (answer_to held parameters)) e (open_in phase my held) held tag parameters is (answered_open e phase my held parameters)
 
 counted_at : (b : Bool) (e : Endpoint) (core : Core) (tag : ℕ) (chunk : Plain) → e.core ≡ core → ControlledAt e core tag (plain chunk) (cond b (still (answered e)) (still e))
-counted_at true e core tag chunk is = quietly e core tag chunk (still (answered e)) (record { core = is; options = refl; signs = refl; effects = refl; following = refl })
-counted_at false e core tag chunk is = quietly e core tag chunk (still e) (record { core = is; options = refl; signs = refl; effects = refl; following = refl })
+counted_at true e core tag chunk is = quietly e core tag chunk (still (answered e)) (record { core = is; options = refl; observations = refl; effects = refl; following = refl })
+counted_at false e core tag chunk is = quietly e core tag chunk (still e) (record { core = is; options = refl; observations = refl; effects = refl; following = refl })
 
 heartbeat_ack_at : (e : Endpoint) (core : Core) (tag : ℕ) (chunk : Plain) (counter : Option ℕ) → e.core ≡ core → ControlledAt e core tag (plain chunk) (heartbeat_ack_outcome e counter)
-heartbeat_ack_at e core tag chunk None is = quietly e core tag chunk (reports e ParseFailed invalid_info_text) (record { core = is; options = refl; signs = refl; effects = refl; following = refl })
+heartbeat_ack_at e core tag chunk None is = quietly e core tag chunk (reports e ParseFailed invalid_info_text) (record { core = is; options = refl; observations = refl; effects = refl; following = refl })
 heartbeat_ack_at e core tag chunk (Some counter) is = counted_at (counter == e.heartbeat_counter) e core tag chunk is
 
 -- ---- an ERROR
 
 -- The user alone is told.
 told_of : (e : Endpoint) (core : Core) (tag : ℕ) (chunk : Plain) (text : List ℕ) → e.core ≡ core → ControlledAt e core tag (plain chunk) (reports e PeerReported text)
-told_of e core tag chunk text is = quietly e core tag chunk (reports e PeerReported text) (record { core = is; options = refl; signs = refl; effects = refl; following = refl })
+told_of e core tag chunk text is = quietly e core tag chunk (reports e PeerReported text) (record { core = is; options = refl; observations = refl; effects = refl; following = refl })
 
 error_at : (e : Endpoint) (core : Core) (tag : ℕ) (chunk : Plain) (causes : List Cause) → e.core ≡ core → ControlledAt e core tag (plain chunk) (error_outcome e core causes)
 error_at e closed tag chunk causes is = rests_at e closed tag chunk is
@@ -197,9 +197,9 @@ plain_by e tag (heartbeat_ack parameters) None o is turn =
     subst (At e tag (heartbeat_ack parameters)) (sym turn) (heartbeat_ack_at e e.core tag (heartbeat_ack parameters) (counter_of (info_in parameters)) refl)
 plain_by e tag (unworked (data_chunk chunk)) None o is turn = flushed_chunk e e.core tag (unworked (data_chunk chunk)) o (data_at e (data_arrival chunk) o turn)
 plain_by e tag (unworked (i_data_chunk chunk)) None o is turn = flushed_chunk e e.core tag (unworked (i_data_chunk chunk)) o (data_at e (i_data_arrival chunk) o turn)
-plain_by e tag (unworked (sack_chunk chunk)) None o is turn = stepped_chunk e e.core tag (unworked (sack_chunk chunk)) o (sack_at e e.below.transfer chunk o turn)
-plain_by e tag (unworked (forward_tsn_chunk tsn streams)) None o is turn = flushed_chunk e e.core tag (unworked (forward_tsn_chunk tsn streams)) o (forward_at e e.below.transfer tsn (skipped_in streams) o turn)
-plain_by e tag (unworked (i_forward_tsn_chunk tsn streams)) None o is turn = flushed_chunk e e.core tag (unworked (i_forward_tsn_chunk tsn streams)) o (forward_at e e.below.transfer tsn (messages_skipped_in streams) o turn)
+plain_by e tag (unworked (sack_chunk chunk)) None o is turn = stepped_chunk e e.core tag (unworked (sack_chunk chunk)) o (sack_at e e.queues.transfer chunk o turn)
+plain_by e tag (unworked (forward_tsn_chunk tsn streams)) None o is turn = flushed_chunk e e.core tag (unworked (forward_tsn_chunk tsn streams)) o (forward_at e e.queues.transfer tsn (skipped_in streams) o turn)
+plain_by e tag (unworked (i_forward_tsn_chunk tsn streams)) None o is turn = flushed_chunk e e.core tag (unworked (i_forward_tsn_chunk tsn streams)) o (forward_at e e.queues.transfer tsn (messages_skipped_in streams) o turn)
 plain_by e tag (unworked (error_chunk causes)) None o is turn = subst (At e tag (unworked (error_chunk causes))) (sym turn) (error_at e e.core tag (unworked (error_chunk causes)) causes refl)
 plain_by e tag (unworked (init_chunk chunk)) None o is turn = rests e tag (unworked (init_chunk chunk)) o turn
 plain_by e tag (unworked (init_ack_chunk chunk)) None o is turn = rests e tag (unworked (init_ack_chunk chunk)) o turn

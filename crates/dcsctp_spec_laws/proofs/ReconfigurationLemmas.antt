@@ -15,7 +15,7 @@ use Rattle.dcsctp_spec_lemmas.specs.spec.association.FlushChanges.{Flushed, rese
 use Rattle.dcsctp_spec_lemmas.specs.spec.association.Controlled.{IsControlled}
 use Rattle.dcsctp_spec_lemmas.specs.spec.endpoint.HeartbeatOutcomes.{is_exhausted}
 use Rattle.dcsctp_spec_lemmas.specs.spec.endpoint.OwnTimers.{repeating_act}
-use Rattle.dcsctp_spec_lemmas.specs.spec.endpoint.ReconfigurationOutcomes.{reset_again, request_emitted, renewed_where, request_renewed, request_unless, is_renewed, reconfiguration_expired, request_errors, request_expired, reconfiguration_outcome}
+use Rattle.dcsctp_spec_lemmas.specs.spec.endpoint.ReconfigurationOutcomes.{reset_again, request_emitted, renewed_request_where, request_renewed, request_unless, is_renewed, reconfiguration_expired, request_errors, request_expired, reconfiguration_outcome}
 use Rattle.dcsctp_spec_lemmas.proofs.FlushKeeps.{Rebuilds, rebuilds_open, rebuilds_echoed}
 use Rattle.dcsctp_spec_lemmas.proofs.ControlHandshake.{no_choices}
 
@@ -33,28 +33,28 @@ module _ (e : Endpoint) (rebuilt : Held → Core) (held : Held) (builds : Rebuil
   -- its packet, where it fits
   packet_at : (b : Bool) (request : OutstandingRequest) (number : ℕ)
       → Repeats false e rebuilt held (Some number) reset (cond b (sends (request_expired e request) [] [] (to_peer held (reset_request number reset))) (quiet (request_expired e request) [] []))
-  packet_at true request number = (true, record { core = is; options = refl; signs = refl; effects = refl; following = refl })
-  packet_at false request number = (false, record { core = is; options = refl; signs = refl; effects = refl; following = refl })
+  packet_at true request number = (true, record { core = is; options = refl; observations = refl; effects = refl; following = refl })
+  packet_at false request number = (false, record { core = is; options = refl; observations = refl; effects = refl; following = refl })
 
   emitted_at : (request : OutstandingRequest) (number : Option ℕ) → Repeats false e rebuilt held number reset (request_emitted (request_expired e request) held number reset)
-  emitted_at request None = (false, record { core = is; options = refl; signs = refl; effects = refl; following = refl })
+  emitted_at request None = (false, record { core = is; options = refl; observations = refl; effects = refl; following = refl })
   emitted_at request (Some number) = packet_at (fits (request_expired e request) (to_peer held (reset_request number reset))) request number
 
   renewed_at : (b : Bool) (request : OutstandingRequest) (number : ℕ)
-      → Repeats true e rebuilt held (Some number) reset (renewed_where b (request_expired e request) held number (reset_request held.own_next reset))
-  renewed_at true request number = (true, record { core = ap core_asking is ∙ builds.asks; options = refl; signs = refl; effects = refl; following = refl })
-  renewed_at false request number = (false, record { core = is; options = refl; signs = refl; effects = refl; following = refl })
+      → Repeats true e rebuilt held (Some number) reset (renewed_request_where b (request_expired e request) held number (reset_request held.own_next reset))
+  renewed_at true request number = (true, record { core = ap core_asking is ∙ builds.asks; options = refl; observations = refl; effects = refl; following = refl })
+  renewed_at false request number = (false, record { core = is; options = refl; observations = refl; effects = refl; following = refl })
 
   anew_at : (request : OutstandingRequest) (number : Option ℕ) → Repeats true e rebuilt held number reset (request_renewed (request_expired e request) held number reset)
-  anew_at request None = (false, record { core = is; options = refl; signs = refl; effects = refl; following = refl })
+  anew_at request None = (false, record { core = is; options = refl; observations = refl; effects = refl; following = refl })
   anew_at request (Some number) = renewed_at (fits (request_expired e request) (to_peer held (reset_request held.own_next reset))) request number
 
   -- Nothing goes out.
   idle_at : (is_new : Bool) (after : Endpoint) (number : Option ℕ) → after.core ≡ rebuilt held → SameOptions e.options after.options → Repeats is_new e rebuilt held number reset (still after)
-  idle_at false after None stays same = (false, record { core = stays; options = same; signs = refl; effects = refl; following = refl })
-  idle_at false after (Some number) stays same = (false, record { core = stays; options = same; signs = refl; effects = refl; following = refl })
-  idle_at true after None stays same = (false, record { core = stays; options = same; signs = refl; effects = refl; following = refl })
-  idle_at true after (Some number) stays same = (false, record { core = stays; options = same; signs = refl; effects = refl; following = refl })
+  idle_at false after None stays same = (false, record { core = stays; options = same; observations = refl; effects = refl; following = refl })
+  idle_at false after (Some number) stays same = (false, record { core = stays; options = same; observations = refl; effects = refl; following = refl })
+  idle_at true after None stays same = (false, record { core = stays; options = same; observations = refl; effects = refl; following = refl })
+  idle_at true after (Some number) stays same = (false, record { core = stays; options = same; observations = refl; effects = refl; following = refl })
 
   unless_at : (b is_new : Bool) (request : OutstandingRequest) → Repeats is_new e rebuilt held held.own_outstanding reset (request_unless b is_new (request_expired e request) held reset)
   unless_at true is_new request = idle_at is_new (request_expired e request) held.own_outstanding is refl
@@ -83,13 +83,13 @@ open_act true e phase my held reset o repeats = (no_choices e repeats.0, repeats
 
 -- Without a peer nothing goes out.
 closed_act : (is_new : Bool) (e : Endpoint) (request : Option OutstandingRequest) (reset : RequestedReset) → e.core ≡ closed → RepeatsAct is_new e closed reset (reconfiguration_outcome e None request)
-closed_act false e request reset is = (no_choices e false, record { core = is; options = refl; signs = refl; effects = refl; following = refl })
-closed_act true e request reset is = (no_choices e false, record { core = is; options = refl; signs = refl; effects = refl; following = refl })
+closed_act false e request reset is = (no_choices e false, record { core = is; options = refl; observations = refl; effects = refl; following = refl })
+closed_act true e request reset is = (no_choices e false, record { core = is; options = refl; observations = refl; effects = refl; following = refl })
 
 waiting_act : (is_new : Bool) (e : Endpoint) (my : Pair) (request : Option OutstandingRequest) (reset : RequestedReset) → e.core ≡ cookie_wait my
     → RepeatsAct is_new e (cookie_wait my) reset (reconfiguration_outcome e None request)
-waiting_act false e my request reset is = (no_choices e false, record { core = is; options = refl; signs = refl; effects = refl; following = refl })
-waiting_act true e my request reset is = (no_choices e false, record { core = is; options = refl; signs = refl; effects = refl; following = refl })
+waiting_act false e my request reset is = (no_choices e false, record { core = is; options = refl; observations = refl; effects = refl; following = refl })
+waiting_act true e my request reset is = (no_choices e false, record { core = is; options = refl; observations = refl; effects = refl; following = refl })
 
 pub reconfiguration_at : (e : Endpoint) (core : Core) (request : Option OutstandingRequest) → e.core ≡ core
     → RepeatsAct (is_renewed e request) e core (reset_again request) (reconfiguration_outcome e (held_in core) request)

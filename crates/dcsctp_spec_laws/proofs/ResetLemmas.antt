@@ -12,15 +12,15 @@ use Rattle.dcsctp_spec_lemmas.specs.spec.Packet.{re_config, Packet, Emission}
 use Rattle.dcsctp_spec_lemmas.specs.spec.Reconfiguration.{ResetParameter, outgoing_reset_request, incoming_reset_request, reconfiguration_response, other_reset_parameter}
 use Rattle.dcsctp_spec_lemmas.specs.spec.queues.Transfer.{Transfer}
 use Rattle.dcsctp_spec_lemmas.specs.spec.endpoint.Endpoint.{Endpoint, Core, closed, cookie_wait, cookie_echoed, open_in}
-use Rattle.dcsctp_spec_lemmas.specs.spec.endpoint.Outcome.{Outcome, quiet, counted, behind, noting, to_peer, fits as fits_mtu, sends as sends_out}
+use Rattle.dcsctp_spec_lemmas.specs.spec.endpoint.Outcome.{Outcome, quiet, packet_counted, behind, noting, to_peer, fits as fits_mtu, sends as sends_out}
 use Rattle.dcsctp_spec_lemmas.specs.spec.endpoint.Following.{next_chunk}
 use Rattle.dcsctp_spec_lemmas.specs.spec.association.Effect.{Effect, accepts, performs, completes, fails, sends, noted, unchanged}
 use Rattle.dcsctp_spec_lemmas.specs.spec.association.Choices.{Choices}
 use Rattle.dcsctp_spec_lemmas.specs.spec.association.FlushChanges.{Flushed, flush}
-use Rattle.dcsctp_spec_lemmas.specs.spec.association.ResetChanges.{Place, again, next, astray, place_of, Answered, worked, repeated, outgoing_by, incoming_by, Informed, informed_by, is_outstanding, informed_where, WorkedParameters, work_parameters, work_chunk, reset_sent, reset_worked, re_config_change}
-use Rattle.dcsctp_spec_lemmas.specs.spec.association.Controlled.{Sign, packet_sent, peer_reset_performed, own_reset_performed, own_reset_failed, signs_of_events, signs_of_effects, IsControlled, ControlledChunk}
+use Rattle.dcsctp_spec_lemmas.specs.spec.association.ResetChanges.{RequestPlace, again, next, astray, request_place, RequestOutcome, performed_request, repeated, outgoing_by, incoming_by, Informed, informed_by, is_outstanding, informed_where, HandledParameters, work_parameters, work_chunk, reset_sent, peer_part_handled, re_config_change}
+use Rattle.dcsctp_spec_lemmas.specs.spec.association.Controlled.{Observation, packet_sent, peer_reset_performed, own_reset_performed, own_reset_failed, observations_of_events, observations_of_effects, IsControlled, ControlledChunk}
 use Rattle.dcsctp_spec_lemmas.specs.spec.endpoint.FlushOutcomes.{Answer, draft_to, flush_of, FlushAnswers}
-use Rattle.dcsctp_spec_lemmas.specs.spec.endpoint.ResetOutcomes.{requested_in, is_reached, worked_in, OwnAnswer, unanswered, retried, was_performed, has_failed, answered_in, reset_events, told_of, core_with, resets_worked, reset_refusal_text, responses_by, ResponseAnswers, WorksResets, ResetTurn}
+use Rattle.dcsctp_spec_lemmas.specs.spec.endpoint.ResetOutcomes.{requested_in, is_request_reached, parameters_handled_in, OwnAnswer, unanswered, retried, was_performed, has_failed, answered_in, reset_events, reset_events_of, core_with, resets_handled, reset_refusal_text, responses_by, ResponseAnswers, WorksResets, ResetTurn}
 use Rattle.dcsctp_spec_lemmas.proofs.ControlHandshake.{no_choices, ControlledAt, still_controlled}
 use Rattle.dcsctp_spec_lemmas.proofs.FlushKeeps.{IsPeerTag, filling_of, flush_effects, Rebuilds, rebuilds_open, rebuilds_echoed, FlushesTo, flush_controlled, signs_append}
 
@@ -36,23 +36,23 @@ pub data AreResets : List Effect → Type 0 where
 
 -- Such effects in front of others.
 pub record InFront (front rest : List Effect) : Type 0 where
-  pub signs : signs_of_effects (front ++ rest) ≡ signs_of_effects front ++ signs_of_effects rest
+  pub observations : observations_of_effects (front ++ rest) ≡ observations_of_effects front ++ observations_of_effects rest
   pub notes : noted (front ++ rest) ≡ front ++ noted rest
 
 pub in_front : (front rest : List Effect) → AreResets front → InFront front rest
-in_front _ rest nothing = record { signs = refl; notes = refl }
+in_front _ rest nothing = record { observations = refl; notes = refl }
 in_front _ rest (acceptance number front are) =
     let h : InFront front rest = in_front front rest are in
-    record { signs = h.signs; notes = ap (λ (es : List Effect). accepts number ∷ es) h.notes }
+    record { observations = h.observations; notes = ap (λ (es : List Effect). accepts number ∷ es) h.notes }
 in_front _ rest (performance peer number front are) =
     let h : InFront front rest = in_front front rest are in
-    record { signs = ap (λ (ss : List Sign). peer_reset_performed ∷ ss) h.signs; notes = ap (λ (es : List Effect). performs peer number ∷ es) h.notes }
+    record { observations = ap (λ (ss : List Observation). peer_reset_performed ∷ ss) h.observations; notes = ap (λ (es : List Effect). performs peer number ∷ es) h.notes }
 in_front _ rest (completion my number front are) =
     let h : InFront front rest = in_front front rest are in
-    record { signs = ap (λ (ss : List Sign). own_reset_performed ∷ ss) h.signs; notes = ap (λ (es : List Effect). completes my number ∷ es) h.notes }
+    record { observations = ap (λ (ss : List Observation). own_reset_performed ∷ ss) h.observations; notes = ap (λ (es : List Effect). completes my number ∷ es) h.notes }
 in_front _ rest (failure number front are) =
     let h : InFront front rest = in_front front rest are in
-    record { signs = ap (λ (ss : List Sign). own_reset_failed ∷ ss) h.signs; notes = ap (λ (es : List Effect). fails number ∷ es) h.notes }
+    record { observations = ap (λ (ss : List Observation). own_reset_failed ∷ ss) h.observations; notes = ap (λ (es : List Effect). fails number ∷ es) h.notes }
 
 both_are : (front rest : List Effect) → AreResets front → AreResets rest → AreResets (front ++ rest)
 both_are _ rest nothing more = more
@@ -62,12 +62,12 @@ both_are _ rest (completion my number front are) more = completion my number (fr
 both_are _ rest (failure number front are) more = failure number (front ++ rest) (both_are front rest are more)
 
 -- The user is told of each.
-told_signs : (theirs own : List ℕ) (es : List Effect) → AreResets es → signs_of_events (reset_events theirs own es) ≡ signs_of_effects es
+told_signs : (theirs own : List ℕ) (es : List Effect) → AreResets es → observations_of_events (reset_events theirs own es) ≡ observations_of_effects es
 told_signs theirs own _ nothing = refl
 told_signs theirs own _ (acceptance number es are) = told_signs theirs own es are
-told_signs theirs own _ (performance peer number es are) = ap (λ (ss : List Sign). peer_reset_performed ∷ ss) (told_signs theirs own es are)
-told_signs theirs own _ (completion my number es are) = ap (λ (ss : List Sign). own_reset_performed ∷ ss) (told_signs theirs own es are)
-told_signs theirs own _ (failure number es are) = ap (λ (ss : List Sign). own_reset_failed ∷ ss) (told_signs theirs own es are)
+told_signs theirs own _ (performance peer number es are) = ap (λ (ss : List Observation). peer_reset_performed ∷ ss) (told_signs theirs own es are)
+told_signs theirs own _ (completion my number es are) = ap (λ (ss : List Observation). own_reset_performed ∷ ss) (told_signs theirs own es are)
+told_signs theirs own _ (failure number es are) = ap (λ (ss : List Observation). own_reset_failed ∷ ss) (told_signs theirs own es are)
 
 -- What is known of the association stays but for the last number of the peer and its answer, and the own request may have ended.
 pub record KeepsPeer (old new : Held) : Type 0 where
@@ -99,7 +99,7 @@ pub record Brings (held after : Held) (es : List Effect) : Type 0 where
   pub keeps : KeepsPeer held after
   pub are : AreResets es
 
-worked_brings : (held : Held) (number : ℕ) (reached : Bool) → Brings held (worked held number reached).held (worked held number reached).effects
+worked_brings : (held : Held) (number : ℕ) (reached : Bool) → Brings held (performed_request held number reached).held (performed_request held number reached).effects
 worked_brings held number true = record { keeps = record { peer = refl; capabilities = refl; own_next = refl; own_outstanding = inl refl }; are = performance held.peer number [] nothing }
 worked_brings held number false = record { keeps = record { peer = refl; capabilities = refl; own_next = refl; own_outstanding = inl refl }; are = nothing }
 
@@ -112,14 +112,14 @@ repeated_brings held ErrorRequestAlreadyInProgress reached = record { keeps = ke
 repeated_brings held ErrorBadSequenceNumber reached = record { keeps = kept held; are = nothing }
 repeated_brings held InProgress reached = worked_brings held held.peer_last reached
 
-outgoing_brings : (held : Held) (number : ℕ) (reached : Bool) (place : Place) → Brings held (outgoing_by held number reached place).held (outgoing_by held number reached place).effects
+outgoing_brings : (held : Held) (number : ℕ) (reached : Bool) (place : RequestPlace) → Brings held (outgoing_by held number reached place).held (outgoing_by held number reached place).effects
 outgoing_brings held number reached again = repeated_brings held held.peer_result reached
 outgoing_brings held number reached next =
     let h = worked_brings held number reached in
-    record { keeps = h.keeps; are = acceptance number (worked held number reached).effects h.are }
+    record { keeps = h.keeps; are = acceptance number (performed_request held number reached).effects h.are }
 outgoing_brings held number reached astray = record { keeps = kept held; are = nothing }
 
-incoming_brings : (held : Held) (number : ℕ) (place : Place) → Brings held (incoming_by held number place).held (incoming_by held number place).effects
+incoming_brings : (held : Held) (number : ℕ) (place : RequestPlace) → Brings held (incoming_by held number place).held (incoming_by held number place).effects
 incoming_brings held number again = record { keeps = record { peer = refl; capabilities = refl; own_next = refl; own_outstanding = inl refl }; are = nothing }
 incoming_brings held number next = record { keeps = record { peer = refl; capabilities = refl; own_next = refl; own_outstanding = inl refl }; are = acceptance number [] nothing }
 incoming_brings held number astray = record { keeps = kept held; are = nothing }
@@ -147,16 +147,16 @@ parameters_bring : (my : Pair) (reached has_worked : Bool) (held : Held) (parame
 parameters_bring my reached has_worked held [] = record { keeps = kept held; are = nothing }
 parameters_bring my reached true held (outgoing_reset_request number answered reset ∷ parameters) = record { keeps = kept held; are = nothing }
 parameters_bring my reached false held (outgoing_reset_request number answered reset ∷ parameters) =
-    let first : Answered = outgoing_by held number reached (place_of held.peer_last number) in
-    let rest : WorkedParameters = work_parameters my reached true first.held parameters in
-    brings_then held first.held rest.held first.effects rest.effects (outgoing_brings held number reached (place_of held.peer_last number)) (parameters_bring my reached true first.held parameters)
+    let first : RequestOutcome = outgoing_by held number reached (request_place held.peer_last number) in
+    let rest : HandledParameters = work_parameters my reached true first.held parameters in
+    brings_then held first.held rest.held first.effects rest.effects (outgoing_brings held number reached (request_place held.peer_last number)) (parameters_bring my reached true first.held parameters)
 parameters_bring my reached has_worked held (incoming_reset_request number streams ∷ parameters) =
-    let first : Answered = incoming_by held number (place_of held.peer_last number) in
-    let rest : WorkedParameters = work_parameters my reached has_worked first.held parameters in
-    brings_then held first.held rest.held first.effects rest.effects (incoming_brings held number (place_of held.peer_last number)) (parameters_bring my reached has_worked first.held parameters)
+    let first : RequestOutcome = incoming_by held number (request_place held.peer_last number) in
+    let rest : HandledParameters = work_parameters my reached has_worked first.held parameters in
+    brings_then held first.held rest.held first.effects rest.effects (incoming_brings held number (request_place held.peer_last number)) (parameters_bring my reached has_worked first.held parameters)
 parameters_bring my reached has_worked held (reconfiguration_response number result ∷ parameters) =
     let first : Informed = informed_where my held number result (is_outstanding number held.own_outstanding) in
-    let rest : WorkedParameters = work_parameters my reached has_worked first.held parameters in
+    let rest : HandledParameters = work_parameters my reached has_worked first.held parameters in
     brings_then held first.held rest.held first.effects rest.effects (informed_brings (is_outstanding number held.own_outstanding) my held number result) (parameters_bring my reached has_worked first.held parameters)
 parameters_bring my reached has_worked held (other_reset_parameter parameter ∷ parameters) = parameters_bring my reached has_worked held parameters
 
@@ -168,18 +168,18 @@ chunk_brings my reached held (parameter ∷ parameters) = parameters_bring my re
 
 -- Such effects, with packets behind them or without.
 pub record Shows (before es : List Effect) : Type 0 where
-  pub signs : (rest : List Effect) → signs_of_effects (before ++ rest) ≡ signs_of_effects before ++ signs_of_effects rest
+  pub observations : (rest : List Effect) → observations_of_effects (before ++ rest) ≡ observations_of_effects before ++ observations_of_effects rest
   pub notes : (rest : List Effect) → noted (before ++ rest) ≡ es ++ noted rest
 
 shows : (es : List Effect) → AreResets es → Shows es es
-shows es are = record { signs = λ rest. (in_front es rest are).signs; notes = λ rest. (in_front es rest are).notes }
+shows es are = record { observations = λ rest. (in_front es rest are).observations; notes = λ rest. (in_front es rest are).notes }
 
 shows_packet : (es : List Effect) (packet : Packet) → AreResets es → Shows (es ++ sends packet ∷ []) es
 shows_packet es packet are =
     record {
-      signs = λ rest. ap signs_of_effects (append_assoc es (sends packet ∷ []) rest) ∙ (in_front es (sends packet ∷ rest) are).signs
-          ∙ sym (append_assoc (signs_of_effects es) (packet_sent packet ∷ []) (signs_of_effects rest))
-          ∙ ap (λ (ss : List Sign). ss ++ signs_of_effects rest) (sym (in_front es (sends packet ∷ []) are).signs);
+      observations = λ rest. ap observations_of_effects (append_assoc es (sends packet ∷ []) rest) ∙ (in_front es (sends packet ∷ rest) are).observations
+          ∙ sym (append_assoc (observations_of_effects es) (packet_sent packet ∷ []) (observations_of_effects rest))
+          ∙ ap (λ (ss : List Observation). ss ++ observations_of_effects rest) (sym (in_front es (sends packet ∷ []) are).observations);
       notes = λ rest. ap noted (append_assoc es (sends packet ∷ []) rest) ∙ (in_front es (sends packet ∷ rest) are).notes;
     }
 
@@ -190,12 +190,12 @@ MovesTo e rebuilt es o after = IsControlled e o (record { core = rebuilt after.h
 -- a flush behind effects
 flushes_behind : (e base : Endpoint) (rebuilt : Held → Core) (held : Held) (before es : List Effect) (events : List (Event Emission)) (answers : List Answer) → Rebuilds rebuilt held
     → base.core ≡ rebuilt held → SameOptions e.options base.options → IsPeerTag (rebuilt held) held.peer.tag → FlushAnswers base (draft_to held) answers
-    → Shows before es → signs_of_events events ≡ signs_of_effects before
+    → Shows before es → observations_of_events events ≡ observations_of_effects before
     → FlushesTo e (noting es (behind [] events (flush_of base (draft_to held) answers))) rebuilt before (flush held.peer.tag held [] (filling_of answers))
 flushes_behind e base rebuilt held before es events answers builds is same peer h shown told =
     let more : List Effect = flush_effects held.peer.tag [] answers in
     flush_controlled e base [] events (draft_to held) answers rebuilt held before es builds is same
-    (subst (λ (c : Core). IsPeerTag c held.peer.tag) (sym is) peer) h told (shown.signs more) (shown.notes more)
+    (subst (λ (c : Core). IsPeerTag c held.peer.tag) (sym is) peer) h told (shown.observations more) (shown.notes more)
 
 -- the flush of the association, behind its answers
 abbrev pub sent_then : List Effect → Held → List Answer → Flushed
@@ -206,32 +206,32 @@ sent_then front held answers =
 -- without answers, or where they don't fit
 silently : (e base : Endpoint) (rebuilt : Held → Core) (held : Held) (es : List Effect) (told : List (Event Emission)) (answers : List Answer) → Rebuilds rebuilt held
     → base.core ≡ rebuilt held → SameOptions e.options base.options → IsPeerTag (rebuilt held) held.peer.tag → FlushAnswers base (draft_to held) answers → AreResets es
-    → signs_of_events told ≡ signs_of_effects es
+    → observations_of_events told ≡ observations_of_effects es
     → MovesTo e rebuilt es (noting es (behind [] (told ++ []) (flush_of base (draft_to held) answers))) (sent_then [] held answers)
 silently e base rebuilt held es told answers builds is same peer h are shown =
-    flushes_behind e base rebuilt held es es (told ++ []) answers builds is same peer h (shows es are) (ap signs_of_events (append-nil told) ∙ shown)
+    flushes_behind e base rebuilt held es es (told ++ []) answers builds is same peer h (shows es are) (ap observations_of_events (append-nil told) ∙ shown)
 
 -- with answers that fit
 answering : (e base : Endpoint) (rebuilt : Held → Core) (held : Held) (es : List Effect) (told : List (Event Emission)) (emission : Emission) (answers : List Answer) → Rebuilds rebuilt held
     → base.core ≡ rebuilt held → SameOptions e.options base.options → IsPeerTag (rebuilt held) held.peer.tag → FlushAnswers base (draft_to held) answers → AreResets es
-    → signs_of_events told ≡ signs_of_effects es
+    → observations_of_events told ≡ observations_of_effects es
     → MovesTo e rebuilt es (noting es (behind [] (told ++ sent emission ∷ []) (flush_of base (draft_to held) answers))) (sent_then (sends emission.packet ∷ []) held answers)
 answering e base rebuilt held es told emission answers builds is same peer h are shown =
     let after : Flushed = flush held.peer.tag held [] (filling_of answers) in
     let o : Outcome = noting es (behind [] (told ++ sent emission ∷ []) (flush_of base (draft_to held) answers)) in
     subst (λ (all : List Effect). IsControlled e o (record { core = rebuilt after.held; effects = all; following = next_chunk })) (append_assoc es (sends emission.packet ∷ []) after.effects)
     (flushes_behind e base rebuilt held (es ++ sends emission.packet ∷ []) es (told ++ sent emission ∷ []) answers builds is same peer h (shows_packet es emission.packet are)
-    (signs_append told (sent emission ∷ []) ∙ ap (λ (ss : List Sign). ss ++ packet_sent emission.packet ∷ []) shown ∙ sym (in_front es (sends emission.packet ∷ []) are).signs))
+    (signs_append told (sent emission ∷ []) ∙ ap (λ (ss : List Observation). ss ++ packet_sent emission.packet ∷ []) shown ∙ sym (in_front es (sends emission.packet ∷ []) are).observations))
 
 -- An error behind what the user is told shows nothing more.
 refusing : (e base : Endpoint) (core : Core) (es : List Effect) (told : List (Event Emission)) (text : List ℕ) → base.core ≡ core → SameOptions e.options base.options → AreResets es
-    → signs_of_events told ≡ signs_of_effects es
+    → observations_of_events told ≡ observations_of_effects es
     → IsControlled e (noting es (quiet base [] (told ++ error ProtocolViolation text ∷ []))) (record { core = core; effects = es ++ []; following = next_chunk })
 refusing e base core es told text is same are shown =
     record {
       core = is;
       options = same;
-      signs = signs_append told (error ProtocolViolation text ∷ []) ∙ ap (λ (ss : List Sign). ss ++ []) shown ∙ sym (in_front es [] are).signs;
+      observations = signs_append told (error ProtocolViolation text ∷ []) ∙ ap (λ (ss : List Observation). ss ++ []) shown ∙ sym (in_front es [] are).observations;
       effects = sym (in_front es [] are).notes;
       following = refl;
     }
@@ -242,12 +242,12 @@ choosing e reached fits answers = record (no_choices e fits) { is_reached = reac
 
 -- where the answers fit or not
 fitting : (b : Bool) (e base : Endpoint) (reached : Bool) (rebuilt : Held → Core) (held : Held) (es : List Effect) (told : List (Event Emission)) (response : ResetParameter) (responses : List ResetParameter) (answers : List Answer)
-    → Rebuilds rebuilt held → base.core ≡ rebuilt held → SameOptions e.options base.options → IsPeerTag (rebuilt held) held.peer.tag → AreResets es → signs_of_events told ≡ signs_of_effects es
+    → Rebuilds rebuilt held → base.core ≡ rebuilt held → SameOptions e.options base.options → IsPeerTag (rebuilt held) held.peer.tag → AreResets es → observations_of_events told ≡ observations_of_effects es
     → let o : Outcome = cond b (sends_out base [] [] (to_peer held (re_config (response ∷ responses)))) (quiet base [] []) in
     FlushAnswers o.after (draft_to held) answers
     → MovesTo e rebuilt es (noting es (behind [] (told ++ o.events) (flush_of o.after (draft_to held) answers))) (reset_sent false held (response ∷ responses) (choosing e reached b answers))
 fitting true e base reached rebuilt held es told response responses answers builds is same peer are shown h =
-    answering e (counted base) rebuilt held es told (to_peer held (re_config (response ∷ responses))) answers builds is same peer h are shown
+    answering e (packet_counted base) rebuilt held es told (to_peer held (re_config (response ∷ responses))) answers builds is same peer h are shown
 fitting false e base reached rebuilt held es told response responses answers builds is same peer are shown h = silently e base rebuilt held es told answers builds is same peer h are shown
 
 -- do the answers fit?
@@ -255,7 +255,7 @@ abbrev responses_fit : Endpoint → Held → List ResetParameter → Bool
 responses_fit base held responses = fits_mtu base (to_peer held (re_config responses))
 
 sent_at : (refused : Bool) (e base : Endpoint) (reached : Bool) (rebuilt : Held → Core) (held : Held) (es : List Effect) (told : List (Event Emission)) (parameters responses : List ResetParameter) (answers : List Answer)
-    → Rebuilds rebuilt held → base.core ≡ rebuilt held → SameOptions e.options base.options → IsPeerTag (rebuilt held) held.peer.tag → AreResets es → signs_of_events told ≡ signs_of_effects es
+    → Rebuilds rebuilt held → base.core ≡ rebuilt held → SameOptions e.options base.options → IsPeerTag (rebuilt held) held.peer.tag → AreResets es → observations_of_events told ≡ observations_of_effects es
     → ResponseAnswers refused base held responses answers
     → MovesTo e rebuilt es (noting es (responses_by refused base told held parameters responses answers)) (reset_sent refused held responses (choosing e reached (responses_fit base held responses) answers))
 sent_at true e base reached rebuilt held es told parameters responses answers builds is same peer are shown h =
@@ -272,7 +272,7 @@ pub record KeepsRest (e after : Endpoint) (left : Core) : Type 0 where
   pub options : after.options ≡ e.options
   pub t1 : after.timers.t1 ≡ e.timers.t1
 
-pub worked_keeps : (e : Endpoint) (answer : OwnAnswer) (held : Held) (left : Option Transfer) → KeepsRest e (resets_worked e answer held left) (core_with e.core held)
+pub worked_keeps : (e : Endpoint) (answer : OwnAnswer) (held : Held) (left : Option Transfer) → KeepsRest e (resets_handled e answer held left) (core_with e.core held)
 worked_keeps e unanswered held left = record { core = refl; options = refl; t1 = refl }
 worked_keeps e retried held left = record { core = refl; options = refl; t1 = refl }
 worked_keeps e was_performed held left = record { core = refl; options = refl; t1 = refl }
@@ -281,21 +281,21 @@ worked_keeps e has_failed held left = record { core = refl; options = refl; t1 =
 -- by what is held of the peer
 abbrev ResetBy : Endpoint → (Held → Core) → Pair → Held → List ResetParameter → Outcome → Choices → Type 0
 ResetBy e rebuilt my held parameters o choices =
-    IsControlled e o (record { core = rebuilt (reset_worked my held parameters choices).held; effects = (reset_worked my held parameters choices).effects; following = next_chunk })
+    IsControlled e o (record { core = rebuilt (peer_part_handled my held parameters choices).held; effects = (peer_part_handled my held parameters choices).effects; following = next_chunk })
 
 resets_at : (e : Endpoint) (rebuilt : Held → Core) (my : Pair) (held : Held) (parameters : List ResetParameter) (o : Outcome) → e.core ≡ rebuilt held
     → ((h : Held) → core_with (rebuilt held) h ≡ rebuilt h) → ((h : Held) → IsPeerTag (rebuilt h) h.peer.tag) → ((h : Held) → Rebuilds rebuilt h)
     → WorksResets e my held parameters o → (choices : Choices) × ResetBy e rebuilt my held parameters o choices
 resets_at e rebuilt my held parameters o is with peer builds turn =
-    let reached : Bool = is_reached e.below.transfer (requested_in parameters) in
-    let w : WorkedParameters = worked_in e my held parameters in
+    let reached : Bool = is_request_reached e.queues.transfer (requested_in parameters) in
+    let w : HandledParameters = parameters_handled_in e my held parameters in
     let brought = chunk_brings my reached held parameters in
-    let base : Endpoint = resets_worked e (answered_in held w parameters) w.held turn.left in
+    let base : Endpoint = resets_handled e (answered_in held w parameters) w.held turn.left in
     let kept = worked_keeps e (answered_in held w parameters) w.held turn.left in
     let choices : Choices = choosing e reached (responses_fit base w.held w.answers) turn.answers in (
       choices,
       subst (λ (x : Outcome). ResetBy e rebuilt my held parameters x choices) (sym turn.is)
-          (sent_at w.is_refused e base reached rebuilt w.held w.effects (told_of e parameters w.effects) parameters w.answers turn.answers
+          (sent_at w.is_refused e base reached rebuilt w.held w.effects (reset_events_of e parameters w.effects) parameters w.answers turn.answers
           (builds w.held) (kept.core ∙ ap (λ (c : Core). core_with c w.held) is ∙ with w.held) (subst (SameOptions e.options) (sym kept.options) refl) (peer w.held) brought.are
           (told_signs _ _ w.effects brought.are) turn.allowed),
     )
@@ -303,7 +303,7 @@ resets_at e rebuilt my held parameters o is with peer builds turn =
 -- as a turn of the association that is held
 held_at : (e : Endpoint) (core : Core) (rebuilt : Held → Core) (tag : ℕ) (my : Pair) (held : Held) (parameters : List ResetParameter) (o : Outcome)
     → e.core ≡ core → core ≡ rebuilt held → ((h : Held) → core_with (rebuilt held) h ≡ rebuilt h) → ((h : Held) → IsPeerTag (rebuilt h) h.peer.tag) → ((h : Held) → Rebuilds rebuilt h)
-    → ((choices : Choices) → re_config_change core parameters choices ≡ record { core = rebuilt (reset_worked my held parameters choices).held; effects = (reset_worked my held parameters choices).effects; following = next_chunk })
+    → ((choices : Choices) → re_config_change core parameters choices ≡ record { core = rebuilt (peer_part_handled my held parameters choices).held; effects = (peer_part_handled my held parameters choices).effects; following = next_chunk })
     → WorksResets e my held parameters o → ControlledAt e core tag (re_config parameters) o
 held_at e core rebuilt tag my held parameters o is here with peer builds change turn =
     let at = resets_at e rebuilt my held parameters o (is ∙ here) with peer builds turn in

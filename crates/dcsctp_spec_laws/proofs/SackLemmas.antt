@@ -15,12 +15,12 @@ use Rattle.dcsctp_spec_lemmas.specs.spec.association.Choices.{Choices, plain_con
 use Rattle.dcsctp_spec_lemmas.specs.spec.association.FlushChanges.{further_packets}
 use Rattle.dcsctp_spec_lemmas.specs.spec.association.ShutdownChanges.{shutdown_step_change}
 use Rattle.dcsctp_spec_lemmas.specs.spec.association.Acts.{flush_change, plain_change}
-use Rattle.dcsctp_spec_lemmas.specs.spec.association.Controlled.{Sign, signs_of_events, signs_of_effects, IsControlled}
+use Rattle.dcsctp_spec_lemmas.specs.spec.association.Controlled.{Observation, observations_of_events, observations_of_effects, IsControlled}
 use Rattle.dcsctp_spec_lemmas.specs.spec.endpoint.FlushOutcomes.{Answer, draft_to, flush_of}
 use Rattle.dcsctp_spec_lemmas.specs.spec.endpoint.DataOutcomes.{with_transfer, no_tcb_text, FastRetransmits, sack_taken, AcknowledgesBy, SackWhere, SackBy, SackTurn}
-use Rattle.dcsctp_spec_lemmas.specs.spec.queues.Acknowledging.{is_sack_valid, ends_delivery, told_by, delivered, delivered_by}
+use Rattle.dcsctp_spec_lemmas.specs.spec.queues.Acknowledging.{is_sack_valid, ends_delivery, lifecycle_events_by, delivered_events, delivered_by}
 use Rattle.dcsctp_spec_lemmas.specs.spec.queues.Items.{Item}
-use Rattle.dcsctp_spec_lemmas.specs.spec.queues.Outstanding.{acknowledged_by}
+use Rattle.dcsctp_spec_lemmas.specs.spec.queues.Outstanding.{acknowledged_count}
 use Rattle.dcsctp_spec_lemmas.specs.spec.queues.Retransmission.{RetransmissionState, has_fast_retransmit}
 use Rattle.dcsctp_spec_lemmas.specs.wire.Content.{SackContent}
 use Rattle.dcsctp_spec_lemmas.specs.spec.endpoint.ShutdownOutcomes.{received_tsn, may_go_on}
@@ -82,38 +82,38 @@ step_is (open_in shutdown_received my held) tsn false = record { holds = refl; t
 step_is (open_in shutdown_ack_sent my held) tsn is_acknowledged = record { holds = refl; tag = 0; contents = []; sends = refl }
 
 -- its packet stands before these
-step_signs : (core : Core) (change : Change) (rest : List Effect) → StepIs core change → signs_of_effects (change.effects ++ rest) ≡ signs_of_effects change.effects ++ signs_of_effects rest
+step_signs : (core : Core) (change : Change) (rest : List Effect) → StepIs core change → observations_of_effects (change.effects ++ rest) ≡ observations_of_effects change.effects ++ observations_of_effects rest
 step_signs core change rest is =
-    ap (λ (es : List Effect). signs_of_effects (es ++ rest)) is.sends ∙ emitted_then is.tag is.contents rest
-    ∙ ap (λ (es : List Effect). signs_of_effects es ++ signs_of_effects rest) (sym is.sends)
+    ap (λ (es : List Effect). observations_of_effects (es ++ rest)) is.sends ∙ emitted_then is.tag is.contents rest
+    ∙ ap (λ (es : List Effect). observations_of_effects es ++ observations_of_effects rest) (sym is.sends)
 
 step_notes : (core : Core) (change : Change) (rest : List Effect) → StepIs core change → noted (change.effects ++ rest) ≡ noted rest
 step_notes core change rest is = ap (λ (es : List Effect). noted (es ++ rest)) is.sends ∙ emitted_notes is.tag is.contents rest
 
 -- ---- a fast retransmission
 
-told_signs : (name : Option ℕ) (ends : Bool) (rest : List (Event Emission)) → signs_of_events (told_by name ends ++ rest) ≡ signs_of_events rest
+told_signs : (name : Option ℕ) (ends : Bool) (rest : List (Event Emission)) → observations_of_events (lifecycle_events_by name ends ++ rest) ≡ observations_of_events rest
 told_signs None ends rest = refl
 told_signs (Some id) true rest = refl
 told_signs (Some id) false rest = refl
 
-delivered_signs : (items : List Item) → signs_of_events (delivered items) ≡ []
+delivered_signs : (items : List Item) → observations_of_events (delivered_events items) ≡ []
 delivered_signs [] = refl
-delivered_signs (item ∷ items) = told_signs item.fragment.lifecycle (ends_delivery item) (delivered items) ∙ delivered_signs items
+delivered_signs (item ∷ items) = told_signs item.fragment.lifecycle (ends_delivery item) (delivered_events items) ∙ delivered_signs items
 
 -- what a fast retransmission leaves, and its packet
 record FastIs (e : Endpoint) (held : Held) (o : Outcome) : Type 0 where
   packets : List (List Plain)
   core : o.after.core ≡ e.core
   options : o.after.options ≡ e.options
-  signs : signs_of_events o.events ≡ signs_of_effects (further_packets held.peer.tag packets)
+  observations : observations_of_events o.events ≡ observations_of_effects (further_packets held.peer.tag packets)
 
-one_packet : (tag : ℕ) (chunks : List Plain) → signs_of_effects (emitted tag (plain_contents chunks)) ≡ signs_of_effects (further_packets tag (chunks ∷ []))
-one_packet tag chunks = ap signs_of_effects (sym (append-nil (emitted tag (plain_contents chunks))))
+one_packet : (tag : ℕ) (chunks : List Plain) → observations_of_effects (emitted tag (plain_contents chunks)) ≡ observations_of_effects (further_packets tag (chunks ∷ []))
+one_packet tag chunks = ap observations_of_effects (sym (append-nil (emitted tag (plain_contents chunks))))
 
 fast_is : (b : Bool) (e : Endpoint) (held : Held) (transfer : Transfer) (o : Outcome) → FastRetransmits b e held transfer o → FastIs e held o
 fast_is false e held transfer o turn =
-    subst (FastIs e held) (sym turn) (record { packets = []; core = refl; options = refl; signs = refl })
+    subst (FastIs e held) (sym turn) (record { packets = []; core = refl; options = refl; observations = refl })
 fast_is true e held transfer o turn =
     let base : Endpoint = with_transfer e (record transfer { retransmission = turn.left }) in
     let out = goes_out_keeps base [] (draft_to held).with_checksum (draft_to held).packet.tag (plain_contents turn.chunks) in
@@ -122,25 +122,25 @@ fast_is true e held transfer o turn =
       packets = turn.chunks ∷ [];
       core = out.core;
       options = out.options;
-      signs = goes_out_signs base [] (draft_to held).with_checksum (draft_to held).packet.tag (plain_contents turn.chunks) ∙ one_packet held.peer.tag turn.chunks;
+      observations = goes_out_signs base [] (draft_to held).with_checksum (draft_to held).packet.tag (plain_contents turn.chunks) ∙ one_packet held.peer.tag turn.chunks;
     })
 
 -- ---- a SACK
 
 -- the events of four parts
-four_signs : (tsn : ℕ) (state : RetransmissionState) (steps fast rest : List (Event Emission)) (one more : List Effect) → signs_of_events steps ≡ signs_of_effects one → signs_of_events (fast ++ rest) ≡ signs_of_effects more
-    → signs_of_events ((delivered_by tsn state ++ (steps ++ fast)) ++ rest) ≡ signs_of_effects one ++ signs_of_effects more
+four_signs : (tsn : ℕ) (state : RetransmissionState) (steps fast rest : List (Event Emission)) (one more : List Effect) → observations_of_events steps ≡ observations_of_effects one → observations_of_events (fast ++ rest) ≡ observations_of_effects more
+    → observations_of_events ((delivered_by tsn state ++ (steps ++ fast)) ++ rest) ≡ observations_of_effects one ++ observations_of_effects more
 four_signs tsn state steps fast rest one more first second =
-    ap signs_of_events (append_assoc (delivered_by tsn state) (steps ++ fast) rest) ∙ signs_append (delivered_by tsn state) ((steps ++ fast) ++ rest)
-    ∙ ap (λ (ss : List Sign). ss ++ signs_of_events ((steps ++ fast) ++ rest)) (delivered_signs (take (acknowledged_by state.outstanding tsn) state.outstanding.items))
-    ∙ ap signs_of_events (append_assoc steps fast rest) ∙ signs_then steps (fast ++ rest) one more first second
+    ap observations_of_events (append_assoc (delivered_by tsn state) (steps ++ fast) rest) ∙ signs_append (delivered_by tsn state) ((steps ++ fast) ++ rest)
+    ∙ ap (λ (ss : List Observation). ss ++ observations_of_events ((steps ++ fast) ++ rest)) (delivered_signs (take (acknowledged_count state.outstanding tsn) state.outstanding.items))
+    ∙ ap observations_of_events (append_assoc steps fast rest) ∙ signs_then steps (fast ++ rest) one more first second
 
 -- at an endpoint whose phase may have moved
 pub acknowledges_at : (e at : Endpoint) (held : Held) (transfer : Transfer) (sack : SackContent) (o : Outcome) → SameOptions e.options at.options → held_in at.core ≡ Some held → AcknowledgesBy at held transfer sack o
     → SteppedAt e at.core o
 acknowledges_at e at held transfer sack o same holds turn =
     let base : Endpoint = sack_taken at transfer turn.left in
-    let tsn : ℕ = received_tsn base.below.transfer in
+    let tsn : ℕ = received_tsn base.queues.transfer in
     let is_acknowledged : Bool = may_go_on base in
     let change : Change = shutdown_step_change at.core tsn is_acknowledged in
     let step : IsControlled e turn.stepped change = subst (λ (x : Outcome). IsControlled e x change) (sym turn.steps) (step_at e base at.core refl same) in
@@ -149,7 +149,7 @@ acknowledges_at e at held transfer sack o same holds turn =
     let flush : Outcome = flush_of turn.fast.after (draft_to held) turn.answers in
     let p : Outcome = behind [] turn.fast.events flush in
     let sent : FlushedAt e change.core p = sent_at e turn.fast.after change.core held turn.fast.events fast.packets turn.answers (is.holds ∙ holds) (fast.core ∙ step.core)
-    (subst (SameOptions e.options) (sym fast.options) step.options) turn.allowed fast.signs in
+    (subst (SameOptions e.options) (sym fast.options) step.options) turn.allowed fast.observations in
     let choices : Choices = stepped e tsn is_acknowledged sent.0 sent.1 in
     let more : IsControlled e p (flush_change change.core choices) = subst (IsControlled e p) (flush_same change.core (chosen e sent.0 sent.1) tsn is_acknowledged) sent.2 in
     let effects : List Effect = (flush_change change.core choices).effects in (
@@ -160,7 +160,7 @@ acknowledges_at e at held transfer sack o same holds turn =
       subst (λ (x : Outcome). IsControlled e x (plain_change at.core false choices)) (sym turn.is) (record {
         core = more.core;
         options = more.options;
-        signs = four_signs sack.cumulative_tsn_ack transfer.retransmission turn.stepped.events turn.fast.events flush.events change.effects effects step.signs more.signs ∙ sym (step_signs at.core change effects is);
+        observations = four_signs sack.cumulative_tsn_ack transfer.retransmission turn.stepped.events turn.fast.events flush.events change.effects effects step.observations more.observations ∙ sym (step_signs at.core change effects is);
         effects = more.effects ∙ sym (step_notes at.core change effects is);
         following = more.following ∙ flush_follows change.core choices;
       }),

@@ -7,7 +7,7 @@ use Rattle.dcsctp_spec_lemmas.specs.spec.Packet.{shutdown_ack, shutdown_complete
 use Rattle.dcsctp_spec_lemmas.specs.spec.endpoint.Endpoint.{Endpoint, Core, closed, cookie_wait, cookie_echoed, open_in, OpenPhase, established, shutdown_pending, shutdown_sent, shutdown_received, shutdown_ack_sent}
 use Rattle.dcsctp_spec_lemmas.specs.spec.endpoint.Outcome.{Outcome}
 use Rattle.dcsctp_spec_lemmas.specs.spec.endpoint.EndOutcomes.{after_reflected, reflected_outcome}
-use Rattle.dcsctp_spec_lemmas.specs.spec.endpoint.ShutdownOutcomes.{received_tsn, phase_at, may_go_on, step_by, step_outcome, t1_stopped, shut_down_outcome, shutdown_ack_outcome, shutdown_complete_outcome, t2_goes_on, sent_again, t2_again_outcome, shutdown_repeated}
+use Rattle.dcsctp_spec_lemmas.specs.spec.endpoint.ShutdownOutcomes.{received_tsn, phase_at, may_go_on, step_by, step_outcome, t1_stopped, shut_down_outcome, shutdown_ack_outcome, shutdown_complete_outcome, t2_goes_on, shutdown_sent_again, t2_again_outcome, shutdown_repeated}
 use Rattle.dcsctp_spec_lemmas.specs.spec.association.Choices.{Choices}
 use Rattle.dcsctp_spec_lemmas.specs.spec.association.ShutdownChanges.{shutdown_step_change_in, shutdown_step_change, shutdown_call_change, shutdown_again_change, reflected_change, shutdown_ack_change, shutdown_complete_change}
 use Rattle.dcsctp_spec_lemmas.specs.spec.association.Acts.{shut_down, step_of_shutdown, shutdown_repeats}
@@ -16,7 +16,7 @@ use Rattle.dcsctp_spec_lemmas.proofs.ControlHandshake.{no_choices, still_control
 
 -- what such a turn chooses: whether the shutdown may go on, and what a SHUTDOWN tells
 abbrev pub stepping : Endpoint → Choices
-stepping e = record (no_choices e true) { is_acknowledged = may_go_on e; tsn = received_tsn e.below.transfer }
+stepping e = record (no_choices e true) { is_acknowledged = may_go_on e; tsn = received_tsn e.queues.transfer }
 
 -- what the turn of a SHUTDOWN ACK chooses: what follows one that isn't awaited
 abbrev reflecting : Endpoint → Choices
@@ -26,23 +26,23 @@ reflecting e = record (no_choices e true) { following = after_reflected e.option
 
 -- from any endpoint that is in the phase
 step_by_at : (b : Bool) (e base : Endpoint) (phase : OpenPhase) (my : Pair) (held : Held) → base.core ≡ open_in phase my held → SameOptions e.options base.options
-    → IsControlled e (step_by b base phase my held) (shutdown_step_change_in phase my held (received_tsn base.below.transfer) b)
-step_by_at true e base established my held is same = record { core = is; options = same; signs = refl; effects = refl; following = refl }
-step_by_at true e base shutdown_pending my held is same = record { core = refl; options = same; signs = refl; effects = refl; following = refl }
-step_by_at true e base shutdown_sent my held is same = record { core = is; options = same; signs = refl; effects = refl; following = refl }
-step_by_at true e base shutdown_received my held is same = record { core = refl; options = same; signs = refl; effects = refl; following = refl }
-step_by_at true e base shutdown_ack_sent my held is same = record { core = is; options = same; signs = refl; effects = refl; following = refl }
-step_by_at false e base established my held is same = record { core = is; options = same; signs = refl; effects = refl; following = refl }
-step_by_at false e base shutdown_pending my held is same = record { core = is; options = same; signs = refl; effects = refl; following = refl }
-step_by_at false e base shutdown_sent my held is same = record { core = is; options = same; signs = refl; effects = refl; following = refl }
-step_by_at false e base shutdown_received my held is same = record { core = is; options = same; signs = refl; effects = refl; following = refl }
-step_by_at false e base shutdown_ack_sent my held is same = record { core = is; options = same; signs = refl; effects = refl; following = refl }
+    → IsControlled e (step_by b base phase my held) (shutdown_step_change_in phase my held (received_tsn base.queues.transfer) b)
+step_by_at true e base established my held is same = record { core = is; options = same; observations = refl; effects = refl; following = refl }
+step_by_at true e base shutdown_pending my held is same = record { core = refl; options = same; observations = refl; effects = refl; following = refl }
+step_by_at true e base shutdown_sent my held is same = record { core = is; options = same; observations = refl; effects = refl; following = refl }
+step_by_at true e base shutdown_received my held is same = record { core = refl; options = same; observations = refl; effects = refl; following = refl }
+step_by_at true e base shutdown_ack_sent my held is same = record { core = is; options = same; observations = refl; effects = refl; following = refl }
+step_by_at false e base established my held is same = record { core = is; options = same; observations = refl; effects = refl; following = refl }
+step_by_at false e base shutdown_pending my held is same = record { core = is; options = same; observations = refl; effects = refl; following = refl }
+step_by_at false e base shutdown_sent my held is same = record { core = is; options = same; observations = refl; effects = refl; following = refl }
+step_by_at false e base shutdown_received my held is same = record { core = is; options = same; observations = refl; effects = refl; following = refl }
+step_by_at false e base shutdown_ack_sent my held is same = record { core = is; options = same; observations = refl; effects = refl; following = refl }
 
 pub step_at : (e base : Endpoint) (core : Core) → base.core ≡ core → SameOptions e.options base.options
-    → IsControlled e (step_outcome base core) (shutdown_step_change core (received_tsn base.below.transfer) (may_go_on base))
-step_at e base closed is same = record { core = is; options = same; signs = refl; effects = refl; following = refl }
-step_at e base (cookie_wait my) is same = record { core = is; options = same; signs = refl; effects = refl; following = refl }
-step_at e base (cookie_echoed my held cookie) is same = record { core = is; options = same; signs = refl; effects = refl; following = refl }
+    → IsControlled e (step_outcome base core) (shutdown_step_change core (received_tsn base.queues.transfer) (may_go_on base))
+step_at e base closed is same = record { core = is; options = same; observations = refl; effects = refl; following = refl }
+step_at e base (cookie_wait my) is same = record { core = is; options = same; observations = refl; effects = refl; following = refl }
+step_at e base (cookie_echoed my held cookie) is same = record { core = is; options = same; observations = refl; effects = refl; following = refl }
 step_at e base (open_in phase my held) is same = step_by_at (may_go_on base) e base phase my held is same
 
 pub step_controlled : (e : Endpoint) (o : Outcome) → o ≡ step_outcome e e.core → ControlledAct e step_of_shutdown o
@@ -51,15 +51,15 @@ step_controlled e o turn = subst (ControlledAct e step_of_shutdown) (sym turn) (
 -- the association in another phase, and a step from there
 step_from_at : (e base : Endpoint) (phase : OpenPhase) (my : Pair) (held : Held) → SameOptions e.options base.options
     → IsControlled e (step_by (may_go_on base) (phase_at base phase my held) phase my held)
-    (shutdown_step_change_in phase my held (received_tsn base.below.transfer) (may_go_on base))
+    (shutdown_step_change_in phase my held (received_tsn base.queues.transfer) (may_go_on base))
 step_from_at e base phase my held same = step_by_at (may_go_on base) e (phase_at base phase my held) phase my held refl same
 
 -- ---- the user's call
 
 call_at : (e : Endpoint) (core : Core) → e.core ≡ core
-    → IsControlled e (shut_down_outcome e core) (shutdown_call_change core (received_tsn e.below.transfer) (may_go_on e))
+    → IsControlled e (shut_down_outcome e core) (shutdown_call_change core (received_tsn e.queues.transfer) (may_go_on e))
 call_at e closed is = still_controlled e closed is
-call_at e (cookie_wait my) is = record { core = refl; options = refl; signs = refl; effects = refl; following = refl }
+call_at e (cookie_wait my) is = record { core = refl; options = refl; observations = refl; effects = refl; following = refl }
 call_at e (cookie_echoed my held cookie) is = step_from_at e (t1_stopped e) shutdown_pending my held refl
 call_at e (open_in established my held) is = step_from_at e e shutdown_pending my held refl
 call_at e (open_in shutdown_pending my held) is = still_controlled e (open_in shutdown_pending my held) is
@@ -73,7 +73,7 @@ shut_down_controlled e o turn = subst (ControlledAct e shut_down) (sym turn) (st
 -- ---- chunks
 
 reflects : (e : Endpoint) (core : Core) (tag : ℕ) → e.core ≡ core → IsControlled e (reflected_outcome e tag) (reflected_change core tag (after_reflected e.options))
-reflects e core tag is = record { core = is; options = refl; signs = refl; effects = refl; following = refl }
+reflects e core tag is = record { core = is; options = refl; observations = refl; effects = refl; following = refl }
 
 shutdown_ack_at : (e : Endpoint) (core : Core) (tag : ℕ) → e.core ≡ core → IsControlled e (shutdown_ack_outcome e core tag) (shutdown_ack_change core tag (after_reflected e.options))
 shutdown_ack_at e closed tag is = reflects e closed tag is
@@ -81,9 +81,9 @@ shutdown_ack_at e (cookie_wait my) tag is = reflects e (cookie_wait my) tag is
 shutdown_ack_at e (cookie_echoed my held cookie) tag is = reflects e (cookie_echoed my held cookie) tag is
 shutdown_ack_at e (open_in established my held) tag is = reflects e (open_in established my held) tag is
 shutdown_ack_at e (open_in shutdown_pending my held) tag is = reflects e (open_in shutdown_pending my held) tag is
-shutdown_ack_at e (open_in shutdown_sent my held) tag is = record { core = refl; options = refl; signs = refl; effects = refl; following = refl }
+shutdown_ack_at e (open_in shutdown_sent my held) tag is = record { core = refl; options = refl; observations = refl; effects = refl; following = refl }
 shutdown_ack_at e (open_in shutdown_received my held) tag is = reflects e (open_in shutdown_received my held) tag is
-shutdown_ack_at e (open_in shutdown_ack_sent my held) tag is = record { core = refl; options = refl; signs = refl; effects = refl; following = refl }
+shutdown_ack_at e (open_in shutdown_ack_sent my held) tag is = record { core = refl; options = refl; observations = refl; effects = refl; following = refl }
 
 pub shutdown_ack_controlled : (e : Endpoint) (tag : ℕ) (o : Outcome) → o ≡ shutdown_ack_outcome e e.core tag → ControlledChunk e tag shutdown_ack o
 shutdown_ack_controlled e tag o turn = subst (ControlledChunk e tag shutdown_ack) (sym turn) (_, (reflecting e, tt, refl), shutdown_ack_at e e.core tag refl)
@@ -96,7 +96,7 @@ shutdown_complete_at e (open_in established my held) is = still_controlled e (op
 shutdown_complete_at e (open_in shutdown_pending my held) is = still_controlled e (open_in shutdown_pending my held) is
 shutdown_complete_at e (open_in shutdown_sent my held) is = still_controlled e (open_in shutdown_sent my held) is
 shutdown_complete_at e (open_in shutdown_received my held) is = still_controlled e (open_in shutdown_received my held) is
-shutdown_complete_at e (open_in shutdown_ack_sent my held) is = record { core = refl; options = refl; signs = refl; effects = refl; following = refl }
+shutdown_complete_at e (open_in shutdown_ack_sent my held) is = record { core = refl; options = refl; observations = refl; effects = refl; following = refl }
 
 pub shutdown_complete_controlled : (e : Endpoint) (tag : ℕ) (reflected : Bool) (o : Outcome) → o ≡ shutdown_complete_outcome e e.core → ControlledChunk e tag (shutdown_complete reflected) o
 shutdown_complete_controlled e tag reflected o turn =
@@ -104,15 +104,15 @@ shutdown_complete_controlled e tag reflected o turn =
 
 -- ---- T2, and data while a SHUTDOWN waits for its answer
 
-again_at : (e : Endpoint) (core : Core) → e.core ≡ core → IsControlled e (sent_again (t2_goes_on e) core) (shutdown_again_change core (received_tsn e.below.transfer))
-again_at e closed is = record { core = is; options = refl; signs = refl; effects = refl; following = refl }
-again_at e (cookie_wait my) is = record { core = is; options = refl; signs = refl; effects = refl; following = refl }
-again_at e (cookie_echoed my held cookie) is = record { core = is; options = refl; signs = refl; effects = refl; following = refl }
-again_at e (open_in established my held) is = record { core = is; options = refl; signs = refl; effects = refl; following = refl }
-again_at e (open_in shutdown_pending my held) is = record { core = is; options = refl; signs = refl; effects = refl; following = refl }
-again_at e (open_in shutdown_sent my held) is = record { core = is; options = refl; signs = refl; effects = refl; following = refl }
-again_at e (open_in shutdown_received my held) is = record { core = is; options = refl; signs = refl; effects = refl; following = refl }
-again_at e (open_in shutdown_ack_sent my held) is = record { core = is; options = refl; signs = refl; effects = refl; following = refl }
+again_at : (e : Endpoint) (core : Core) → e.core ≡ core → IsControlled e (shutdown_sent_again (t2_goes_on e) core) (shutdown_again_change core (received_tsn e.queues.transfer))
+again_at e closed is = record { core = is; options = refl; observations = refl; effects = refl; following = refl }
+again_at e (cookie_wait my) is = record { core = is; options = refl; observations = refl; effects = refl; following = refl }
+again_at e (cookie_echoed my held cookie) is = record { core = is; options = refl; observations = refl; effects = refl; following = refl }
+again_at e (open_in established my held) is = record { core = is; options = refl; observations = refl; effects = refl; following = refl }
+again_at e (open_in shutdown_pending my held) is = record { core = is; options = refl; observations = refl; effects = refl; following = refl }
+again_at e (open_in shutdown_sent my held) is = record { core = is; options = refl; observations = refl; effects = refl; following = refl }
+again_at e (open_in shutdown_received my held) is = record { core = is; options = refl; observations = refl; effects = refl; following = refl }
+again_at e (open_in shutdown_ack_sent my held) is = record { core = is; options = refl; observations = refl; effects = refl; following = refl }
 
 pub t2_again_controlled : (e : Endpoint) (o : Outcome) → o ≡ t2_again_outcome e → ControlledAct e shutdown_repeats o
 t2_again_controlled e o turn = subst (ControlledAct e shutdown_repeats) (sym turn) (stepping e, again_at e e.core refl)
@@ -122,6 +122,6 @@ pub repeated_controlled : (e : Endpoint) (my : Pair) (held : Held) (o : Outcome)
 repeated_controlled e my held o is turn =
     subst (ControlledAct e shutdown_repeats) (sym turn) (
       stepping e,
-      subst (λ (core : Core). IsControlled e (shutdown_repeated e held) (shutdown_again_change core (received_tsn e.below.transfer))) (sym is)
-          (record { core = is; options = refl; signs = refl; effects = refl; following = refl }),
+      subst (λ (core : Core). IsControlled e (shutdown_repeated e held) (shutdown_again_change core (received_tsn e.queues.transfer))) (sym is)
+          (record { core = is; options = refl; observations = refl; effects = refl; following = refl }),
     )

@@ -9,11 +9,11 @@ use Rattle.dcsctp_spec_lemmas.specs.spec.endpoint.Endpoint.{Core, closed, cookie
 use Rattle.dcsctp_spec_lemmas.specs.spec.Reconfiguration.{ResetParameter, outgoing_reset_request, incoming_reset_request, reconfiguration_response, other_reset_parameter}
 use Rattle.dcsctp_spec_lemmas.specs.spec.Soundness.{IsSoundHeld, IsSoundCore}
 use Rattle.dcsctp_spec_lemmas.specs.spec.association.Choices.{Choices}
-use Rattle.dcsctp_spec_lemmas.specs.spec.association.ResetChanges.{Place, again, next, astray, place_of, worked, repeated, outgoing_by, incoming_by, informed_by, informed_where, is_outstanding, WorkedParameters, work_parameters, work_chunk, reset_sent, re_config_change}
+use Rattle.dcsctp_spec_lemmas.specs.spec.association.ResetChanges.{RequestPlace, again, next, astray, request_place, performed_request, repeated, outgoing_by, incoming_by, informed_by, informed_where, is_outstanding, HandledParameters, work_parameters, work_chunk, reset_sent, re_config_change}
 use Rattle.dcsctp_spec_laws.proofs.SoundHandshakes.{flush_sound}
 
 module _ (p : Options) where
-  worked_sound : (held : Held) (number : ℕ) (is_reached : Bool) → IsSoundHeld p held → IsSoundHeld p (worked held number is_reached).held
+  worked_sound : (held : Held) (number : ℕ) (is_reached : Bool) → IsSoundHeld p held → IsSoundHeld p (performed_request held number is_reached).held
   worked_sound held number true h = record { tag_is_not_zero = h.tag_is_not_zero; method = h.method }
   worked_sound held number false h = record { tag_is_not_zero = h.tag_is_not_zero; method = h.method }
 
@@ -26,12 +26,12 @@ module _ (p : Options) where
   repeated_sound held ErrorBadSequenceNumber is_reached h = h
   repeated_sound held InProgress is_reached h = worked_sound held held.peer_last is_reached h
 
-  outgoing_sound : (held : Held) (number : ℕ) (is_reached : Bool) (place : Place) → IsSoundHeld p held → IsSoundHeld p (outgoing_by held number is_reached place).held
+  outgoing_sound : (held : Held) (number : ℕ) (is_reached : Bool) (place : RequestPlace) → IsSoundHeld p held → IsSoundHeld p (outgoing_by held number is_reached place).held
   outgoing_sound held number is_reached again h = repeated_sound held held.peer_result is_reached h
   outgoing_sound held number is_reached next h = worked_sound held number is_reached h
   outgoing_sound held number is_reached astray h = h
 
-  incoming_sound : (held : Held) (number : ℕ) (place : Place) → IsSoundHeld p held → IsSoundHeld p (incoming_by held number place).held
+  incoming_sound : (held : Held) (number : ℕ) (place : RequestPlace) → IsSoundHeld p held → IsSoundHeld p (incoming_by held number place).held
   incoming_sound held number again h = record { tag_is_not_zero = h.tag_is_not_zero; method = h.method }
   incoming_sound held number next h = record { tag_is_not_zero = h.tag_is_not_zero; method = h.method }
   incoming_sound held number astray h = h
@@ -55,9 +55,9 @@ module _ (p : Options) where
   parameters_sound my is_reached has_worked held [] h = h
   parameters_sound my is_reached true held (outgoing_reset_request number answered reset ∷ parameters) h = h
   parameters_sound my is_reached false held (outgoing_reset_request number answered reset ∷ parameters) h =
-      parameters_sound my is_reached true _ parameters (outgoing_sound held number is_reached (place_of held.peer_last number) h)
+      parameters_sound my is_reached true _ parameters (outgoing_sound held number is_reached (request_place held.peer_last number) h)
   parameters_sound my is_reached has_worked held (incoming_reset_request number streams ∷ parameters) h =
-      parameters_sound my is_reached has_worked _ parameters (incoming_sound held number (place_of held.peer_last number) h)
+      parameters_sound my is_reached has_worked _ parameters (incoming_sound held number (request_place held.peer_last number) h)
   parameters_sound my is_reached has_worked held (reconfiguration_response number result ∷ parameters) h =
       parameters_sound my is_reached has_worked _ parameters (informed_sound (is_outstanding number held.own_outstanding) my held number result h)
   parameters_sound my is_reached has_worked held (other_reset_parameter parameter ∷ parameters) h = parameters_sound my is_reached has_worked held parameters h
@@ -73,7 +73,7 @@ module _ (p : Options) where
   reset_worked_sound : (my : Pair) (held : Held) (parameters : List ResetParameter) (choices : Choices) → IsSoundHeld p held
       → IsSoundHeld p (reset_sent (work_chunk my choices.is_reached held parameters).is_refused (work_chunk my choices.is_reached held parameters).held (work_chunk my choices.is_reached held parameters).answers choices).held
   reset_worked_sound my held parameters choices h =
-      let after : WorkedParameters = work_chunk my choices.is_reached held parameters in
+      let after : HandledParameters = work_chunk my choices.is_reached held parameters in
       reset_sent_sound after.is_refused after.held after.answers choices (chunk_worked_sound my choices.is_reached held parameters h)
 
   pub re_config_sound : (core : Core) (parameters : List ResetParameter) (choices : Choices) → IsSoundCore p core → IsSoundCore p (re_config_change core parameters choices).core

@@ -13,7 +13,7 @@ use Rattle.dcsctp_spec_laws.proofs.HeardShutdownLemmas.{shutdown_controlled}
 use Rattle.dcsctp_spec_laws.proofs.ShutdownLemmas.{shutdown_ack_controlled, shutdown_complete_controlled}
 use Rattle.dcsctp_spec_laws.proofs.SoundChanges.{IsOtherAct, SaysTag, act_sound, chunk_sound}
 use Rattle.dcsctp_spec_laws.proofs.TurnLemmas.{content_keeps_options}
-use Rattle.dcsctp_spec_lemmas.specs.spec.endpoint.CallTurns.{Turned, IsTurn, AlongTurns, after_all}
+use Rattle.dcsctp_spec_lemmas.specs.spec.endpoint.CallTurns.{Transition, IsTurn, AlongTurns, after_all}
 use Rattle.dcsctp_spec_lemmas.specs.spec.association.Controlled.{ControlledAct, ControlledChunk}
 use Rattle.dcsctp_spec_lemmas.specs.spec.endpoint.Endpoint.{Endpoint, Core, closed, cookie_wait, cookie_echoed, open_in}
 use Rattle.dcsctp_spec_lemmas.specs.spec.endpoint.Outcome.{Outcome, quiet, sends, fits}
@@ -23,7 +23,7 @@ use Rattle.dcsctp_spec_lemmas.specs.types.Snapshot.{Snapshot, has_verification_t
 use Rattle.dcsctp_spec_lemmas.specs.spec.HandoverInputs.{inputs_of_snapshot, inputs_of_restore}
 use Rattle.dcsctp_spec_lemmas.specs.spec.Soundness.{UsesOwnMethod, IsSoundCore, IsSound}
 use Rattle.dcsctp_spec_laws.specs.SoundnessLaws.{CallsKeepSoundness}
-use Rattle.dcsctp_spec_lemmas.specs.spec.endpoint.Turn.{Input, arrival, refusal, packet_begins, chunk_input, packet_ends, act_input, user_sets, user_sends, user_resets, user_takes, timer_expires, time_passes, restores, has_data, ContentTurn, ActTurn}
+use Rattle.dcsctp_spec_lemmas.specs.spec.endpoint.Turn.{Input, arrival, refusal, packet_begins, chunk_input, packet_ends, act_input, user_sets, user_sends, user_resets, user_takes, timer_expires, time_passes, restores, has_data_chunk, ContentTurn, ActTurn}
 use Rattle.dcsctp_spec_lemmas.specs.spec.association.Acts.{Act, connect, t1_expires, shut_down, step_of_shutdown, shutdown_repeats, abort_with, hands_over, flushes, request_again, request_renewed}
 use Rattle.dcsctp_spec_lemmas.specs.types.declared.association.Pair.{Pair}
 use Rattle.dcsctp_spec_lemmas.specs.types.declared.options.Options.{Options}
@@ -150,21 +150,21 @@ timer_is_other e reconfiguration = repeating_is_other (is_renewed e e.outstandin
 setting_sound : (e : Endpoint) (setting : Setting) → IsSound e → SoundAfter (setting_outcome e setting)
 setting_sound e setting h = controlled_sound e (setting_outcome e setting) e.core refl refl h
 
-abbrev pub KeepsSound : Endpoint → Turned → Type 0
+abbrev pub KeepsSound : Endpoint → Transition → Type 0
 KeepsSound e t = IsSound e → SoundAfter t.outcome
 
-pub turn_sound : (e : Endpoint) (input : Input) (t : Turned) → MaySound input → IsTurn e input t → KeepsSound e t
+pub turn_sound : (e : Endpoint) (input : Input) (t : Transition) → MaySound input → IsTurn e input t → KeepsSound e t
 turn_sound e arrival t may turn h = subst SoundAfter (sym turn.comes) h
 turn_sound e (refusal text) t may turn h = subst SoundAfter (sym turn.comes) h
 turn_sound e (packet_begins contents) t may turn h =
-    elim (begin_stands e e.core (has_data contents) t.outcome refl turn.comes) [ inl rests ↦ subst SoundAfter (sym rests) h | inr acts ↦ by_act e shutdown_repeats t.outcome tt acts h ]
+    elim (begin_stands e e.core (has_data_chunk contents) t.outcome refl turn.comes) [ inl rests ↦ subst SoundAfter (sym rests) h | inr acts ↦ by_act e shutdown_repeats t.outcome tt acts h ]
 turn_sound e (chunk_input tag content) t may turn h = chunk_turn_sound e tag content t.outcome may turn.comes h
-turn_sound e packet_ends t may turn h = by_act e flushes t.outcome tt (flushed_act e t.outcome (end_at e e.below.transfer t.outcome turn.comes)) h
+turn_sound e packet_ends t may turn h = by_act e flushes t.outcome tt (flushed_act e t.outcome (end_at e e.queues.transfer t.outcome turn.comes)) h
 turn_sound e (act_input act) t may turn h = act_turn_sound e act t.outcome turn.comes h
 turn_sound e (user_sets setting) t may turn h = subst SoundAfter (sym turn.comes) (setting_sound e setting h)
 turn_sound e (user_sends messages) t may turn h = by_act e flushes t.outcome tt (flushed_act e t.outcome (send_at e messages t.outcome turn.comes)) h
 turn_sound e (user_resets ids) t may turn h = by_act e flushes t.outcome tt (flushed_act e t.outcome (resets_at e ids t.outcome turn.comes)) h
-turn_sound e user_takes t may turn h = by_act e flushes t.outcome tt (flushed_act e t.outcome (take_at e e.below.transfer t.outcome turn.comes)) h
+turn_sound e user_takes t may turn h = by_act e flushes t.outcome tt (flushed_act e t.outcome (take_at e e.queues.transfer t.outcome turn.comes)) h
 turn_sound e (timer_expires timer) t may turn h = by_act e (timer_act e timer) t.outcome (timer_is_other e timer) (timer_controlled e timer t.outcome turn.comes) h
 turn_sound e (time_passes moment) t may turn h = subst SoundAfter (sym turn.comes) h
 turn_sound e (restores state) t may turn h =
@@ -218,7 +218,7 @@ these_may_come =
       passes = λ moment. tt;
     }
 
-pub all_sound : (e : Endpoint) (ts : List Turned) → AlongTurns KeepsSound e ts → IsSound e → IsSound (after_all e ts)
+pub all_sound : (e : Endpoint) (ts : List Transition) → AlongTurns KeepsSound e ts → IsSound e → IsSound (after_all e ts)
 all_sound e [] along h = h
 all_sound e (t ∷ ts) along h = all_sound t.outcome.after ts along.1 (along.0 h)
 

@@ -15,8 +15,8 @@ use Rattle.dcsctp_spec_lemmas.specs.spec.endpoint.HandshakeOutcomes.{init_emissi
 use Rattle.dcsctp_spec_lemmas.specs.spec.endpoint.TimerOutcomes.{t1_goes_on, AgainAnswers, t1_again_by, T1AgainTurn, t1_gives_up_outcome}
 use Rattle.dcsctp_spec_lemmas.specs.spec.endpoint.OwnTimers.{acknowledgement_delay, retransmission, heartbeat_interval, heartbeat_timeout, reconfiguration}
 use Rattle.dcsctp_spec_lemmas.specs.spec.endpoint.Turn.{clock_at}
-use Rattle.dcsctp_spec_lemmas.specs.spec.endpoint.CallTurns.{Turned, Turns}
-use Rattle.dcsctp_spec_lemmas.specs.spec.endpoint.TimeTurns.{Timer, t1_timer, own_timer, t2_timer, timers_in, timers_told, AwaitsNoCookieAck, deadline, with_deadline, deadlines_of, earliest, next_of, has_come, ExpiryThen, ExpiryTurns, DueTurns, MomentTurns, TimeTurns, NoneIsDue, Waits, MoveClock, TimePassesQuietly}
+use Rattle.dcsctp_spec_lemmas.specs.spec.endpoint.CallTurns.{Transition, Turns}
+use Rattle.dcsctp_spec_lemmas.specs.spec.endpoint.TimeTurns.{Timer, t1_timer, own_timer, t2_timer, timers_in, timers_counted, AwaitsNoCookieAck, deadline, with_deadline, deadlines_of, earliest, next_of, has_come, ExpiryThen, ExpiryTurns, DueTurns, MomentTurns, TimeTurns, NoneIsDue, Waits, MoveClock, TimePassesQuietly}
 use Rattle.dcsctp_spec_lemmas.proofs.FlushKeeps.{IsPeerTag, rebuilds_echoed, flush_controlled}
 use Rattle.dcsctp_spec_lemmas.proofs.ControlHandshake.{no_choices, choosing, still_controlled}
 
@@ -24,8 +24,8 @@ use Rattle.dcsctp_spec_lemmas.proofs.ControlHandshake.{no_choices, choosing, sti
 
 init_where : (b : Bool) (e : Endpoint) (mine : Pair) → e.core ≡ cookie_wait mine
     → IsControlled e (if b then sends (t1_goes_on e) [] [] (init_emission (t1_goes_on e) mine) else quiet (t1_goes_on e) [] []) (t1_again_change e.options (cookie_wait mine) (no_choices e b))
-init_where true e mine is = record { core = is; options = refl; signs = refl; effects = refl; following = refl }
-init_where false e mine is = record { core = is; options = refl; signs = refl; effects = refl; following = refl }
+init_where true e mine is = record { core = is; options = refl; observations = refl; effects = refl; following = refl }
+init_where false e mine is = record { core = is; options = refl; observations = refl; effects = refl; following = refl }
 
 echo_where : (b : Bool) (e : Endpoint) (mine : Pair) (held : Held) (cookie : List ℕ) (answers : List Answer) → e.core ≡ cookie_echoed mine held cookie
     → EchoAnswers b (t1_goes_on e) held.peer.tag cookie answers
@@ -34,22 +34,22 @@ echo_where : (b : Bool) (e : Endpoint) (mine : Pair) (held : Held) (cookie : Lis
 echo_where true e mine held cookie answers is h =
     flush_controlled e (t1_goes_on e) [] [] (echo_emission held.peer.tag cookie) answers (λ x. cookie_echoed mine x cookie) held [] [] (rebuilds_echoed mine cookie held)
     is refl (subst (λ (core : Core). IsPeerTag core held.peer.tag) (sym is) refl) h refl refl refl
-echo_where false e mine held cookie answers is h = record { core = is; options = refl; signs = refl; effects = refl; following = refl }
+echo_where false e mine held cookie answers is h = record { core = is; options = refl; observations = refl; effects = refl; following = refl }
 
 again_at : (e : Endpoint) (core : Core) (answers : List Answer) → e.core ≡ core → AgainAnswers (t1_goes_on e) core answers
     → (choices : Choices) × IsControlled e (t1_again_by (flush_answered answers) e core) (t1_again_change e.options core choices)
-again_at e closed answers is h = (no_choices e true, record { core = is; options = refl; signs = refl; effects = refl; following = refl })
+again_at e closed answers is h = (no_choices e true, record { core = is; options = refl; observations = refl; effects = refl; following = refl })
 again_at e (cookie_wait mine) answers is h =
     let b = fits (t1_goes_on e) (init_emission (t1_goes_on e) mine) in (no_choices e b, init_where b e mine is)
 again_at e (cookie_echoed mine held cookie) answers is h =
     let b = fits (t1_goes_on e) (echo_emission held.peer.tag cookie) in
     (choosing e b answers, echo_where b e mine held cookie answers is h)
-again_at e (open_in phase mine held) answers is h = (no_choices e true, record { core = is; options = refl; signs = refl; effects = refl; following = refl })
+again_at e (open_in phase mine held) answers is h = (no_choices e true, record { core = is; options = refl; observations = refl; effects = refl; following = refl })
 
 gives_up_at : (e : Endpoint) (core : Core) → e.core ≡ core → IsControlled e (t1_gives_up_outcome e core) (t1_gives_up_change core)
 gives_up_at e closed is = still_controlled e closed is
-gives_up_at e (cookie_wait mine) is = record { core = refl; options = refl; signs = refl; effects = refl; following = refl }
-gives_up_at e (cookie_echoed mine held cookie) is = record { core = refl; options = refl; signs = refl; effects = refl; following = refl }
+gives_up_at e (cookie_wait mine) is = record { core = refl; options = refl; observations = refl; effects = refl; following = refl }
+gives_up_at e (cookie_echoed mine held cookie) is = record { core = refl; options = refl; observations = refl; effects = refl; following = refl }
 gives_up_at e (open_in phase mine held) is = still_controlled e (open_in phase mine held) is
 
 pub t1_again_controlled : (e : Endpoint) (o : Outcome) → T1AgainTurn e o → ControlledAct e (t1_expires true) o
@@ -112,12 +112,12 @@ none_at moment e (timer ∷ timers) wait = (ap (has_come moment) (clock_keeps mo
 pub none_is_due : (moment : ℕ) (e : Endpoint) (timers : List Timer) → e.moment ≤ moment → moment < next_of e.moment (deadlines_of e timers) → NoneIsDue (clock_at moment e) timers
 none_is_due moment e timers later before = none_at moment e timers (all_wait moment e timers later before)
 
-all_rest : (e : Endpoint) (timers : List Timer) (turns : List Turned) → NoneIsDue e timers → ExpiryTurns timers false e turns → Turns e [] turns
+all_rest : (e : Endpoint) (timers : List Timer) (turns : List Transition) → NoneIsDue e timers → ExpiryTurns timers false e turns → Turns e [] turns
 all_rest e [] turns wait taken = taken
 all_rest e (timer ∷ timers) turns wait taken =
     all_rest e timers turns wait.1 (subst (λ (b : Bool). ExpiryThen b (ExpiryTurns timers) e false timer turns) wait.0 taken)
 
-moved_alone : (e : Endpoint) (moment : ℕ) (moved : Turned) (turns : List Turned) → moved.outcome ≡ still (clock_at moment e) → Turns moved.outcome.after [] turns → MoveClock e moment (moved ∷ turns)
+moved_alone : (e : Endpoint) (moment : ℕ) (moved : Transition) (turns : List Transition) → moved.outcome ≡ still (clock_at moment e) → Turns moved.outcome.after [] turns → MoveClock e moment (moved ∷ turns)
 moved_alone e moment moved [] is rest =
     record {
       endpoint = ap (λ (o : Outcome). o.after) is;
@@ -128,13 +128,13 @@ moved_alone e moment moved [] is rest =
 moved_alone e moment moved (turn ∷ turns) is rest = absurd rest
 
 -- All that are worked have deadlines that count.
-all_told : (core : Core) → AwaitsNoCookieAck core → timers_told core ≡ timers_in core
+all_told : (core : Core) → AwaitsNoCookieAck core → timers_counted core ≡ timers_in core
 all_told closed awaits = refl
 all_told (cookie_wait mine) awaits = refl
 all_told (cookie_echoed mine held cookie) awaits = absurd awaits
 all_told (open_in phase mine held) awaits = refl
 
-quiet_moment : (e : Endpoint) (moment : ℕ) (turns : List Turned) → MomentTurns e moment turns → Waits e moment → MoveClock e moment turns
+quiet_moment : (e : Endpoint) (moment : ℕ) (turns : List Transition) → MomentTurns e moment turns → Waits e moment → MoveClock e moment turns
 quiet_moment e moment [] taken waits = absurd taken
 quiet_moment e moment (moved ∷ turns) taken waits =
     let due : DueTurns (clock_at moment e) turns = subst (λ (o : Outcome). DueTurns o.after turns) taken.0.comes taken.1 in
@@ -143,7 +143,7 @@ quiet_moment e moment (moved ∷ turns) taken waits =
     let none : Turns (clock_at moment e) [] turns = all_rest (clock_at moment e) (timers_in e.core) turns wait due in
     moved_alone e moment moved turns taken.0.comes (subst (λ (o : Outcome). Turns o.after [] turns) (sym taken.0.comes) none)
 
-quiet_at : (e : Endpoint) (moment : ℕ) (b : Bool) (turns : List Turned) → b ≡ true → TimeTurns b e moment turns → Waits e moment → MoveClock e moment turns
+quiet_at : (e : Endpoint) (moment : ℕ) (b : Bool) (turns : List Transition) → b ≡ true → TimeTurns b e moment turns → Waits e moment → MoveClock e moment turns
 quiet_at e moment true turns is taken waits = quiet_moment e moment turns taken waits
 quiet_at e moment false turns is taken waits = absurd (cc)
 

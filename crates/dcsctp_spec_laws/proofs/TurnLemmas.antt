@@ -10,7 +10,7 @@ use Rattle.dcsctp_spec_lemmas.specs.spec.endpoint.Following.{Following, next_chu
 use Rattle.dcsctp_spec_lemmas.specs.spec.endpoint.Event.{sent}
 use Rattle.dcsctp_spec_lemmas.specs.spec.association.Controlled.{ControlledChunk}
 use Rattle.dcsctp_spec_lemmas.specs.spec.endpoint.Turn.{Input, chunk_input, ContentTurn}
-use Rattle.dcsctp_spec_lemmas.specs.spec.endpoint.CallTurns.{Turned, IsTurn, Turns, AfterChunk, ChunkTurns, after_all}
+use Rattle.dcsctp_spec_lemmas.specs.spec.endpoint.CallTurns.{Transition, IsTurn, Turns, AfterChunk, ChunkTurns, after_all}
 use Rattle.dcsctp_spec_lemmas.specs.spec.endpoint.HandshakeOutcomes.{init_outcome}
 use Rattle.dcsctp_spec_laws.proofs.PlainLemmas.{plain_controlled}
 use Rattle.dcsctp_spec_lemmas.proofs.ControlHandshake.{init_ack_controlled, cookie_ack_controlled, abort_controlled}
@@ -87,27 +87,27 @@ init_goes_on e theirs (open_in shutdown_ack_sent mine held) word next = search (
 -- ---- the chunks of a packet
 
 -- After each of these a further chunk has its turn.
-abbrev pub GoOn : List Turned → Type 0
+abbrev pub GoOn : List Transition → Type 0
 GoOn [] = Unit {0}
 GoOn (t ∷ ts) = (t.outcome.following ≡ next_chunk) × GoOn ts
 
-pub GoOn-push : (ts : List Turned) (t : Turned) → GoOn ts → t.outcome.following ≡ next_chunk → GoOn (ts ++ t ∷ [])
+pub GoOn-push : (ts : List Transition) (t : Transition) → GoOn ts → t.outcome.following ≡ next_chunk → GoOn (ts ++ t ∷ [])
 GoOn-push [] t a b = (b, tt)
 GoOn-push (p ∷ ts) t a b = (a.0, GoOn-push ts t a.1 b)
 
 -- the other chunks, where a further chunk has its turn
-pub further : (e : Endpoint) (tag : ℕ) (content : Content) (contents : List Content) (tail : List Input) (t : Turned) (ts : List Turned) → t.outcome.following ≡ next_chunk
+pub further : (e : Endpoint) (tag : ℕ) (content : Content) (contents : List Content) (tail : List Input) (t : Transition) (ts : List Transition) → t.outcome.following ≡ next_chunk
     → ChunkTurns e tag (content ∷ contents) tail (t ∷ ts) → ChunkTurns t.outcome.after tag contents tail ts
 further e tag content contents tail t ts goes_on turns =
     subst (λ (f : Following). AfterChunk f (ChunkTurns t.outcome.after tag contents tail ts) (Turns t.outcome.after tail ts) (ts ≡ [])) goes_on turns.1
 
-pub and_further : (e : Endpoint) (tag : ℕ) (content : Content) (contents : List Content) (tail : List Input) (t : Turned) (ts : List Turned) → t.outcome.following ≡ next_chunk
+pub and_further : (e : Endpoint) (tag : ℕ) (content : Content) (contents : List Content) (tail : List Input) (t : Transition) (ts : List Transition) → t.outcome.following ≡ next_chunk
     → IsTurn e (chunk_input tag content) t → ChunkTurns t.outcome.after tag contents tail ts → ChunkTurns e tag (content ∷ contents) tail (t ∷ ts)
 and_further e tag content contents tail t ts goes_on turn rest =
     (turn, subst (λ (f : Following). AfterChunk f (ChunkTurns t.outcome.after tag contents tail ts) (Turns t.outcome.after tail ts) (ts ≡ [])) (sym goes_on) rest)
 
 -- The ports stay for good.
-pub chunk_turns_keep_ports : (e : Endpoint) (tag : ℕ) (contents : List Content) (ts : List Turned) → GoOn ts → ChunkTurns e tag contents [] ts → ports_of (after_all e ts).options ≡ ports_of e.options
+pub chunk_turns_keep_ports : (e : Endpoint) (tag : ℕ) (contents : List Content) (ts : List Transition) → GoOn ts → ChunkTurns e tag contents [] ts → ports_of (after_all e ts).options ≡ ports_of e.options
 chunk_turns_keep_ports e tag [] [] goes_on turns = refl
 chunk_turns_keep_ports e tag [] (t ∷ ts) goes_on turns = absurd turns
 chunk_turns_keep_ports e tag (content ∷ contents) [] goes_on turns = absurd turns
@@ -116,13 +116,13 @@ chunk_turns_keep_ports e tag (content ∷ contents) (t ∷ ts) goes_on turns =
     ∙ same_ports e.options t.outcome.after.options (content_keeps_options e tag content t.outcome turns.0.comes)
 
 -- the last chunk so far, whatever it says of further ones
-last_chunk : (e : Endpoint) (tag : ℕ) (following : Following) → AfterChunk following (ChunkTurns e tag [] [] []) (Turns e [] []) (let none : List Turned = [] in none ≡ [])
+last_chunk : (e : Endpoint) (tag : ℕ) (following : Following) → AfterChunk following (ChunkTurns e tag [] [] []) (Turns e [] []) (let none : List Transition = [] in none ≡ [])
 last_chunk e tag next_chunk = tt
 last_chunk e tag packet_end = tt
 last_chunk e tag dropped_rest = refl
 
 -- one chunk more
-pub chunk_turns-push : (e : Endpoint) (tag : ℕ) (contents : List Content) (ts : List Turned) (content : Content) (t : Turned)
+pub chunk_turns-push : (e : Endpoint) (tag : ℕ) (contents : List Content) (ts : List Transition) (content : Content) (t : Transition)
     → GoOn ts → ChunkTurns e tag contents [] ts → IsTurn (after_all e ts) (chunk_input tag content) t → ChunkTurns e tag (contents ++ content ∷ []) [] (ts ++ t ∷ [])
 chunk_turns-push e tag [] [] content t goes_on turns turn = (turn, last_chunk t.outcome.after tag t.outcome.following)
 chunk_turns-push e tag [] (p ∷ ts) content t goes_on turns turn = absurd turns
@@ -132,11 +132,11 @@ chunk_turns-push e tag (c ∷ contents) (p ∷ ts) content t goes_on turns turn 
     (chunk_turns-push p.outcome.after tag contents ts content t goes_on.1 (further e tag c contents [] p ts goes_on.0 turns) turn)
 
 -- The chunks behind a last one that says so have no turn, nor has the end of the packet.
-pub chunk_turns-end : (e : Endpoint) (tag : ℕ) (contents : List Content) (tail : List Input) (ts : List Turned) (content : Content) (t : Turned) (rest : List Content)
+pub chunk_turns-end : (e : Endpoint) (tag : ℕ) (contents : List Content) (tail : List Input) (ts : List Transition) (content : Content) (t : Transition) (rest : List Content)
     → GoOn ts → ChunkTurns e tag contents [] ts → IsTurn (after_all e ts) (chunk_input tag content) t → t.outcome.following ≡ dropped_rest
     → ChunkTurns e tag (contents ++ content ∷ rest) tail (ts ++ t ∷ [])
 chunk_turns-end e tag [] tail [] content t rest goes_on turns turn drops =
-    let none : List Turned = [] in
+    let none : List Transition = [] in
     (turn, subst (λ (f : Following). AfterChunk f (ChunkTurns t.outcome.after tag rest tail none) (Turns t.outcome.after tail none) (none ≡ [])) (sym drops) refl)
 chunk_turns-end e tag [] tail (p ∷ ts) content t rest goes_on turns turn drops = absurd turns
 chunk_turns-end e tag (c ∷ contents) tail [] content t rest goes_on turns turn drops = absurd turns
@@ -145,7 +145,7 @@ chunk_turns-end e tag (c ∷ contents) tail (p ∷ ts) content t rest goes_on tu
     (chunk_turns-end p.outcome.after tag contents tail ts content t rest goes_on.1 (further e tag c contents [] p ts goes_on.0 turns) turn drops)
 
 -- The chunks behind one that says so have no turn, and the packet ends.
-pub chunk_turns-cut : (e : Endpoint) (tag : ℕ) (contents : List Content) (tail : List Input) (ts : List Turned) (content : Content) (t : Turned) (rest : List Content) (more : List Turned)
+pub chunk_turns-cut : (e : Endpoint) (tag : ℕ) (contents : List Content) (tail : List Input) (ts : List Transition) (content : Content) (t : Transition) (rest : List Content) (more : List Transition)
     → GoOn ts → ChunkTurns e tag contents [] ts → IsTurn (after_all e ts) (chunk_input tag content) t → t.outcome.following ≡ packet_end → Turns t.outcome.after tail more
     → ChunkTurns e tag (contents ++ content ∷ rest) tail (ts ++ t ∷ more)
 chunk_turns-cut e tag [] tail [] content t rest more goes_on turns turn cuts end =
@@ -157,7 +157,7 @@ chunk_turns-cut e tag (c ∷ contents) tail (p ∷ ts) content t rest more goes_
     (chunk_turns-cut p.outcome.after tag contents tail ts content t rest more goes_on.1 (further e tag c contents [] p ts goes_on.0 turns) turn cuts end)
 
 -- Where no chunk dropped the rest, the packet's end comes behind them.
-pub chunk_turns-whole : (e : Endpoint) (tag : ℕ) (contents : List Content) (tail : List Input) (ts more : List Turned)
+pub chunk_turns-whole : (e : Endpoint) (tag : ℕ) (contents : List Content) (tail : List Input) (ts more : List Transition)
     → GoOn ts → ChunkTurns e tag contents [] ts → Turns (after_all e ts) tail more → ChunkTurns e tag contents tail (ts ++ more)
 chunk_turns-whole e tag [] tail [] more goes_on turns end = end
 chunk_turns-whole e tag [] tail (p ∷ ts) more goes_on turns end = absurd turns

@@ -13,7 +13,7 @@ use Rattle.dcsctp_spec_lemmas.specs.types.declared.capabilities.Capabilities.{Ca
 use Rattle.dcsctp_spec_lemmas.specs.types.declared.options.Options.{Options}
 use Rattle.dcsctp_spec_lemmas.specs.types.declared.snapshot.HandoverOrderedStream.{HandoverOrderedStream}
 use Rattle.dcsctp_spec_lemmas.specs.spec.endpoint.Endpoint.{Endpoint, Core, closed, cookie_wait, cookie_echoed, open_in, established, shutdown_pending, shutdown_sent, shutdown_received, shutdown_ack_sent, held_in}
-use Rattle.dcsctp_spec_lemmas.specs.spec.Handover.{readiness_below, readiness_in}
+use Rattle.dcsctp_spec_lemmas.specs.spec.Handover.{transfer_layer_readiness, readiness_in}
 use Rattle.dcsctp_spec_lemmas.specs.types.Readiness.{reason_where}
 use Rattle.dcsctp_spec_lemmas.specs.types.Snapshot.{SendPart, ReceivePart, names_twice, has_bytes_or_is_abandoned, tsns_between, allows_zero_checksum, outstanding_count_fits, is_valid_queued, is_valid_send_part, is_valid_received_part, is_valid_connected, is_valid_snapshot, empty_send_part, empty_received_part}
 use Rattle.dcsctp_spec_lemmas.specs.spec.SocketSnapshot.{capabilities_given, with_received, connected_snapshot, snapshot_in}
@@ -23,7 +23,7 @@ use Rattle.dcsctp_spec_lemmas.specs.spec.queues.Incoming.{AreInOrder}
 use Rattle.dcsctp_spec_lemmas.specs.spec.queues.IncomingStreams.{StreamModel}
 use Rattle.dcsctp_spec_lemmas.specs.spec.queues.Items.{Item}
 use Rattle.dcsctp_spec_lemmas.specs.spec.queues.OutstandingParts.{outstanding_given, with_retransmission}
-use Rattle.dcsctp_spec_lemmas.specs.spec.queues.QueuedParts.{with_queue}
+use Rattle.dcsctp_spec_lemmas.specs.spec.queues.QueuedParts.{part_with_queue}
 use Rattle.dcsctp_spec_lemmas.specs.spec.queues.Readiness.{retransmission_readiness}
 use Rattle.dcsctp_spec_lemmas.specs.spec.queues.ReceivedParts.{ordered_stream}
 use Rattle.dcsctp_spec_lemmas.specs.spec.queues.Retransmission.{RetransmissionState}
@@ -83,18 +83,18 @@ in_flight_are_valid now false state tx each = refl
 -- ---- what waits
 
 waiting_are_valid : (now : ℕ) (with_data : Bool) (queue : SendQueueState) (tx : SendPart) → IsWellFormed queue
-    → list_all is_valid_queued (with_queue now with_data queue tx).queued_messages ≡ true
+    → list_all is_valid_queued (part_with_queue now with_data queue tx).queued_messages ≡ true
 waiting_are_valid now true queue tx is = queued_are_valid now queue.under_way queue.streams is.ascending is.bytes is.can
 waiting_are_valid now false queue tx is = refl
 
 sending_is_valid : (now : ℕ) (with_data : Bool) (queue : SendQueueState) (state : RetransmissionState) (tx : SendPart) → IsWellFormed queue
     → AllByRecursion HasBytes state.outstanding.items → length state.outstanding.items < 2 ^ 31 → retransmission_readiness with_data state ≡ 0
-    → is_valid_send_part (with_retransmission now with_data state (with_queue now with_data queue tx)) ≡ true
+    → is_valid_send_part (with_retransmission now with_data state (part_with_queue now with_data queue tx)) ≡ true
 sending_is_valid now with_data queue state tx is each few ready =
     rw (each_is_given_once queue.streams is.ascending)
     (rw (waiting_are_valid now with_data queue tx is)
     (rw (in_flight_are_valid now with_data state tx each)
-    (count_fits now with_data state (with_queue now with_data queue tx) few ready)))
+    (count_fits now with_data state (part_with_queue now with_data queue tx) few ready)))
 
 -- ---- what was received
 
@@ -136,24 +136,24 @@ own_method_is_allowed options capabilities (inr same) = rw same (or_not (options
 tag_counts : (tag : ℕ) → 1 ≤ tag → not (tag == 0) ≡ true
 tag_counts tag least = grind (arith, nat_tests)
 
-established_is_valid : (e : Endpoint) (my : Pair) (held : Held) → 1 ≤ my.tag → IsSoundHeld e.options held → IsWellFormed e.below.queue
-    → (transfer : Option Transfer) → e.below.transfer ≡ transfer → IsSoundIfKnown (Some held) transfer → readiness_below e transfer ≡ 0
+established_is_valid : (e : Endpoint) (my : Pair) (held : Held) → 1 ≤ my.tag → IsSoundHeld e.options held → IsWellFormed e.queues.queue
+    → (transfer : Option Transfer) → e.queues.transfer ≡ transfer → IsSoundIfKnown (Some held) transfer → transfer_layer_readiness e transfer ≡ 0
     → is_valid_connected e.options (connected_snapshot e my held) ≡ true
 established_is_valid e my held least sound queue None is known ready = absurd known
 established_is_valid e my held least sound queue (Some transfer) is known ready =
     rw (tag_counts my.tag least, tag_counts held.peer.tag sound.tag_is_not_zero, own_method_is_allowed e.options held.capabilities sound.method)
     (rw is
-    (rw (sending_is_valid e.moment e.options.enable_handover_with_outstanding_data e.below.queue transfer.retransmission
+    (rw (sending_is_valid e.moment e.options.enable_handover_with_outstanding_data e.queues.queue transfer.retransmission
     (record empty_send_part { next_reset_req_sn = held.own_next }) queue known.items known.few (left_is_zero _ _ ready))
     (received_is_valid transfer (record empty_received_part { last_completed_reset_req_sn = held.peer_last }) known.streams)))
 
-valid_in : (e : Endpoint) (core : Core) → IsSoundCore e.options core → IsWellFormed e.below.queue → IsSoundIfKnown (held_in core) e.below.transfer
+valid_in : (e : Endpoint) (core : Core) → IsSoundCore e.options core → IsWellFormed e.queues.queue → IsSoundIfKnown (held_in core) e.queues.transfer
     → readiness_in e core ≡ 0 → is_valid_snapshot e.options (snapshot_in e core) ≡ true
 valid_in e closed sound queue known ready = refl
 valid_in e (cookie_wait my) sound queue known ready = refl
 valid_in e (cookie_echoed my held cookie) sound queue known ready = refl
 valid_in e (open_in established my held) sound queue known ready =
-    established_is_valid e my held sound.0 sound.1 queue e.below.transfer refl known (right_is_zero _ _ (right_is_zero _ _ ready))
+    established_is_valid e my held sound.0 sound.1 queue e.queues.transfer refl known (right_is_zero _ _ (right_is_zero _ _ ready))
 valid_in e (open_in shutdown_pending my held) sound queue known ready = absurd (omega (arith, ready))
 valid_in e (open_in shutdown_sent my held) sound queue known ready = absurd (omega (arith, ready))
 valid_in e (open_in shutdown_received my held) sound queue known ready = absurd (omega (arith, ready))

@@ -9,13 +9,13 @@ use Rattle.dcsctp_spec_lemmas.specs.types.queues.Messages.{MessageContent}
 use Rattle.dcsctp_spec_lemmas.specs.spec.queues.Transfer.{Transfer}
 
 -- all but the first
-abbrev pub without_first : List MessageContent → List MessageContent
-without_first [] = []
-without_first (message ∷ messages) = messages
+abbrev pub without_first_message : List MessageContent → List MessageContent
+without_first_message [] = []
+without_first_message (message ∷ messages) = messages
 
 -- those that are left once this came, where there is no association
 abbrev pub left_once : Input → List MessageContent → List MessageContent
-left_once user_takes messages = without_first messages
+left_once user_takes messages = without_first_message messages
 left_once input messages = messages
 
 -- What is left after a turn, by what there is before and after it.
@@ -37,4 +37,4 @@ IsOwnInput input = Unit {0}
 
 -- So it is of each turn.
 abbrev pub MessagesLeftStay : Type 0
-MessagesLeftStay = (e : Endpoint) (input : Input) (o : Outcome) → IsOwnInput input → Turn e input o → LeftWhere e input e.below.transfer o.after.below.transfer o.after.left
+MessagesLeftStay = (e : Endpoint) (input : Input) (o : Outcome) → IsOwnInput input → Turn e input o → LeftWhere e input e.queues.transfer o.after.queues.transfer o.after.left

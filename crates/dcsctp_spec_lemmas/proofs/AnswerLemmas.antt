@@ -11,7 +11,7 @@ use Rattle.dcsctp_spec.specs.queues.Retransmission.{RetransmissionState}
 use Rattle.dcsctp_spec.specs.queues.SendQueue.{SendQueueState}
 use Rattle.dcsctp_spec.specs.queues.Transfer.{Transfer, may_give, is_idle}
 use Rattle.dcsctp_spec.specs.endpoint.BegunResets.{BegunReset, streams_within, last_assigned_tsn, request_contents, queue_requesting, retransmission_begun}
-use Rattle.dcsctp_spec.specs.endpoint.FlushOutcomes.{Answer, answer_contents, filled, asked, next_draft, IsWithin, nothing_waits, Ask, later_ask, room_in, wants_sack, stage_of, may_forward, GivesUpWhere, begun_at, GivesWhere, AnsweredBelow, Answered, Answers, at_limit, at_empty, after_packet}
+use Rattle.dcsctp_spec.specs.endpoint.FlushOutcomes.{Answer, answer_contents, filled, asked, next_draft, IsWithinMtu, nothing_waits, Ask, later_ask, room_in, wants_sack, stage_of, may_forward, GivesUpWhere, begun_at, GivesWhere, IsAnswerOfQueues, IsFlushAnswer, AreFlushAnswers, at_limit, at_empty, after_packet}
 use Rattle.dcsctp_spec_lemmas.proofs.AnswerParts.{sacks_where, tracker_where, acknowledges_where, some_forwarded, fills_where}
 use Rattle.dcsctp_spec_lemmas.proofs.FilledAnswers.{Completes, completes_sooner, GivesUntilFull, answer_filling}
 use Rattle.dcsctp_spec_lemmas.proofs.FilledOutcomes.{Filled, some_filled}
@@ -22,10 +22,10 @@ use Rattle.dcsctp_spec_lemmas.proofs.GivingUpOutcomes.{some_given_up}
 -- once messages were abandoned, which needs no further answer
 answer_given_up : (ask : Ask) (e : Endpoint) (draft : Emission) (transfer : Transfer) (gave_up : Stage) (next : Option ℕ) (forwards : List Plain)
     → GivesUpWhere (may_forward ask e transfer.retransmission) e.moment transfer
-    (room_in e (filled draft (plain_contents (sacks_where (wants_sack ask e.below.queue transfer) (room_in e draft) transfer)))) (stage_of e.below.queue transfer.retransmission [] 0) gave_up next forwards
-    → e.below.transfer ≡ Some transfer → is_idle e.below.queue transfer ≡ false → Completes ask e draft gave_up.told
+    (room_in e (filled draft (plain_contents (sacks_where (wants_sack ask e.queues.queue transfer) (room_in e draft) transfer)))) (stage_of e.queues.queue transfer.retransmission [] 0) gave_up next forwards
+    → e.queues.transfer ≡ Some transfer → is_idle e.queues.queue transfer ≡ false → Completes ask e draft gave_up.told
 answer_given_up ask e draft transfer gave_up next forwards gives_up holds busy =
-    let wants : Bool = wants_sack ask e.below.queue transfer in
+    let wants : Bool = wants_sack ask e.queues.queue transfer in
     let sacks : List Plain = sacks_where wants (room_in e draft) transfer in
     let room : ℕ = room_in e (filled draft (plain_contents (sacks ++ forwards))) in
     let begun : Option BegunReset = begun_at ask (held_in e.core) room (last_assigned_tsn gave_up.queue) gave_up.waiting in
@@ -49,11 +49,11 @@ answer_given_up ask e draft transfer gave_up next forwards gives_up holds busy =
     completes_sooner ask e draft gave_up.told full.new.told full.rest full.told (answer_filling ask e draft transfer u holds busy)
 
 -- a flush that stops while messages are abandoned
-pub answer_giving_up : (ask : Ask) (e : Endpoint) (draft : Emission) (transfer : Transfer) (gave_up : Stage) → e.below.transfer ≡ Some transfer → is_idle e.below.queue transfer ≡ false
-    → may_forward ask e transfer.retransmission ≡ true → GivesUpAll e.moment (stage_of e.below.queue transfer.retransmission [] 0) gave_up → Completes ask e draft gave_up.told
+pub answer_giving_up : (ask : Ask) (e : Endpoint) (draft : Emission) (transfer : Transfer) (gave_up : Stage) → e.queues.transfer ≡ Some transfer → is_idle e.queues.queue transfer ≡ false
+    → may_forward ask e transfer.retransmission ≡ true → GivesUpAll e.moment (stage_of e.queues.queue transfer.retransmission [] 0) gave_up → Completes ask e draft gave_up.told
 answer_giving_up ask e draft transfer gave_up holds busy may gives_up =
-    let room : ℕ = room_in e (filled draft (plain_contents (sacks_where (wants_sack ask e.below.queue transfer) (room_in e draft) transfer))) in
-    let start : Stage = stage_of e.below.queue transfer.retransmission [] 0 in
+    let room : ℕ = room_in e (filled draft (plain_contents (sacks_where (wants_sack ask e.queues.queue transfer) (room_in e draft) transfer))) in
+    let start : Stage = stage_of e.queues.queue transfer.retransmission [] 0 in
     let some = some_forwarded (is_first_abandoned gave_up.queue.outstanding.items) e.moment transfer room gave_up.queue in
     answer_given_up ask e draft transfer gave_up some.next some.chunks
     (subst (λ (b : Bool). GivesUpWhere b e.moment transfer room start gave_up some.next some.chunks) (sym may) (gives_up, some.is)) holds busy
@@ -63,59 +63,59 @@ answer_giving_up ask e draft transfer gave_up holds busy may gives_up =
 nothing_behind : (e : Endpoint) (draft : Emission) → filled draft (answer_contents (nothing_waits e)) ≡ draft
 nothing_behind e draft = ap (λ (contents : List Content). record draft { packet = record draft.packet { contents = contents } }) (append-nil draft.packet.contents)
 
-nothing_answered : (ask : Ask) (e : Endpoint) (draft : Emission) → AnsweredBelow ask e draft (nothing_waits e) e.below.transfer → Completes ask e draft []
+nothing_answered : (ask : Ask) (e : Endpoint) (draft : Emission) → IsAnswerOfQueues ask e draft (nothing_waits e) e.queues.transfer → Completes ask e draft []
 nothing_answered ask e draft h =
     record {
       answer = nothing_waits e;
-      allowed = record { kept = refl; within = λ within. subst (IsWithin e) (sym (nothing_behind e draft)) within; by_transfer = h };
+      allowed = record { kept = refl; within = λ within. subst (IsWithinMtu e) (sym (nothing_behind e draft)) within; by_transfer = h };
       rest = [];
       told = refl;
     }
 
-busy_answer : (ask : Ask) (e : Endpoint) (draft : Emission) (transfer : Transfer) (may : Bool) → may_forward ask e transfer.retransmission ≡ may → e.below.transfer ≡ Some transfer
-    → is_idle e.below.queue transfer ≡ false → Completes ask e draft []
+busy_answer : (ask : Ask) (e : Endpoint) (draft : Emission) (transfer : Transfer) (may : Bool) → may_forward ask e transfer.retransmission ≡ may → e.queues.transfer ≡ Some transfer
+    → is_idle e.queues.queue transfer ≡ false → Completes ask e draft []
 busy_answer ask e draft transfer true may holds busy =
-    let (gave_up, gives_up) = some_given_up e.moment (stage_of e.below.queue transfer.retransmission [] 0) in
+    let (gave_up, gives_up) = some_given_up e.moment (stage_of e.queues.queue transfer.retransmission [] 0) in
     completes_sooner ask e draft [] gave_up.told gave_up.told refl (answer_giving_up ask e draft transfer gave_up holds busy may gives_up)
 busy_answer ask e draft transfer false may holds busy =
-    let room : ℕ = room_in e (filled draft (plain_contents (sacks_where (wants_sack ask e.below.queue transfer) (room_in e draft) transfer))) in
-    let start : Stage = stage_of e.below.queue transfer.retransmission [] 0 in
+    let room : ℕ = room_in e (filled draft (plain_contents (sacks_where (wants_sack ask e.queues.queue transfer) (room_in e draft) transfer))) in
+    let start : Stage = stage_of e.queues.queue transfer.retransmission [] 0 in
     answer_given_up ask e draft transfer start None [] (subst (λ (b : Bool). GivesUpWhere b e.moment transfer room start start None []) (sym may) (refl, refl, refl)) holds busy
 
-answer_by : (ask : Ask) (e : Endpoint) (draft : Emission) (transfer : Transfer) (idle : Bool) → e.below.transfer ≡ Some transfer → is_idle e.below.queue transfer ≡ idle
+answer_by : (ask : Ask) (e : Endpoint) (draft : Emission) (transfer : Transfer) (idle : Bool) → e.queues.transfer ≡ Some transfer → is_idle e.queues.queue transfer ≡ idle
     → Completes ask e draft []
 answer_by ask e draft transfer true holds idle =
-    nothing_answered ask e draft (subst (AnsweredBelow ask e draft (nothing_waits e)) (sym holds) (subst (λ (b : Bool). GivesWhere b ask e draft transfer (nothing_waits e)) (sym idle) refl))
+    nothing_answered ask e draft (subst (IsAnswerOfQueues ask e draft (nothing_waits e)) (sym holds) (subst (λ (b : Bool). GivesWhere b ask e draft transfer (nothing_waits e)) (sym idle) refl))
 answer_by ask e draft transfer false holds busy = busy_answer ask e draft transfer (may_forward ask e transfer.retransmission) refl holds busy
 
-answer_at : (ask : Ask) (e : Endpoint) (draft : Emission) (transfer : Option Transfer) → e.below.transfer ≡ transfer → Completes ask e draft []
-answer_at ask e draft None holds = nothing_answered ask e draft (subst (AnsweredBelow ask e draft (nothing_waits e)) (sym holds) refl)
-answer_at ask e draft (Some transfer) holds = answer_by ask e draft transfer (is_idle e.below.queue transfer) holds refl
+answer_at : (ask : Ask) (e : Endpoint) (draft : Emission) (transfer : Option Transfer) → e.queues.transfer ≡ transfer → Completes ask e draft []
+answer_at ask e draft None holds = nothing_answered ask e draft (subst (IsAnswerOfQueues ask e draft (nothing_waits e)) (sym holds) refl)
+answer_at ask e draft (Some transfer) holds = answer_by ask e draft transfer (is_idle e.queues.queue transfer) holds refl
 
 pub some_answer : (ask : Ask) (e : Endpoint) (draft : Emission) → Completes ask e draft []
-some_answer ask e draft = answer_at ask e draft e.below.transfer refl
+some_answer ask e draft = answer_at ask e draft e.queues.transfer refl
 
 -- ---- the answers of a flush, wherever it stands
 
 -- the answers that go on from this one
-goes_on : (ask : Ask) (n : ℕ) (e : Endpoint) (draft : Emission) (answer : Answer) (contents : List Content) → (filled draft (answer_contents answer)).packet.contents ≡ contents → Answered ask e draft answer
-    → ((answers : List Answer) × Answers later_ask n (asked e draft answer).after (next_draft e.core draft) answers) → (answers : List Answer) × Answers ask (suc n) e draft (answer ∷ answers)
+goes_on : (ask : Ask) (n : ℕ) (e : Endpoint) (draft : Emission) (answer : Answer) (contents : List Content) → (filled draft (answer_contents answer)).packet.contents ≡ contents → IsFlushAnswer ask e draft answer
+    → ((answers : List Answer) × AreFlushAnswers later_ask n (asked e draft answer).after (next_draft e.core draft) answers) → (answers : List Answer) × AreFlushAnswers ask (suc n) e draft (answer ∷ answers)
 goes_on ask n e draft answer [] is h rest = ([], at_empty ask n e draft answer h is)
 goes_on ask n e draft answer (content ∷ contents) is h rest =
     (rest.0, after_packet ask n e draft answer rest.0 h (λ none. let clash : content ∷ contents ≡ [] = sym is ∙ none in absurd (cc)) rest.1)
 
-pub any_answers : (ask : Ask) (n : ℕ) (e : Endpoint) (draft : Emission) → (answers : List Answer) × Answers ask n e draft answers
+pub any_answers : (ask : Ask) (n : ℕ) (e : Endpoint) (draft : Emission) → (answers : List Answer) × AreFlushAnswers ask n e draft answers
 any_answers ask zero e draft = ([], at_limit ask e draft)
 any_answers ask (suc n) e draft =
     let first = some_answer ask e draft in
-    let all : (answers : List Answer) × Answers ask (suc n) e draft (first.answer ∷ answers) =
+    let all : (answers : List Answer) × AreFlushAnswers ask (suc n) e draft (first.answer ∷ answers) =
     goes_on ask n e draft first.answer (filled draft (answer_contents first.answer)).packet.contents refl first.allowed
     (any_answers later_ask n (asked e draft first.answer).after (next_draft e.core draft)) in
     (first.answer ∷ all.0, all.1)
 
 -- those that begin with this one
-pub answers_from : (ask : Ask) (n : ℕ) (e : Endpoint) (draft : Emission) (answer : Answer) → Answered ask e draft answer
-    → (answers : List Answer) × Answers ask (suc n) e draft (answer ∷ answers)
+pub answers_from : (ask : Ask) (n : ℕ) (e : Endpoint) (draft : Emission) (answer : Answer) → IsFlushAnswer ask e draft answer
+    → (answers : List Answer) × AreFlushAnswers ask (suc n) e draft (answer ∷ answers)
 answers_from ask n e draft answer h =
     goes_on ask n e draft answer (filled draft (answer_contents answer)).packet.contents refl h
     (any_answers later_ask n (asked e draft answer).after (next_draft e.core draft))

@@ -9,7 +9,7 @@ use Rattle.dcsctp_spec.proofs.wire_lemmas.Lengths.{length-chunk_bytes, length-da
 use Rattle.dcsctp_spec.specs.endpoint.Outcome.{contents_len}
 use Rattle.dcsctp_spec.specs.Packet.{Plain, Content, unworked, chunk_out}
 use Rattle.dcsctp_spec.specs.association.Choices.{plain_contents}
-use Rattle.dcsctp_spec.specs.queues.Chunks.{AreChunks, byte_field, chunk_said, data_said, i_data_said}
+use Rattle.dcsctp_spec.specs.queues.Chunks.{AreChunksOfTsns, byte_field, chunk_said, data_said, i_data_said}
 use Rattle.dcsctp_spec.specs.queues.Filling.{Stage}
 use Rattle.dcsctp_spec.specs.queues.Items.{chunk_size}
 use Rattle.dcsctp_spec.specs.queues.Outstanding.{OutstandingState, header_of}
@@ -71,7 +71,7 @@ said_fits false tsn part fits =
 -- The chunks of these TSNs. If they take up no more than a chunk may, that is how long they are, and they fit their fields.
 pub record HaveChunks (outstanding : OutstandingState) (tsns : List ℕ) (used : ℕ) : Type 0 where
   pub chunks : List Plain
-  pub are : AreChunks outstanding tsns chunks
+  pub are : AreChunksOfTsns outstanding tsns chunks
   pub len : used ≤ 65535 → contents_len (plain_contents chunks) ≡ used
   pub fit : used ≤ 65535 → AllByRecursion FitsPlain chunks
 
@@ -98,7 +98,7 @@ have_chunks outstanding (tsn ∷ tsns) used (rest, first, others) = have_one_mor
 -- The chunks of a packet take up what its room has lost.
 pub record SomeChunks (room : ℕ) (stage : Stage) : Type 0 where
   pub chunks : List Plain
-  pub are : AreChunks stage.queue.outstanding stage.tsns chunks
+  pub are : AreChunksOfTsns stage.queue.outstanding stage.tsns chunks
   pub len : room ≤ 65535 → contents_len (plain_contents chunks) + stage.room ≡ room
   pub fit : room ≤ 65535 → AllByRecursion FitsPlain chunks
 

@@ -14,22 +14,22 @@ use Rattle.dcsctp_spec.specs.endpoint.Endpoint.{Endpoint, Core, closed, cookie_w
 use Rattle.dcsctp_spec.specs.endpoint.Outcome.{Outcome}
 use Rattle.dcsctp_spec.specs.endpoint.FlushOutcomes.{Answer, flush_answered}
 use Rattle.dcsctp_spec.specs.endpoint.HandshakeOutcomes.{connected_after}
-use Rattle.dcsctp_spec.specs.endpoint.CookieEchoOutcomes.{established_by, acknowledgement, establish_by, queue_kept, queue_begun, restart_by_in, restart_by_where, maintain_by, resolved_by, resolved_now, cookie_echo_by, EstablishAnswers, RestartAnswersIn, RestartAnswers, MaintainAnswers, ResolvedAnswers, EchoedAnswers, CookieEchoTurn}
-use Rattle.dcsctp_spec.specs.association.Effect.{holds, connects, link_of}
+use Rattle.dcsctp_spec.specs.endpoint.CookieEchoOutcomes.{established_by, cookie_ack_emission, establish_by, queue_kept, queue_begun, restart_by_in, restart_by_where, maintain_by, resolved_by, resolved_now, cookie_echo_by, EstablishAnswers, RestartAnswersIn, RestartAnswers, MaintainAnswers, ResolvedAnswers, EchoedAnswers, CookieEchoTurn}
+use Rattle.dcsctp_spec.specs.association.Effect.{holds, connects, identity_of}
 use Rattle.dcsctp_spec.specs.association.CookieEchoChanges.{Resolution, establish_new, restart, simultaneous_init, discard, maintain_existing, invalid_tag, stale, aged, case_by, case_with_peer, held_by_cookie, new_association_change, restart_change_where_open, restart_change, maintain_change, resolved_change, read_echo_change}
 use Rattle.dcsctp_spec.specs.association.Choices.{Choices}
-use Rattle.dcsctp_spec.specs.association.Controlled.{has_connected, signs_of_events, IsControlled, ControlledChunk}
+use Rattle.dcsctp_spec.specs.association.Controlled.{has_connected, observations_of_events, IsControlled, ControlledChunk}
 use Rattle.dcsctp_spec_lemmas.proofs.FlushKeeps.{IsPeerTag, rebuilds_open, flush_controlled}
 use Rattle.dcsctp_spec_lemmas.proofs.ControlHandshake.{choosing, still_controlled}
 
 -- ---- one that makes an association
 
-made : (e : Endpoint) (cookie : Cookie) (queue : SendQueueState) (tie : ℕ) (events : List (Event Emission)) (answers : List Answer) → signs_of_events events ≡ has_connected ∷ []
+made : (e : Endpoint) (cookie : Cookie) (queue : SendQueueState) (tie : ℕ) (events : List (Event Emission)) (answers : List Answer) → observations_of_events events ≡ has_connected ∷ []
     → EstablishAnswers e cookie queue tie answers → IsControlled e (establish_by (flush_answered answers) e cookie queue tie events) (new_association_change e.options cookie (choosing e true answers))
 made e cookie queue tie events answers told h =
     let held : Held = held_by_cookie e.options cookie in
-    flush_controlled e (established_by e cookie queue tie) (U64 tie ∷ []) events (acknowledgement held cookie) answers (λ x. open_in established cookie.maker x) held
-    (holds (link_of cookie.maker held) ∷ connects (link_of cookie.maker held) ∷ []) (holds (link_of cookie.maker held) ∷ connects (link_of cookie.maker held) ∷ [])
+    flush_controlled e (established_by e cookie queue tie) (U64 tie ∷ []) events (cookie_ack_emission held cookie) answers (λ x. open_in established cookie.maker x) held
+    (holds (identity_of cookie.maker held) ∷ connects (identity_of cookie.maker held) ∷ []) (holds (identity_of cookie.maker held) ∷ connects (identity_of cookie.maker held) ∷ [])
     (rebuilds_open established cookie.maker held) refl refl refl h told refl refl
 
 -- the choices of an endpoint that judges the cookie's age
@@ -44,7 +44,7 @@ restart_in e cookie tie established mine held answers is h = made e cookie (queu
 restart_in e cookie tie shutdown_pending mine held answers is h = made e cookie (queue_begun e cookie) tie (connection_restarted ∷ connected ∷ []) answers refl h
 restart_in e cookie tie shutdown_sent mine held answers is h = made e cookie (queue_begun e cookie) tie (connection_restarted ∷ connected ∷ []) answers refl h
 restart_in e cookie tie shutdown_received mine held answers is h = made e cookie (queue_begun e cookie) tie (connection_restarted ∷ connected ∷ []) answers refl h
-restart_in e cookie tie shutdown_ack_sent mine held answers is h = record { core = is; options = refl; signs = refl; effects = refl; following = refl }
+restart_in e cookie tie shutdown_ack_sent mine held answers is h = record { core = is; options = refl; observations = refl; effects = refl; following = refl }
 
 restart_at : (e : Endpoint) (cookie : Cookie) (tie : ℕ) (core : Core) (answers : List Answer) → e.core ≡ core → RestartAnswers e cookie tie core answers
     → IsControlled e (restart_by_where (flush_answered answers) e cookie tie core) (restart_change e.options core cookie (judging e cookie answers))
@@ -87,10 +87,10 @@ pub maintain_at : (e : Endpoint) (cookie : Cookie) (core : Core) (header : ℕ) 
 maintain_at e cookie closed header answers is case h = still_controlled e closed is
 maintain_at e cookie (cookie_wait mine) header answers is case h = still_controlled e (cookie_wait mine) is
 maintain_at e cookie (cookie_echoed mine held echoed) header answers is case h =
-    flush_controlled e (connected_after e mine held) [] (connected ∷ []) (acknowledgement held cookie) answers (λ x. open_in established mine x) held (connects (link_of mine held) ∷ []) (connects (link_of mine held) ∷ [])
+    flush_controlled e (connected_after e mine held) [] (connected ∷ []) (cookie_ack_emission held cookie) answers (λ x. open_in established mine x) held (connects (identity_of mine held) ∷ []) (connects (identity_of mine held) ∷ [])
     (rebuilds_open established mine held) refl refl (peer_of mine held e.tie header cookie (kept_by_age _ _ case)) h refl refl refl
 maintain_at e cookie (open_in phase mine held) header answers is case h =
-    flush_controlled e e [] [] (acknowledgement held cookie) answers (λ x. open_in phase mine x) held [] [] (rebuilds_open phase mine held)
+    flush_controlled e e [] [] (cookie_ack_emission held cookie) answers (λ x. open_in phase mine x) held [] [] (rebuilds_open phase mine held)
     is refl (subst (λ (core : Core). IsPeerTag core cookie.addressee.tag) (sym is) (peer_of mine held e.tie header cookie (kept_by_age _ _ case))) h refl refl refl
 
 -- ---- every case
@@ -101,14 +101,14 @@ resolved_at : (e : Endpoint) (cookie : Cookie) (core : Core) (word header : ℕ)
 resolved_at e cookie core word header establish_new answers is case h = made e cookie (queue_kept e cookie) word (connected ∷ []) answers refl h
 resolved_at e cookie core word header restart answers is case h = restart_at e cookie word core answers is h
 resolved_at e cookie core word header simultaneous_init answers is case h = made e cookie (queue_begun e cookie) word (connected ∷ []) answers refl h
-resolved_at e cookie core word header discard answers is case h = record { core = is; options = refl; signs = refl; effects = refl; following = refl }
+resolved_at e cookie core word header discard answers is case h = record { core = is; options = refl; observations = refl; effects = refl; following = refl }
 resolved_at e cookie core word header maintain_existing answers is case h = maintain_at e cookie core header answers is case h
-resolved_at e cookie core word header invalid_tag answers is case h = record { core = is; options = refl; signs = refl; effects = refl; following = refl }
-resolved_at e cookie core word header stale answers is case h = record { core = is; options = refl; signs = refl; effects = refl; following = refl }
+resolved_at e cookie core word header invalid_tag answers is case h = record { core = is; options = refl; observations = refl; effects = refl; following = refl }
+resolved_at e cookie core word header stale answers is case h = record { core = is; options = refl; observations = refl; effects = refl; following = refl }
 
 echo_at : (e : Endpoint) (core : Core) (header : ℕ) (read : Result Cookie (List ℕ)) (word : ℕ) (answers : List Answer) → e.core ≡ core → EchoedAnswers e core header read word answers
     → (choices : Choices) × IsControlled e (cookie_echo_by (flush_answered answers) e core header read word) (read_echo_change e.options core header read choices)
-echo_at e core header (Err text) word answers is h = (choosing e true answers, record { core = is; options = refl; signs = refl; effects = refl; following = refl })
+echo_at e core header (Err text) word answers is h = (choosing e true answers, record { core = is; options = refl; observations = refl; effects = refl; following = refl })
 echo_at e core header (Ok cookie) word answers is h = (judging e cookie answers, resolved_at e cookie core word header (resolved_now e core header cookie) answers is refl h)
 
 pub cookie_echo_controlled : (e : Endpoint) (tag : ℕ) (bytes : List ℕ) (o : Outcome) → CookieEchoTurn e tag bytes o → ControlledChunk e tag (cookie_echo bytes) o

@@ -14,7 +14,7 @@ use Rattle.dcsctp_spec.specs.endpoint.Outcome.{Outcome, noting, still, quiet, se
 use Rattle.dcsctp_spec.specs.endpoint.FlushOutcomes.{Answer, draft_to, flush_answered, allows_packet}
 use Rattle.dcsctp_spec.specs.endpoint.EndOutcomes.{ended_outcome, abort_outcome}
 use Rattle.dcsctp_spec.specs.endpoint.HandshakeOutcomes.{pair_from, init_emission, awaits_init_ack, connect_outcome, ConnectTurn, no_cookie_text, abort_emission, awaits_cookie_ack, echo_emission, EchoAnswers, init_ack_by, InitAckAnswers, InitAckTurn, CookieAckAnswers, CookieAckTurn, connected_after, cookie_ack_by}
-use Rattle.dcsctp_spec.specs.association.Effect.{holds, connects, Change, unchanged, link_of}
+use Rattle.dcsctp_spec.specs.association.Effect.{holds, connects, Change, unchanged, identity_of}
 use Rattle.dcsctp_spec.specs.association.Choices.{Filling, Choices, nothing_to_send, idle_choices}
 use Rattle.dcsctp_spec.specs.association.HandshakeChanges.{connect_change, init_ack_change, held_by_init_ack}
 use Rattle.dcsctp_spec.specs.association.Acts.{connect, ChunkChange}
@@ -42,7 +42,7 @@ ControlledAt e core tag content o = (change : Change) × ChunkChange e.options c
 
 -- a turn in which nothing happens
 pub still_controlled : (e : Endpoint) (core : Core) → e.core ≡ core → IsControlled e (still e) (unchanged core)
-still_controlled e core is = record { core = is; options = refl; signs = refl; effects = refl; following = refl }
+still_controlled e core is = record { core = is; options = refl; observations = refl; effects = refl; following = refl }
 
 -- the choices of a turn with a flush that gets these answers
 abbrev pub choosing : Endpoint → Bool → List Answer → Choices
@@ -52,8 +52,8 @@ choosing e fits answers = record (no_choices e fits) { filling = filling_of answ
 
 connects_where : (b : Bool) (e : Endpoint) (mine : Pair) (words : List Word)
     → IsControlled e (drawing mine (if b then sends (awaits_init_ack e mine) words [] (init_emission e mine) else quiet (awaits_init_ack e mine) words [])) (connect_change e.options closed (choices_of e mine [] b))
-connects_where true e mine words = record { core = refl; options = refl; signs = refl; effects = refl; following = refl }
-connects_where false e mine words = record { core = refl; options = refl; signs = refl; effects = refl; following = refl }
+connects_where true e mine words = record { core = refl; options = refl; observations = refl; effects = refl; following = refl }
+connects_where false e mine words = record { core = refl; options = refl; observations = refl; effects = refl; following = refl }
 
 connect_at : (e : Endpoint) (core : Core) (word next : ℕ) → e.core ≡ core
     → (choices : Choices) × IsControlled e (connect_outcome e core word next) (connect_change e.options core choices)
@@ -74,20 +74,20 @@ connect_controlled e o turn = subst (ControlledAct e connect) (sym turn.2) (conn
 refused_where : (b : Bool) (e : Endpoint) (mine : Pair) (theirs : Introduction)
     → IsControlled e (ended_outcome (if b then sends e [] [] (abort_emission theirs.pair.tag) else quiet e [] []) (aborted ProtocolViolation no_cookie_text))
     (init_ack_change e.options (cookie_wait mine) theirs None (no_choices e b))
-refused_where true e mine theirs = record { core = refl; options = refl; signs = refl; effects = refl; following = refl }
-refused_where false e mine theirs = record { core = refl; options = refl; signs = refl; effects = refl; following = refl }
+refused_where true e mine theirs = record { core = refl; options = refl; observations = refl; effects = refl; following = refl }
+refused_where false e mine theirs = record { core = refl; options = refl; observations = refl; effects = refl; following = refl }
 
 -- With one, its COOKIE ECHO goes out where it fits and where a packet is allowed.
 echoed_where : (b : Bool) (e : Endpoint) (mine : Pair) (theirs : Introduction) (cookie : List ℕ) (tie : ℕ) (answers : List Answer)
     → EchoAnswers b (awaits_cookie_ack e mine theirs cookie tie) theirs.pair.tag cookie answers
-    → IsControlled e (noting (holds (link_of mine (held_by_init_ack e.options mine theirs)) ∷ [])
+    → IsControlled e (noting (holds (identity_of mine (held_by_init_ack e.options mine theirs)) ∷ [])
     (if b then flush_answered answers (awaits_cookie_ack e mine theirs cookie tie) (U64 tie ∷ []) [] true theirs.pair.tag (cookie_echo cookie ∷ []) else quiet (awaits_cookie_ack e mine theirs cookie tie) (U64 tie ∷ []) []))
     (init_ack_change e.options (cookie_wait mine) theirs (Some cookie) (choosing e b answers))
 echoed_where true e mine theirs cookie tie answers h =
     let held : Held = held_by_init_ack e.options mine theirs in
     flush_controlled e (awaits_cookie_ack e mine theirs cookie tie) (U64 tie ∷ []) [] (echo_emission theirs.pair.tag cookie) answers (λ x. cookie_echoed mine x cookie) held
-    (holds (link_of mine held) ∷ []) (holds (link_of mine held) ∷ []) (rebuilds_echoed mine cookie held) refl refl refl h refl refl refl
-echoed_where false e mine theirs cookie tie answers h = record { core = refl; options = refl; signs = refl; effects = refl; following = refl }
+    (holds (identity_of mine held) ∷ []) (holds (identity_of mine held) ∷ []) (rebuilds_echoed mine cookie held) refl refl refl h refl refl refl
+echoed_where false e mine theirs cookie tie answers h = record { core = refl; options = refl; observations = refl; effects = refl; following = refl }
 
 init_ack_at : (e : Endpoint) (core : Core) (tag : ℕ) (theirs : Introduction) (cookie : Option (List ℕ)) (word : ℕ) (answers : List Answer) → e.core ≡ core
     → InitAckAnswers e theirs cookie core word answers → ControlledAt e core tag (init_ack theirs cookie) (init_ack_by (flush_answered answers) e theirs cookie core word)
@@ -114,7 +114,7 @@ cookie_ack_at e (cookie_wait mine) tag answers is h = (_, (no_choices e true, tt
 cookie_ack_at e (cookie_echoed mine held cookie) tag answers is h = (
   _,
   (choosing e true answers, tt, refl),
-  flush_controlled e (connected_after e mine held) [] (connected ∷ []) (draft_to held) answers (λ x. open_in established mine x) held (connects (link_of mine held) ∷ []) (connects (link_of mine held) ∷ [])
+  flush_controlled e (connected_after e mine held) [] (connected ∷ []) (draft_to held) answers (λ x. open_in established mine x) held (connects (identity_of mine held) ∷ []) (connects (identity_of mine held) ∷ [])
       (rebuilds_open established mine held) refl refl refl h refl refl refl,
 )
 cookie_ack_at e (open_in phase mine held) tag answers is h = (_, (no_choices e true, tt, refl), still_controlled e (open_in phase mine held) is)
@@ -127,8 +127,8 @@ cookie_ack_controlled e tag o turn = subst (ControlledChunk e tag cookie_ack) (s
 abort_at : (e : Endpoint) (core : Core) (tag : ℕ) (reflected : Bool) (causes : List Cause) → e.core ≡ core → ControlledAt e core tag (abort reflected causes) (abort_outcome e causes core)
 abort_at e closed tag reflected causes is = (_, (no_choices e true, tt, refl), still_controlled e closed is)
 abort_at e (cookie_wait mine) tag reflected causes is = (_, (no_choices e true, tt, refl), still_controlled e (cookie_wait mine) is)
-abort_at e (cookie_echoed mine held cookie) tag reflected causes is = (_, (no_choices e true, tt, refl), record { core = refl; options = refl; signs = refl; effects = refl; following = refl })
-abort_at e (open_in phase mine held) tag reflected causes is = (_, (no_choices e true, tt, refl), record { core = refl; options = refl; signs = refl; effects = refl; following = refl })
+abort_at e (cookie_echoed mine held cookie) tag reflected causes is = (_, (no_choices e true, tt, refl), record { core = refl; options = refl; observations = refl; effects = refl; following = refl })
+abort_at e (open_in phase mine held) tag reflected causes is = (_, (no_choices e true, tt, refl), record { core = refl; options = refl; observations = refl; effects = refl; following = refl })
 
 pub abort_controlled : (e : Endpoint) (tag : ℕ) (reflected : Bool) (causes : List Cause) (o : Outcome) → o ≡ abort_outcome e causes e.core → ControlledChunk e tag (abort reflected causes) o
 abort_controlled e tag reflected causes o turn = subst (ControlledChunk e tag (abort reflected causes)) (sym turn) (abort_at e e.core tag reflected causes refl)

@@ -4,7 +4,7 @@ use Rattle.std.specs.List.{slice_get}
 use Rattle.dcsctp_spec.specs.types.declared.progress.ItemState.{ItemState}
 use Rattle.dcsctp_spec.specs.types.declared.progress.ItemState.TheVariants.{InFlight, Marked, Acknowledged, Abandoned}
 use Rattle.dcsctp_spec.specs.queues.Abandoning.{NoneAwaitedBefore}
-use Rattle.dcsctp_spec.specs.queues.NextItem.{is_due}
+use Rattle.dcsctp_spec.specs.queues.NextItem.{is_abandonment_due}
 use Rattle.dcsctp_spec.specs.queues.Items.{Item}
 use Rattle.dcsctp_spec.specs.types.queues.Progress.{is_marked, is_unacknowledged}
 
@@ -14,9 +14,9 @@ pub record FirstDue (now : ℕ) (negotiated : Bool) (items : List Item) : Type 0
   pub none_awaited : NoneAwaitedBefore place items
   pub item : Item
   pub at : slice_get items place ≡ Some item
-  pub due : is_due now negotiated item ≡ true
+  pub due : is_abandonment_due now negotiated item ≡ true
 
-pub due_marked : (now : ℕ) (negotiated : Bool) (item : Item) → is_due now negotiated item ≡ true → is_marked item.progress.state ≡ true
+pub due_marked : (now : ℕ) (negotiated : Bool) (item : Item) → is_abandonment_due now negotiated item ≡ true → is_marked item.progress.state ≡ true
 due_marked now false item due = absurd (cc)
 due_marked now true item due = go item.progress.state _ due
   where
@@ -26,23 +26,23 @@ due_marked now true item due = go item.progress.state _ due
     go Acknowledged test e = absurd (cc)
     go Abandoned test e = absurd (cc)
 
-none_due_before : (now : ℕ) (negotiated : Bool) (x : Item) (xs : List Item) → is_due now negotiated x ≡ false → is_unacknowledged x.progress.state ≡ true → FirstDue now negotiated (x ∷ xs) → ⊥
+none_due_before : (now : ℕ) (negotiated : Bool) (x : Item) (xs : List Item) → is_abandonment_due now negotiated x ≡ false → is_unacknowledged x.progress.state ≡ true → FirstDue now negotiated (x ∷ xs) → ⊥
 none_due_before now negotiated x xs not_due awaited first = go first.place first.none_awaited first.at
   where
     go : (place : ℕ) → NoneAwaitedBefore place (x ∷ xs) → slice_get (x ∷ xs) place ≡ Some first.item → ⊥
     go zero before at =
         let same : x ≡ first.item = cc in
-        let both : false ≡ true = sym not_due ∙ (ap (is_due now negotiated) same ∙ first.due) in
+        let both : false ≡ true = sym not_due ∙ (ap (is_abandonment_due now negotiated) same ∙ first.due) in
         absurd (cc)
     go (suc place) before at = let both : true ≡ false = sym awaited ∙ before 0 x (omega arith) refl in absurd (cc)
 
-none_due_behind : (now : ℕ) (negotiated : Bool) (x : Item) (xs : List Item) → is_due now negotiated x ≡ false → (FirstDue now negotiated xs → ⊥) → FirstDue now negotiated (x ∷ xs) → ⊥
+none_due_behind : (now : ℕ) (negotiated : Bool) (x : Item) (xs : List Item) → is_abandonment_due now negotiated x ≡ false → (FirstDue now negotiated xs → ⊥) → FirstDue now negotiated (x ∷ xs) → ⊥
 none_due_behind now negotiated x xs not_due none_later first = go first.place first.none_awaited first.at
   where
     go : (place : ℕ) → NoneAwaitedBefore place (x ∷ xs) → slice_get (x ∷ xs) place ≡ Some first.item → ⊥
     go zero before at =
         let same : x ≡ first.item = cc in
-        let both : false ≡ true = sym not_due ∙ (ap (is_due now negotiated) same ∙ first.due) in
+        let both : false ≡ true = sym not_due ∙ (ap (is_abandonment_due now negotiated) same ∙ first.due) in
         absurd (cc)
     go (suc place) before at =
         none_later (record { place = place; none_awaited = λ k item below there. before (suc k) item (omega arith) there; item = first.item; at = at; due = first.due })
@@ -56,9 +56,9 @@ due_behind now negotiated x xs gone later = record { place = suc later.place; no
 
 pub due_or_not : (now : ℕ) (negotiated : Bool) (items : List Item) → FirstDue now negotiated items ⊎ (FirstDue now negotiated items → ⊥)
 due_or_not now negotiated [] = inr (λ first. let at = first.at in absurd (cc))
-due_or_not now negotiated (x ∷ xs) = go (due_or_not now negotiated xs) (is_due now negotiated x) refl (is_unacknowledged x.progress.state) refl
+due_or_not now negotiated (x ∷ xs) = go (due_or_not now negotiated xs) (is_abandonment_due now negotiated x) refl (is_unacknowledged x.progress.state) refl
   where
-    go : FirstDue now negotiated xs ⊎ (FirstDue now negotiated xs → ⊥) → (due : Bool) → is_due now negotiated x ≡ due → (awaited : Bool) → is_unacknowledged x.progress.state ≡ awaited
+    go : FirstDue now negotiated xs ⊎ (FirstDue now negotiated xs → ⊥) → (due : Bool) → is_abandonment_due now negotiated x ≡ due → (awaited : Bool) → is_unacknowledged x.progress.state ≡ awaited
         → FirstDue now negotiated (x ∷ xs) ⊎ (FirstDue now negotiated (x ∷ xs) → ⊥)
     go later true is awaited waits = inl (record { place = 0; none_awaited = λ k item below at. absurd (omega arith); item = x; at = refl; due = is })
     go later false is true waits = inr (none_due_before now negotiated x xs is waits)

@@ -12,7 +12,7 @@ use Rattle.dcsctp_spec.specs.queues.SendQueue.{SendQueueState}
 use Rattle.dcsctp_spec.specs.queues.Tracker.{TrackerState}
 use Rattle.dcsctp_spec.specs.queues.Transfer.{Transfer, may_give, is_idle}
 use Rattle.dcsctp_spec.specs.endpoint.BegunResets.{BegunReset, streams_within, last_assigned_tsn, request_contents, queue_requesting, retransmission_begun, after_begun}
-use Rattle.dcsctp_spec.specs.endpoint.FlushOutcomes.{Told, told_content, Answer, filled, IsWithin, Ask, room_in, wants_sack, Acknowledges, stage_of, may_forward, GivesUpWhere, forward_where, FillsWhere, begun_at, Gives, GivesWhere, AnsweredBelow, timers_with, Answered}
+use Rattle.dcsctp_spec.specs.endpoint.FlushOutcomes.{FillingEvent, filling_event_content, Answer, filled, IsWithinMtu, Ask, room_in, wants_sack, Acknowledges, stage_of, may_forward, GivesUpWhere, forward_where, FillsWhere, begun_at, Gives, GivesWhere, IsAnswerOfQueues, timers_with, IsFlushAnswer}
 use Rattle.dcsctp_spec_lemmas.proofs.AnswerParts.{forwards_fit_where, acknowledgements_len, tells_given_up_where, packed_where}
 use Rattle.dcsctp_spec_lemmas.proofs.ChunkOutcomes.{SomeChunks, some_chunks}
 use Rattle.dcsctp_spec_lemmas.proofs.PackingLemmas.{packed_none}
@@ -22,9 +22,9 @@ use Rattle.dcsctp_spec_lemmas.proofs.TellingLemmas.{TellsMore, tells_then, tells
 -- An answer to an ask, of which this was told first.
 pub record Completes (ask : Ask) (e : Endpoint) (draft : Emission) (telling : List (Event (List ℕ))) : Type 0 where
   pub answer : Answer
-  pub allowed : Answered ask e draft answer
+  pub allowed : IsFlushAnswer ask e draft answer
   pub rest : List (Event (List ℕ))
-  pub told : map told_content answer.told ≡ telling ++ rest
+  pub told : map filling_event_content answer.told ≡ telling ++ rest
 
 -- the same, if less was told
 pub completes_sooner : (ask : Ask) (e : Endpoint) (draft : Emission) (first later more : List (Event (List ℕ))) → later ≡ first ++ more → Completes ask e draft later → Completes ask e draft first
@@ -43,12 +43,12 @@ pub record GivesUntilFull (ask : Ask) (e : Endpoint) (draft : Emission) (transfe
   pub sacks : List Plain
   pub forwards : List Plain
   pub tracker : TrackerState
-  pub acknowledges : Acknowledges (wants_sack ask e.below.queue transfer) (room_in e draft) transfer tracker sacks
+  pub acknowledges : Acknowledges (wants_sack ask e.queues.queue transfer) (room_in e draft) transfer tracker sacks
   -- once messages were abandoned
   pub gave_up : Stage
   pub next : Option ℕ
   pub gives_up : GivesUpWhere (may_forward ask e transfer.retransmission) e.moment transfer (room_in e (filled draft (plain_contents sacks)))
-      (stage_of e.below.queue transfer.retransmission [] 0) gave_up next forwards
+      (stage_of e.queues.queue transfer.retransmission [] 0) gave_up next forwards
   pub begun : Option BegunReset
   pub begins : begun
       ≡ begun_at ask (held_in e.core) (room_in e (filled draft (plain_contents (sacks ++ forwards)))) (last_assigned_tsn gave_up.queue) gave_up.waiting
@@ -77,7 +77,7 @@ stage_until ask e draft transfer u =
 -- ---- with the data
 
 -- the answer with these chunks
-abbrev answer_with : (ask : Ask) → (e : Endpoint) → (draft : Emission) → (transfer : Transfer) → GivesUntilFull ask e draft transfer → List Plain → List Told → Answer
+abbrev answer_with : (ask : Ask) → (e : Endpoint) → (draft : Emission) → (transfer : Transfer) → GivesUntilFull ask e draft transfer → List Plain → List FillingEvent → Answer
 answer_with ask e draft transfer u chunks told =
     record {
       acknowledgements = u.sacks ++ u.forwards;
@@ -87,7 +87,7 @@ answer_with ask e draft transfer u chunks told =
       after = record (after_begun u.begun e) {
         timers = timers_with (after_begun u.begun e) chunks;
         no_forward_tsn_before = forward_where u.next e.no_forward_tsn_before;
-        below = record { queue = u.sent.waiting; transfer = Some (record transfer { retransmission = u.sent.queue; tracker = u.tracker }) };
+        queues = record { queue = u.sent.waiting; transfer = Some (record transfer { retransmission = u.sent.queue; tracker = u.tracker }) };
       };
     }
 
@@ -95,7 +95,7 @@ answer_with ask e draft transfer u chunks told =
 told_until : (ask : Ask) (e : Endpoint) (draft : Emission) (transfer : Transfer) (u : GivesUntilFull ask e draft transfer) → TellsMore [] u.sent.told
 told_until ask e draft transfer u =
     tells_then [] u.gave_up.told u.sent.told
-    (tells_given_up_where (may_forward ask e transfer.retransmission) e.moment transfer (room_in e (filled draft (plain_contents u.sacks))) (stage_of e.below.queue transfer.retransmission [] 0) u.gave_up u.next u.forwards u.gives_up)
+    (tells_given_up_where (may_forward ask e transfer.retransmission) e.moment transfer (room_in e (filled draft (plain_contents u.sacks))) (stage_of e.queues.queue transfer.retransmission [] 0) u.gave_up u.next u.forwards u.gives_up)
     (tells_where (may_give (left_until ask e draft transfer u) (queue_until ask e draft transfer u)) e.moment (stage_until ask e draft transfer u) u.sent u.fills)
 
 chunks_until : (ask : Ask) (e : Endpoint) (draft : Emission) (transfer : Transfer) (u : GivesUntilFull ask e draft transfer) → SomeChunks (room_in e (draft_until ask e draft transfer u)) u.sent
@@ -127,34 +127,34 @@ gives_all ask e draft transfer u =
       fills = u.fills;
       chunks = some.are;
       forwards_fit = forwards_fit_where (may_forward ask e transfer.retransmission) e.moment transfer (room_in e (filled draft (plain_contents u.sacks)))
-          (stage_of e.below.queue transfer.retransmission [] 0) u.gave_up u.next u.forwards (small_room e (filled draft (plain_contents u.sacks))) u.gives_up;
+          (stage_of e.queues.queue transfer.retransmission [] 0) u.gave_up u.next u.forwards (small_room e (filled draft (plain_contents u.sacks))) u.gives_up;
       data_fit = some.fit (small_room e (draft_until ask e draft transfer u));
       told = sym (told_until ask e draft transfer u).is;
       below = refl;
     }
 
-within_until : (ask : Ask) (e : Endpoint) (draft : Emission) (transfer : Transfer) (u : GivesUntilFull ask e draft transfer) → IsWithin e draft
-    → IsWithin e (filled draft (plain_contents (u.sacks ++ u.forwards) ++ (request_contents u.begun ++ plain_contents (chunks_until ask e draft transfer u).chunks)))
+within_until : (ask : Ask) (e : Endpoint) (draft : Emission) (transfer : Transfer) (u : GivesUntilFull ask e draft transfer) → IsWithinMtu e draft
+    → IsWithinMtu e (filled draft (plain_contents (u.sacks ++ u.forwards) ++ (request_contents u.begun ++ plain_contents (chunks_until ask e draft transfer u).chunks)))
 within_until ask e draft transfer u within =
     let acknowledged : List Content = plain_contents (u.sacks ++ u.forwards) in
     let some = chunks_until ask e draft transfer u in
     let len = some.len (small_room e (draft_until ask e draft transfer u)) in
     three_within e draft acknowledged (request_contents u.begun) (plain_contents some.chunks) within
-    (acknowledgements_len (wants_sack ask e.below.queue transfer) (may_forward ask e transfer.retransmission) e draft transfer u.tracker u.sacks u.forwards
-    (stage_of e.below.queue transfer.retransmission [] 0) u.gave_up u.next u.acknowledges u.gives_up)
+    (acknowledgements_len (wants_sack ask e.queues.queue transfer) (may_forward ask e transfer.retransmission) e draft transfer u.tracker u.sacks u.forwards
+    (stage_of e.queues.queue transfer.retransmission [] 0) u.gave_up u.next u.acknowledges u.gives_up)
     (subst (λ (begun : Option BegunReset). contents_len (request_contents begun) ≤ room_in e (filled draft acknowledged)) (sym u.begins)
     (begun_at_len ask (held_in e.core) (room_in e (filled draft acknowledged)) (last_assigned_tsn u.gave_up.queue) u.gave_up.waiting))
     (omega (arith, len))
 
 -- where something waits
-answered_busy : (ask : Ask) (e : Endpoint) (draft : Emission) (transfer : Transfer) (answer : Answer) → e.below.transfer ≡ Some transfer → is_idle e.below.queue transfer ≡ false
-    → Gives ask e draft transfer answer → AnsweredBelow ask e draft answer e.below.transfer
+answered_busy : (ask : Ask) (e : Endpoint) (draft : Emission) (transfer : Transfer) (answer : Answer) → e.queues.transfer ≡ Some transfer → is_idle e.queues.queue transfer ≡ false
+    → Gives ask e draft transfer answer → IsAnswerOfQueues ask e draft answer e.queues.transfer
 answered_busy ask e draft transfer answer holds busy gives =
-    subst (AnsweredBelow ask e draft answer) (sym holds) (subst (λ (b : Bool). GivesWhere b ask e draft transfer answer) (sym busy) gives)
+    subst (IsAnswerOfQueues ask e draft answer) (sym holds) (subst (λ (b : Bool). GivesWhere b ask e draft transfer answer) (sym busy) gives)
 
 -- a flush that stops while a packet is filled with data
-pub answer_filling : (ask : Ask) (e : Endpoint) (draft : Emission) (transfer : Transfer) (u : GivesUntilFull ask e draft transfer) → e.below.transfer ≡ Some transfer
-    → is_idle e.below.queue transfer ≡ false → Completes ask e draft u.sent.told
+pub answer_filling : (ask : Ask) (e : Endpoint) (draft : Emission) (transfer : Transfer) (u : GivesUntilFull ask e draft transfer) → e.queues.transfer ≡ Some transfer
+    → is_idle e.queues.queue transfer ≡ false → Completes ask e draft u.sent.told
 answer_filling ask e draft transfer u holds busy =
     let answer : Answer = answer_with ask e draft transfer u (chunks_until ask e draft transfer u).chunks (told_until ask e draft transfer u).told in
     record {

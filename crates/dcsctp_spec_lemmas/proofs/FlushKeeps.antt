@@ -20,9 +20,9 @@ use Rattle.dcsctp_spec.specs.endpoint.Outcome.{Outcome, still, behind, then_outc
 use Rattle.dcsctp_spec.specs.association.Effect.{Effect, begins, emitted, noted}
 use Rattle.dcsctp_spec.specs.association.Choices.{Filling, plain_contents}
 use Rattle.dcsctp_spec.specs.association.FlushChanges.{further_packets, held_asking, reset_request, reset_to_begin, Flushed, flushed_with, flush}
-use Rattle.dcsctp_spec.specs.association.Controlled.{Sign, packet_sent, has_connected, has_ended, own_reset_performed, own_reset_failed, peer_reset_performed, signs_of_events, signs_of_effects, IsControlled}
+use Rattle.dcsctp_spec.specs.association.Controlled.{Observation, packet_sent, has_connected, has_ended, own_reset_performed, own_reset_failed, peer_reset_performed, observations_of_events, observations_of_effects, IsControlled}
 use Rattle.dcsctp_spec.specs.endpoint.BegunResets.{BegunReset, streams_within, last_assigned_tsn, begun_where, begun_in, request_contents, begun_effects, held_begun, core_asking, after_begun, stream_field}
-use Rattle.dcsctp_spec.specs.endpoint.FlushOutcomes.{Told, amount_is_low, total_amount_is_low, message_is_sent, message_may_have_expired, message_has_expired, message_ends, told_event, Answer, answer_contents, filled, goes_out, asked, next_draft, flush_of, Ask, first_ask, later_ask, room_in, GivesWhere, AnsweredBelow, Answered, timers_with, Answers, at_limit, at_empty, after_packet, FlushAnswers, packets_allowed}
+use Rattle.dcsctp_spec.specs.endpoint.FlushOutcomes.{FillingEvent, amount_is_low, total_amount_is_low, message_is_sent, message_may_have_expired, message_has_expired, message_ends, filling_event, Answer, answer_contents, filled, goes_out, asked, next_draft, flush_of, Ask, first_ask, later_ask, room_in, GivesWhere, IsAnswerOfQueues, IsFlushAnswer, timers_with, AreFlushAnswers, at_limit, at_empty, after_packet, FlushAnswers, packets_allowed}
 
 -- ---- what stays
 
@@ -56,10 +56,10 @@ begun_t1 : (begun : Option BegunReset) (e : Endpoint) → (after_begun begun e).
 begun_t1 None e = refl
 begun_t1 (Some begun) e = refl
 
-pub asked_keeps : (ask : Ask) (e : Endpoint) (draft : Emission) (answer : Answer) → Answered ask e draft answer → Keeps answer.begun e (asked e draft answer)
+pub asked_keeps : (ask : Ask) (e : Endpoint) (draft : Emission) (answer : Answer) → IsFlushAnswer ask e draft answer → Keeps answer.begun e (asked e draft answer)
 asked_keeps ask e draft answer h =
-    let out : Keeps None answer.after (goes_out answer.after (map told_event answer.told) draft.with_checksum draft.packet.tag (filled draft (answer_contents answer)).packet.contents) =
-    goes_out_keeps answer.after (map told_event answer.told) draft.with_checksum draft.packet.tag (filled draft (answer_contents answer)).packet.contents in
+    let out : Keeps None answer.after (goes_out answer.after (map filling_event answer.told) draft.with_checksum draft.packet.tag (filled draft (answer_contents answer)).packet.contents) =
+    goes_out_keeps answer.after (map filling_event answer.told) draft.with_checksum draft.packet.tag (filled draft (answer_contents answer)).packet.contents in
     record {
       core = out.core ∙ ap (λ (x : Endpoint). x.core) h.kept;
       options = out.options ∙ ap (λ (x : Endpoint). x.options) h.kept ∙ begun_options answer.begun e;
@@ -93,19 +93,19 @@ later_where : (b : Bool) (e : Endpoint) (draft : Emission) (transfer : Transfer)
 later_where true e draft transfer answer h = ap (λ (a : Answer). a.begun) h
 later_where false e draft transfer answer h = h.begins
 
-later_below : (e : Endpoint) (draft : Emission) (transfer : Option Transfer) (answer : Answer) → AnsweredBelow later_ask e draft answer transfer → answer.begun ≡ None
+later_below : (e : Endpoint) (draft : Emission) (transfer : Option Transfer) (answer : Answer) → IsAnswerOfQueues later_ask e draft answer transfer → answer.begun ≡ None
 later_below e draft None answer h = ap (λ (a : Answer). a.begun) h
-later_below e draft (Some transfer) answer h = later_where (is_idle e.below.queue transfer) e draft transfer answer h
+later_below e draft (Some transfer) answer h = later_where (is_idle e.queues.queue transfer) e draft transfer answer h
 
-pub later_begins : (e : Endpoint) (draft : Emission) (answer : Answer) → Answered later_ask e draft answer → answer.begun ≡ None
-later_begins e draft answer h = later_below e draft e.below.transfer answer h.by_transfer
+pub later_begins : (e : Endpoint) (draft : Emission) (answer : Answer) → IsFlushAnswer later_ask e draft answer → answer.begun ≡ None
+later_begins e draft answer h = later_below e draft e.queues.transfer answer h.by_transfer
 
-later_all : (n : ℕ) (e : Endpoint) (draft : Emission) (answers : List Answer) → Answers later_ask n e draft answers → begun_by answers ≡ None
+later_all : (n : ℕ) (e : Endpoint) (draft : Emission) (answers : List Answer) → AreFlushAnswers later_ask n e draft answers → begun_by answers ≡ None
 later_all _ _ _ _ (at_limit _ e draft) = refl
 later_all _ _ _ _ (at_empty _ more e draft answer is empty) = later_begins e draft answer is
 later_all _ _ _ _ (after_packet _ more e draft answer answers is some rest) = later_begins e draft answer is
 
-pub flush_keeps : (ask : Ask) (n : ℕ) (e : Endpoint) (draft : Emission) (answers : List Answer) → Answers ask n e draft answers → Keeps (begun_by answers) e (flush_of e draft answers)
+pub flush_keeps : (ask : Ask) (n : ℕ) (e : Endpoint) (draft : Emission) (answers : List Answer) → AreFlushAnswers ask n e draft answers → Keeps (begun_by answers) e (flush_of e draft answers)
 flush_keeps _ _ _ _ _ (at_limit ask e draft) = still_keeps e
 flush_keeps _ _ _ _ _ (at_empty ask more e draft answer is empty) =
     keeps_then answer.begun e (asked e draft answer) (still (asked e draft answer).after) (asked_keeps ask e draft answer is) (still_keeps (asked e draft answer).after)
@@ -117,19 +117,19 @@ flush_keeps _ _ _ _ _ (after_packet ask more e draft answer answers is some rest
 
 -- ---- its signs
 
-pub signs_append : (xs ys : List (Event Emission)) → signs_of_events (xs ++ ys) ≡ signs_of_events xs ++ signs_of_events ys
+pub signs_append : (xs ys : List (Event Emission)) → observations_of_events (xs ++ ys) ≡ observations_of_events xs ++ observations_of_events ys
 signs_append [] ys = refl
-signs_append (sent emission ∷ xs) ys = ap (λ (ss : List Sign). packet_sent emission.packet ∷ ss) (signs_append xs ys)
-signs_append (connected ∷ xs) ys = ap (λ (ss : List Sign). has_connected ∷ ss) (signs_append xs ys)
-signs_append (closed ∷ xs) ys = ap (λ (ss : List Sign). has_ended ∷ ss) (signs_append xs ys)
+signs_append (sent emission ∷ xs) ys = ap (λ (ss : List Observation). packet_sent emission.packet ∷ ss) (signs_append xs ys)
+signs_append (connected ∷ xs) ys = ap (λ (ss : List Observation). has_connected ∷ ss) (signs_append xs ys)
+signs_append (closed ∷ xs) ys = ap (λ (ss : List Observation). has_ended ∷ ss) (signs_append xs ys)
 signs_append (connection_restarted ∷ xs) ys = signs_append xs ys
-signs_append (aborted kind text ∷ xs) ys = ap (λ (ss : List Sign). has_ended ∷ ss) (signs_append xs ys)
+signs_append (aborted kind text ∷ xs) ys = ap (λ (ss : List Observation). has_ended ∷ ss) (signs_append xs ys)
 signs_append (error kind text ∷ xs) ys = signs_append xs ys
 signs_append (buffered_amount_low stream ∷ xs) ys = signs_append xs ys
 signs_append (total_buffered_amount_low ∷ xs) ys = signs_append xs ys
-signs_append (streams_reset_failed streams ∷ xs) ys = ap (λ (ss : List Sign). own_reset_failed ∷ ss) (signs_append xs ys)
-signs_append (streams_reset_performed streams ∷ xs) ys = ap (λ (ss : List Sign). own_reset_performed ∷ ss) (signs_append xs ys)
-signs_append (incoming_stream_reset streams ∷ xs) ys = ap (λ (ss : List Sign). peer_reset_performed ∷ ss) (signs_append xs ys)
+signs_append (streams_reset_failed streams ∷ xs) ys = ap (λ (ss : List Observation). own_reset_failed ∷ ss) (signs_append xs ys)
+signs_append (streams_reset_performed streams ∷ xs) ys = ap (λ (ss : List Observation). own_reset_performed ∷ ss) (signs_append xs ys)
+signs_append (incoming_stream_reset streams ∷ xs) ys = ap (λ (ss : List Observation). peer_reset_performed ∷ ss) (signs_append xs ys)
 signs_append (lifecycle_message_fully_sent id ∷ xs) ys = signs_append xs ys
 signs_append (lifecycle_message_maybe_expired id ∷ xs) ys = signs_append xs ys
 signs_append (lifecycle_message_expired id ∷ xs) ys = signs_append xs ys
@@ -137,7 +137,7 @@ signs_append (lifecycle_message_delivered id ∷ xs) ys = signs_append xs ys
 signs_append (lifecycle_end id ∷ xs) ys = signs_append xs ys
 
 -- What is told is none.
-pub told_signs : (told : List Told) → signs_of_events (map told_event told) ≡ []
+pub told_signs : (told : List FillingEvent) → observations_of_events (map filling_event told) ≡ []
 told_signs [] = refl
 told_signs (amount_is_low stream ∷ told) = told_signs told
 told_signs (total_amount_is_low ∷ told) = told_signs told
@@ -146,15 +146,15 @@ told_signs (message_may_have_expired id ∷ told) = told_signs told
 told_signs (message_has_expired id ∷ told) = told_signs told
 told_signs (message_ends id ∷ told) = told_signs told
 
-pub goes_out_signs : (e : Endpoint) (told : List Told) (with_checksum : Bool) (tag : ℕ) (contents : List Content)
-    → signs_of_events (goes_out e (map told_event told) with_checksum tag contents).events ≡ signs_of_effects (emitted tag contents)
+pub goes_out_signs : (e : Endpoint) (told : List FillingEvent) (with_checksum : Bool) (tag : ℕ) (contents : List Content)
+    → observations_of_events (goes_out e (map filling_event told) with_checksum tag contents).events ≡ observations_of_effects (emitted tag contents)
 goes_out_signs e told with_checksum tag [] = told_signs told
 goes_out_signs e told with_checksum tag (content ∷ contents) =
     let packet : Packet = record { tag = tag; contents = content ∷ contents } in
-    signs_append (map told_event told) (sent (record { with_checksum = with_checksum; packet = packet }) ∷ [])
-    ∙ ap (λ (ss : List Sign). ss ++ packet_sent packet ∷ []) (told_signs told)
+    signs_append (map filling_event told) (sent (record { with_checksum = with_checksum; packet = packet }) ∷ [])
+    ∙ ap (λ (ss : List Observation). ss ++ packet_sent packet ∷ []) (told_signs told)
 
-pub emitted_then : (tag : ℕ) (contents : List Content) (rest : List Effect) → signs_of_effects (emitted tag contents ++ rest) ≡ signs_of_effects (emitted tag contents) ++ signs_of_effects rest
+pub emitted_then : (tag : ℕ) (contents : List Content) (rest : List Effect) → observations_of_effects (emitted tag contents ++ rest) ≡ observations_of_effects (emitted tag contents) ++ observations_of_effects rest
 emitted_then tag [] rest = refl
 emitted_then tag (content ∷ contents) rest = refl
 
@@ -197,35 +197,35 @@ begun_tag : (begun : Option BegunReset) (e : Endpoint) (tag : ℕ) → IsPeerTag
 begun_tag None e tag is = is
 begun_tag (Some begun) e tag is = asking_tag e.core tag is
 
-tag_stays : (ask : Ask) (e : Endpoint) (draft : Emission) (answer : Answer) → Answered ask e draft answer → IsPeerTag e.core draft.packet.tag
+tag_stays : (ask : Ask) (e : Endpoint) (draft : Emission) (answer : Answer) → IsFlushAnswer ask e draft answer → IsPeerTag e.core draft.packet.tag
     → IsPeerTag (asked e draft answer).after.core (next_draft e.core draft).packet.tag
 tag_stays ask e draft answer h is =
     let tag : ℕ = (next_draft e.core draft).packet.tag in
     subst (λ (c : Core). IsPeerTag c tag) (sym (asked_keeps ask e draft answer h).core)
     (begun_tag answer.begun e tag (subst (λ (t : ℕ). IsPeerTag e.core t) (sym (next_tag e.core draft is)) is))
 
-pub signs_then : (xs ys : List (Event Emission)) (one rest : List Effect) → signs_of_events xs ≡ signs_of_effects one → signs_of_events ys ≡ signs_of_effects rest
-    → signs_of_events (xs ++ ys) ≡ signs_of_effects one ++ signs_of_effects rest
+pub signs_then : (xs ys : List (Event Emission)) (one rest : List Effect) → observations_of_events xs ≡ observations_of_effects one → observations_of_events ys ≡ observations_of_effects rest
+    → observations_of_events (xs ++ ys) ≡ observations_of_effects one ++ observations_of_effects rest
 signs_then xs ys one rest first second =
-    signs_append xs ys ∙ ap (λ (ss : List Sign). ss ++ signs_of_events ys) first ∙ ap (λ (ss : List Sign). signs_of_effects one ++ ss) second
+    signs_append xs ys ∙ ap (λ (ss : List Observation). ss ++ observations_of_events ys) first ∙ ap (λ (ss : List Observation). observations_of_effects one ++ ss) second
 
 -- the packets of later asks
-later_signs : (n : ℕ) (e : Endpoint) (draft : Emission) (answers : List Answer) → draft.packet.contents ≡ [] → IsPeerTag e.core draft.packet.tag → Answers later_ask n e draft answers
-    → signs_of_events (flush_of e draft answers).events ≡ signs_of_effects (further_packets draft.packet.tag (map all_chunks answers))
+later_signs : (n : ℕ) (e : Endpoint) (draft : Emission) (answers : List Answer) → draft.packet.contents ≡ [] → IsPeerTag e.core draft.packet.tag → AreFlushAnswers later_ask n e draft answers
+    → observations_of_events (flush_of e draft answers).events ≡ observations_of_effects (further_packets draft.packet.tag (map all_chunks answers))
 later_signs _ _ _ _ none is (at_limit _ e draft) = refl
 later_signs _ _ _ _ none is (at_empty _ more e draft answer h empty) =
     signs_then (asked e draft answer).events [] (emitted draft.packet.tag (plain_contents (all_chunks answer))) []
-    (goes_out_signs answer.after answer.told draft.with_checksum draft.packet.tag _ ∙ ap (λ (cs : List Content). signs_of_effects (emitted draft.packet.tag (cs ++ answer_contents answer))) none
-    ∙ ap (λ (cs : List Content). signs_of_effects (emitted draft.packet.tag cs)) (contents_are answer (later_begins e draft answer h))) refl
+    (goes_out_signs answer.after answer.told draft.with_checksum draft.packet.tag _ ∙ ap (λ (cs : List Content). observations_of_effects (emitted draft.packet.tag (cs ++ answer_contents answer))) none
+    ∙ ap (λ (cs : List Content). observations_of_effects (emitted draft.packet.tag cs)) (contents_are answer (later_begins e draft answer h))) refl
     ∙ sym (emitted_then draft.packet.tag (plain_contents (all_chunks answer)) [])
 later_signs _ _ _ _ none is (after_packet _ more e draft answer answers h some rest) =
     let tag : ℕ = draft.packet.tag in
     let next : Emission = next_draft e.core draft in
     signs_then (asked e draft answer).events (flush_of (asked e draft answer).after next answers).events (emitted tag (plain_contents (all_chunks answer))) (further_packets tag (map all_chunks answers))
-    (goes_out_signs answer.after answer.told draft.with_checksum tag _ ∙ ap (λ (cs : List Content). signs_of_effects (emitted tag (cs ++ answer_contents answer))) none
-    ∙ ap (λ (cs : List Content). signs_of_effects (emitted tag cs)) (contents_are answer (later_begins e draft answer h)))
+    (goes_out_signs answer.after answer.told draft.with_checksum tag _ ∙ ap (λ (cs : List Content). observations_of_effects (emitted tag (cs ++ answer_contents answer))) none
+    ∙ ap (λ (cs : List Content). observations_of_effects (emitted tag cs)) (contents_are answer (later_begins e draft answer h)))
     (later_signs more (asked e draft answer).after next answers (next_is_empty e.core draft) (tag_stays later_ask e draft answer h is) rest
-    ∙ ap (λ (t : ℕ). signs_of_effects (further_packets t (map all_chunks answers))) (next_tag e.core draft is))
+    ∙ ap (λ (t : ℕ). observations_of_effects (further_packets t (map all_chunks answers))) (next_tag e.core draft is))
     ∙ sym (emitted_then tag (plain_contents (all_chunks answer)) (further_packets tag (map all_chunks answers)))
 
 -- ---- as a flush of the association
@@ -297,21 +297,21 @@ first_where false e held draft transfer answer holds h =
     subst (λ (b : Option BegunReset). IsBegun b held) (sym h.begins)
     (first_in held (held_in e.core) (room_in e (filled draft (plain_contents answer.acknowledgements))) (last_assigned_tsn h.gave_up.queue) h.gave_up.waiting holds)
 
-first_below : (e : Endpoint) (held : Held) (draft : Emission) (transfer : Option Transfer) (answer : Answer) → held_in e.core ≡ Some held → AnsweredBelow first_ask e draft answer transfer → IsBegun answer.begun held
+first_below : (e : Endpoint) (held : Held) (draft : Emission) (transfer : Option Transfer) (answer : Answer) → held_in e.core ≡ Some held → IsAnswerOfQueues first_ask e draft answer transfer → IsBegun answer.begun held
 first_below e held draft None answer holds h = subst (λ (a : Answer). IsBegun a.begun held) (sym h) tt
-first_below e held draft (Some transfer) answer holds h = first_where (is_idle e.below.queue transfer) e held draft transfer answer holds h
+first_below e held draft (Some transfer) answer holds h = first_where (is_idle e.queues.queue transfer) e held draft transfer answer holds h
 
-pub first_begins : (n : ℕ) (e : Endpoint) (held : Held) (draft : Emission) (answers : List Answer) → held_in e.core ≡ Some held → Answers first_ask n e draft answers → IsBegun (begun_by answers) held
+pub first_begins : (n : ℕ) (e : Endpoint) (held : Held) (draft : Emission) (answers : List Answer) → held_in e.core ≡ Some held → AreFlushAnswers first_ask n e draft answers → IsBegun (begun_by answers) held
 first_begins _ _ held _ _ holds (at_limit _ e draft) = tt
-first_begins _ _ held _ _ holds (at_empty _ more e draft answer h empty) = first_below e held draft e.below.transfer answer holds h.by_transfer
-first_begins _ _ held _ _ holds (after_packet _ more e draft answer answers h some rest) = first_below e held draft e.below.transfer answer holds h.by_transfer
+first_begins _ _ held _ _ holds (at_empty _ more e draft answer h empty) = first_below e held draft e.queues.transfer answer holds h.by_transfer
+first_begins _ _ held _ _ holds (after_packet _ more e draft answer answers h some rest) = first_below e held draft e.queues.transfer answer holds h.by_transfer
 
-begun_signs : (begun : Option BegunReset) (rest : List Effect) → signs_of_effects (begun_effects begun ++ rest) ≡ signs_of_effects rest
+begun_signs : (begun : Option BegunReset) (rest : List Effect) → observations_of_effects (begun_effects begun ++ rest) ≡ observations_of_effects rest
 begun_signs None rest = refl
 begun_signs (Some begun) rest = refl
 
-pub flush_signs : (n : ℕ) (e : Endpoint) (draft : Emission) (answers : List Answer) → IsPeerTag e.core draft.packet.tag → Answers first_ask n e draft answers
-    → signs_of_events (flush_of e draft answers).events ≡ signs_of_effects (flush_effects draft.packet.tag draft.packet.contents answers)
+pub flush_signs : (n : ℕ) (e : Endpoint) (draft : Emission) (answers : List Answer) → IsPeerTag e.core draft.packet.tag → AreFlushAnswers first_ask n e draft answers
+    → observations_of_events (flush_of e draft answers).events ≡ observations_of_effects (flush_effects draft.packet.tag draft.packet.contents answers)
 flush_signs _ _ _ _ is (at_limit _ e draft) = refl
 flush_signs _ _ _ _ is (at_empty _ more e draft answer h empty) =
     signs_then (asked e draft answer).events [] (emitted draft.packet.tag (draft.packet.contents ++ answer_contents answer)) []
@@ -324,7 +324,7 @@ flush_signs _ _ _ _ is (after_packet _ more e draft answer answers h some rest) 
     signs_then (asked e draft answer).events (flush_of (asked e draft answer).after next answers).events (emitted tag (draft.packet.contents ++ answer_contents answer)) (further_packets tag (map all_chunks answers))
     (goes_out_signs answer.after answer.told draft.with_checksum tag _)
     (later_signs more (asked e draft answer).after next answers (next_is_empty e.core draft) (tag_stays first_ask e draft answer h is) rest
-    ∙ ap (λ (t : ℕ). signs_of_effects (further_packets t (map all_chunks answers))) (next_tag e.core draft is))
+    ∙ ap (λ (t : ℕ). observations_of_effects (further_packets t (map all_chunks answers))) (next_tag e.core draft is))
     ∙ sym (emitted_then tag (draft.packet.contents ++ answer_contents answer) (further_packets tag (map all_chunks answers)))
     ∙ sym (begun_signs answer.begun (emitted tag (draft.packet.contents ++ answer_contents answer) ++ further_packets tag (map all_chunks answers)))
 
@@ -369,11 +369,11 @@ FlushesTo e o rebuilt before after = IsControlled e o (record { core = rebuilt a
 -- A flush behind these words and events, which note these effects, is one of the association behind them.
 pub flush_controlled : (e base : Endpoint) (words : List Word) (events : List (Event Emission)) (draft : Emission) (answers : List Answer) (rebuilt : Held → Core) (held : Held) (before effects : List Effect)
     → Rebuilds rebuilt held → base.core ≡ rebuilt held → SameOptions e.options base.options → IsPeerTag base.core draft.packet.tag → FlushAnswers base draft answers
-    → signs_of_events events ≡ signs_of_effects before
-    → signs_of_effects (before ++ flush_effects draft.packet.tag draft.packet.contents answers) ≡ signs_of_effects before ++ signs_of_effects (flush_effects draft.packet.tag draft.packet.contents answers)
+    → observations_of_events events ≡ observations_of_effects before
+    → observations_of_effects (before ++ flush_effects draft.packet.tag draft.packet.contents answers) ≡ observations_of_effects before ++ observations_of_effects (flush_effects draft.packet.tag draft.packet.contents answers)
     → noted (before ++ flush_effects draft.packet.tag draft.packet.contents answers) ≡ effects ++ noted (flush_effects draft.packet.tag draft.packet.contents answers)
     → FlushesTo e (noting effects (behind words events (flush_of base draft answers))) rebuilt before (flush draft.packet.tag held draft.packet.contents (filling_of answers))
-flush_controlled e base words events draft answers rebuilt held before effects builds is same peer h told signs notes =
+flush_controlled e base words events draft answers rebuilt held before effects builds is same peer h told observations notes =
     let n : ℕ = packets_allowed base.options.max_burst base.core in
     let tag : ℕ = draft.packet.tag in
     let keeps : Keeps (begun_by answers) base (flush_of base draft answers) = flush_keeps first_ask n base draft answers h in
@@ -383,22 +383,22 @@ flush_controlled e base words events draft answers rebuilt held before effects b
     (record {
       core = keeps.core ∙ begun_core (begun_by answers) base rebuilt held builds is;
       options = subst (SameOptions e.options) (sym keeps.options) same;
-      signs = signs_then events (flush_of base draft answers).events before more told (flush_signs n base draft answers peer h) ∙ sym signs;
+      observations = signs_then events (flush_of base draft answers).events before more told (flush_signs n base draft answers peer h) ∙ sym observations;
       effects = ap (λ (es : List Effect). effects ++ es) (keeps.effects ∙ sym (flush_notes tag draft.packet.contents answers)) ∙ sym notes;
       following = keeps.following;
     })
 
 -- packets of chunks before it
 pub further_then : (tag : ℕ) (packets : List (List Plain)) (rest : List Effect)
-    → signs_of_effects (further_packets tag packets ++ rest) ≡ signs_of_effects (further_packets tag packets) ++ signs_of_effects rest
+    → observations_of_effects (further_packets tag packets ++ rest) ≡ observations_of_effects (further_packets tag packets) ++ observations_of_effects rest
 further_then tag [] rest = refl
 further_then tag (chunks ∷ packets) rest =
     let one : List Effect = emitted tag (plain_contents chunks) in
-    ap signs_of_effects (append_assoc one (further_packets tag packets) rest)
+    ap observations_of_effects (append_assoc one (further_packets tag packets) rest)
     ∙ emitted_then tag (plain_contents chunks) (further_packets tag packets ++ rest)
-    ∙ ap (λ (ss : List Sign). signs_of_effects one ++ ss) (further_then tag packets rest)
-    ∙ sym (append_assoc (signs_of_effects one) (signs_of_effects (further_packets tag packets)) (signs_of_effects rest))
-    ∙ ap (λ (ss : List Sign). ss ++ signs_of_effects rest) (sym (emitted_then tag (plain_contents chunks) (further_packets tag packets)))
+    ∙ ap (λ (ss : List Observation). observations_of_effects one ++ ss) (further_then tag packets rest)
+    ∙ sym (append_assoc (observations_of_effects one) (observations_of_effects (further_packets tag packets)) (observations_of_effects rest))
+    ∙ ap (λ (ss : List Observation). ss ++ observations_of_effects rest) (sym (emitted_then tag (plain_contents chunks) (further_packets tag packets)))
 
 pub further_notes_then : (tag : ℕ) (packets : List (List Plain)) (rest : List Effect) → noted (further_packets tag packets ++ rest) ≡ noted rest
 further_notes_then tag [] rest = refl

@@ -4,22 +4,22 @@ use Rattle.std.specs.Prelude.{is_some}
 use Rattle.std.specs.Option.{option_map, option_or}
 use Rattle.std.proofs.lemmas.Bool.Decides.{nat_tests}
 use Rattle.dcsctp_spec.specs.queues.Items.{Item}
-use Rattle.dcsctp_spec.specs.queues.Skipping.{is_listed, is_same, last_on, last_listed, entry_for, NoneTwice, number_of, ListsEntries}
+use Rattle.dcsctp_spec.specs.queues.Skipping.{is_listed, is_same_stream, last_on, last_listed, entry_for, NoneTwice, skipped_number, ListsEntries}
 use Rattle.dcsctp_spec_lemmas.proofs.TurnOutcomes.{by_test}
 
 -- ---- streams that are the same
 
-same_key : (stream : ℕ) (unordered : Bool) (other : ℕ) (is_unordered : Bool) → is_same stream unordered other is_unordered ≡ true → (stream ≡ other) × (unordered ≡ is_unordered)
+same_key : (stream : ℕ) (unordered : Bool) (other : ℕ) (is_unordered : Bool) → is_same_stream stream unordered other is_unordered ≡ true → (stream ≡ other) × (unordered ≡ is_unordered)
 same_key stream true other true same = (grind (arith, nat_tests), refl)
 same_key stream true other false same = grind (arith, nat_tests)
 same_key stream false other true same = grind (arith, nat_tests)
 same_key stream false other false same = (grind (arith, nat_tests), refl)
 
-same_itself : (stream : ℕ) (unordered : Bool) → is_same stream unordered stream unordered ≡ true
+same_itself : (stream : ℕ) (unordered : Bool) → is_same_stream stream unordered stream unordered ≡ true
 same_itself stream true = grind (arith, nat_tests)
 same_itself stream false = grind (arith, nat_tests)
 
-same_either : (stream : ℕ) (unordered : Bool) (other : ℕ) (is_unordered : Bool) → is_same stream unordered other is_unordered ≡ is_same other is_unordered stream unordered
+same_either : (stream : ℕ) (unordered : Bool) (other : ℕ) (is_unordered : Bool) → is_same_stream stream unordered other is_unordered ≡ is_same_stream other is_unordered stream unordered
 same_either stream true other true = grind (arith, nat_tests)
 same_either stream true other false = grind (arith, nat_tests)
 same_either stream false other true = grind (arith, nat_tests)
@@ -27,7 +27,7 @@ same_either stream false other false = grind (arith, nat_tests)
 
 -- is the item on this stream?
 abbrev is_on : ℕ → Bool → Item → Bool
-is_on stream unordered item = is_same stream unordered item.fragment.stream item.fragment.is_unordered
+is_on stream unordered item = is_same_stream stream unordered item.fragment.stream item.fragment.is_unordered
 
 -- is one of them?
 abbrev has_on : ℕ → Bool → List Item → Bool
@@ -47,7 +47,7 @@ abbrev pub is_new : Bool → Item → List Item → Bool
 is_new interleaving item row = is_listed interleaving item && not (has_like item row)
 
 abbrev pub entry_if : Bool → Bool → Item → Entries → Entries
-entry_if true interleaving item entries = ((item.fragment.stream, item.fragment.is_unordered), number_of interleaving item) ∷ entries
+entry_if true interleaving item entries = ((item.fragment.stream, item.fragment.is_unordered), skipped_number interleaving item) ∷ entries
 entry_if false interleaving item entries = entries
 
 abbrev pub entries_of : Bool → List Item → Entries
@@ -67,15 +67,15 @@ either_same false o = refl
 -- The entry of this stream is as it should be.
 abbrev IsNumbered : Bool → List Item → ℕ → Bool → Type 0
 IsNumbered interleaving row stream unordered =
-    entry_for stream unordered (entries_of interleaving row) ≡ option_map (number_of interleaving) (last_listed interleaving stream unordered row)
+    entry_for stream unordered (entries_of interleaving row) ≡ option_map (skipped_number interleaving) (last_listed interleaving stream unordered row)
 
 -- an item on another stream
 numbered_behind : (interleaving : Bool) (x : Item) (xs : List Item) (stream : ℕ) (unordered here : Bool) → is_on stream unordered x ≡ false → IsNumbered interleaving xs stream unordered
-    → entry_for stream unordered (entry_if here interleaving x (entries_of interleaving xs)) ≡ option_map (number_of interleaving) (last_listed interleaving stream unordered (x ∷ xs))
+    → entry_for stream unordered (entry_if here interleaving x (entries_of interleaving xs)) ≡ option_map (skipped_number interleaving) (last_listed interleaving stream unordered (x ∷ xs))
 numbered_behind interleaving x xs stream unordered true apart before =
-    rw apart (before ∙ ap (λ (o : Option Item). option_map (number_of interleaving) (if interleaving || not unordered then o else None)) (sym (or_none (last_on stream unordered xs))))
+    rw apart (before ∙ ap (λ (o : Option Item). option_map (skipped_number interleaving) (if interleaving || not unordered then o else None)) (sym (or_none (last_on stream unordered xs))))
 numbered_behind interleaving x xs stream unordered false apart before =
-    rw apart (before ∙ ap (λ (o : Option Item). option_map (number_of interleaving) (if interleaving || not unordered then o else None)) (sym (or_none (last_on stream unordered xs))))
+    rw apart (before ∙ ap (λ (o : Option Item). option_map (skipped_number interleaving) (if interleaving || not unordered then o else None)) (sym (or_none (last_on stream unordered xs))))
 
 -- an item on this stream
 numbered_here : (interleaving : Bool) (x : Item) (xs : List Item) (listed : Bool) (last : Option Item) → is_listed interleaving x ≡ listed
@@ -86,7 +86,7 @@ numbered_here interleaving x xs true None listed on before = let same = same_its
 numbered_here interleaving x xs true (Some y) listed on before = rw (listed, on) (rw (listed, on) at before)
 
 numbered : (interleaving : Bool) (row : List Item) (stream : ℕ) (unordered : Bool) → IsNumbered interleaving row stream unordered
-numbered interleaving [] stream unordered = sym (ap (λ (o : Option Item). option_map (number_of interleaving) o) (either_same (interleaving || not unordered) None))
+numbered interleaving [] stream unordered = sym (ap (λ (o : Option Item). option_map (skipped_number interleaving) o) (either_same (interleaving || not unordered) None))
 numbered interleaving (x ∷ xs) stream unordered =
     by_test (is_on stream unordered x)
     (λ same.

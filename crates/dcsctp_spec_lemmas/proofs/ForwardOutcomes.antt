@@ -10,7 +10,7 @@ use Rattle.dcsctp_spec.specs.wire.Spelling.{chunk_bytes, t_bit}
 use Rattle.dcsctp_spec.proofs.wire_lemmas.Lengths.{length-chunk_bytes}
 use Rattle.dcsctp_spec.specs.queues.Items.{Item}
 use Rattle.dcsctp_spec.specs.queues.Retransmission.{RetransmissionState}
-use Rattle.dcsctp_spec.specs.queues.Skipping.{goes_on, entry_limit, IsRow, LacksRoom, entry_bytes, forward_chunk, SaysForward}
+use Rattle.dcsctp_spec.specs.queues.Skipping.{is_row_continued, entry_limit, IsSkippedRow, LacksRoom, entry_bytes, forward_chunk, SaysForward}
 use Rattle.dcsctp_spec_lemmas.proofs.ForwardEntries.{is_new, entries_of, new_is, one_if, lists_entries, count_pushed}
 use Rattle.dcsctp_spec_lemmas.proofs.TurnOutcomes.{by_test}
 
@@ -32,14 +32,14 @@ take_one_more (x ∷ xs) (suc k) item at = ap (λ (ys : List Item). x ∷ ys) (t
 -- That many first items are skipped, and more may be.
 record IsSkipped (interleaving : Bool) (limit count : ℕ) (items : List Item) : Type 0 where
   pub within : count ≤ length items
-  pub each : (place : ℕ) (item : Item) → place < count → slice_get items place ≡ Some item → goes_on place item ≡ true
+  pub each : (place : ℕ) (item : Item) → place < count → slice_get items place ≡ Some item → is_row_continued place item ≡ true
   pub fits : length (entries_of interleaving (take count items)) ≤ limit
 
 abbrev SomeRow : Bool → ℕ → List Item → Type 0
-SomeRow interleaving limit items = (count : ℕ) × IsRow interleaving limit (length (entries_of interleaving (take count items))) count items
+SomeRow interleaving limit items = (count : ℕ) × IsSkippedRow interleaving limit (length (entries_of interleaving (take count items))) count items
 
 skips_more : (interleaving : Bool) (limit count : ℕ) (items : List Item) (item : Item) → IsSkipped interleaving limit count items → count < length items → slice_get items count ≡ Some item
-    → goes_on count item ≡ true → length (entries_of interleaving (take count items)) + one_if (is_new interleaving item (take count items)) ≤ limit → IsSkipped interleaving limit (suc count) items
+    → is_row_continued count item ≡ true → length (entries_of interleaving (take count items)) + one_if (is_new interleaving item (take count items)) ≤ limit → IsSkipped interleaving limit (suc count) items
 skips_more interleaving limit count items item skipped within at goes fits =
     let more = ap (λ (row : List Item). length (entries_of interleaving row)) (take_one_more items count item at) ∙ count_pushed interleaving (take count items) item in
     record {
@@ -61,11 +61,11 @@ row_or_more interleaving limit count items skipped further =
     (λ more. let within : count < length items = grind (arith, nat_tests) in let (item, at) = item_at items count within in here within item at)
     (λ all. (count, record { within = skipped.within; each = skipped.each; fits = skipped.fits; ends = inl (let w = skipped.within in grind (arith, nat_tests)) }))
   where
-    stops : (item : Item) → slice_get items count ≡ Some item → (goes_on count item ≡ false) ⊎ LacksRoom interleaving limit (length (entries_of interleaving (take count items))) (take count items) item
+    stops : (item : Item) → slice_get items count ≡ Some item → (is_row_continued count item ≡ false) ⊎ LacksRoom interleaving limit (length (entries_of interleaving (take count items))) (take count items) item
         → SomeRow interleaving limit items
     stops item at why = (count, record { within = skipped.within; each = skipped.each; fits = skipped.fits; ends = inr (record { item = item; at = at; why = why }) })
 
-    counted : (item : Item) → count < length items → slice_get items count ≡ Some item → goes_on count item ≡ true → (new : Bool) → is_new interleaving item (take count items) ≡ new
+    counted : (item : Item) → count < length items → slice_get items count ≡ Some item → is_row_continued count item ≡ true → (new : Bool) → is_new interleaving item (take count items) ≡ new
         → SomeRow interleaving limit items
     counted item within at goes false is =
         further within (skips_more interleaving limit count items item skipped within at goes (let none_more = ap one_if is in let f = skipped.fits in omega (arith, f, none_more)))
@@ -78,7 +78,7 @@ row_or_more interleaving limit count items skipped further =
 
     here : count < length items → (item : Item) → slice_get items count ≡ Some item → SomeRow interleaving limit items
     here within item at =
-        by_test (goes_on count item)
+        by_test (is_row_continued count item)
         (λ goes. counted item within at goes (is_new interleaving item (take count items)) refl)
         (λ ends. stops item at (inl ends))
 

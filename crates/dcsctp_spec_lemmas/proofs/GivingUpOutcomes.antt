@@ -9,14 +9,14 @@ use Rattle.dcsctp_spec.specs.types.declared.progress.Progress.{Progress}
 use Rattle.dcsctp_spec.specs.types.declared.progress.ItemState.TheVariants.{Abandoned}
 use Rattle.dcsctp_spec.specs.endpoint.Event.{Event}
 use Rattle.dcsctp_spec.specs.queues.Abandoning.{NoneDue, GivesUpFirst, GivesUpAll}
-use Rattle.dcsctp_spec.specs.queues.Filling.{Stage, maybe_expired, DropsRestAt, Closes, GivesUpAt, Steps, none, more}
+use Rattle.dcsctp_spec.specs.queues.Filling.{Stage, maybe_expired, DropsRestAt, ClosesMessage, GivesUpAt, StageSteps, none, more}
 use Rattle.dcsctp_spec.specs.queues.ItemMessages.{EndsDropped}
-use Rattle.dcsctp_spec.specs.queues.Items.{Item, counted, marked_count, marked_items, changed_between}
+use Rattle.dcsctp_spec.specs.queues.Items.{Item, number_where, marked_count, marked_items, changed_between}
 use Rattle.dcsctp_spec.specs.queues.Outstanding.{OutstandingState}
 use Rattle.dcsctp_spec.specs.types.queues.Progress.{is_marked, just_sent}
 use Rattle.dcsctp_spec.specs.queues.Retransmission.{with_items}
 use Rattle.dcsctp_spec.specs.queues.SendQueue.{SendQueueState}
-use Rattle.dcsctp_spec.specs.queues.Sending.{without_rest, drop_events, DiscardsNamed, IsNamed}
+use Rattle.dcsctp_spec.specs.queues.Sending.{without_rest, drop_events, DiscardsNamed, IsMessageUnderWay}
 use Rattle.dcsctp_spec_lemmas.proofs.DueItemLemmas.{due_marked, due_or_not}
 use Rattle.dcsctp_spec_lemmas.proofs.ItemMessageLemmas.{some_row, named_decided}
 use Rattle.dcsctp_spec_lemmas.proofs.MarkedItemLemmas.{le_or_lt, marked_at_most, fewer_marked, FewerBy, completed}
@@ -47,7 +47,7 @@ ending_keeps : (now : ℕ) (begins : Bool) (last : Item) (old new : OutstandingS
 ending_keeps now begins last old new true ends =
     let items = ap (λ (m : OutstandingState). marked_items m.items) ends.grows in
     let all = sum_by_push marked_count old.items ends.item in
-    let zero_more = ap (λ (p : Progress). counted (is_marked p.state) 1) ends.is_end.progress in
+    let zero_more = ap (λ (p : Progress). number_where (is_marked p.state) 1) ends.is_end.progress in
     record {
       stays = λ k item at. ap (λ (m : OutstandingState). slice_get m.items k) ends.grows ∙ slice_get_stays old.items ends.item k item at;
       marked = omega arith;
@@ -60,7 +60,7 @@ discarding_tells old new stream message_id told telling true drops =
     record { rest = drop_events drops.named.place drops.named.under_way.sent drops.named.message old; told = drops.events }
 discarding_tells old new stream message_id told telling false stays = record { rest = []; told = stays.2 ∙ sym (append-nil told) }
 
-closing_keeps : (now : ℕ) (last : Item) (old new : Stage) (is_end : Bool) → Closes now last old new is_end → ClosingKeeps old new
+closing_keeps : (now : ℕ) (last : Item) (old new : Stage) (is_end : Bool) → ClosesMessage now last old new is_end → ClosingKeeps old new
 closing_keeps now last old new true is =
     record {
       more = record { rest = maybe_expired last.fragment.lifecycle; told = ap (λ (s : Stage). s.told) is };
@@ -114,7 +114,7 @@ giving_up_keeps now place old new up =
 
 record Closed (now : ℕ) (last : Item) (old : Stage) (is_end : Bool) : Type 0 where
   pub closed : Stage
-  pub closes : Closes now last old closed is_end
+  pub closes : ClosesMessage now last old closed is_end
 
 -- the end that is added for a message whose rest is dropped
 abbrev end_of : ℕ → Bool → Item → Item
@@ -130,14 +130,14 @@ abbrev with_end : ℕ → Item → Stage → OutstandingState
 with_end now last old = record old.queue.outstanding { items = old.queue.outstanding.items ++ end_of now old.queue.reset_begun last ∷ [] }
 
 -- what is left once the message under way is dropped, which is this item's
-abbrev pub dropped_at : (now : ℕ) → (last : Item) → (old : Stage) → IsNamed old.waiting last.fragment.stream last.fragment.message_id → Stage
+abbrev pub dropped_at : (now : ℕ) → (last : Item) → (old : Stage) → IsMessageUnderWay old.waiting last.fragment.stream last.fragment.message_id → Stage
 dropped_at now last old named = record old {
   queue = record old.queue { outstanding = with_end now last old };
   waiting = record (without_rest named.place named.under_way.sent named.message old.waiting) { under_way = None };
   told = old.told ++ drop_events named.place named.under_way.sent named.message old.waiting;
 }
 
-pub drops_named : (now : ℕ) (last : Item) (old : Stage) (named : IsNamed old.waiting last.fragment.stream last.fragment.message_id) → DropsRestAt now last old (dropped_at now last old named)
+pub drops_named : (now : ℕ) (last : Item) (old : Stage) (named : IsMessageUnderWay old.waiting last.fragment.stream last.fragment.message_id) → DropsRestAt now last old (dropped_at now last old named)
 drops_named now last old named =
     record {
       outstanding = with_end now last old;
@@ -149,7 +149,7 @@ drops_named now last old named =
       is = refl;
     }
 
-drops_none : (now : ℕ) (last : Item) (old : Stage) → (IsNamed old.waiting last.fragment.stream last.fragment.message_id → ⊥) → DropsRestAt now last old old
+drops_none : (now : ℕ) (last : Item) (old : Stage) → (IsMessageUnderWay old.waiting last.fragment.stream last.fragment.message_id → ⊥) → DropsRestAt now last old old
 drops_none now last old unnamed = record { outstanding = old.queue.outstanding; drops = record { is_dropped = false; drops = (unnamed, refl, refl); ends = refl }; is = refl }
 
 some_closed : (now : ℕ) (last : Item) (old : Stage) (is_end : Bool) → Closed now last old is_end
@@ -192,7 +192,7 @@ gives_up_next now stage = elim (due_or_not now stage.queue.partial_reliability s
   | inr none_left ↦ inl (λ place due. none_left (record { place = place; none_awaited = due.none_awaited; item = due.item; at = due.at; due = due.due }))
 ]
 
-pub given_up_from : (now : ℕ) (old mid : Stage) → Steps (GivesUpFirst now) old mid → (new : Stage) × GivesUpAll now old new × ((rest : List (Event (List ℕ))) × (new.told ≡ mid.told ++ rest))
+pub given_up_from : (now : ℕ) (old mid : Stage) → StageSteps (GivesUpFirst now) old mid → (new : Stage) × GivesUpAll now old new × ((rest : List (Event (List ℕ))) × (new.told ≡ mid.told ++ rest))
 given_up_from now old mid steps =
     let all = completed (GivesUpFirst now) (λ s. NoneDue now s.queue) (gives_up_next now) (marked_items mid.queue.outstanding.items) old mid (omega arith) steps in
     (all.new, record { steps = all.steps; none_left = all.is_over }, (all.rest, all.told))
@@ -201,7 +201,7 @@ pub some_given_up : (now : ℕ) (old : Stage) → (new : Stage) × GivesUpAll no
 some_given_up now old = let (new, gives_up, more_told) = given_up_from now old old none in (new, gives_up)
 
 -- What the packet holds stays.
-pub packet_kept_by_steps : (now : ℕ) (old new : Stage) → Steps (GivesUpFirst now) old new → (new.tsns ≡ old.tsns) × (new.room ≡ old.room)
+pub packet_kept_by_steps : (now : ℕ) (old new : Stage) → StageSteps (GivesUpFirst now) old new → (new.tsns ≡ old.tsns) × (new.room ≡ old.room)
 packet_kept_by_steps now old _ none = (refl, refl)
 packet_kept_by_steps now old _ (more between new steps step) =
     let before = packet_kept_by_steps now old between steps in

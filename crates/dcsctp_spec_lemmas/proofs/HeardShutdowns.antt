@@ -17,7 +17,7 @@ pub record Heeds (e : Endpoint) (core : Core) (tsn : ℕ) (o : Outcome) : Type 0
   pub held : Held
   pub transfer : Transfer
   pub is : core ≡ open_in phase my held
-  pub stands : e.below.transfer ≡ Some transfer
+  pub stands : e.queues.transfer ≡ Some transfer
   pub follows : e.options.follow_rfc ≡ true
   pub may : may_have_sent phase ≡ true
   pub valid : is_sack_valid transfer.retransmission tsn ≡ true
@@ -29,14 +29,14 @@ all_three true true false is = absurd (cc)
 all_three true false c is = absurd (cc)
 all_three false b c is = absurd (cc)
 
-heard_where : (b : Bool) (e : Endpoint) (phase : OpenPhase) (my : Pair) (held : Held) (transfer : Transfer) (tsn : ℕ) (o : Outcome) → e.below.transfer ≡ Some transfer
+heard_where : (b : Bool) (e : Endpoint) (phase : OpenPhase) (my : Pair) (held : Held) (transfer : Transfer) (tsn : ℕ) (o : Outcome) → e.queues.transfer ≡ Some transfer
     → heeds_shutdown e.options phase transfer tsn ≡ b → ShutdownWhere b e phase my held transfer tsn o → (o ≡ shutdown_outcome_in e phase my held) ⊎ Heeds e (open_in phase my held) tsn o
 heard_where false e phase my held transfer tsn o stands heeds turn = inl turn
 heard_where true e phase my held transfer tsn o stands heeds turn =
     let each = all_three e.options.follow_rfc (may_have_sent phase) (is_sack_valid transfer.retransmission tsn) heeds in
     inr (record { phase = phase; my = my; held = held; transfer = transfer; is = refl; stands = stands; follows = each.0; may = each.1; valid = each.2; acknowledges = turn })
 
-heard_by : (e : Endpoint) (phase : OpenPhase) (my : Pair) (held : Held) (transfer : Option Transfer) (tsn : ℕ) (o : Outcome) → e.below.transfer ≡ transfer
+heard_by : (e : Endpoint) (phase : OpenPhase) (my : Pair) (held : Held) (transfer : Option Transfer) (tsn : ℕ) (o : Outcome) → e.queues.transfer ≡ transfer
     → ShutdownBy e phase my held transfer tsn o → (o ≡ shutdown_outcome_in e phase my held) ⊎ Heeds e (open_in phase my held) tsn o
 heard_by e phase my held None tsn o stands turn = inl turn
 heard_by e phase my held (Some transfer) tsn o stands turn = heard_where (heeds_shutdown e.options phase transfer tsn) e phase my held transfer tsn o stands refl turn
@@ -45,4 +45,4 @@ pub heard : (e : Endpoint) (core : Core) (tsn : ℕ) (o : Outcome) → ShutdownT
 heard e closed tsn o turn = inl turn
 heard e (cookie_wait my) tsn o turn = inl turn
 heard e (cookie_echoed my held cookie) tsn o turn = inl turn
-heard e (open_in phase my held) tsn o turn = heard_by e phase my held e.below.transfer tsn o refl turn
+heard e (open_in phase my held) tsn o turn = heard_by e phase my held e.queues.transfer tsn o refl turn

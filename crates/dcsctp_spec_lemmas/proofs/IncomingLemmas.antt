@@ -10,11 +10,11 @@ use Rattle.dcsctp_spec.specs.types.declared.arrivals.Numbering.{Numbering}
 use Rattle.dcsctp_spec.specs.types.declared.arrivals.Numbering.TheVariants.{Ordered, Unordered, InterleavedOrdered, InterleavedUnordered}
 use Rattle.dcsctp_spec.specs.types.declared.arrivals.SkippedTo.{SkippedTo}
 use Rattle.dcsctp_spec.specs.types.declared.arrivals.Taken.{Taken}
-use Rattle.dcsctp_spec.specs.queues.Incoming.{IncomingModel, MovesOn, ResetsStreams, TakesChunk, TakesData, TakesStreamData, is_named, skipped_by, stream_on}
-use Rattle.dcsctp_spec.specs.queues.IncomingStreams.{ChunkModel, IsTurn, NumberedBelow, StreamModel, TakesAhead, TakesInOrder, TakesNumbered, TakesOrdered, TakesUnordered, WaitsAmong, data_part, delivered_as, is_waiting, new_stream, next_after, not_due, skipped, skipped_stream}
+use Rattle.dcsctp_spec.specs.queues.Incoming.{IncomingModel, MovesOn, ResetsStreams, TakesChunk, TakesIncomingChunk, TakesStreamData, is_named, skipped_by, stream_on}
+use Rattle.dcsctp_spec.specs.queues.IncomingStreams.{ChunkModel, IsNumberPlace, NumberedBelow, StreamModel, TakesAhead, TakesInOrder, TakesNumbered, TakesOrdered, TakesUnordered, WaitsAmong, data_part, delivered_as, is_number_waiting, new_stream, next_after, not_due, skipped, skipped_stream}
 use Rattle.dcsctp_spec.specs.types.queues.Messages.{MessageContent}
 use Rattle.dcsctp_spec.specs.queues.Numbers.{fragment_place, number_near, short_number_from}
-use Rattle.dcsctp_spec.specs.queues.Runs.{AddsAt, AddsPart, Assembled, IsPlace, PartModel, PassesAlone, RunModel, WholeModel, entry_before, following, follows, is_held_before, is_whole, merged_at, message_whole, part_dropped, part_kept, precedes, preceding}
+use Rattle.dcsctp_spec.specs.queues.Runs.{AddsAt, AddsPart, Assembled, IsRunPlace, PartModel, PassesAlone, RunModel, WholeModel, entry_before, following, follows, is_held_before, is_whole, merged_at, message_whole, part_dropped, part_kept, precedes, preceding}
 
 pub by_test : {A : Type 0} → (test : Bool) → (test ≡ true → A) → (test ≡ false → A) → A
 by_test true holds fails = holds refl
@@ -30,7 +30,7 @@ HasOutcome {X} takes = (taken : Taken) × (new : X) × (after : List MessageCont
 
 -- ---- a part
 
-any_place : (place : ℕ) (runs : List RunModel) → (at : ℕ) × IsPlace at place runs
+any_place : (place : ℕ) (runs : List RunModel) → (at : ℕ) × IsRunPlace at place runs
 any_place place [] = (0, record { within = omega arith; before = tt; behind = tt })
 any_place place (run ∷ runs) =
     let (at, rest) = any_place place runs in
@@ -38,7 +38,7 @@ any_place place (run ∷ runs) =
     (λ behind. (0, record { within = omega arith; before = tt; behind = grind (arith, nat_tests) }))
     (λ starts. (suc at, go at rest (grind (arith, nat_tests))))
   where
-    go : (at : ℕ) → IsPlace at place runs → run.first ≤ place → IsPlace (suc at) place (run ∷ runs)
+    go : (at : ℕ) → IsRunPlace at place runs → run.first ≤ place → IsRunPlace (suc at) place (run ∷ runs)
     go zero is starts = record { within = omega arith; before = starts; behind = is.behind }
     go (suc at) is starts = record { within = omega (arith, is.within); before = is.before; behind = is.behind }
 
@@ -76,7 +76,7 @@ any_part part old =
 
 -- ---- data on a stream
 
-any_turn : (number : ℕ) (waiting : List WholeModel) → (at : ℕ) × IsTurn at number waiting
+any_turn : (number : ℕ) (waiting : List WholeModel) → (at : ℕ) × IsNumberPlace at number waiting
 any_turn number [] = (0, record { within = omega arith; before = λ _. tt; behind = tt })
 any_turn number (whole ∷ waiting) =
     let (at, turn) = any_turn number waiting in
@@ -84,7 +84,7 @@ any_turn number (whole ∷ waiting) =
     (λ below. (suc at, record { within = let few = turn.within in omega (arith, few); before = λ _. simp unary_clauses (go at turn (grind (arith, nat_tests))); behind = turn.behind }))
     (λ from. (0, record { within = omega arith; before = λ above. absurd (omega arith); behind = grind (arith, nat_tests) }))
   where
-    go : (at : ℕ) → IsTurn at number waiting → whole.number < number → NumberedBelow number (slice_get (whole ∷ waiting) at)
+    go : (at : ℕ) → IsNumberPlace at number waiting → whole.number < number → NumberedBelow number (slice_get (whole ∷ waiting) at)
     go zero turn below = below
     go (suc at) turn below = simp unary_clauses at (turn.before (omega arith))
 
@@ -122,7 +122,7 @@ any_unordered part shown old before = let (outcome, new, parts) = any_part part 
 
 any_ahead : (part : PartModel) (old : StreamModel) (before : List MessageContent) → HasOutcome (TakesAhead part old before)
 any_ahead part old before =
-    by_test (is_waiting part.number old.waiting)
+    by_test (is_number_waiting part.number old.waiting)
     (λ waits.
     let (taken, new, after, takes) = any_unordered part (delivered_as old.id) old.ordered before in
     (taken, record old { ordered = new }, after, record { repeated = λ _. record { ordered = takes; others = (refl, refl, refl, refl); last = refl }; fresh = λ none. absurd (cc) }))
@@ -177,7 +177,7 @@ any_chunk tsn Unordered chunk old =
 any_chunk tsn (InterleavedOrdered mid fsn) chunk old = any_stream_data tsn chunk old
 any_chunk tsn (InterleavedUnordered mid fsn) chunk old = any_stream_data tsn chunk old
 
-pub any_data : (tsn : ℕ) (chunk : ChunkModel) (old : IncomingModel) → (new : IncomingModel) × TakesData tsn chunk old new
+pub any_data : (tsn : ℕ) (chunk : ChunkModel) (old : IncomingModel) → (new : IncomingModel) × TakesIncomingChunk tsn chunk old new
 any_data tsn chunk old =
     let (new, takes, last) = any_chunk (number_near old.last_tsn_number tsn) chunk.numbering chunk old in
     (new, record { takes = takes; last = last })

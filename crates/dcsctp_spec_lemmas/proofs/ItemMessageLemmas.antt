@@ -3,11 +3,11 @@ use Rattle.std.proofs.Common.{◌≡◌, ◌⊎◌, inl, inr, ℕ, zero, suc, �
 use Rattle.std.specs.List.{slice_get}
 use Rattle.std.proofs.lemmas.Option.{slice_get_within}
 use Rattle.dcsctp_spec.specs.types.declared.sending.UnderWay.{UnderWay}
-use Rattle.dcsctp_spec.specs.queues.ItemMessages.{StartsMessage, EndsMessage, IsMessage}
+use Rattle.dcsctp_spec.specs.queues.ItemMessages.{StartsMessage, EndsMessage, AreMessageItems}
 use Rattle.dcsctp_spec.specs.queues.Items.{Item}
 use Rattle.dcsctp_spec.specs.queues.SendQueue.{SendQueueState}
 use Rattle.dcsctp_spec.specs.types.queues.SendStreams.{Waiting, Stream, front_of, stream_at}
-use Rattle.dcsctp_spec.specs.queues.Sending.{IsNamed}
+use Rattle.dcsctp_spec.specs.queues.Sending.{IsMessageUnderWay}
 
 -- It holds, or it doesn't.
 abbrev pub Decided : Type 0 → Type 0
@@ -100,7 +100,7 @@ end_from message_id place last_place (suc most) items from within few bear = eli
 pub record Row (place : ℕ) (items : List Item) : Type 0 where
   pub start : ℕ
   pub last_place : ℕ
-  pub message : IsMessage place start (last_place + 1) items
+  pub message : AreMessageItems place start (last_place + 1) items
   pub last : Item
   pub at : slice_get items last_place ≡ Some last
 
@@ -169,10 +169,10 @@ front_decided stream message_id (x ∷ xs) = elim (front_decided stream message_
       | inr other ↦ inr (no_front stream message_id x xs (λ m same there named. let both : Some message ≡ Some m = sym front ∙ there in let e : message ≡ m = cc in other (ap (λ (w : Waiting). w.message_id) e ∙ named)) none)
     ]
 
-pub named_decided : (queue : SendQueueState) (stream message_id : ℕ) → Decided (IsNamed queue stream message_id)
+pub named_decided : (queue : SendQueueState) (stream message_id : ℕ) → Decided (IsMessageUnderWay queue stream message_id)
 named_decided queue stream message_id = go queue.under_way refl
   where
-    go : (under_way : Option UnderWay) → queue.under_way ≡ under_way → Decided (IsNamed queue stream message_id)
+    go : (under_way : Option UnderWay) → queue.under_way ≡ under_way → Decided (IsMessageUnderWay queue stream message_id)
     go None goes_on = inr (λ named. let both : None ≡ Some named.under_way = sym goes_on ∙ named.goes_on in absurd (cc))
     go (Some under_way) goes_on = elim (same_decided under_way.stream_id.0 stream) [
       | inr other ↦ inr (λ named.

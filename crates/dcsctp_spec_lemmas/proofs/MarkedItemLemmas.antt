@@ -6,10 +6,10 @@ use Rattle.std.proofs.lemmas.List.Sums.{sum_by-cons}
 use Rattle.dcsctp_spec.specs.types.declared.progress.Change.{Change}
 use Rattle.dcsctp_spec.specs.types.declared.progress.Progress.{Progress}
 use Rattle.dcsctp_spec.specs.endpoint.Event.{Event}
-use Rattle.dcsctp_spec.specs.queues.Filling.{Stage, Steps, more}
-use Rattle.dcsctp_spec.specs.queues.Items.{Item, counted, marked_count, marked_items, changed_item, changed_between}
+use Rattle.dcsctp_spec.specs.queues.Filling.{Stage, StageSteps, more}
+use Rattle.dcsctp_spec.specs.queues.Items.{Item, number_where, marked_count, marked_items, changed_item, changed_between}
 use Rattle.dcsctp_spec.specs.queues.NextItem.{IsNextMarked}
-use Rattle.dcsctp_spec.specs.types.queues.Progress.{is_marked, changed}
+use Rattle.dcsctp_spec.specs.types.queues.Progress.{is_marked, progress_changed}
 
 pub le_or_lt : (a b : ℕ) → (a ≤ b) ⊎ (b < a)
 le_or_lt a b = grind arith
@@ -18,14 +18,14 @@ le_or_lt a b = grind arith
 
 -- the change leaves no item marked
 abbrev pub Unmarks : Change → Type 0
-Unmarks change = (progress : Progress) → is_marked (changed change progress).state ≡ false
+Unmarks change = (progress : Progress) → is_marked (progress_changed change progress).state ≡ false
 
 pub marked_at_most : (change : Change) → Unmarks change → (start end : ℕ) (items : List Item) → marked_items (changed_between change start end items) ≤ marked_items items
 marked_at_most change unmarks zero zero items = omega arith
 marked_at_most change unmarks zero (suc end) [] = omega arith
 marked_at_most change unmarks zero (suc end) (x ∷ xs) =
     let later = marked_at_most change unmarks zero end xs in
-    let here = ap (λ (b : Bool). counted b 1) (unmarks x.progress) in
+    let here = ap (λ (b : Bool). number_where b 1) (unmarks x.progress) in
     let old = sum_by-cons marked_count x xs in
     let new = sum_by-cons marked_count (changed_item change x) (changed_between change zero end xs) in
     omega arith
@@ -44,15 +44,15 @@ fewer_marked change unmarks zero zero place items item from to at is = absurd (o
 fewer_marked change unmarks zero (suc end) place [] item from to at is = absurd (cc)
 fewer_marked change unmarks zero (suc end) zero (x ∷ xs) item from to at is =
     let same : x ≡ item = cc in
-    let was = ap (λ (y : Item). marked_count y) same ∙ ap (λ (b : Bool). counted b 1) is in
+    let was = ap (λ (y : Item). marked_count y) same ∙ ap (λ (b : Bool). number_where b 1) is in
     let later = marked_at_most change unmarks zero end xs in
-    let here = ap (λ (b : Bool). counted b 1) (unmarks x.progress) in
+    let here = ap (λ (b : Bool). number_where b 1) (unmarks x.progress) in
     let old = sum_by-cons marked_count x xs in
     let new = sum_by-cons marked_count (changed_item change x) (changed_between change zero end xs) in
     omega arith
 fewer_marked change unmarks zero (suc end) (suc place) (x ∷ xs) item from to at is =
     let later = fewer_marked change unmarks zero end place xs item (omega arith) (omega arith) at is in
-    let here = ap (λ (b : Bool). counted b 1) (unmarks x.progress) in
+    let here = ap (λ (b : Bool). number_where b 1) (unmarks x.progress) in
     let old = sum_by-cons marked_count x xs in
     let new = sum_by-cons marked_count (changed_item change x) (changed_between change zero end xs) in
     omega arith
@@ -94,7 +94,7 @@ first_marked (x ∷ xs) = go (first_marked xs) (is_marked x.progress.state) refl
     go : (marked_items xs ≡ 0) ⊎ FirstMarked xs → (b : Bool) → is_marked x.progress.state ≡ b → (marked_items (x ∷ xs) ≡ 0) ⊎ FirstMarked (x ∷ xs)
     go later true is = inr (first_here x xs is)
     go (inl none_left) false is_not =
-        let here = ap (λ (b : Bool). counted b 1) is_not in
+        let here = ap (λ (b : Bool). number_where b 1) is_not in
         let all = sum_by-cons marked_count x xs in
         inl (omega arith)
     go (inr later) false is_not = inr (first_behind x xs is_not later)
@@ -112,7 +112,7 @@ pub record FewerBy (Step : Stage → Stage → Type 0) (old : Stage) : Type 0 wh
 -- Steps are taken from the old stage past the middle one, until it is over.
 pub record Completed (Step : Stage → Stage → Type 0) (IsOver : Stage → Type 0) (old mid : Stage) : Type 0 where
   pub new : Stage
-  pub steps : Steps Step old new
+  pub steps : StageSteps Step old new
   pub is_over : IsOver new
   pub rest : List (Event (List ℕ))
   pub told : new.told ≡ mid.told ++ rest
@@ -120,11 +120,11 @@ pub record Completed (Step : Stage → Stage → Type 0) (IsOver : Stage → Typ
 told_more : (a b c rest further : List (Event (List ℕ))) → b ≡ a ++ rest → c ≡ b ++ further → c ≡ a ++ (rest ++ further)
 told_more a b c rest further first second = second ∙ (ap (λ (es : List (Event (List ℕ))). es ++ further) first ∙ append_assoc a rest further)
 
-over_now : (Step : Stage → Stage → Type 0) (IsOver : Stage → Type 0) (old mid : Stage) → Steps Step old mid → IsOver mid → Completed Step IsOver old mid
+over_now : (Step : Stage → Stage → Type 0) (IsOver : Stage → Type 0) (old mid : Stage) → StageSteps Step old mid → IsOver mid → Completed Step IsOver old mid
 over_now Step IsOver old mid steps is_over = record { new = mid; steps = steps; is_over = is_over; rest = []; told = sym (append-nil mid.told) }
 
 -- If each stage is the last or has such a step, steps that were taken can be completed.
-pub completed : (Step : Stage → Stage → Type 0) (IsOver : Stage → Type 0) → ((stage : Stage) → IsOver stage ⊎ FewerBy Step stage) → (most : ℕ) (old mid : Stage) → marked_items mid.queue.outstanding.items ≤ most → Steps Step old mid
+pub completed : (Step : Stage → Stage → Type 0) (IsOver : Stage → Type 0) → ((stage : Stage) → IsOver stage ⊎ FewerBy Step stage) → (most : ℕ) (old mid : Stage) → marked_items mid.queue.outstanding.items ≤ most → StageSteps Step old mid
     → Completed Step IsOver old mid
 completed Step IsOver next zero old mid few steps = elim (next mid) [
   | inl is_over ↦ over_now Step IsOver old mid steps is_over

@@ -3,7 +3,7 @@ use Rattle.std.proofs.Common.{◌≡◌, ◌∙◌, ℕ, zero, suc, ◌+◌, ◌
 use Rattle.std.specs.Prelude.{slice_get}
 use Rattle.dcsctp_spec.specs.types.declared.progress.Change.{Change}
 use Rattle.dcsctp_spec.specs.queues.Filling.{Stage}
-use Rattle.dcsctp_spec.specs.queues.Items.{Item, chunk_size, size_of, changed_item, changed_between}
+use Rattle.dcsctp_spec.specs.queues.Items.{Item, chunk_size, item_size, changed_item, changed_between}
 use Rattle.dcsctp_spec.specs.queues.Outstanding.{OutstandingState, header, tsn_at}
 use Rattle.dcsctp_spec.specs.queues.Sending.{Fragment}
 
@@ -79,7 +79,7 @@ pub record IsTsnOf (outstanding : OutstandingState) (tsn size : ℕ) : Type 0 wh
   pub item : Item
   pub at : slice_get outstanding.items place ≡ Some item
   pub is : tsn ≡ tsn_at outstanding place
-  pub size_is : size ≡ size_of (header outstanding) item
+  pub size_is : size ≡ item_size (header outstanding) item
 
 -- the same of the first of some TSNs, with what the others take up
 pub record FirstOf (outstanding : OutstandingState) (tsn used rest : ℕ) : Type 0 where

@@ -3,14 +3,14 @@ use Rattle.std.proofs.Common.{◌≡◌, ◌≤◌, ◌+◌, ℕ, Bool, true, fa
 use Rattle.std.proofs.lemmas.List.{length-take, length-replicate, length-map}
 use Rattle.std.proofs.lemmas.Bool.Decides.{nat_tests}
 use Rattle.dcsctp_spec.specs.wire.Content.{ParameterContent, outgoing_ssn_reset_request}
-use Rattle.dcsctp_spec.specs.wire.Spelling.{chunk_bytes, zeros, parameter_value, parameter_len, parameter_bytes, list_bytes}
+use Rattle.dcsctp_spec.specs.wire.Spelling.{chunk_bytes, zeros, parameter_value, parameter_len, parameter_bytes, parameter_chunk_bytes}
 use Rattle.dcsctp_spec.specs.queues.OwnResets.{ready_streams}
 use Rattle.dcsctp_spec.specs.Packet.{Plain, plain_out, Content, chunk_out, Emission}
 use Rattle.dcsctp_spec.specs.queues.SendQueue.{SendQueueState}
 use Rattle.dcsctp_spec.specs.endpoint.Endpoint.{Endpoint}
 use Rattle.dcsctp_spec.specs.endpoint.Outcome.{contents_len}
 use Rattle.dcsctp_spec.specs.association.Choices.{plain_contents}
-use Rattle.dcsctp_spec.specs.endpoint.FlushOutcomes.{filled, IsWithin, Ask, room_in, where_fits, later_ask, first_ask, begun_at}
+use Rattle.dcsctp_spec.specs.endpoint.FlushOutcomes.{filled, IsWithinMtu, Ask, room_in, where_fits, later_ask, first_ask, begun_at}
 use Rattle.std.specs.Int.{w16, w32, to_be_bytes}
 use Rattle.dcsctp_spec.specs.wire.Format.{padding_of}
 use Rattle.dcsctp_spec.specs.types.declared.association.Held.{Held}
@@ -38,8 +38,8 @@ fits_len false room chunk is = omega arith
 pub where_fits_len : (room : ℕ) (chunk : Plain) → contents_len (plain_contents (where_fits room chunk)) ≤ room
 where_fits_len room chunk = fits_len (nat_le (length (chunk_bytes (plain_out chunk))) room) room chunk refl
 
-pub three_within : (e : Endpoint) (draft : Emission) (one two three : List Content) → IsWithin e draft → contents_len one ≤ room_in e draft → contents_len two ≤ room_in e (filled draft one)
-    → contents_len three ≤ room_in e (filled draft (one ++ two)) → IsWithin e (filled draft (one ++ (two ++ three)))
+pub three_within : (e : Endpoint) (draft : Emission) (one two three : List Content) → IsWithinMtu e draft → contents_len one ≤ room_in e draft → contents_len two ≤ room_in e (filled draft one)
+    → contents_len three ≤ room_in e (filled draft (one ++ two)) → IsWithinMtu e (filled draft (one ++ (two ++ three)))
 three_within e draft one two three within first second third =
     let all = len_append draft.packet.contents (one ++ (two ++ three)) in
     let last = len_append one (two ++ three) in
@@ -56,7 +56,7 @@ streams_len [] = refl
 streams_len (stream ∷ streams) = let rest = streams_len streams in omega (arith, rest)
 
 pub request_len : (number : ℕ) (reset : RequestedReset) → contents_len (reset_request number reset ∷ []) ≡ 20 + 2 * length reset.streams + padding_of (20 + 2 * length reset.streams)
-unfolding parameter_bytes list_bytes
+unfolding parameter_bytes parameter_chunk_bytes
 request_len number reset =
     let streams : List ℕ = flat_map (to_be_bytes w16) reset.streams in
     let parameter : ParameterContent = outgoing_ssn_reset_request number number reset.last_tsn streams in

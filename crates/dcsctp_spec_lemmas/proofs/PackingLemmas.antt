@@ -3,12 +3,12 @@ use Rattle.std.proofs.Common.{◌≡◌, inl, inr, ℕ, ◌+◌, ◌-◌, ◌^�
 use Rattle.std.proofs.lemmas.List.{length-take}
 use Rattle.dcsctp_spec.specs.types.declared.progress.Change.TheVariants.{SendAgain, Abandon}
 use Rattle.dcsctp_spec.specs.endpoint.Event.{Event}
-use Rattle.dcsctp_spec.specs.queues.Filling.{Stage, Closes, GivesUpAt, SendsMarked, SendsNew, MayAdd, StepAgain, StepNew, Steps, none as no_step, more as one_more_step, payload_room, counting, FillsStage, FillsPacket}
+use Rattle.dcsctp_spec.specs.queues.Filling.{Stage, ClosesMessage, GivesUpAt, SendsMarked, SendsNew, MayAdd, StepAgain, StepNew, StageSteps, none as no_step, more as one_more_step, payload_room, resent_packet_counted, FillsStage, FillsPacket}
 use Rattle.dcsctp_spec.specs.queues.ItemMessages.{EndsDropped}
-use Rattle.dcsctp_spec.specs.queues.Items.{Item, chunk_size, size_of, changed_between}
+use Rattle.dcsctp_spec.specs.queues.Items.{Item, chunk_size, item_size, changed_between}
 use Rattle.dcsctp_spec.specs.queues.Outstanding.{OutstandingState, header, next_tsn, tsn_at}
 use Rattle.dcsctp_spec.specs.queues.SendQueue.{SendQueueState}
-use Rattle.dcsctp_spec.specs.queues.Sending.{Fragment, Takes, size_produced}
+use Rattle.dcsctp_spec.specs.queues.Sending.{Fragment, TakesFragment, size_produced}
 use Rattle.dcsctp_spec_lemmas.proofs.PackedLemmas.{fragments_changed, fragments_pushed, last_pushed, Grows, grows_same, grows_then, grows_to, tsn_stays, IsTsnOf, IsPacked, packed_grows, packed_more}
 
 -- ---- steps
@@ -27,7 +27,7 @@ keeps_same : (old new : Stage) → new ≡ old → Keeps old new
 keeps_same old new same =
     record { grows = grows_same old.queue.outstanding new.queue.outstanding (ap (λ (s : Stage). s.queue.outstanding) same); tsns = ap (λ (s : Stage). s.tsns) same; room = ap (λ (s : Stage). s.room) same }
 
-keeps_closed : (now : ℕ) (last : Item) (old closed : Stage) (is_end : Bool) → Closes now last old closed is_end → Keeps old closed
+keeps_closed : (now : ℕ) (last : Item) (old closed : Stage) (is_end : Bool) → ClosesMessage now last old closed is_end → Keeps old closed
 keeps_closed now last old closed true is =
     record {
       grows = grows_same old.queue.outstanding closed.queue.outstanding (ap (λ (s : Stage). s.queue.outstanding) is);
@@ -60,15 +60,15 @@ packed_marked_by now room old new sends packed =
     let outstanding : OutstandingState = old.queue.outstanding in
     let items : List Item = changed_between (SendAgain (next_tsn outstanding)) sends.place (sends.place + 1) outstanding.items in
     let grows = grows_to outstanding items (fragments_changed (SendAgain (next_tsn outstanding)) sends.place (sends.place + 1) outstanding.items) in
-    let of : IsTsnOf outstanding (tsn_at outstanding sends.place) (size_of (header outstanding) sends.next.marked.item) =
+    let of : IsTsnOf outstanding (tsn_at outstanding sends.place) (item_size (header outstanding) sends.next.marked.item) =
     record { place = sends.place; item = sends.next.marked.item; at = sends.next.marked.at; is = refl; size_is = refl } in
-    let kept = tsn_stays outstanding (record outstanding { items = items }) (tsn_at outstanding sends.place) (size_of (header outstanding) sends.next.marked.item) grows of in
+    let kept = tsn_stays outstanding (record outstanding { items = items }) (tsn_at outstanding sends.place) (item_size (header outstanding) sends.next.marked.item) grows of in
     subst (IsPacked room) (sym sends.is)
-    (packed_more room (tsn_at outstanding sends.place) (size_of (header outstanding) sends.next.marked.item) old
+    (packed_more room (tsn_at outstanding sends.place) (item_size (header outstanding) sends.next.marked.item) old
     (record old {
       queue = record old.queue { outstanding = record outstanding { items = items } };
       tsns = old.tsns ++ tsn_at outstanding sends.place ∷ [];
-      room = old.room - size_of (header outstanding) sends.next.marked.item;
+      room = old.room - item_size (header outstanding) sends.next.marked.item;
     })
     grows kept sends.fits refl refl packed)
 
@@ -82,7 +82,7 @@ size_fits header room len some at_most = omega arith
 
 -- The send queue gives no more than it is asked for.
 taken_at_most : (max : ℕ) (old : SendQueueState) (told : List (Event (List ℕ))) (now : ℕ) (part : Fragment) (new : SendQueueState) (telling : List (Event (List ℕ)))
-    → Takes now max old told part new telling → length part.payload ≤ max
+    → TakesFragment now max old told part new telling → length part.payload ≤ max
 taken_at_most max old told now part new telling takes =
     let same = ap (λ (f : Fragment). length f.payload) takes.is in
     let size = length-take (size_produced max takes.message takes.under_way) (drop takes.under_way.sent takes.message.payload) in
@@ -92,7 +92,7 @@ packed_new : (now room : ℕ) (old new : Stage) → MayAdd old → SendsNew now 
 packed_new now room old new may sends packed =
     let outstanding : OutstandingState = old.queue.outstanding in
     let items : List Item = outstanding.items ++ sends.item ∷ [] in
-    let size : ℕ = size_of (header outstanding) sends.item in
+    let size : ℕ = item_size (header outstanding) sends.item in
     let at_most = taken_at_most (payload_room (header outstanding) old.room) old.waiting old.told now sends.item.fragment new.waiting new.told sends.takes in
     let fits : size ≤ old.room = size_fits (header outstanding) old.room (length sends.item.fragment.payload) may.fits at_most in
     subst (IsPacked room) (sym sends.is)
@@ -113,7 +113,7 @@ packed_anew_by now room old new (may, inl sends) packed = packed_new now room ol
 packed_anew_by now room old new (may, inr finds) packed =
     packed_grows room old new (grows_same old.queue.outstanding new.queue.outstanding (ap (λ (s : Stage). s.queue.outstanding) finds.is)) (ap (λ (s : Stage). s.tsns) finds.is) (ap (λ (s : Stage). s.room) finds.is) packed
 
-packed_steps : (Step : Stage → Stage → Type 0) (room : ℕ) → ((old new : Stage) → Step old new → IsPacked room old → IsPacked room new) → (old new : Stage) → Steps Step old new → IsPacked room old
+packed_steps : (Step : Stage → Stage → Type 0) (room : ℕ) → ((old new : Stage) → Step old new → IsPacked room old → IsPacked room new) → (old new : Stage) → StageSteps Step old new → IsPacked room old
     → IsPacked room new
 packed_steps Step room one old new no_step packed = packed
 packed_steps Step room one old new (one_more_step between new' steps step) packed = one between new' step (packed_steps Step room one old between steps packed)
@@ -124,19 +124,19 @@ packed_steps Step room one old new (one_more_step between new' steps step) packe
 pub packed_none : (stage : Stage) → stage.tsns ≡ [] → IsPacked stage.room stage
 packed_none stage empty = record { used = 0; tsns = rw empty refl; sum = omega arith }
 
-pub packed_again : (now room : ℕ) (old new : Stage) → Steps (StepAgain now) old new → IsPacked room old → IsPacked room new
+pub packed_again : (now room : ℕ) (old new : Stage) → StageSteps (StepAgain now) old new → IsPacked room old → IsPacked room new
 packed_again now room old new steps packed = packed_steps (StepAgain now) room (packed_again_by now room) old new steps packed
 
 -- whatever the windows are
-pub packed_marked : (now room : ℕ) (old new : Stage) → Steps (SendsMarked now) old new → IsPacked room old → IsPacked room new
+pub packed_marked : (now room : ℕ) (old new : Stage) → StageSteps (SendsMarked now) old new → IsPacked room old → IsPacked room new
 packed_marked now room old new steps packed = packed_steps (SendsMarked now) room (packed_marked_by now room) old new steps packed
 
-pub packed_anew : (now room : ℕ) (old new : Stage) → Steps (StepNew now) old new → IsPacked room old → IsPacked room new
+pub packed_anew : (now room : ℕ) (old new : Stage) → StageSteps (StepNew now) old new → IsPacked room old → IsPacked room new
 packed_anew now room old new steps packed = packed_steps (StepNew now) room (packed_anew_by now room) old new steps packed
 
-pub packed_counting : (bytes room : ℕ) (stage : Stage) → IsPacked room stage → IsPacked room (counting bytes stage)
+pub packed_counting : (bytes room : ℕ) (stage : Stage) → IsPacked room stage → IsPacked room (resent_packet_counted bytes stage)
 packed_counting bytes room stage packed =
-    packed_grows room stage (counting bytes stage) (grows_same stage.queue.outstanding (counting bytes stage).queue.outstanding (go (nat_lt 0 (bytes - stage.room)))) refl refl packed
+    packed_grows room stage (resent_packet_counted bytes stage) (grows_same stage.queue.outstanding (resent_packet_counted bytes stage).queue.outstanding (go (nat_lt 0 (bytes - stage.room)))) refl refl packed
   where
     go : (b : Bool) → (if b then record stage.queue { packets_retransmitted = min (stage.queue.packets_retransmitted + 1) (2 ^ 64 - 1); bytes_retransmitted = min (stage.queue.bytes_retransmitted + (bytes - stage.room)) (2 ^ 64 - 1) } else stage.queue).outstanding ≡ stage.queue.outstanding
     go true = refl
@@ -144,7 +144,7 @@ packed_counting bytes room stage packed =
 
 pub packed_filled : (now room : ℕ) (old new : Stage) → FillsStage now old new → IsPacked room old → IsPacked room new
 packed_filled now room old new fills packed =
-    packed_anew now room (counting old.room fills.resent) new fills.anew (packed_counting old.room room fills.resent (packed_again now room old fills.resent fills.again packed))
+    packed_anew now room (resent_packet_counted old.room fills.resent) new fills.anew (packed_counting old.room room fills.resent (packed_again now room old fills.resent fills.again packed))
 
 -- The timer counts for nothing.
 pub packed_packet : (now room : ℕ) (old new : Stage) → FillsPacket now old new → IsPacked room old → IsPacked room new

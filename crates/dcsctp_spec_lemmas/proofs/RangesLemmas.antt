@@ -3,7 +3,7 @@ use Rattle.std.proofs.Common.{◌≡◌, ◌==◌, ℕ, ◌+◌, ◌-◌, ◌<�
 use Rattle.std.proofs.lemmas.Bool.{cond_both}
 use Rattle.std.proofs.lemmas.Bool.Decides.{nat_tests}
 use Rattle.dcsctp_spec.specs.types.declared.tracking.TsnRange.{TsnRange}
-use Rattle.dcsctp_spec.specs.queues.Ranges.{IsBeyond, is_in, is_received, Received, run_of, put_before, put_among, reaching, received, forwarded}
+use Rattle.dcsctp_spec.specs.queues.Ranges.{IsBeyond, is_in, is_received, Received, tsn_range_of, put_before, put_among, reaching, received, forwarded}
 
 -- ---- the numbers determine the ranges
 
@@ -33,7 +33,7 @@ no_earlier c d x y xs ys left right at same =
 from_end : (c : ℕ) (x : TsnRange) (xs : List TsnRange) → IsBeyond c (x ∷ xs) → (other : ℕ) → is_received x.last other xs ≡ (nat_le other x.first || is_received c other (x ∷ xs))
 from_end c x xs beyond other = grind (arith, nat_tests, beyond.0, beyond.1)
 
-joined_up : (a b a' b' : ℕ) (xs ys : List TsnRange) → a ≡ a' → b ≡ b' → xs ≡ ys → run_of a b ∷ xs ≡ run_of a' b' ∷ ys
+joined_up : (a b a' b' : ℕ) (xs ys : List TsnRange) → a ≡ a' → b ≡ b' → xs ≡ ys → tsn_range_of a b ∷ xs ≡ tsn_range_of a' b' ∷ ys
 joined_up a b a' b' xs ys first last rest = cc
 
 pub same_numbers : (c d : ℕ) (xs ys : List TsnRange) → IsBeyond c xs → IsBeyond d ys → ((other : ℕ) → is_received c other xs ≡ is_received d other ys) → (c ≡ d) × (xs ≡ ys)
@@ -84,10 +84,10 @@ put_among_holds from number [] beyond above new = ((above, omega arith, tt), λ 
 put_among_holds from number (range ∷ ranges) beyond above new =
     three_ways (nat_lt number range.first) (number == range.last + 1) _ _ _ (Holds from (λ other. is_in other (range ∷ ranges) || (other == number)))
     (λ before.
-    let put = put_before_holds from (number - 1) (run_of number number) (range ∷ ranges) above (omega arith) (omega arith) (grind (arith, nat_tests), beyond.1, beyond.2) in
+    let put = put_before_holds from (number - 1) (tsn_range_of number number) (range ∷ ranges) above (omega arith) (omega arith) (grind (arith, nat_tests), beyond.1, beyond.2) in
     (put.0, λ other. grind (arith, nat_tests, put.1 other)))
     (λ behind touching.
-    let put = put_before_holds from range.last (run_of range.first number) ranges beyond.0 (grind (arith, nat_tests)) (grind (arith, nat_tests)) beyond.2 in
+    let put = put_before_holds from range.last (tsn_range_of range.first number) ranges beyond.0 (grind (arith, nat_tests)) (grind (arith, nat_tests)) beyond.2 in
     (put.0, λ other. grind (arith, nat_tests, put.1 other, beyond.1)))
     (λ behind apart.
     let put = put_among_holds range.last number ranges beyond.2 (grind (arith, nat_tests)) (grind (arith, nat_tests)) in

@@ -3,7 +3,7 @@ use Rattle.std.proofs.Common.{◌≡◌, ℕ, true, false, List, [], ◌∷◌, 
 use Rattle.dcsctp_spec.specs.types.declared.arrivals.SkippedTo.{SkippedTo}
 use Rattle.dcsctp_spec.specs.queues.Incoming.{IncomingModel}
 use Rattle.dcsctp_spec.specs.queues.IncomingStreams.{ChunkModel}
-use Rattle.dcsctp_spec.specs.queues.Reassembly.{AddsData, DeferralModel, ForwardsBeside, Leaves, ReassemblyState, SkipsData, SkipsThen, WaitingModel, WaitingSkips, HandlesAll, can_count, entries_beside, is_deferred, is_forward_deferred, skips_of, waiting_of}
+use Rattle.dcsctp_spec.specs.queues.Reassembly.{AddsData, DeferralModel, ForwardsBeside, EndsDeferral, ReassemblyState, SkipsData, SkipsThen, WaitingModel, WaitingSkips, HandlesAll, can_count, entries_beside, is_data_deferred, is_forward_deferred, skips_of, waiting_of}
 use Rattle.dcsctp_spec_lemmas.proofs.IncomingLemmas.{by_test, any_data, any_moved, any_reset}
 
 -- ---- what waited for the end of a deferred reset
@@ -31,7 +31,7 @@ pub any_added : (tsn : ℕ) (chunk : ChunkModel) (old : ReassemblyState) → (ne
 any_added tsn chunk old =
     let (incoming, takes) = any_data tsn chunk old.incoming in
     by_test (can_count (length chunk.payload) old)
-    (λ fits. by_test (is_deferred tsn chunk.stream old.deferral)
+    (λ fits. by_test (is_data_deferred tsn chunk.stream old.deferral)
     (λ waits. (_, record { taken = λ _ now. absurd (cc); deferred = λ _ _. refl; too_much = λ full. absurd (cc) }))
     (λ now. (record old { incoming = incoming }, record { taken = λ _ _. record { incoming = takes; window = refl; deferral = refl }; deferred = λ _ waits. absurd (cc); too_much = λ full. absurd (cc) })))
     (λ full. (old, record { taken = λ fits _. absurd (cc); deferred = λ fits _. absurd (cc); too_much = λ _. refl }))
@@ -50,7 +50,7 @@ any_skipped tsn entries old =
         let (new, forwards) = any_beside tsn entries waiting old in
         (new, record { moved = λ now. absurd (cc); deferred = λ _ other same. (let equal : waiting ≡ other = cc in subst (λ (d : DeferralModel). ForwardsBeside tsn entries d old new) equal forwards) })
 
-pub any_left : (streams : List ℕ) (old : ReassemblyState) → (new : ReassemblyState) × Leaves streams old new
+pub any_left : (streams : List ℕ) (old : ReassemblyState) → (new : ReassemblyState) × EndsDeferral streams old new
 any_left streams old =
     let (between, resets) = any_reset streams old.incoming in
     let (handled, works) = any_works (waiting_of old.deferral) between in

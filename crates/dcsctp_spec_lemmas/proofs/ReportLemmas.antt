@@ -4,7 +4,7 @@ use Rattle.std.specs.List.{slice_get}
 use Rattle.dcsctp_spec.specs.wire.declared.chunk.sack.GapAckBlock.{GapAckBlock}
 use Rattle.dcsctp_spec.specs.queues.Items.{Item}
 use Rattle.dcsctp_spec.specs.types.queues.Progress.{is_unacknowledged}
-use Rattle.dcsctp_spec.specs.queues.Reports.{Names, IsNewlyAcknowledged, IsLast, Shows, MissesUntil}
+use Rattle.dcsctp_spec.specs.queues.Reports.{NamesItem, IsNewlyAcknowledged, IsLastPlace, ShowsMissing, MissesUntil}
 
 -- It holds, or it doesn't.
 abbrev Decided : Type 0 → Type 0
@@ -13,29 +13,29 @@ Decided Holds = Holds ⊎ (Holds → ⊥)
 -- ---- the last item of which something holds
 
 -- The last one of those behind the first is the last of all; the places count from the first.
-last_behind : (Holds : ℕ → Item → Type 0) (first : Item) (items : List Item) (place : ℕ) → IsLast (λ k item. Holds (suc k) item) items (Some place) → IsLast Holds (first ∷ items) (Some (suc place))
+last_behind : (Holds : ℕ → Item → Type 0) (first : Item) (items : List Item) (place : ℕ) → IsLastPlace (λ k item. Holds (suc k) item) items (Some place) → IsLastPlace Holds (first ∷ items) (Some (suc place))
 last_behind Holds first items place found = record { item = found.item; at = found.at; holds = found.holds; last = none_behind }
   where
     none_behind : (k : ℕ) (other : Item) → suc place < k → slice_get (first ∷ items) k ≡ Some other → Holds k other → ⊥
     none_behind zero other behind at holds = absurd (omega arith)
     none_behind (suc k) other behind at holds = found.last k other (omega arith) at holds
 
-first_is_last : (Holds : ℕ → Item → Type 0) (first : Item) (items : List Item) → Holds 0 first → IsLast (λ k item. Holds (suc k) item) items None → IsLast Holds (first ∷ items) (Some 0)
+first_is_last : (Holds : ℕ → Item → Type 0) (first : Item) (items : List Item) → Holds 0 first → IsLastPlace (λ k item. Holds (suc k) item) items None → IsLastPlace Holds (first ∷ items) (Some 0)
 first_is_last Holds first items here none = record { item = first; at = refl; holds = here; last = none_behind }
   where
     none_behind : (k : ℕ) (other : Item) → 0 < k → slice_get (first ∷ items) k ≡ Some other → Holds k other → ⊥
     none_behind zero other behind at holds = absurd (omega arith)
     none_behind (suc k) other behind at holds = none k other at holds
 
-none_is_last : (Holds : ℕ → Item → Type 0) (first : Item) (items : List Item) → (Holds 0 first → ⊥) → IsLast (λ k item. Holds (suc k) item) items None → IsLast Holds (first ∷ items) None
+none_is_last : (Holds : ℕ → Item → Type 0) (first : Item) (items : List Item) → (Holds 0 first → ⊥) → IsLastPlace (λ k item. Holds (suc k) item) items None → IsLastPlace Holds (first ∷ items) None
 none_is_last Holds first items not_here none zero other at holds = let same : other ≡ first = cc in not_here (subst (Holds 0) same holds)
 none_is_last Holds first items not_here none (suc k) other at holds = none k other at holds
 
-some_last : (Holds : ℕ → Item → Type 0) → ((k : ℕ) (item : Item) → Decided (Holds k item)) → (items : List Item) → (place : Option ℕ) × IsLast Holds items place
+some_last : (Holds : ℕ → Item → Type 0) → ((k : ℕ) (item : Item) → Decided (Holds k item)) → (items : List Item) → (place : Option ℕ) × IsLastPlace Holds items place
 some_last Holds decided [] = (None, λ k item at holds. absurd (cc))
 some_last Holds decided (first ∷ items) = let (place, last) = some_last (λ k item. Holds (suc k) item) (λ k item. decided (suc k) item) items in go place last
   where
-    go : (place : Option ℕ) → IsLast (λ k item. Holds (suc k) item) items place → (place : Option ℕ) × IsLast Holds (first ∷ items) place
+    go : (place : Option ℕ) → IsLastPlace (λ k item. Holds (suc k) item) items place → (place : Option ℕ) × IsLastPlace Holds (first ∷ items) place
     go (Some place) found = (Some (suc place), last_behind Holds first items place found)
     go None none = elim (decided 0 first) [
       | inl here ↦ (Some 0, first_is_last Holds first items here none)
@@ -61,7 +61,7 @@ true_decided : (b : Bool) → Decided (b ≡ true)
 true_decided true = inl refl
 true_decided false = inr (λ is. absurd (cc))
 
-names_decided : (count : ℕ) (blocks : List GapAckBlock) (place : ℕ) → Decided (Names count blocks place)
+names_decided : (count : ℕ) (blocks : List GapAckBlock) (place : ℕ) → Decided (NamesItem count blocks place)
 names_decided count [] place = inr (λ named. named)
 names_decided count (block ∷ blocks) place =
     either_decided (both_decided (le_decided (count + block.start) (place + 1)) (le_decided (place + 1) (count + block.end))) (names_decided count blocks place)
@@ -70,15 +70,15 @@ newly_decided : (count : ℕ) (blocks : List GapAckBlock) (place : ℕ) (item : 
 newly_decided count blocks place item =
     both_decided (either_decided (le_decided (suc place) count) (names_decided count blocks place)) (true_decided (is_unacknowledged item.progress.state))
 
-shows_decided : (recovering : Bool) (count : ℕ) (blocks : List GapAckBlock) (place : ℕ) (item : Item) → Decided (Shows recovering count blocks place item)
+shows_decided : (recovering : Bool) (count : ℕ) (blocks : List GapAckBlock) (place : ℕ) (item : Item) → Decided (ShowsMissing recovering count blocks place item)
 shows_decided false count blocks place item = newly_decided count blocks place item
 shows_decided true count blocks place item = names_decided count blocks place
 
-pub some_newest : (count : ℕ) (blocks : List GapAckBlock) (items : List Item) → (newest : Option ℕ) × IsLast (IsNewlyAcknowledged count blocks) items newest
+pub some_newest : (count : ℕ) (blocks : List GapAckBlock) (items : List Item) → (newest : Option ℕ) × IsLastPlace (IsNewlyAcknowledged count blocks) items newest
 some_newest count blocks items = some_last (IsNewlyAcknowledged count blocks) (newly_decided count blocks) items
 
 -- The missing items are those before the last one that shows it; none are if no item does.
-limit_from : (recovering : Bool) (count : ℕ) (blocks : List GapAckBlock) (items : List Item) (found : Option ℕ) → IsLast (Shows recovering count blocks) items found
+limit_from : (recovering : Bool) (count : ℕ) (blocks : List GapAckBlock) (items : List Item) (found : Option ℕ) → IsLastPlace (ShowsMissing recovering count blocks) items found
     → (limit : ℕ) × MissesUntil recovering count blocks items limit
 limit_from recovering count blocks items None none = (0, λ place. (λ below. absurd (omega arith), λ missing. absurd (none missing.shown_by missing.item missing.at missing.shows)))
 limit_from recovering count blocks items (Some last) found = (
@@ -94,5 +94,5 @@ limit_from recovering count blocks items (Some last) found = (
 
 pub some_limit : (recovering : Bool) (count : ℕ) (blocks : List GapAckBlock) (items : List Item) → (limit : ℕ) × MissesUntil recovering count blocks items limit
 some_limit recovering count blocks items =
-    let (found, last) = some_last (Shows recovering count blocks) (shows_decided recovering count blocks) items in
+    let (found, last) = some_last (ShowsMissing recovering count blocks) (shows_decided recovering count blocks) items in
     limit_from recovering count blocks items found last

@@ -4,7 +4,7 @@ use Rattle.dcsctp_spec.specs.wire.CleanBlocks.{blocks_in}
 use Rattle.dcsctp_spec.specs.wire.Content.{SackContent}
 use Rattle.dcsctp_spec.specs.wire.declared.chunk.sack.GapAckBlock.{GapAckBlock}
 use Rattle.dcsctp_spec.specs.queues.Acknowledging.{AcknowledgesItems, exiting, is_recovering}
-use Rattle.dcsctp_spec.specs.queues.Outstanding.{acknowledged_by}
+use Rattle.dcsctp_spec.specs.queues.Outstanding.{acknowledged_count}
 use Rattle.dcsctp_spec.specs.queues.Retransmission.{RetransmissionState}
 use Rattle.dcsctp_spec.specs.queues.RoundTrip.{MeasuresRoundTrip}
 use Rattle.dcsctp_spec.specs.queues.Transfer.{Transfer}
@@ -14,7 +14,7 @@ use Rattle.dcsctp_spec_lemmas.proofs.ReportLemmas.{some_limit, some_newest}
 
 some_acknowledged : (now cumulative window : ℕ) (blocks : List GapAckBlock) (old : RetransmissionState) → (new : RetransmissionState) × AcknowledgesItems now cumulative window blocks old new
 some_acknowledged now cumulative window blocks old =
-    let count : ℕ = acknowledged_by old.outstanding cumulative in
+    let count : ℕ = acknowledged_count old.outstanding cumulative in
     let (limit, missing) = some_limit (is_recovering count (exiting cumulative old)) count blocks old.outstanding.items in
     let (newest, is_newest) = some_newest count blocks old.outstanding.items in
     (_, record { limit = limit; missing = missing; newest = newest; is_newest = is_newest; is = refl })
@@ -28,5 +28,5 @@ pub some_taken : (now : ℕ) (sack : SackContent) (transfer : Transfer) → (lef
 some_taken now sack transfer =
     let (blocks, cleaned) = some_cleaned (blocks_in sack.gap_ack_blocks) in
     let (left, acknowledges) = some_acknowledged now sack.cumulative_tsn_ack sack.a_rwnd blocks transfer.retransmission in
-    let (round_trip, measures) = some_measured now (acknowledged_by transfer.retransmission.outstanding sack.cumulative_tsn_ack) blocks transfer.retransmission in
+    let (round_trip, measures) = some_measured now (acknowledged_count transfer.retransmission.outstanding sack.cumulative_tsn_ack) blocks transfer.retransmission in
     (_, record { blocks = blocks; cleaned = cleaned; left = left; acknowledges = acknowledges; round_trip = round_trip; measures = measures; is = refl })

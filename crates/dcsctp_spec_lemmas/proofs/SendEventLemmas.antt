@@ -5,9 +5,9 @@ use Rattle.dcsctp_spec.specs.endpoint.Event.{Event, event_map, buffered_amount_l
 use Rattle.dcsctp_spec.specs.Packet.{Emission}
 use Rattle.dcsctp_spec.specs.types.queues.SendStreams.{Waiting, Stream}
 use Rattle.dcsctp_spec.specs.queues.SendEvents.{expiry_events, expiries, falls_low, low_events}
-use Rattle.dcsctp_spec.specs.queues.SendQueue.{SendQueueState, stream_of}
-use Rattle.dcsctp_spec.specs.queues.OwnResets.{is_open, dropped_of, dropped_size, with_used, prepared, prepare_events_in, prepare_events, prepare_all_events}
-use Rattle.dcsctp_spec.specs.endpoint.FlushOutcomes.{Told, amount_is_low, total_amount_is_low, message_has_expired, message_ends, told_event}
+use Rattle.dcsctp_spec.specs.queues.SendQueue.{SendQueueState, queue_stream}
+use Rattle.dcsctp_spec.specs.queues.OwnResets.{is_open_pause, dropped_of, dropped_size, with_used, prepared, prepare_events_in, prepare_events, prepare_all_events}
+use Rattle.dcsctp_spec.specs.endpoint.FlushOutcomes.{FillingEvent, amount_is_low, total_amount_is_low, message_has_expired, message_ends, filling_event}
 
 abbrev Events : Type 0
 Events = List (Event Emission)
@@ -15,8 +15,8 @@ Events = List (Event Emission)
 -- ---- they are among those that a flush may tell
 
 pub record AreTold (events : Events) : Type 0 where
-  pub told : List Told
-  pub is : events ≡ map told_event told
+  pub told : List FillingEvent
+  pub is : events ≡ map filling_event told
 
 told_none : AreTold []
 told_none = record { told = []; is = refl }
@@ -26,7 +26,7 @@ told_both a b first later =
     record {
       told = first.told ++ later.told;
       is = ap (λ (x : Events). x ++ b) first.is
-          ∙ (ap (λ (x : Events). map told_event first.told ++ x) later.is ∙ sym (map-append told_event first.told later.told));
+          ∙ (ap (λ (x : Events). map filling_event first.told ++ x) later.is ∙ sym (map-append filling_event first.told later.told));
     }
 
 told_low_by : (b c : Bool) (id : ℕ) → AreTold ((if b then buffered_amount_low id ∷ [] else []) ++ (if c then total_buffered_amount_low ∷ [] else []))
@@ -47,12 +47,12 @@ told_expiries [] = told_none
 told_expiries (message ∷ messages) = told_both (expiry_events message) (expiries messages) (told_expiry_by message message.lifecycle refl) (told_expiries messages)
 
 told_in : (id : ℕ) (queue : SendQueueState) → AreTold (prepare_events_in id queue)
-told_in id queue = by_pause (is_open (stream_of queue id).pause)
+told_in id queue = by_pause (is_open_pause (queue_stream queue id).pause)
   where
-    by_pause : (b : Bool) → AreTold (if b then low_events (stream_of queue id) queue.total_threshold queue.total_amount (dropped_size id queue) ++ expiries (dropped_of id queue) else [])
+    by_pause : (b : Bool) → AreTold (if b then low_events (queue_stream queue id) queue.total_threshold queue.total_amount (dropped_size id queue) ++ expiries (dropped_of id queue) else [])
     by_pause true =
-        told_both (low_events (stream_of queue id) queue.total_threshold queue.total_amount (dropped_size id queue)) (expiries (dropped_of id queue))
-        (told_low (stream_of queue id) queue.total_threshold queue.total_amount (dropped_size id queue)) (told_expiries (dropped_of id queue))
+        told_both (low_events (queue_stream queue id) queue.total_threshold queue.total_amount (dropped_size id queue)) (expiries (dropped_of id queue))
+        (told_low (queue_stream queue id) queue.total_threshold queue.total_amount (dropped_size id queue)) (told_expiries (dropped_of id queue))
     by_pause false = told_none
 
 pub told_prepared : (ids : List ℕ) (queue : SendQueueState) → AreTold (prepare_all_events ids queue)
@@ -89,14 +89,14 @@ module _ {P Q : Type 0} (f : P → Q) where
       both_mapped (expiry_events message) (expiries messages) (expiry_events message) (expiries messages) (expiry_mapped message message.lifecycle refl) (expiries_mapped messages)
 
   mapped_in : (id : ℕ) (queue : SendQueueState) → map (event_map f) (prepare_events_in id queue) ≡ prepare_events_in id queue
-  mapped_in id queue = by_pause (is_open (stream_of queue id).pause)
+  mapped_in id queue = by_pause (is_open_pause (queue_stream queue id).pause)
     where
-      by_pause : (b : Bool) → map (event_map f) (if b then low_events (stream_of queue id) queue.total_threshold queue.total_amount (dropped_size id queue) ++ expiries (dropped_of id queue) else [])
-          ≡ (if b then low_events (stream_of queue id) queue.total_threshold queue.total_amount (dropped_size id queue) ++ expiries (dropped_of id queue) else [])
+      by_pause : (b : Bool) → map (event_map f) (if b then low_events (queue_stream queue id) queue.total_threshold queue.total_amount (dropped_size id queue) ++ expiries (dropped_of id queue) else [])
+          ≡ (if b then low_events (queue_stream queue id) queue.total_threshold queue.total_amount (dropped_size id queue) ++ expiries (dropped_of id queue) else [])
       by_pause true =
-          both_mapped (low_events (stream_of queue id) queue.total_threshold queue.total_amount (dropped_size id queue)) (expiries (dropped_of id queue))
-          (low_events (stream_of queue id) queue.total_threshold queue.total_amount (dropped_size id queue)) (expiries (dropped_of id queue))
-          (low_mapped (stream_of queue id) queue.total_threshold queue.total_amount (dropped_size id queue)) (expiries_mapped (dropped_of id queue))
+          both_mapped (low_events (queue_stream queue id) queue.total_threshold queue.total_amount (dropped_size id queue)) (expiries (dropped_of id queue))
+          (low_events (queue_stream queue id) queue.total_threshold queue.total_amount (dropped_size id queue)) (expiries (dropped_of id queue))
+          (low_mapped (queue_stream queue id) queue.total_threshold queue.total_amount (dropped_size id queue)) (expiries_mapped (dropped_of id queue))
       by_pause false = refl
 
   pub prepare_mapped : (id : ℕ) (queue : SendQueueState) → map (event_map f) (prepare_events id queue) ≡ prepare_events id queue

@@ -3,8 +3,8 @@ use Rattle.std.proofs.Common.{◌≡◌, ◌∙◌, ◌⊎◌, inl, inr, ℕ, ze
 use Rattle.std.proofs.lemmas.Bool.Decides.{nat_tests}
 use Rattle.std.proofs.lemmas.List.Sums.{sum_by_push}
 use Rattle.dcsctp_spec.specs.endpoint.Event.{Event}
-use Rattle.dcsctp_spec.specs.queues.Filling.{Stage, SendsNew, MayAdd, StepNew, Steps, more as one_more_step, payload_room}
-use Rattle.dcsctp_spec.specs.queues.Items.{Item, marked_count, marked_items, size_of}
+use Rattle.dcsctp_spec.specs.queues.Filling.{Stage, SendsNew, MayAdd, StepNew, StageSteps, more as one_more_step, payload_room}
+use Rattle.dcsctp_spec.specs.queues.Items.{Item, marked_count, marked_items, item_size}
 use Rattle.dcsctp_spec.specs.queues.NextItem.{HaltsNew}
 use Rattle.dcsctp_spec.specs.queues.Outstanding.{header, header_of, next_tsn}
 use Rattle.dcsctp_spec.specs.types.queues.Progress.{just_sent}
@@ -38,11 +38,11 @@ HaltsThere sent = HaltsNew sent.room sent.queue sent.waiting
 -- what is sent from this stage until nothing more goes, and the events of it, of which these were told before
 abbrev pub SendsOn : ℕ → Stage → Stage → Told → Type 0
 SendsOn now old mid events =
-    (sent : Stage) × Steps (StepNew now) old sent × (marked_items sent.queue.outstanding.items ≡ 0) × HaltsThere sent × ((rest : Told) × (sent.told ≡ mid.told ++ (events ++ rest)))
+    (sent : Stage) × StageSteps (StepNew now) old sent × (marked_items sent.queue.outstanding.items ≡ 0) × HaltsThere sent × ((rest : Told) × (sent.told ≡ mid.told ++ (events ++ rest)))
 
 -- What fits goes on.
 abbrev Onward : ℕ → Stage → Stage → Type 0
-Onward now old mid = (new : Stage) → Steps (StepNew now) old new → marked_items new.queue.outstanding.items ≡ 0 → new.room < mid.room → SendsOn now old new []
+Onward now old mid = (new : Stage) → StageSteps (StepNew now) old new → marked_items new.queue.outstanding.items ≡ 0 → new.room < mid.room → SendsOn now old new []
 
 abbrev TakesSomeAt : ℕ → Stage → Told → Type 0
 TakesSomeAt now mid events = TakesSome now (payload_room (header mid.queue.outstanding) mid.room) mid.waiting mid.told events
@@ -57,13 +57,13 @@ stage_with now mid events t = record mid {
   waiting = t.new;
   told = t.telling;
   tsns = mid.tsns ++ next_tsn mid.queue.outstanding ∷ [];
-  room = mid.room - size_of (header mid.queue.outstanding) (item_of now mid events t);
+  room = mid.room - item_size (header mid.queue.outstanding) (item_of now mid events t);
 }
 
 sends_some : (now : ℕ) (mid : Stage) (events : Told) → (t : TakesSomeAt now mid events) → SendsNew now mid (stage_with now mid events t)
 sends_some now mid events t = record { item = item_of now mid events t; is_fresh = record { progress = refl; sent_at = refl }; begins = refl; takes = t.takes; is = refl }
 
-after_some : (now : ℕ) (old mid : Stage) (events : Told) → Steps (StepNew now) old mid → MayAdd mid → Onward now old mid → TakesSomeAt now mid events → SendsOn now old mid events
+after_some : (now : ℕ) (old mid : Stage) (events : Told) → StageSteps (StepNew now) old mid → MayAdd mid → Onward now old mid → TakesSomeAt now mid events → SendsOn now old mid events
 after_some now old mid events steps may onward t =
     let new : Stage = stage_with now mid events t in
     let positive = (header_small mid.queue.outstanding.is_interleaved).0 in
@@ -74,21 +74,21 @@ after_some now old mid events steps may onward t =
     let told = grows ∙ (ap (λ (es : Told). es ++ rest) t.grows ∙ (append_assoc mid.told (events ++ t.rest) rest ∙ ap (λ (es : Told). mid.told ++ es) (append_assoc events t.rest rest))) in
     (sent, sending, unmarked, halts, (t.rest ++ rest, told))
 
-after_nothing : (now : ℕ) (old mid : Stage) (events : Told) → Steps (StepNew now) old mid → MayAdd mid → TakesNothing now mid.waiting mid.told events → SendsOn now old mid events
+after_nothing : (now : ℕ) (old mid : Stage) (events : Told) → StageSteps (StepNew now) old mid → MayAdd mid → TakesNothing now mid.waiting mid.told events → SendsOn now old mid events
 after_nothing now old mid events steps may t =
     let new : Stage = record mid { waiting = t.new; told = t.telling } in
     (new, one_more_step mid new steps (may, inr (record { takes = t.takes; is = refl })), may.none_marked, inr (inr (inr (inl t.none_left))), (t.rest, t.grows))
 
-after_taking : (now : ℕ) (old mid : Stage) (events : Told) → Steps (StepNew now) old mid → MayAdd mid → Onward now old mid
+after_taking : (now : ℕ) (old mid : Stage) (events : Told) → StageSteps (StepNew now) old mid → MayAdd mid → Onward now old mid
     → Taking now (payload_room (header mid.queue.outstanding) mid.room) mid.waiting mid.told events → SendsOn now old mid events
 after_taking now old mid events steps may onward (inl t) = after_some now old mid events steps may onward t
 after_taking now old mid events steps may onward (inr t) = after_nothing now old mid events steps may t
 
 -- Nothing more goes from here.
-stays : (now : ℕ) (old mid : Stage) → Steps (StepNew now) old mid → marked_items mid.queue.outstanding.items ≡ 0 → HaltsThere mid → SendsOn now old mid []
+stays : (now : ℕ) (old mid : Stage) → StageSteps (StepNew now) old mid → marked_items mid.queue.outstanding.items ≡ 0 → HaltsThere mid → SendsOn now old mid []
 stays now old mid steps unmarked halts = (mid, steps, unmarked, halts, ([], sym (append-nil mid.told)))
 
-goes_or_stays : (now : ℕ) (old mid : Stage) → Steps (StepNew now) old mid → MayAdd mid → Onward now old mid
+goes_or_stays : (now : ℕ) (old mid : Stage) → StageSteps (StepNew now) old mid → MayAdd mid → Onward now old mid
     → TakingUnlessStuck now (payload_room (header mid.queue.outstanding) mid.room) mid.waiting mid.told → SendsOn now old mid []
 goes_or_stays now old mid steps may onward (inl stuck) = stays now old mid steps may.none_marked (inr (inr (inr (inr stuck))))
 goes_or_stays now old mid steps may onward (inr taking) = after_taking now old mid [] steps may onward taking
@@ -106,22 +106,22 @@ may_or_halts mid unmarked =
     (λ few. inl (record { allowed = allowed; none_marked = unmarked; fits = grind (arith, nat_tests); comparable = grind (arith, nat_tests) }))))
     (λ refused. inr (inl refused))
 
-sends_on : (now : ℕ) (old mid : Stage) → Steps (StepNew now) old mid → marked_items mid.queue.outstanding.items ≡ 0 → Onward now old mid → SendsOn now old mid []
+sends_on : (now : ℕ) (old mid : Stage) → StageSteps (StepNew now) old mid → marked_items mid.queue.outstanding.items ≡ 0 → Onward now old mid → SendsOn now old mid []
 sends_on now old mid steps unmarked onward = elim (may_or_halts mid unmarked) [
   | inl may ↦ goes_or_stays now old mid steps may onward (taken now (payload_room (header mid.queue.outstanding) mid.room) mid.waiting mid.told)
   | inr halts ↦ stays now old mid steps unmarked halts
 ]
 
-sent_within : (now : ℕ) (old : Stage) (room : ℕ) (mid : Stage) → Steps (StepNew now) old mid → marked_items mid.queue.outstanding.items ≡ 0 → mid.room ≤ room → SendsOn now old mid []
+sent_within : (now : ℕ) (old : Stage) (room : ℕ) (mid : Stage) → StageSteps (StepNew now) old mid → marked_items mid.queue.outstanding.items ≡ 0 → mid.room ≤ room → SendsOn now old mid []
 sent_within now old zero mid steps unmarked within = sends_on now old mid steps unmarked (λ new more_steps still less. absurd (omega arith))
 sent_within now old (suc room) mid steps unmarked within =
     sends_on now old mid steps unmarked (λ new more_steps still less. sent_within now old room new more_steps still (omega arith))
 
-pub sent_from : (now : ℕ) (old mid : Stage) → Steps (StepNew now) old mid → marked_items mid.queue.outstanding.items ≡ 0 → SendsOn now old mid []
+pub sent_from : (now : ℕ) (old mid : Stage) → StageSteps (StepNew now) old mid → marked_items mid.queue.outstanding.items ≡ 0 → SendsOn now old mid []
 sent_from now old mid steps unmarked = sent_within now old mid.room mid steps unmarked (omega arith)
 
 -- Messages were dropped that are too old: their events are the first that are told.
-pub sent_from_dropped : (now : ℕ) (old mid : Stage) (events : Told) (left : SendQueueState) → Steps (StepNew now) old mid → MayAdd mid → mid.waiting.under_way ≡ None → Drops now mid.waiting events left
+pub sent_from_dropped : (now : ℕ) (old mid : Stage) (events : Told) (left : SendQueueState) → StageSteps (StepNew now) old mid → MayAdd mid → mid.waiting.under_way ≡ None → Drops now mid.waiting events left
     → SendsOn now old mid events
 sent_from_dropped now old mid events left steps may idle drops =
     after_taking now old mid events steps may (λ new more_steps still less. sent_from now old new more_steps still)

@@ -4,10 +4,10 @@ use Rattle.std.proofs.lemmas.Bool.Decides.{nat_tests}
 use Rattle.std.proofs.lemmas.List.{length-take}
 use Rattle.dcsctp_spec.specs.endpoint.Event.{Event}
 use Rattle.dcsctp_spec.specs.types.declared.sending.UnderWay.{UnderWay}
-use Rattle.dcsctp_spec.specs.queues.NextItem.{HasNone, GoesOn, IsStuck}
+use Rattle.dcsctp_spec.specs.queues.NextItem.{HasNone, HasMessageUnderWay, IsStuck}
 use Rattle.dcsctp_spec.specs.queues.SendQueue.{SendQueueState}
 use Rattle.dcsctp_spec.specs.types.queues.SendStreams.{Waiting, Stream, front_of, is_expired, stream_at, turns_of, IsNext}
-use Rattle.dcsctp_spec.specs.queues.Sending.{Fragment, Chooses, begun, fragment, size_produced, produced, produced_events, drop_events, without_rest, Drops, none as none_dropped, more as one_more_dropped, Takes, TakesNone}
+use Rattle.dcsctp_spec.specs.queues.Sending.{Fragment, Chooses, begun, fragment, size_produced, produced, produced_events, drop_events, without_rest, Drops, none as none_dropped, more as one_more_dropped, TakesFragment, TakesNone}
 use Rattle.dcsctp_spec_lemmas.proofs.TurnOutcomes.{by_test, next_turn, next_front, count_messages, count_dropped}
 
 abbrev Told : Type 0
@@ -25,7 +25,7 @@ pub record TakesSome (now max : ℕ) (old : SendQueueState) (told events : Told)
   pub part : Fragment
   pub new : SendQueueState
   pub telling : Told
-  pub takes : Takes now max old told part new telling
+  pub takes : TakesFragment now max old told part new telling
   pub at_most : length part.payload ≤ max
   pub rest : Told
   pub grows : telling ≡ told ++ (events ++ rest)
@@ -152,22 +152,22 @@ here_decided x u =
     (λ apart. inr (λ here. let e = here.0 in grind (arith, nat_tests)))
 
 here_or_behind : (x : Stream) (xs : List Stream) (u : UnderWay) (place : ℕ) (message : Waiting) → place < length (x ∷ xs) → (stream_at (x ∷ xs) place).id ≡ u.stream_id.0
-    → front_of (stream_at (x ∷ xs) place).messages ≡ Some message → GoesOnHere x u ⊎ GoesOn xs u
+    → front_of (stream_at (x ∷ xs) place).messages ≡ Some message → GoesOnHere x u ⊎ HasMessageUnderWay xs u
 here_or_behind x xs u zero message within is front = inl (is, (message, front))
 here_or_behind x xs u (suc place) message within is front = inr (record { place = place; within = omega arith; is = is; message = message; front = front })
 
-on_front : (x : Stream) (xs : List Stream) (u : UnderWay) → Decided (GoesOnHere x u) → Decided (GoesOn xs u) → Decided (GoesOn (x ∷ xs) u)
+on_front : (x : Stream) (xs : List Stream) (u : UnderWay) → Decided (GoesOnHere x u) → Decided (HasMessageUnderWay xs u) → Decided (HasMessageUnderWay (x ∷ xs) u)
 on_front x xs u (inl here) behind = inl (record { place = 0; within = omega arith; is = here.0; message = here.1.0; front = here.1.1 })
 on_front x xs u (inr not_here) (inl g) =
     inl (record { place = suc g.place; within = let w = g.within in omega arith; is = g.is; message = g.message; front = g.front })
 on_front x xs u (inr not_here) (inr not_behind) =
     inr (λ g. elim (here_or_behind x xs u g.place g.message g.within g.is g.front) as (λ z. ⊥) [ inl here ↦ not_here here | inr behind ↦ not_behind behind ])
 
-goes_on_decided : (streams : List Stream) (u : UnderWay) → Decided (GoesOn streams u)
+goes_on_decided : (streams : List Stream) (u : UnderWay) → Decided (HasMessageUnderWay streams u)
 goes_on_decided [] u = inr (λ g. let w = g.within in omega arith)
 goes_on_decided (x ∷ xs) u = on_front x xs u (here_decided x u) (goes_on_decided xs u)
 
-goes_further : (now max : ℕ) (old : SendQueueState) (told : Told) (u : UnderWay) → old.under_way ≡ Some u → GoesOn old.streams u → TakesSome now max old told []
+goes_further : (now max : ℕ) (old : SendQueueState) (told : Told) (u : UnderWay) → old.under_way ≡ Some u → HasMessageUnderWay old.streams u → TakesSome now max old told []
 goes_further now max old told u is g =
     record {
       part = fragment u g.message (size_produced max g.message u);
@@ -202,7 +202,7 @@ taken_by : (now max : ℕ) (old : SendQueueState) (told : Told) (under_way : Opt
 taken_by now max old told None is = inr (taken_after now max old old told [] is none_dropped)
 taken_by now max old told (Some u) is = by_going (goes_on_decided old.streams u)
   where
-    by_going : Decided (GoesOn old.streams u) → TakingUnlessStuck now max old told
+    by_going : Decided (HasMessageUnderWay old.streams u) → TakingUnlessStuck now max old told
     by_going (inl g) = inr (inl (goes_further now max old told u is g))
     by_going (inr lost) = inl (rw is lost)
 

@@ -4,13 +4,13 @@ use Rattle.std.proofs.lemmas.List.{append-nil, map-append}
 use Rattle.dcsctp_spec.specs.endpoint.Event.{Event}
 use Rattle.dcsctp_spec.specs.types.declared.sending.UnderWay.{UnderWay}
 use Rattle.dcsctp_spec.specs.queues.Abandoning.{GivesUpFirst, GivesUpAll}
-use Rattle.dcsctp_spec.specs.queues.Filling.{Stage, maybe_expired, Closes, GivesUpAt, SendsNew, FindsNone, StepAgain, StepNew, Steps, none, more, counting, FillsPacket}
+use Rattle.dcsctp_spec.specs.queues.Filling.{Stage, maybe_expired, ClosesMessage, GivesUpAt, SendsNew, FindsNone, StepAgain, StepNew, StageSteps, none, more, resent_packet_counted, FillsPacket}
 use Rattle.dcsctp_spec.specs.queues.Items.{Item}
 use Rattle.dcsctp_spec.specs.queues.SendEvents.{expiry_events, sent_events, falls_low, low_events}
 use Rattle.dcsctp_spec.specs.queues.SendQueue.{SendQueueState}
 use Rattle.dcsctp_spec.specs.types.queues.SendStreams.{Waiting, Stream, stream_at}
 use Rattle.dcsctp_spec.specs.queues.Sending.{Drops, none as none_dropped, more as more_dropped, DropsAll, drop_events, part_events, last_events, is_last, produced_events, DiscardsNamed}
-use Rattle.dcsctp_spec.specs.endpoint.FlushOutcomes.{Told, amount_is_low, total_amount_is_low, message_is_sent, message_may_have_expired, message_has_expired, message_ends, told_content, FillsWhere}
+use Rattle.dcsctp_spec.specs.endpoint.FlushOutcomes.{FillingEvent, amount_is_low, total_amount_is_low, message_is_sent, message_may_have_expired, message_has_expired, message_ends, filling_event_content, FillsWhere}
 
 abbrev Events : Type 0
 Events = List (Event (List ℕ))
@@ -18,8 +18,8 @@ Events = List (Event (List ℕ))
 -- ---- events that the user may be told
 
 pub record AreTold (events : Events) : Type 0 where
-  pub told : List Told
-  pub is : events ≡ map told_content told
+  pub told : List FillingEvent
+  pub is : events ≡ map filling_event_content told
 
 told_none : AreTold []
 told_none = record { told = []; is = refl }
@@ -32,10 +32,10 @@ told_both a b first later =
     record {
       told = first.told ++ later.told;
       is = ap (λ (x : Events). x ++ b) first.is
-          ∙ (ap (λ (x : Events). map told_content first.told ++ x) later.is ∙ sym (map-append told_content first.told later.told));
+          ∙ (ap (λ (x : Events). map filling_event_content first.told ++ x) later.is ∙ sym (map-append filling_event_content first.told later.told));
     }
 
-told_if : (b : Bool) (told : Told) → AreTold (if b then told_content told ∷ [] else [])
+told_if : (b : Bool) (told : FillingEvent) → AreTold (if b then filling_event_content told ∷ [] else [])
 told_if true told = record { told = told ∷ []; is = refl }
 told_if false told = told_none
 
@@ -84,8 +84,8 @@ told_drops now old new events (more_dropped before queue place message drops nex
 
 -- The user was told some of that, and nothing else.
 pub record TellsMore (before after : Events) : Type 0 where
-  pub told : List Told
-  pub is : after ≡ before ++ map told_content told
+  pub told : List FillingEvent
+  pub is : after ≡ before ++ map filling_event_content told
 
 pub tells_same : (before after : Events) → after ≡ before → TellsMore before after
 tells_same before after same = record { told = []; is = same ∙ sym (append-nil before) }
@@ -98,8 +98,8 @@ tells_then a b c first later =
     record {
       told = first.told ++ later.told;
       is = later.is
-          ∙ (ap (λ (x : Events). x ++ map told_content later.told) first.is
-          ∙ (append_assoc a (map told_content first.told) (map told_content later.told) ∙ ap (λ (x : Events). a ++ x) (sym (map-append told_content first.told later.told))));
+          ∙ (ap (λ (x : Events). x ++ map filling_event_content later.told) first.is
+          ∙ (append_assoc a (map filling_event_content first.told) (map filling_event_content later.told) ∙ ap (λ (x : Events). a ++ x) (sym (map-append filling_event_content first.told later.told))));
     }
 
 -- ---- steps
@@ -112,7 +112,7 @@ tells_discarded old new stream id before after true does =
     tells_these before _ after (told_drop does.named.place does.named.under_way.sent does.named.message old) does.events
 tells_discarded old new stream id before after false does = tells_same before after does.2
 
-tells_closed : (now : ℕ) (last : Item) (old new : Stage) (is_end : Bool) → Closes now last old new is_end → TellsMore old.told new.told
+tells_closed : (now : ℕ) (last : Item) (old new : Stage) (is_end : Bool) → ClosesMessage now last old new is_end → TellsMore old.told new.told
 tells_closed now last old new true closes =
     tells_these old.told _ new.told (told_maybe last.fragment.lifecycle) (ap (λ (s : Stage). s.told) closes)
 tells_closed now last old new false (inl drops) =
@@ -138,7 +138,7 @@ tells_anew_by now old new (inr finds) = tells_dropped now old.waiting new.waitin
 tells_anew : (now : ℕ) (old new : Stage) → StepNew now old new → TellsMore old.told new.told
 tells_anew now old new step = tells_anew_by now old new step.1
 
-pub tells_steps : (Step : Stage → Stage → Type 0) → ((a b : Stage) → Step a b → TellsMore a.told b.told) → (old new : Stage) → Steps Step old new → TellsMore old.told new.told
+pub tells_steps : (Step : Stage → Stage → Type 0) → ((a b : Stage) → Step a b → TellsMore a.told b.told) → (old new : Stage) → StageSteps Step old new → TellsMore old.told new.told
 tells_steps Step each old new none = tells_same old.told old.told refl
 tells_steps Step each old new (more between new' steps step) =
     tells_then old.told between.told new'.told (tells_steps Step each old between steps) (each between new' step)
@@ -156,7 +156,7 @@ tells_filled now old new h =
     let fills = h.fills in
     tells_then old.told h.sent.told new.told
     (tells_then old.told fills.resent.told h.sent.told (tells_steps (StepAgain now) (tells_again now) old fills.resent fills.again)
-    (tells_steps (StepNew now) (tells_anew now) (counting old.room fills.resent) h.sent fills.anew))
+    (tells_steps (StepNew now) (tells_anew now) (resent_packet_counted old.room fills.resent) h.sent fills.anew))
     (tells_same h.sent.told new.told (ap (λ (s : Stage). s.told) h.is))
 
 pub tells_where : (b : Bool) (now : ℕ) (old new : Stage) → FillsWhere b now old new → TellsMore old.told new.told

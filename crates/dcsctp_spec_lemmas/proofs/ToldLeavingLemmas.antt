@@ -2,7 +2,7 @@
 use Rattle.std.proofs.Common.{◌≡◌, ◌∙◌, ℕ, Bool, true, false, List, ◌++◌, append_assoc, refl, ap, sym}
 use Rattle.dcsctp_spec.specs.endpoint.Event.{Event}
 use Rattle.dcsctp_spec.specs.queues.SendQueue.{SendQueueState}
-use Rattle.dcsctp_spec.specs.queues.Sending.{Fragment, DropsAll, drop_events, produced_events, Takes, TakesNone, DiscardsNamed}
+use Rattle.dcsctp_spec.specs.queues.Sending.{Fragment, DropsAll, drop_events, produced_events, TakesFragment, TakesNone, DiscardsNamed}
 
 abbrev Events : Type 0
 Events = List (Event (List ℕ))
@@ -17,8 +17,8 @@ behind_dropped : (front : Events) (now : ℕ) (old new : SendQueueState) (before
 behind_dropped front now old new before after drops =
     record { events = drops.events; drops = drops.drops; told = behind_more front before drops.events after drops.told }
 
-pub behind_taken : (front : Events) (now max : ℕ) (old new : SendQueueState) (part : Fragment) (before after : Events) → Takes now max old before part new after
-    → Takes now max old (front ++ before) part new (front ++ after)
+pub behind_taken : (front : Events) (now max : ℕ) (old new : SendQueueState) (part : Fragment) (before after : Events) → TakesFragment now max old before part new after
+    → TakesFragment now max old (front ++ before) part new (front ++ after)
 behind_taken front now max old new part before after takes =
     record {
       queue = takes.queue;
@@ -60,8 +60,8 @@ before_dropped front now old new before after drops =
       is = drops.told ∙ append_assoc front before drops.events;
     }
 
-pub before_taken : (front : Events) (now max : ℕ) (old new : SendQueueState) (part : Fragment) (before after : Events) → Takes now max old (front ++ before) part new after
-    → Behind front (Takes now max old before part new) after
+pub before_taken : (front : Events) (now max : ℕ) (old new : SendQueueState) (part : Fragment) (before after : Events) → TakesFragment now max old (front ++ before) part new after
+    → Behind front (TakesFragment now max old before part new) after
 before_taken front now max old new part before after takes =
     let dropped = before_dropped front now old takes.queue before takes.told takes.drops in
     let events : Events = produced_events takes.place max takes.message takes.under_way takes.queue in

@@ -3,8 +3,8 @@ use Rattle.std.proofs.Common.{◌≡◌, ◌∙◌, inl, inr, ℕ, ◌+◌, ◌-
 use Rattle.dcsctp_spec.specs.types.declared.progress.Change.TheVariants.{Abandon}
 use Rattle.dcsctp_spec.specs.endpoint.Event.{Event}
 use Rattle.dcsctp_spec.specs.queues.Abandoning.{NoneDue, GivesUpFirst, GivesUpAll}
-use Rattle.dcsctp_spec.specs.queues.Filling.{Stage, maybe_expired, Closes, GivesUpAt, StepAgain, MayAdd, StepNew, Steps, none, more, counting, FillsPacket}
-use Rattle.dcsctp_spec.specs.queues.Items.{Item, size_of, changed_between}
+use Rattle.dcsctp_spec.specs.queues.Filling.{Stage, maybe_expired, ClosesMessage, GivesUpAt, StepAgain, MayAdd, StepNew, StageSteps, none, more, resent_packet_counted, FillsPacket}
+use Rattle.dcsctp_spec.specs.queues.Items.{Item, item_size, changed_between}
 use Rattle.dcsctp_spec.specs.queues.NextItem.{Halts}
 use Rattle.dcsctp_spec.specs.queues.Outstanding.{header, next_tsn}
 use Rattle.dcsctp_spec.specs.queues.Retransmission.{timer_with, with_items}
@@ -20,8 +20,8 @@ behind_events front s = record s { told = front ++ s.told }
 
 -- ---- events in front: each step
 
-behind_closed : (front : Events) (now : ℕ) (last : Item) (old new : Stage) (is_end : Bool) → Closes now last old new is_end
-    → Closes now last (behind_events front old) (behind_events front new) is_end
+behind_closed : (front : Events) (now : ℕ) (last : Item) (old new : Stage) (is_end : Bool) → ClosesMessage now last old new is_end
+    → ClosesMessage now last (behind_events front old) (behind_events front new) is_end
 behind_closed front now last old new true is =
     ap (behind_events front) is
     ∙ ap (λ (es : Events). record old { told = es }) (sym (append_assoc front old.told (maybe_expired last.fragment.lifecycle)))
@@ -83,7 +83,7 @@ behind_anew front now old new (may, inr finds) = (
 )
 
 behind_steps : (Step : Stage → Stage → Type 0) (front : Events) → ((old new : Stage) → Step old new → Step (behind_events front old) (behind_events front new))
-    → (old new : Stage) → Steps Step old new → Steps Step (behind_events front old) (behind_events front new)
+    → (old new : Stage) → StageSteps Step old new → StageSteps Step (behind_events front old) (behind_events front new)
 behind_steps Step front each old _ none = none
 behind_steps Step front each old _ (more between new steps step) =
     more (behind_events front between) (behind_events front new) (behind_steps Step front each old between steps) (each between new step)
@@ -97,7 +97,7 @@ filled_behind front now old new fills =
       fills = record {
         resent = behind_events front fills.fills.resent;
         again = behind_steps (StepAgain now) front (behind_again front now) old fills.fills.resent fills.fills.again;
-        anew = behind_steps (StepNew now) front (behind_anew front now) (counting old.room fills.fills.resent) fills.sent fills.fills.anew;
+        anew = behind_steps (StepNew now) front (behind_anew front now) (resent_packet_counted old.room fills.fills.resent) fills.sent fills.fills.anew;
       };
       halts = fills.halts;
       is = ap (behind_events front) fills.is;
@@ -120,8 +120,8 @@ pub record Before (front : Events) (Step : Stage → Stage → Type 0) (old new 
   pub step : Step old stripped
   pub is : new ≡ behind_events front stripped
 
-before_closed : (front : Events) (now : ℕ) (last : Item) (old new : Stage) (is_end : Bool) → Closes now last (behind_events front old) new is_end
-    → Before front (λ a b. Closes now last a b is_end) old new
+before_closed : (front : Events) (now : ℕ) (last : Item) (old new : Stage) (is_end : Bool) → ClosesMessage now last (behind_events front old) new is_end
+    → Before front (λ a b. ClosesMessage now last a b is_end) old new
 before_closed front now last old new true is =
     let events : Events = maybe_expired last.fragment.lifecycle in
     record {
@@ -182,7 +182,7 @@ before_anew front now old new (may, inl sends) =
       waiting = new.waiting;
       told = es;
       tsns = old.tsns ++ next_tsn old.queue.outstanding ∷ [];
-      room = old.room - size_of (header old.queue.outstanding) sends.item;
+      room = old.room - item_size (header old.queue.outstanding) sends.item;
     } in
     record {
       stripped = stage takes.told;
@@ -199,7 +199,7 @@ before_anew front now old new (may, inr finds) =
     }
 
 pub before_steps : (Step : Stage → Stage → Type 0) (front : Events) → ((old new : Stage) → Step (behind_events front old) new → Before front Step old new)
-    → (old new : Stage) → Steps Step (behind_events front old) new → Before front (Steps Step) old new
+    → (old new : Stage) → StageSteps Step (behind_events front old) new → Before front (StageSteps Step) old new
 before_steps Step front each old _ none = record { stripped = old; step = none; is = refl }
 before_steps Step front each old _ (more between new steps step) =
     let sooner = before_steps Step front each old between steps in
@@ -214,8 +214,8 @@ CanNoMore now s = Halts now s.room s.queue s.waiting
 filled_before_by : (front : Events) (now : ℕ) (old new : Stage) → FillsPacket now (behind_events front old) new → Before front (FillsPacket now) old new
 filled_before_by front now old new fills =
     let again = before_steps (StepAgain now) front (before_again front now) old fills.fills.resent fills.fills.again in
-    let counted : Steps (StepNew now) (behind_events front (counting old.room again.stripped)) fills.sent = subst (λ (s : Stage). Steps (StepNew now) (counting old.room s) fills.sent) again.is fills.fills.anew in
-    let anew = before_steps (StepNew now) front (before_anew front now) (counting old.room again.stripped) fills.sent counted in
+    let counted : StageSteps (StepNew now) (behind_events front (resent_packet_counted old.room again.stripped)) fills.sent = subst (λ (s : Stage). StageSteps (StepNew now) (resent_packet_counted old.room s) fills.sent) again.is fills.fills.anew in
+    let anew = before_steps (StepNew now) front (before_anew front now) (resent_packet_counted old.room again.stripped) fills.sent counted in
     let timed : Stage → Stage = λ s. record s { queue = record s.queue { timer = timer_with now s.queue.outstanding.items s.queue.timer } } in
     record {
       stripped = timed anew.stripped;

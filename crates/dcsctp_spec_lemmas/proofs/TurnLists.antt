@@ -6,17 +6,17 @@ use Rattle.dcsctp_spec.specs.Packet.{Emission}
 use Rattle.dcsctp_spec.specs.endpoint.Endpoint.{Endpoint}
 use Rattle.dcsctp_spec.specs.association.Effect.{Effect, draws, sends, holds, connects, ends, begins, gives_up, completes, fails, accepts, performs, resumes, drawn_in}
 use Rattle.dcsctp_spec.specs.endpoint.Event.{Event}
-use Rattle.dcsctp_spec.specs.endpoint.CallTurns.{Turned, after_all, words_of, effects_of, pairs_of, events_of}
+use Rattle.dcsctp_spec.specs.endpoint.CallTurns.{Transition, after_all, words_of, effects_of, pairs_of, events_of}
 
-pub after_all-append : (e : Endpoint) (xs ys : List Turned) → after_all e (xs ++ ys) ≡ after_all (after_all e xs) ys
+pub after_all-append : (e : Endpoint) (xs ys : List Transition) → after_all e (xs ++ ys) ≡ after_all (after_all e xs) ys
 after_all-append e [] ys = refl
 after_all-append e (x ∷ xs) ys = after_all-append x.outcome.after xs ys
 
-pub words_of-append : (xs ys : List Turned) → words_of (xs ++ ys) ≡ words_of xs ++ words_of ys
+pub words_of-append : (xs ys : List Transition) → words_of (xs ++ ys) ≡ words_of xs ++ words_of ys
 words_of-append [] ys = refl
 words_of-append (x ∷ xs) ys = ap (λ (ws : List Word). x.outcome.words ++ ws) (words_of-append xs ys) ∙ sym (append_assoc x.outcome.words (words_of xs) (words_of ys))
 
-pub effects_of-append : (xs ys : List Turned) → effects_of (xs ++ ys) ≡ effects_of xs ++ effects_of ys
+pub effects_of-append : (xs ys : List Transition) → effects_of (xs ++ ys) ≡ effects_of xs ++ effects_of ys
 effects_of-append [] ys = refl
 effects_of-append (x ∷ xs) ys = ap (λ (es : List Effect). x.outcome.effects ++ es) (effects_of-append xs ys) ∙ sym (append_assoc x.outcome.effects (effects_of xs) (effects_of ys))
 
@@ -35,9 +35,9 @@ drawn_in-append (accepts number ∷ xs) ys = drawn_in-append xs ys
 drawn_in-append (performs peer number ∷ xs) ys = drawn_in-append xs ys
 drawn_in-append (resumes link own last ∷ xs) ys = drawn_in-append xs ys
 
-pub pairs_of-append : (xs ys : List Turned) → pairs_of (xs ++ ys) ≡ pairs_of xs ++ pairs_of ys
+pub pairs_of-append : (xs ys : List Transition) → pairs_of (xs ++ ys) ≡ pairs_of xs ++ pairs_of ys
 pairs_of-append xs ys = ap drawn_in (effects_of-append xs ys) ∙ drawn_in-append (effects_of xs) (effects_of ys)
 
-pub events_of-append : (xs ys : List Turned) → events_of (xs ++ ys) ≡ events_of xs ++ events_of ys
+pub events_of-append : (xs ys : List Transition) → events_of (xs ++ ys) ≡ events_of xs ++ events_of ys
 events_of-append [] ys = refl
 events_of-append (x ∷ xs) ys = ap (λ (ws : List (Event Emission)). x.outcome.events ++ ws) (events_of-append xs ys) ∙ sym (append_assoc x.outcome.events (events_of xs) (events_of ys))

@@ -11,12 +11,12 @@ use Rattle.dcsctp_spec_lemmas.specs.spec.association.HandshakeChanges.{connect_c
 use Rattle.dcsctp_spec_lemmas.specs.spec.association.CookieEchoChanges.{Resolution, establish_new, restart, simultaneous_init, discard, maintain_existing, invalid_tag, stale, aged, resolve, resolved_change, read_echo_change}
 use Rattle.dcsctp_spec_lemmas.specs.spec.association.Acts.{chunk_change}
 use Rattle.dcsctp_spec_lemmas.specs.spec.association.Controlled.{IsControlled, ControlledChunk}
-use Rattle.dcsctp_spec_runs.specs.Laws.{FitsTurns, FitsBehind, AllControlled, IsRest, dropped, ended, AreChunks, AdmittedPacketsMayBeWorked, PacketsAreControlled, Delivered, whole, acks, reported, DeliveriesAreControlled}
+use Rattle.dcsctp_spec_runs.specs.Laws.{FitsTurns, FitsBehind, AllControlled, IsRest, dropped, ended, AreChunkTurns, AdmittedPacketsMayBeHandled, PacketsAreControlled, DeliversPacket, whole, acks, reported, DeliveriesAreControlled}
 use Rattle.dcsctp_spec_laws.specs.TurnLaws.{StandsBefore, ChunksAreControlled}
 use Rattle.dcsctp_spec_lemmas.specs.spec.Admission.{Admission, all_chunks, shutdown_acks_alone, refused, admits, shutdown_acks_in}
-use Rattle.dcsctp_spec_lemmas.specs.spec.endpoint.Turn.{Input, packet_ends, has_data}
-use Rattle.dcsctp_spec_lemmas.specs.spec.endpoint.CallTurns.{Turned, Turns, AfterChunk, ChunkTurns, WholeTurns, AdmittedTurns, after_all}
-use Rattle.dcsctp_spec_runs.specs.World.{MayBeWorked, ChunkChanges}
+use Rattle.dcsctp_spec_lemmas.specs.spec.endpoint.Turn.{Input, packet_ends, has_data_chunk}
+use Rattle.dcsctp_spec_lemmas.specs.spec.endpoint.CallTurns.{Transition, Turns, AfterChunk, ChunkTurns, WholeTurns, AdmittedTurns, after_all}
+use Rattle.dcsctp_spec_runs.specs.World.{MayBeHandled, ChunkChanges}
 use Rattle.dcsctp_spec_lemmas.specs.types.declared.options.Options.{Options}
 use Rattle.dcsctp_spec_laws.proofs.ControlLemmas.{stands_before}
 
@@ -98,9 +98,9 @@ same_options_move p q core header contents changes same moves =
     chunks_same p q.max_message_size core header contents changes (subst (λ (x : Options). ChunkChanges x core header contents changes) same moves)
 
 -- the chunks behind one, at the association that it leaves
-record FollowsIn (options : Options) (core : Core) (e : Endpoint) (tag : ℕ) (contents : List Content) (tail : List Input) (turns : List Turned) : Type 0 where
-  chunks : List Turned
-  rest : List Turned
+record FollowsIn (options : Options) (core : Core) (e : Endpoint) (tag : ℕ) (contents : List Content) (tail : List Input) (turns : List Transition) : Type 0 where
+  chunks : List Transition
+  rest : List Transition
   parts : turns ≡ chunks ++ rest
   changes : List Change
   moves : ChunkChanges options core tag contents changes
@@ -108,19 +108,19 @@ record FollowsIn (options : Options) (core : Core) (e : Endpoint) (tag : ℕ) (c
   is_rest : IsRest (after_all e chunks) tail rest
 
 -- what follows a chunk's turn that makes this change
-abbrev Follow : Endpoint → Turned → Change → ℕ → List Content → List Input → List Turned → Type 0
+abbrev Follow : Endpoint → Transition → Change → ℕ → List Content → List Input → List Transition → Type 0
 Follow e t change tag contents tail ts = FollowsIn e.options change.core t.outcome.after tag contents tail ts
 
 -- ---- a packet
 
 -- nothing follows the chunk: no turn at all, or those of the packet's end
-ends_here : (e : Endpoint) (tag : ℕ) (contents : List Content) (tail : List Input) (t : Turned) (change : Change) (ts : List Turned) → IsControlled e t.outcome change
+ends_here : (e : Endpoint) (tag : ℕ) (contents : List Content) (tail : List Input) (t : Transition) (change : Change) (ts : List Transition) → IsControlled e t.outcome change
     → IsRest t.outcome.after tail ts → Follow e t change tag contents tail ts
 ends_here e tag contents tail t change ts h rest = record { chunks = []; rest = ts; parts = refl; changes = []; moves = tt; controlled = tt; is_rest = rest }
 
 -- what follows the chunk, at the association that it leaves
-then_follow : (e : Endpoint) (tag : ℕ) (contents : List Content) (tail : List Input) (t : Turned) (change : Change) (ts : List Turned) → IsControlled e t.outcome change
-    → AreChunks t.outcome.after tag contents tail ts → Follow e t change tag contents tail ts
+then_follow : (e : Endpoint) (tag : ℕ) (contents : List Content) (tail : List Input) (t : Transition) (change : Change) (ts : List Transition) → IsControlled e t.outcome change
+    → AreChunkTurns t.outcome.after tag contents tail ts → Follow e t change tag contents tail ts
 then_follow e tag contents tail t change ts h more =
     record {
       chunks = more.chunks;
@@ -133,9 +133,9 @@ then_follow e tag contents tail t change ts h more =
       is_rest = more.is_rest;
     }
 
-follows : (following : Following) (e : Endpoint) (tag : ℕ) (contents : List Content) (tail : List Input) (t : Turned) (change : Change) (ts : List Turned) → IsControlled e t.outcome change
+follows : (following : Following) (e : Endpoint) (tag : ℕ) (contents : List Content) (tail : List Input) (t : Transition) (change : Change) (ts : List Transition) → IsControlled e t.outcome change
     → AfterChunk following (ChunkTurns t.outcome.after tag contents tail ts) (Turns t.outcome.after tail ts) (ts ≡ [])
-    → (ChunkTurns t.outcome.after tag contents tail ts → AreChunks t.outcome.after tag contents tail ts) → Follow e t change tag contents tail ts
+    → (ChunkTurns t.outcome.after tag contents tail ts → AreChunkTurns t.outcome.after tag contents tail ts) → Follow e t change tag contents tail ts
 follows next_chunk e tag contents tail t change ts h turns more = then_follow e tag contents tail t change ts h (more turns)
 follows packet_end e tag contents tail t change ts h turns more = ends_here e tag contents tail t change ts h (ended turns)
 follows dropped_rest e tag contents tail t change ts h turns more = ends_here e tag contents tail t change ts h (dropped turns)
@@ -150,7 +150,7 @@ packets_are_controlled law e tag (content ∷ contents) tail (t ∷ ts) turns fi
     record {
       chunks = t ∷ more.chunks;
       rest = more.rest;
-      parts = ap (λ (xs : List Turned). t ∷ xs) more.parts;
+      parts = ap (λ (xs : List Transition). t ∷ xs) more.parts;
       changes = first.0 ∷ more.changes;
       moves = (first.1, more.moves);
       controlled = (first.2, more.controlled);
@@ -160,7 +160,7 @@ packets_are_controlled law e tag (content ∷ contents) tail (t ∷ ts) turns fi
 -- ---- what admission decides
 
 -- SHUTDOWN ACK chunks hold no number that could be too great.
-acks_fit : (e : Endpoint) (contents : List Content) (ts : List Turned) → FitsTurns e (shutdown_acks_in contents) ts
+acks_fit : (e : Endpoint) (contents : List Content) (ts : List Transition) → FitsTurns e (shutdown_acks_in contents) ts
 acks_fit e [] ts = tt
 acks_fit e (shutdown_ack ∷ contents) [] = tt
 acks_fit e (shutdown_ack ∷ contents) (t ∷ ts) = (tt, acks_fit t.outcome.after contents ts)
@@ -174,27 +174,27 @@ acks_fit e (shutdown tsn ∷ contents) ts = acks_fit e contents ts
 acks_fit e (shutdown_complete reflected ∷ contents) ts = acks_fit e contents ts
 acks_fit e (plain chunk ∷ contents) ts = acks_fit e contents ts
 
-refusal_reported : (e : Endpoint) (packet : Packet) (text : List ℕ) (ts : List Turned) → AdmittedTurns e packet (refused text) ts → Delivered e packet ts
+refusal_reported : (e : Endpoint) (packet : Packet) (text : List ℕ) (ts : List Transition) → AdmittedTurns e packet (refused text) ts → DeliversPacket e packet ts
 refusal_reported e packet text [] turns = absurd turns
 refusal_reported e packet text (t ∷ []) turns = reported text t turns.0.comes
 refusal_reported e packet text (t ∷ next ∷ ts) turns = absurd turns.1
 
-whole_delivered : PacketsAreControlled → AdmittedPacketsMayBeWorked → (e : Endpoint) (packet : Packet) (ts : List Turned) → admits e.core packet ≡ all_chunks
-    → WholeTurns e packet ts → FitsBehind packet.contents ts → Delivered e packet ts
+whole_delivered : PacketsAreControlled → AdmittedPacketsMayBeHandled → (e : Endpoint) (packet : Packet) (ts : List Transition) → admits e.core packet ≡ all_chunks
+    → WholeTurns e packet ts → FitsBehind packet.contents ts → DeliversPacket e packet ts
 whole_delivered law may e packet [] is turns fitting = absurd turns
 whole_delivered law may e packet (begun ∷ ts) is turns fitting =
-    let before : StandsBefore e begun.outcome = stands_before e (has_data packet.contents) begun.outcome turns.0.comes in
+    let before : StandsBefore e begun.outcome = stands_before e (has_data_chunk packet.contents) begun.outcome turns.0.comes in
     whole begun ts (record {
       before = before;
       worked = law begun.outcome.after packet.tag packet.contents (packet_ends ∷ []) ts turns.1 fitting;
-      may = subst (λ (c : Core). MayBeWorked c packet) (sym (before.controlled.core ∙ before.keeps)) (may.whole e.core packet is);
+      may = subst (λ (c : Core). MayBeHandled c packet) (sym (before.controlled.core ∙ before.keeps)) (may.whole e.core packet is);
     })
 
-as_admitted : PacketsAreControlled → AdmittedPacketsMayBeWorked → (e : Endpoint) (packet : Packet) (admission : Admission) (ts : List Turned) → admits e.core packet ≡ admission
-    → AdmittedTurns e packet admission ts → FitsBehind packet.contents ts → Delivered e packet ts
+as_admitted : PacketsAreControlled → AdmittedPacketsMayBeHandled → (e : Endpoint) (packet : Packet) (admission : Admission) (ts : List Transition) → admits e.core packet ≡ admission
+    → AdmittedTurns e packet admission ts → FitsBehind packet.contents ts → DeliversPacket e packet ts
 as_admitted law may e packet all_chunks ts is turns fitting = whole_delivered law may e packet ts is turns fitting
 as_admitted law may e packet shutdown_acks_alone ts is turns fitting = acks ts (law e packet.tag (shutdown_acks_in packet.contents) [] ts turns (acks_fit e packet.contents ts))
 as_admitted law may e packet (refused text) ts is turns fitting = refusal_reported e packet text ts turns
 
-pub deliveries_are_controlled : PacketsAreControlled → AdmittedPacketsMayBeWorked → DeliveriesAreControlled
+pub deliveries_are_controlled : PacketsAreControlled → AdmittedPacketsMayBeHandled → DeliveriesAreControlled
 deliveries_are_controlled law may e packet ts turns fitting = as_admitted law may e packet (admits e.core packet) ts refl turns fitting

@@ -13,10 +13,10 @@ use Rattle.dcsctp_spec_lemmas.specs.spec.queues.SendQueue.{SendQueueState}
 use Rattle.dcsctp_spec_lemmas.specs.spec.queues.Transfer.{Transfer}
 use Rattle.dcsctp_spec_lemmas.specs.spec.endpoint.Endpoint.{Endpoint, Core, closed, cookie_wait, cookie_echoed, open_in}
 use Rattle.dcsctp_spec_lemmas.specs.spec.endpoint.Outcome.{Outcome, still, quiet, sends, behind, then_outcome, noting, fits}
-use Rattle.dcsctp_spec_lemmas.specs.spec.association.Effect.{Link, link_of, holds, connects}
+use Rattle.dcsctp_spec_lemmas.specs.spec.association.Effect.{AssociationIdentity, identity_of, holds, connects}
 use Rattle.dcsctp_spec_lemmas.specs.spec.association.HandshakeChanges.{held_by_init_ack}
 use Rattle.dcsctp_spec_lemmas.specs.spec.association.CookieEchoChanges.{held_by_cookie}
-use Rattle.dcsctp_spec_lemmas.specs.spec.endpoint.FlushOutcomes.{Answer, answer_contents, filled, goes_out, asked, next_draft, flush_of, packets_allowed, nothing_waits, Ask, first_ask, later_ask, GivesWhere, AnsweredBelow, Answered, Answers, at_limit, at_empty, after_packet, FlushAnswers, flush_answered, flush_outcome, allows_packet, IdleBelow, IsIdle}
+use Rattle.dcsctp_spec_lemmas.specs.spec.endpoint.FlushOutcomes.{Answer, answer_contents, filled, goes_out, asked, next_draft, flush_of, packets_allowed, nothing_waits, Ask, first_ask, later_ask, GivesWhere, IsAnswerOfQueues, IsFlushAnswer, AreFlushAnswers, at_limit, at_empty, after_packet, FlushAnswers, flush_answered, flush_outcome, allows_packet, AreQueuesIdle, IsIdle}
 use Rattle.dcsctp_spec_lemmas.specs.spec.endpoint.HandshakeOutcomes.{echo_emission, awaits_cookie_ack, connected_after, EchoAnswers, InitAckAnswers, InitAckTurn, init_ack_by, init_ack_outcome, CookieAckAnswers, CookieAckTurn, cookie_ack_by, cookie_ack_outcome}
 use Rattle.dcsctp_spec_lemmas.specs.spec.endpoint.CookieEchoOutcomes.{established_by, EstablishAnswers, establish_by, establish_outcome}
 
@@ -37,20 +37,20 @@ behind_quiet e words events =
 one_empty : (e : Endpoint) (draft : Emission) → draft.packet.contents ≡ [] → flush_of e draft (nothing_waits e ∷ []) ≡ still e
 one_empty e draft none = ap (λ (o : Outcome). then_outcome o (still o.after)) (asked_nothing e draft ∙ ap (goes_out e [] draft.with_checksum draft.packet.tag) none)
 
-idle_below : (ask : Ask) (e : Endpoint) (draft : Emission) (answer : Answer) (transfer : Option Transfer) → IdleBelow e.below.queue transfer → AnsweredBelow ask e draft answer transfer → answer ≡ nothing_waits e
+idle_below : (ask : Ask) (e : Endpoint) (draft : Emission) (answer : Answer) (transfer : Option Transfer) → AreQueuesIdle e.queues.queue transfer → IsAnswerOfQueues ask e draft answer transfer → answer ≡ nothing_waits e
 idle_below ask e draft answer None idle h = h
 idle_below ask e draft answer (Some transfer) idle h = subst (λ (b : Bool). GivesWhere b ask e draft transfer answer) idle h
 
 -- There is one answer.
-answered_idle : (ask : Ask) (e : Endpoint) (draft : Emission) (answer : Answer) → IsIdle e → Answered ask e draft answer → answer ≡ nothing_waits e
-answered_idle ask e draft answer idle h = idle_below ask e draft answer e.below.transfer idle h.by_transfer
+answered_idle : (ask : Ask) (e : Endpoint) (draft : Emission) (answer : Answer) → IsIdle e → IsFlushAnswer ask e draft answer → answer ≡ nothing_waits e
+answered_idle ask e draft answer idle h = idle_below ask e draft answer e.queues.transfer idle h.by_transfer
 
 -- what the packet holds, with nothing behind it
 filled_with_nothing : (e : Endpoint) (draft : Emission) (answer : Answer) → answer ≡ nothing_waits e → (filled draft (answer_contents answer)).packet.contents ≡ draft.packet.contents
 filled_with_nothing e draft answer is = ap (λ (a : Answer). (filled draft (answer_contents a)).packet.contents) is ∙ append-nil draft.packet.contents
 
 -- a flush whose first packet is empty brings nothing
-ends_still : (ask : Ask) (n : ℕ) (e : Endpoint) (draft : Emission) (answers : List Answer) → IsIdle e → draft.packet.contents ≡ [] → Answers ask n e draft answers → flush_of e draft answers ≡ still e
+ends_still : (ask : Ask) (n : ℕ) (e : Endpoint) (draft : Emission) (answers : List Answer) → IsIdle e → draft.packet.contents ≡ [] → AreFlushAnswers ask n e draft answers → flush_of e draft answers ≡ still e
 ends_still _ _ _ _ _ idle none (at_limit _ e draft) = refl
 ends_still ask _ _ _ _ idle none (at_empty _ more e draft answer is empty) = ap (λ (a : Answer). flush_of e draft (a ∷ [])) (answered_idle ask e draft answer idle is) ∙ one_empty e draft none
 ends_still ask _ _ _ _ idle none (after_packet _ more e draft answer answers is some rest) = absurd (some (filled_with_nothing e draft answer (answered_idle ask e draft answer idle is) ∙ none))
@@ -68,7 +68,7 @@ asked_idle e draft (content ∷ contents) is idle = subst (λ (o : Outcome). IsI
 
 -- a packet that holds a chunk goes out alone
 alone : (e : Endpoint) (draft : Emission) (content : Content) (contents : List Content) (answers : List Answer) (n : ℕ) → IsIdle e → draft.packet.contents ≡ content ∷ contents
-    → Answers later_ask n (asked e draft (nothing_waits e)).after (next_draft e.core draft) answers
+    → AreFlushAnswers later_ask n (asked e draft (nothing_waits e)).after (next_draft e.core draft) answers
     → flush_of e draft (nothing_waits e ∷ answers) ≡ sends e [] [] draft
 alone e draft content contents answers n idle some rest =
     ap (then_outcome (asked e draft (nothing_waits e))) (ends_still later_ask n _ (next_draft e.core draft) answers (asked_idle e draft (content ∷ contents) some idle) (next_is_empty e.core draft) rest)
@@ -76,20 +76,20 @@ alone e draft content contents answers n idle some rest =
     ∙ ap (λ (cs : List Content). sends e [] [] (record draft { packet = record draft.packet { contents = cs } })) (sym some)
 
 one_packet : (ask : Ask) (n : ℕ) (e : Endpoint) (draft : Emission) (content : Content) (contents : List Content) (answers : List Answer) → IsIdle e → draft.packet.contents ≡ content ∷ contents
-    → Answers ask (suc n) e draft answers → flush_of e draft answers ≡ sends e [] [] draft
+    → AreFlushAnswers ask (suc n) e draft answers → flush_of e draft answers ≡ sends e [] [] draft
 one_packet ask n e draft content contents _ idle some (at_empty _ _ _ _ answer is empty) =
     let none : content ∷ contents ≡ [] = sym some ∙ sym (filled_with_nothing e draft answer (answered_idle ask e draft answer idle is)) ∙ empty in absurd (cc)
 one_packet ask n e draft content contents _ idle some (after_packet _ _ _ _ answer answers is not_empty rest) =
     let same : answer ≡ nothing_waits e = answered_idle ask e draft answer idle is in
     ap (λ (a : Answer). flush_of e draft (a ∷ answers)) same
-    ∙ alone e draft content contents answers n idle some (subst (λ (a : Answer). Answers later_ask n (asked e draft a).after (next_draft e.core draft) answers) same rest)
+    ∙ alone e draft content contents answers n idle some (subst (λ (a : Answer). AreFlushAnswers later_ask n (asked e draft a).after (next_draft e.core draft) answers) same rest)
 
-none_allowed : (ask : Ask) (e : Endpoint) (draft : Emission) (answers : List Answer) → Answers ask zero e draft answers → flush_of e draft answers ≡ still e
+none_allowed : (ask : Ask) (e : Endpoint) (draft : Emission) (answers : List Answer) → AreFlushAnswers ask zero e draft answers → flush_of e draft answers ≡ still e
 none_allowed _ _ _ _ (at_limit _ e draft) = refl
 
 -- by what `max_burst` and the association allow
 by_burst : (ask : Ask) (z : ℤ) (core : Core) (e : Endpoint) (draft : Emission) (content : Content) (contents : List Content) (answers : List Answer) → IsIdle e → draft.packet.contents ≡ content ∷ contents
-    → Answers ask (packets_allowed z core) e draft answers → flush_of e draft answers ≡ (if allows_packet z then sends e [] [] draft else still e)
+    → AreFlushAnswers ask (packets_allowed z core) e draft answers → flush_of e draft answers ≡ (if allows_packet z then sends e [] [] draft else still e)
 by_burst ask (pos zero) core e draft content contents answers idle some h = none_allowed ask e draft answers h
 by_burst ask (pos (suc n)) closed e draft content contents answers idle some h = one_packet ask n e draft content contents answers idle some h
 by_burst ask (pos (suc n)) (cookie_wait my) e draft content contents answers idle some h = one_packet ask n e draft content contents answers idle some h
@@ -128,7 +128,7 @@ init_ack_turn_now e theirs cookie mine o is idle turn =
       turn.0,
       turn.3
           ∙ ap (λ (core : Core). init_ack_by (flush_answered turn.1) e theirs (Some cookie) core turn.0) is
-          ∙ ap (noting (holds (link_of mine (held_by_init_ack e.options mine theirs)) ∷ []))
+          ∙ ap (noting (holds (identity_of mine (held_by_init_ack e.options mine theirs)) ∷ []))
           (echo_now (fits after (echo_emission theirs.pair.tag cookie)) after (U64 turn.0 ∷ []) theirs.pair.tag cookie turn.1 (idle turn.0) answers),
     )
 
@@ -140,12 +140,12 @@ cookie_ack_turn_now e mine held cookie o is idle turn =
     let answers : CookieAckAnswers e (cookie_echoed mine held cookie) turn.0 = subst (λ (core : Core). CookieAckAnswers e core turn.0) is turn.1 in
     turn.2
     ∙ ap (cookie_ack_by (flush_answered turn.0) e) is
-    ∙ ap (noting (connects (link_of mine held) ∷ [])) (flush_is_now (connected_after e mine held) [] (connected ∷ []) (held.capabilities.zero_checksum_method.0 == 0) held.peer.tag [] turn.0 idle answers)
+    ∙ ap (noting (connects (identity_of mine held) ∷ [])) (flush_is_now (connected_after e mine held) [] (connected ∷ []) (held.capabilities.zero_checksum_method.0 == 0) held.peer.tag [] turn.0 idle answers)
 
 -- ---- COOKIE ECHO
 
 pub establish_now : (e : Endpoint) (cookie : Cookie) (queue : SendQueueState) (tie : ℕ) (events : List (Event Emission)) (answers : List Answer) → IsIdle (established_by e cookie queue tie)
     → EstablishAnswers e cookie queue tie answers → establish_by (flush_answered answers) e cookie queue tie events ≡ establish_outcome e cookie queue tie events
 establish_now e cookie queue tie events answers idle h =
-    let link : Link = link_of cookie.maker (held_by_cookie e.options cookie) in
+    let link : AssociationIdentity = identity_of cookie.maker (held_by_cookie e.options cookie) in
     ap (noting (holds link ∷ connects link ∷ [])) (flush_is_now (established_by e cookie queue tie) (U64 tie ∷ []) events _ cookie.addressee.tag (cookie_ack ∷ []) answers idle h)

@@ -49,7 +49,7 @@ connected options =
     record (fresh_endpoint options) {
       core = open_in established own held;
       tie = 11;
-      below = record { queue = (fresh_endpoint options).below.queue; transfer = Some (new_transfer options both 100 200 5000) };
+      queues = record { queue = (fresh_endpoint options).queues.queue; transfer = Some (new_transfer options both 100 200 5000) };
     }
 
 -- ---- the turn
@@ -62,7 +62,7 @@ it_is_closed : (e : Endpoint) → (hand_over_outcome e (open_in established own 
 it_is_closed e = refl
 
 -- What waits to be sent stays.
-its_queue_stays : (e : Endpoint) → (hand_over_outcome e (open_in established own held)).after.below.queue ≡ e.below.queue
+its_queue_stays : (e : Endpoint) → (hand_over_outcome e (open_in established own held)).after.queues.queue ≡ e.queues.queue
 its_queue_stays e = refl
 
 none_from_closed : (e : Endpoint) → hand_over_outcome e closed ≡ still e

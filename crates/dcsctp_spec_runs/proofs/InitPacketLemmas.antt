@@ -5,17 +5,17 @@ use Rattle.dcsctp_spec_lemmas.specs.types.declared.tracking.AckState.{AckState}
 use Rattle.dcsctp_spec_lemmas.specs.types.declared.tracking.AckState.TheVariants.{Idle, BecomingDelayed, Delayed, Immediate}
 use Rattle.dcsctp_spec_lemmas.specs.spec.Packet.{Introduction, Content, init, packet_in}
 use Rattle.dcsctp_spec_lemmas.specs.spec.Admission.{Admission, all_chunks, shutdown_acks_alone, refused, admits, is_single_init}
-use Rattle.dcsctp_spec_lemmas.specs.spec.queues.Tracker.{TrackerState, is_due, delayed_from, after_packet_end, is_acknowledgement_due, sacked}
+use Rattle.dcsctp_spec_lemmas.specs.spec.queues.Tracker.{TrackerState, is_sack_due, delayed_from, after_packet_end, is_acknowledgement_due, sacked}
 use Rattle.dcsctp_spec_lemmas.specs.spec.queues.Transfer.{Transfer}
 use Rattle.dcsctp_spec_lemmas.specs.spec.endpoint.Endpoint.{Endpoint, Core, open_in, shutdown_sent, held_in}
 use Rattle.dcsctp_spec_lemmas.specs.spec.endpoint.Following.{next_chunk}
 use Rattle.dcsctp_spec_lemmas.specs.spec.endpoint.Outcome.{Outcome, still}
 use Rattle.dcsctp_spec_lemmas.specs.spec.endpoint.Turn.{arrival, refusal, packet_ends, BeginTurn, unreadable_text}
-use Rattle.dcsctp_spec_lemmas.specs.spec.endpoint.CallTurns.{Turned, IsTurn, Turns, ChunkTurns, WholeTurns, AdmittedTurns, unreadable, readable, after_all}
+use Rattle.dcsctp_spec_lemmas.specs.spec.endpoint.CallTurns.{Transition, IsTurn, Turns, ChunkTurns, WholeTurns, AdmittedTurns, unreadable, readable, after_all}
 use Rattle.dcsctp_spec_lemmas.specs.spec.endpoint.BegunResets.{BegunReset, after_begun}
 use Rattle.dcsctp_spec_lemmas.specs.spec.endpoint.FlushOutcomes.{own_sack, first_ask, packets_allowed}
-use Rattle.dcsctp_spec_lemmas.specs.spec.endpoint.DataOutcomes.{with_tracker, acknowledging, EndWhere, EndsBy}
-use Rattle.dcsctp_spec_runs.specs.Laws.{CountsSentOnly, is_due_below, StaysAs, unchanged_core, asking_core, InitPacketLeavesAssociation}
+use Rattle.dcsctp_spec_lemmas.specs.spec.endpoint.DataOutcomes.{endpoint_with_tracker, acknowledging, EndWhere, EndsBy}
+use Rattle.dcsctp_spec_runs.specs.Laws.{CountsSentOnly, is_earlier_acknowledgement_due, StaysAs, unchanged_core, asking_core, InitPacketLeavesAssociation}
 use Rattle.dcsctp_spec_lemmas.proofs.FlushKeeps.{begun_by, flush_keeps}
 use Rattle.dcsctp_spec_runs.proofs.LawLemmas.{init_brings_one_packet}
 use Rattle.dcsctp_spec_laws.proofs.TurnLemmas.{init_goes_on, further}
@@ -24,26 +24,26 @@ use Rattle.dcsctp_spec_laws.proofs.TurnLemmas.{init_goes_on, further}
 
 -- It makes no acknowledgement due.
 due_where : (moment : ℕ) (tracker : TrackerState) (state : AckState) → tracker.acknowledgement ≡ state
-    → is_due (delayed_from moment tracker state).acknowledgement false ≡ is_due tracker.acknowledgement false
+    → is_sack_due (delayed_from moment tracker state).acknowledgement false ≡ is_sack_due tracker.acknowledgement false
 due_where moment tracker Idle is = refl
-due_where moment tracker BecomingDelayed is = sym (ap (λ (s : AckState). is_due s false) is)
+due_where moment tracker BecomingDelayed is = sym (ap (λ (s : AckState). is_sack_due s false) is)
 due_where moment tracker Delayed is = refl
 due_where moment tracker Immediate is = refl
 
-begun_stays : (begun : Option BegunReset) (e : Endpoint) (is_due : Bool) (new : Core) → is_due ≡ true → new ≡ (after_begun begun e).core → StaysAs is_due e.core new
-begun_stays None e is_due new due is = unchanged_core is
-begun_stays (Some begun) e is_due new due is = asking_core due is
+begun_stays : (begun : Option BegunReset) (e : Endpoint) (is_sack_due : Bool) (new : Core) → is_sack_due ≡ true → new ≡ (after_begun begun e).core → StaysAs is_sack_due e.core new
+begun_stays None e is_sack_due new due is = unchanged_core is
+begun_stays (Some begun) e is_sack_due new due is = asking_core due is
 
 end_where_stays : (b : Bool) (e : Endpoint) (peer : Option Held) (transfer : Transfer) (tracker : TrackerState) (o : Outcome) → EndWhere b e peer transfer tracker o → StaysAs b e.core o.after.core
 end_where_stays true e (Some held) transfer tracker o turn =
-    let base : Endpoint = with_tracker e transfer (sacked tracker) in
+    let base : Endpoint = endpoint_with_tracker e transfer (sacked tracker) in
     let draft = acknowledging e held (own_sack (record transfer { tracker = tracker })) in
     let kept = flush_keeps first_ask (packets_allowed base.options.max_burst base.core) base draft turn.answers turn.allowed in
     begun_stays (begun_by turn.answers) base true o.after.core refl (ap (λ (x : Outcome). x.after.core) turn.is ∙ kept.core)
 end_where_stays true e None transfer tracker o turn = unchanged_core (ap (λ (x : Outcome). x.after.core) turn)
 end_where_stays false e peer transfer tracker o turn = unchanged_core (ap (λ (x : Outcome). x.after.core) turn)
 
-end_stays : (e : Endpoint) (transfer : Option Transfer) (o : Outcome) → EndsBy e transfer o → StaysAs (is_due_below transfer) e.core o.after.core
+end_stays : (e : Endpoint) (transfer : Option Transfer) (o : Outcome) → EndsBy e transfer o → StaysAs (is_earlier_acknowledgement_due transfer) e.core o.after.core
 end_stays e None o turn = unchanged_core (ap (λ (x : Outcome). x.after.core) turn)
 end_stays e (Some transfer) o turn =
     let tracker : TrackerState = after_packet_end e.moment transfer.tracker in
@@ -53,28 +53,28 @@ end_stays e (Some transfer) o turn =
 -- ---- its turns
 
 -- all that is left of it
-abbrev Stays : Endpoint → List Turned → Type 0
-Stays e ts = StaysAs (is_due_below e.below.transfer) e.core (after_all e ts).core
+abbrev Stays : Endpoint → List Transition → Type 0
+Stays e ts = StaysAs (is_earlier_acknowledgement_due e.queues.transfer) e.core (after_all e ts).core
 
 -- from here on as from there
-same_stays : (e f : Endpoint) (ts : List Turned) → f.core ≡ e.core → is_due_below f.below.transfer ≡ is_due_below e.below.transfer → Stays f ts
-    → StaysAs (is_due_below e.below.transfer) e.core (after_all f ts).core
+same_stays : (e f : Endpoint) (ts : List Transition) → f.core ≡ e.core → is_earlier_acknowledgement_due f.queues.transfer ≡ is_earlier_acknowledgement_due e.queues.transfer → Stays f ts
+    → StaysAs (is_earlier_acknowledgement_due e.queues.transfer) e.core (after_all f ts).core
 same_stays e f ts core due h =
-    subst (λ (c : Core). StaysAs (is_due_below e.below.transfer) c (after_all f ts).core) core
+    subst (λ (c : Core). StaysAs (is_earlier_acknowledgement_due e.queues.transfer) c (after_all f ts).core) core
     (subst (λ (b : Bool). StaysAs b f.core (after_all f ts).core) due h)
 
-none_stays : (e : Endpoint) (ts : List Turned) → Turns e [] ts → Stays e ts
+none_stays : (e : Endpoint) (ts : List Transition) → Turns e [] ts → Stays e ts
 none_stays e [] turns = unchanged_core refl
 none_stays e (t ∷ ts) turns = absurd turns
 
-refused_stays : (e : Endpoint) (text : List ℕ) (ts : List Turned) → Turns e (refusal text ∷ []) ts → Stays e ts
+refused_stays : (e : Endpoint) (text : List ℕ) (ts : List Transition) → Turns e (refusal text ∷ []) ts → Stays e ts
 refused_stays e text [] turns = absurd turns
 refused_stays e text (t ∷ []) turns = unchanged_core (ap (λ (x : Outcome). x.after.core) turns.0.comes)
 refused_stays e text (t ∷ u ∷ ts) turns = absurd turns.1
 
-ended_stays : (e : Endpoint) (ts : List Turned) → Turns e (packet_ends ∷ []) ts → Stays e ts
+ended_stays : (e : Endpoint) (ts : List Transition) → Turns e (packet_ends ∷ []) ts → Stays e ts
 ended_stays e [] turns = absurd turns
-ended_stays e (t ∷ []) turns = end_stays e e.below.transfer t.outcome turns.0.comes
+ended_stays e (t ∷ []) turns = end_stays e e.queues.transfer t.outcome turns.0.comes
 ended_stays e (t ∷ u ∷ ts) turns = absurd turns.1
 
 -- Before an INIT nothing is sent.
@@ -82,29 +82,29 @@ begin_rests : (e : Endpoint) (core : Core) (o : Outcome) → BeginTurn e core fa
 begin_rests e (open_in shutdown_sent my held) o turn = turn
 begin_rests e core o turn = turn
 
-chunk_stays : (e : Endpoint) (tag : ℕ) (theirs : Introduction) (ts : List Turned) → ChunkTurns e tag (init theirs ∷ []) (packet_ends ∷ []) ts → Stays e ts
+chunk_stays : (e : Endpoint) (tag : ℕ) (theirs : Introduction) (ts : List Transition) → ChunkTurns e tag (init theirs ∷ []) (packet_ends ∷ []) ts → Stays e ts
 chunk_stays e tag theirs [] turns = absurd turns
 chunk_stays e tag theirs (t ∷ ts) turns =
     let turn = turns.0.comes in
     let goes_on : t.outcome.following ≡ next_chunk = ap (λ (x : Outcome). x.following) turn.2 ∙ init_goes_on e theirs e.core turn.0 turn.1 in
     let counts : CountsSentOnly e t.outcome.after = (init_brings_one_packet e theirs t.outcome turn).0 in
-    same_stays e t.outcome.after ts (ap (λ (x : Endpoint). x.core) counts) (ap (λ (x : Endpoint). is_due_below x.below.transfer) counts)
+    same_stays e t.outcome.after ts (ap (λ (x : Endpoint). x.core) counts) (ap (λ (x : Endpoint). is_earlier_acknowledgement_due x.queues.transfer) counts)
     (ended_stays t.outcome.after ts (further e tag (init theirs) [] (packet_ends ∷ []) t ts goes_on turns))
 
-whole_stays : (e : Endpoint) (tag : ℕ) (theirs : Introduction) (ts : List Turned) → WholeTurns e (record { tag = tag; contents = init theirs ∷ [] }) ts → Stays e ts
+whole_stays : (e : Endpoint) (tag : ℕ) (theirs : Introduction) (ts : List Transition) → WholeTurns e (record { tag = tag; contents = init theirs ∷ [] }) ts → Stays e ts
 whole_stays e tag theirs [] turns = absurd turns
 whole_stays e tag theirs (t ∷ ts) turns =
     let rests : t.outcome ≡ still e = begin_rests e e.core t.outcome turns.0.comes in
-    same_stays e t.outcome.after ts (ap (λ (x : Outcome). x.after.core) rests) (ap (λ (x : Outcome). is_due_below x.after.below.transfer) rests)
+    same_stays e t.outcome.after ts (ap (λ (x : Outcome). x.after.core) rests) (ap (λ (x : Outcome). is_earlier_acknowledgement_due x.after.queues.transfer) rests)
     (chunk_stays t.outcome.after tag theirs ts turns.1)
 
-admitted_stays : (e : Endpoint) (tag : ℕ) (theirs : Introduction) (admission : Admission) (ts : List Turned)
+admitted_stays : (e : Endpoint) (tag : ℕ) (theirs : Introduction) (admission : Admission) (ts : List Transition)
     → AdmittedTurns e (record { tag = tag; contents = init theirs ∷ [] }) admission ts → Stays e ts
 admitted_stays e tag theirs all_chunks ts turns = whole_stays e tag theirs ts turns
 admitted_stays e tag theirs shutdown_acks_alone ts turns = none_stays e ts turns
 admitted_stays e tag theirs (refused text) ts turns = refused_stays e text ts turns
 
-single_stays : (e : Endpoint) (tag : ℕ) (contents : List Content) (admission : Admission) (ts : List Turned) → is_single_init contents ≡ true
+single_stays : (e : Endpoint) (tag : ℕ) (contents : List Content) (admission : Admission) (ts : List Transition) → is_single_init contents ≡ true
     → AdmittedTurns e (record { tag = tag; contents = contents }) admission ts → Stays e ts
 single_stays e tag [] admission ts single turns = absurd (cc)
 single_stays e tag (init theirs ∷ []) admission ts single turns = admitted_stays e tag theirs admission ts turns
@@ -112,11 +112,11 @@ single_stays e tag (content ∷ []) admission ts single turns = absurd (cc)
 single_stays e tag (content ∷ next ∷ contents) admission ts single turns = absurd (cc)
 
 -- It is counted first.
-counted_stays : (e : Endpoint) (t : Turned) (ts : List Turned) → IsTurn e arrival t → Stays t.outcome.after ts → Stays e (t ∷ ts)
+counted_stays : (e : Endpoint) (t : Transition) (ts : List Transition) → IsTurn e arrival t → Stays t.outcome.after ts → Stays e (t ∷ ts)
 counted_stays e t ts turn h =
-    same_stays e t.outcome.after ts (ap (λ (x : Outcome). x.after.core) turn.comes) (ap (λ (x : Outcome). is_due_below x.after.below.transfer) turn.comes) h
+    same_stays e t.outcome.after ts (ap (λ (x : Outcome). x.after.core) turn.comes) (ap (λ (x : Outcome). is_earlier_acknowledgement_due x.after.queues.transfer) turn.comes) h
 
-unreadable_stays : (e : Endpoint) (ts : List Turned) → Turns e (arrival ∷ refusal unreadable_text ∷ []) ts → Stays e ts
+unreadable_stays : (e : Endpoint) (ts : List Transition) → Turns e (arrival ∷ refusal unreadable_text ∷ []) ts → Stays e ts
 unreadable_stays e [] turns = absurd turns
 unreadable_stays e (t ∷ ts) turns = counted_stays e t ts turns.0 (refused_stays t.outcome.after unreadable_text ts turns.1)
 

@@ -4,7 +4,7 @@ use Rattle.std.specs.List.{AllByRecursion}
 use Rattle.dcsctp_spec_lemmas.specs.wire.Content.{ChunkContent, data_chunk, i_data_chunk, forward_tsn_chunk, i_forward_tsn_chunk}
 use Rattle.dcsctp_spec_lemmas.specs.wire.Spelling.{chunk_bytes}
 use Rattle.dcsctp_spec_lemmas.specs.spec.Packet.{Plain, unworked, plain_out}
-use Rattle.dcsctp_spec_lemmas.specs.spec.queues.Chunks.{chunk_said, AreChunks}
+use Rattle.dcsctp_spec_lemmas.specs.spec.queues.Chunks.{chunk_said, AreChunksOfTsns}
 use Rattle.dcsctp_spec_lemmas.specs.spec.queues.Filling.{Stage}
 use Rattle.dcsctp_spec_lemmas.specs.spec.queues.Items.{is_first_abandoned}
 use Rattle.dcsctp_spec_lemmas.specs.spec.queues.Outstanding.{OutstandingState}
@@ -30,7 +30,7 @@ said_is_data : (interleaving : Bool) (tsn : ℕ) (part : Fragment) → IsData in
 said_is_data true tsn part = tt
 said_is_data false tsn part = tt
 
-pub chunks_are_data : (outstanding : OutstandingState) (tsns : List ℕ) (chunks : List Plain) → AreChunks outstanding tsns chunks → AllByRecursion (IsData outstanding.is_interleaved) chunks
+pub chunks_are_data : (outstanding : OutstandingState) (tsns : List ℕ) (chunks : List Plain) → AreChunksOfTsns outstanding tsns chunks → AllByRecursion (IsData outstanding.is_interleaved) chunks
 chunks_are_data outstanding [] [] h = tt
 chunks_are_data outstanding [] (chunk ∷ chunks) h = absurd h
 chunks_are_data outstanding (tsn ∷ tsns) [] h = absurd h

@@ -7,18 +7,18 @@ use Rattle.dcsctp_spec_lemmas.specs.spec.endpoint.Event.{Event, sent, packets_in
 use Rattle.dcsctp_spec_lemmas.specs.spec.Packet.{Content, Emission}
 use Rattle.dcsctp_spec_lemmas.specs.spec.endpoint.Endpoint.{Endpoint}
 use Rattle.dcsctp_spec_lemmas.specs.spec.endpoint.Outcome.{contents_len}
-use Rattle.dcsctp_spec_lemmas.specs.spec.endpoint.FlushOutcomes.{Told, amount_is_low, total_amount_is_low, message_is_sent, message_may_have_expired, message_has_expired, message_ends, told_event, Answer, answer_contents, filled, goes_out, asked, next_draft, flush_of, Ask, first_ask, later_ask, Answers, at_limit, at_empty, after_packet, packets_allowed, IsWithin, IsFlushEvent}
+use Rattle.dcsctp_spec_lemmas.specs.spec.endpoint.FlushOutcomes.{FillingEvent, amount_is_low, total_amount_is_low, message_is_sent, message_may_have_expired, message_has_expired, message_ends, filling_event, Answer, answer_contents, filled, goes_out, asked, next_draft, flush_of, Ask, first_ask, later_ask, AreFlushAnswers, at_limit, at_empty, after_packet, packets_allowed, IsWithinMtu, IsFlushEvent}
 use Rattle.dcsctp_spec_runs.specs.Laws.{FlushKeepsLimits}
 use Rattle.dcsctp_spec_lemmas.proofs.FlushKeeps.{asked_keeps, next_is_empty}
 
 -- what events of so many packets keep
 record KeepsFor (n : ℕ) (e : Endpoint) (events : List (Event Emission)) : Type 0 where
   packets : length (packets_in events) ≤ n
-  sizes : AllByRecursion (IsWithin e) (packets_in events)
+  sizes : AllByRecursion (IsWithinMtu e) (packets_in events)
   others : AllByRecursion IsFlushEvent events
 
 -- What is told is no packet.
-told_keeps : (n : ℕ) (e : Endpoint) (told : List Told) (rest : List (Event Emission)) → KeepsFor n e rest → KeepsFor n e (map told_event told ++ rest)
+told_keeps : (n : ℕ) (e : Endpoint) (told : List FillingEvent) (rest : List (Event Emission)) → KeepsFor n e rest → KeepsFor n e (map filling_event told ++ rest)
 told_keeps n e [] rest h = h
 told_keeps n e (amount_is_low stream ∷ told) rest h = let k = told_keeps n e told rest h in record { packets = k.packets; sizes = k.sizes; others = (tt, k.others) }
 told_keeps n e (total_amount_is_low ∷ told) rest h = let k = told_keeps n e told rest h in record { packets = k.packets; sizes = k.sizes; others = (tt, k.others) }
@@ -30,7 +30,7 @@ told_keeps n e (message_ends id ∷ told) rest h = let k = told_keeps n e told r
 nothing_keeps : (n : ℕ) (e : Endpoint) → KeepsFor n e []
 nothing_keeps n e = record { packets = omega arith; sizes = tt; others = tt }
 
-sent_keeps : (n : ℕ) (e : Endpoint) (emission : Emission) (rest : List (Event Emission)) → IsWithin e emission → KeepsFor n e rest → KeepsFor (suc n) e (sent emission ∷ rest)
+sent_keeps : (n : ℕ) (e : Endpoint) (emission : Emission) (rest : List (Event Emission)) → IsWithinMtu e emission → KeepsFor n e rest → KeepsFor (suc n) e (sent emission ∷ rest)
 sent_keeps n e emission rest within h = let few = h.packets in record { packets = omega (arith, few); sizes = (within, h.sizes); others = (tt, h.others) }
 
 -- as the packets of one endpoint, and of another with its options
@@ -41,20 +41,20 @@ more_keeps : (n : ℕ) (e : Endpoint) (events : List (Event Emission)) → Keeps
 more_keeps n e events h = let few = h.packets in record { packets = omega (arith, few); sizes = h.sizes; others = h.others }
 
 -- one packet, and then these events
-out_keeps : (n : ℕ) (e after : Endpoint) (told : List Told) (with_checksum : Bool) (tag : ℕ) (contents : List Content) (rest : List (Event Emission))
-    → 12 + contents_len contents ≤ packet_size_limit e.options → KeepsFor n e rest → KeepsFor (suc n) e ((goes_out after (map told_event told) with_checksum tag contents).events ++ rest)
+out_keeps : (n : ℕ) (e after : Endpoint) (told : List FillingEvent) (with_checksum : Bool) (tag : ℕ) (contents : List Content) (rest : List (Event Emission))
+    → 12 + contents_len contents ≤ packet_size_limit e.options → KeepsFor n e rest → KeepsFor (suc n) e ((goes_out after (map filling_event told) with_checksum tag contents).events ++ rest)
 out_keeps n e after told with_checksum tag [] rest within h = told_keeps (suc n) e told rest (more_keeps n e rest h)
 out_keeps n e after told with_checksum tag (content ∷ contents) rest within h =
     let emission : Emission = record { with_checksum = with_checksum; packet = record { tag = tag; contents = content ∷ contents } } in
-    subst (KeepsFor (suc n) e) (sym (append_assoc (map told_event told) (sent emission ∷ []) rest)) (told_keeps (suc n) e told (sent emission ∷ rest) (sent_keeps n e emission rest within h))
+    subst (KeepsFor (suc n) e) (sym (append_assoc (map filling_event told) (sent emission ∷ []) rest)) (told_keeps (suc n) e told (sent emission ∷ rest) (sent_keeps n e emission rest within h))
 
 -- an empty packet is within
-empty_within : (e f : Endpoint) (draft next : Emission) → f.options ≡ e.options → next.packet.contents ≡ [] → IsWithin e draft → IsWithin f next
+empty_within : (e f : Endpoint) (draft next : Emission) → f.options ≡ e.options → next.packet.contents ≡ [] → IsWithinMtu e draft → IsWithinMtu f next
 empty_within e f draft next is empty within =
     subst (λ (o : Options). 12 + contents_len next.packet.contents ≤ packet_size_limit o) (sym is)
     (subst (λ (cs : List Content). 12 + contents_len cs ≤ packet_size_limit e.options) (sym empty) (omega (arith, within)))
 
-keeps : (ask : Ask) (n : ℕ) (e : Endpoint) (draft : Emission) (answers : List Answer) → Answers ask n e draft answers → IsWithin e draft → KeepsFor n e (flush_of e draft answers).events
+keeps : (ask : Ask) (n : ℕ) (e : Endpoint) (draft : Emission) (answers : List Answer) → AreFlushAnswers ask n e draft answers → IsWithinMtu e draft → KeepsFor n e (flush_of e draft answers).events
 keeps _ _ _ _ _ (at_limit ask e draft) within = nothing_keeps 0 e
 keeps _ _ _ _ _ (at_empty ask more e draft answer h empty) within =
     out_keeps more e answer.after answer.told draft.with_checksum draft.packet.tag (filled draft (answer_contents answer)).packet.contents [] (h.within within) (nothing_keeps more e)

@@ -5,11 +5,11 @@ use Rattle.dcsctp_spec_lemmas.specs.types.declared.options.Options.{Options}
 use Rattle.dcsctp_spec_lemmas.specs.spec.endpoint.Endpoint.{Core, closed, cookie_wait, cookie_echoed, open_in, own_tag}
 use Rattle.dcsctp_spec_lemmas.specs.spec.Packet.{Content, init, cookie_echo, abort, shutdown_ack, shutdown_complete, Packet}
 use Rattle.dcsctp_spec_lemmas.specs.spec.Admission.{all_chunks, shutdown_acks_alone, first_abort, first_shutdown_complete, has_shutdown_ack, shutdown_acks_in, is_echo_in_front, is_single_init, is_own_tag, bears_tag, abort_text, shutdown_complete_text, shutdown_ack_text, single_init_text, wrong_tag_text, admitted_where, admits_shutdown_ack, admits_by, admits}
-use Rattle.dcsctp_spec_runs.specs.World.{HasEnding, MayBeWorked, own_tag_borne, echo_in_front, init_alone, ending_in}
+use Rattle.dcsctp_spec_runs.specs.World.{HasEnding, MayBeHandled, own_tag_borne, echo_in_front, init_alone, ending_in}
 use Rattle.dcsctp_spec_lemmas.specs.spec.association.Acts.{chunk_change}
 use Rattle.dcsctp_spec_lemmas.specs.spec.association.Choices.{Choices}
 use Rattle.dcsctp_spec_lemmas.specs.spec.association.ShutdownChanges.{reflected_change}
-use Rattle.dcsctp_spec_runs.specs.Laws.{AdmittedPacketsMayBeWorked}
+use Rattle.dcsctp_spec_runs.specs.Laws.{AdmittedPacketsMayBeHandled}
 
 -- ---- packets with an ending chunk
 
@@ -35,12 +35,12 @@ shutdown_acks_end (content ∷ contents) is = shutdown_acks_end contents is
 
 -- ---- by the line that decides
 
-echo_may : (core : Core) (tag : ℕ) (contents : List Content) → is_echo_in_front contents ≡ true → MayBeWorked core (record { tag = tag; contents = contents })
+echo_may : (core : Core) (tag : ℕ) (contents : List Content) → is_echo_in_front contents ≡ true → MayBeHandled core (record { tag = tag; contents = contents })
 echo_may core tag [] is = absurd (cc)
 echo_may core tag (cookie_echo cookie ∷ contents) is = echo_in_front cookie contents refl
 echo_may core tag (content ∷ contents) is = absurd (cc)
 
-init_may : (core : Core) (tag : ℕ) (contents : List Content) → is_single_init contents ≡ true → MayBeWorked core (record { tag = tag; contents = contents })
+init_may : (core : Core) (tag : ℕ) (contents : List Content) → is_single_init contents ≡ true → MayBeHandled core (record { tag = tag; contents = contents })
 init_may core tag [] is = absurd (cc)
 init_may core tag (init theirs ∷ []) is = init_alone theirs refl
 init_may core tag (content ∷ []) is = absurd (cc)
@@ -54,12 +54,12 @@ never_cut : (test : Bool) (text : List ℕ) → admitted_where test text ≡ shu
 never_cut true text is = cc
 never_cut false text is = cc
 
-own_tag_may : (core : Core) (packet : Packet) → is_own_tag core packet.tag ≡ true → MayBeWorked core packet
+own_tag_may : (core : Core) (packet : Packet) → is_own_tag core packet.tag ≡ true → MayBeHandled core packet
 own_tag_may core packet is = own_tag_borne (grind (arith, nat_tests))
 
 line_may : (core : Core) (packet : Packet) (aborts completes : Option Bool) (acks echo zero : Bool)
     → first_abort packet.contents ≡ aborts → first_shutdown_complete packet.contents ≡ completes → has_shutdown_ack packet.contents ≡ acks → is_echo_in_front packet.contents ≡ echo
-    → admits_by core packet aborts completes acks echo zero ≡ all_chunks → MayBeWorked core packet
+    → admits_by core packet aborts completes acks echo zero ≡ all_chunks → MayBeHandled core packet
 line_may core packet (Some reflected) completes acks echo zero a c s e is = ending_in (ends_by_abort packet.contents reflected a)
 line_may core packet None (Some reflected) acks echo zero a c s e is = ending_in (ends_by_shutdown_complete packet.contents reflected c)
 line_may core packet None None true echo zero a c s e is = ending_in (ends_by_shutdown_ack packet.contents s)
@@ -68,7 +68,7 @@ line_may core packet None None false false true a c s e is = init_may core packe
 line_may core packet None None false false false a c s e is =
     own_tag_may core packet (holds_where (is_own_tag core packet.tag) (wrong_tag_text packet.tag (own_tag core)) is)
 
-whole_may : (core : Core) (packet : Packet) → admits core packet ≡ all_chunks → MayBeWorked core packet
+whole_may : (core : Core) (packet : Packet) → admits core packet ≡ all_chunks → MayBeHandled core packet
 whole_may core packet is =
     let contents = packet.contents in
     line_may core packet (first_abort contents) (first_shutdown_complete contents) (has_shutdown_ack contents) (is_echo_in_front contents) (packet.tag == 0) refl refl refl refl is
@@ -89,7 +89,7 @@ where_cut core packet is =
     let contents = packet.contents in
     cut_by_shutdown_ack core packet (first_abort contents) (first_shutdown_complete contents) (has_shutdown_ack contents) (is_echo_in_front contents) (packet.tag == 0) is
 
-cut_may : (core : Core) (packet : Packet) → admits core packet ≡ shutdown_acks_alone → MayBeWorked core (record packet { contents = shutdown_acks_in packet.contents })
+cut_may : (core : Core) (packet : Packet) → admits core packet ≡ shutdown_acks_alone → MayBeHandled core (record packet { contents = shutdown_acks_in packet.contents })
 cut_may core packet is = ending_in (shutdown_acks_end packet.contents (where_cut core packet is).0)
 
 -- Where a SHUTDOWN ACK is cut out, it is answered.
@@ -100,7 +100,7 @@ answered_where options (cookie_wait my) header choices is = refl
 answered_where options (cookie_echoed my held cookie) header choices is = refl
 answered_where options (open_in phase my held) header choices is = absurd (never_cut (is_own_tag (open_in phase my held) header) shutdown_ack_text is)
 
-pub admitted_packets_may_be_worked : AdmittedPacketsMayBeWorked
+pub admitted_packets_may_be_worked : AdmittedPacketsMayBeHandled
 admitted_packets_may_be_worked =
     record {
       whole = whole_may;

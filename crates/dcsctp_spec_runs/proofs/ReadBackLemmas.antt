@@ -11,9 +11,9 @@ use Rattle.dcsctp_spec_lemmas.specs.spec.endpoint.Endpoint.{Endpoint}
 use Rattle.dcsctp_spec_lemmas.specs.spec.endpoint.Outcome.{Outcome}
 use Rattle.dcsctp_spec_lemmas.specs.spec.endpoint.Turn.{arrival, refusal, unreadable_text, arrival_outcome, refusal_outcome}
 use Rattle.dcsctp_spec_lemmas.specs.spec.Admission.{Admission, refused, admits}
-use Rattle.dcsctp_spec_lemmas.specs.spec.endpoint.CallTurns.{Turned, Turns, AdmittedTurns, HandleInput, unreadable, readable}
+use Rattle.dcsctp_spec_lemmas.specs.spec.endpoint.CallTurns.{Transition, Turns, AdmittedTurns, HandleInput, unreadable, readable}
 use Rattle.dcsctp_spec_lemmas.specs.wire.Format.{IsPacket}
-use Rattle.dcsctp_spec_runs.specs.Laws.{OfferReadsBack, CapabilitiesHoldOffer, IsRefused, RefusedPacketAddsOneError}
+use Rattle.dcsctp_spec_runs.specs.Laws.{OfferReadsBack, CapabilitiesHoldOffer, IsPacketRefused, RefusedPacketAddsOneError}
 
 -- bytes say at most one packet, as the wire's law tells
 abbrev pub OneReading : Type 0
@@ -67,7 +67,7 @@ offer_reads_back options method cookie =
 -- ---- refused packets
 
 -- a packet that is counted, and then refused
-counted_and_refused : (e : Endpoint) (text : List ℕ) (ts : List Turned) → Turns e (arrival ∷ refusal text ∷ []) ts → IsRefused e text ts
+counted_and_refused : (e : Endpoint) (text : List ℕ) (ts : List Transition) → Turns e (arrival ∷ refusal text ∷ []) ts → IsPacketRefused e text ts
 counted_and_refused e text [] turns = absurd turns
 counted_and_refused e text (t ∷ []) turns = absurd turns.1
 counted_and_refused e text (t ∷ u ∷ []) turns =
@@ -81,15 +81,15 @@ counted_and_refused e text (t ∷ u ∷ []) turns =
     }
 counted_and_refused e text (t ∷ u ∷ v ∷ ts) turns = absurd turns.1.1
 
-unreadable_refused : (e : Endpoint) (bytes : List ℕ) (turns : List Turned) → HandleInput e bytes turns
+unreadable_refused : (e : Endpoint) (bytes : List ℕ) (turns : List Transition) → HandleInput e bytes turns
     → ((packet : PacketContent) → IsPacket (wire_options e.options) packet bytes → ⊥)
-    → IsRefused e unreadable_text turns
+    → IsPacketRefused e unreadable_text turns
 unreadable_refused e bytes turns (unreadable ts none taken) nothing = counted_and_refused e unreadable_text turns taken
 unreadable_refused e bytes turns (readable packet counted ts found turn admitted) nothing = absurd (nothing packet found)
 
-admission_refused : OneReading → (e : Endpoint) (bytes text : List ℕ) (packet : PacketContent) (turns : List Turned) → HandleInput e bytes turns
+admission_refused : OneReading → (e : Endpoint) (bytes text : List ℕ) (packet : PacketContent) (turns : List Transition) → HandleInput e bytes turns
     → IsPacket (wire_options e.options) packet bytes → admits e.core (packet_in packet) ≡ refused text
-    → IsRefused e text turns
+    → IsPacketRefused e text turns
 admission_refused one e bytes text packet turns (unreadable ts none taken) found refuses = absurd (none packet found)
 admission_refused one e bytes text packet turns (readable other counted ts there turn admitted) found refuses =
     let same : other ≡ packet = one (wire_options e.options) bytes other packet there found in

@@ -13,7 +13,7 @@ use Rattle.dcsctp_spec_lemmas.specs.spec.queues.IncomingStreams.{StreamModel, ne
 use Rattle.dcsctp_spec_lemmas.specs.spec.queues.Ranges.{is_received}
 use Rattle.dcsctp_spec_lemmas.specs.spec.queues.ReceivedParts.{ordered_stream, restored_stream}
 use Rattle.dcsctp_spec_runs.specs.ReceivedReadBack.{TrackerReadsBack, SameTsnsAreNew, StreamsReadBack}
-use Rattle.dcsctp_spec_lemmas.specs.spec.queues.Tracker.{number_of, distance}
+use Rattle.dcsctp_spec_lemmas.specs.spec.queues.Tracker.{nearest_number, tsn_distance}
 
 pub tracker_reads_back : TrackerReadsBack
 tracker_reads_back options first tracker rx = refl
@@ -28,14 +28,14 @@ or_false : (b : Bool) → (b || false) ≡ b
 or_false true = refl
 or_false false = refl
 
-received_behind : (cumulative tsn : ℕ) → is_received cumulative (number_of cumulative tsn) [] ≡ is_behind (distance cumulative tsn)
-received_behind cumulative tsn = or_false _ ∙ go (nat_lt (distance cumulative tsn) (2 ^ 31)) (distance cumulative tsn)
+received_behind : (cumulative tsn : ℕ) → is_received cumulative (nearest_number cumulative tsn) [] ≡ is_behind (tsn_distance cumulative tsn)
+received_behind cumulative tsn = or_false _ ∙ go (nat_lt (tsn_distance cumulative tsn) (2 ^ 31)) (tsn_distance cumulative tsn)
   where
     go : (is_ahead : Bool) (ahead : ℕ) → nat_le (if is_ahead then cumulative + ahead else cumulative - (2 ^ 32 - ahead)) cumulative ≡ (if is_ahead then nat_le ahead 0 else true)
     go true ahead = grind (arith, nat_tests)
     go false ahead = grind (arith, nat_tests)
 
-same_distance : (cumulative tsn : ℕ) → distance (cumulative % 2 ^ 32) tsn ≡ distance cumulative tsn
+same_distance : (cumulative tsn : ℕ) → tsn_distance (cumulative % 2 ^ 32) tsn ≡ tsn_distance cumulative tsn
 same_distance cumulative tsn = ap (λ (low : ℕ). (tsn + (2 ^ 32 - low)) % 2 ^ 32) (omega arith)
 
 pub same_tsns_are_new : SameTsnsAreNew
@@ -43,7 +43,7 @@ same_tsns_are_new options first tsn tracker rx none =
     ap not (received_behind (tracker.cumulative % 2 ^ 32) tsn
     ∙ ap is_behind (same_distance tracker.cumulative tsn)
     ∙ sym (received_behind tracker.cumulative tsn)
-    ∙ ap (λ (ranges : List TsnRange). is_received tracker.cumulative (number_of tracker.cumulative tsn) ranges) (sym none))
+    ∙ ap (λ (ranges : List TsnRange). is_received tracker.cumulative (nearest_number tracker.cumulative tsn) ranges) (sym none))
 
 -- ---- streams
 

@@ -7,11 +7,11 @@ use Rattle.dcsctp_spec_lemmas.specs.types.declared.options.Options.{Options}
 use Rattle.dcsctp_spec_lemmas.specs.types.declared.snapshot.HandoverSocketState.TheVariants as states
 use Rattle.dcsctp_spec_lemmas.specs.spec.endpoint.Event as events
 use Rattle.dcsctp_spec_lemmas.specs.spec.endpoint.Endpoint.{Endpoint, fresh_endpoint, closed, cookie_wait, open_in, established}
-use Rattle.dcsctp_spec_lemmas.specs.types.Snapshot.{Snapshot, empty_snapshot, no_capabilities}
+use Rattle.dcsctp_spec_lemmas.specs.types.Snapshot.{Snapshot, empty_snapshot, no_handover_capabilities}
 use Rattle.dcsctp_spec_lemmas.specs.spec.HandoverInputs.{inputs_of_restore}
 use Rattle.dcsctp_spec_lemmas.specs.spec.endpoint.Turn.{act_input, restores}
 use Rattle.dcsctp_spec_lemmas.specs.spec.association.Acts.{flushes}
-use Rattle.dcsctp_spec_lemmas.specs.spec.association.Effect.{Link, holds, connects, ends, resumes}
+use Rattle.dcsctp_spec_lemmas.specs.spec.association.Effect.{AssociationIdentity, holds, connects, ends, resumes}
 use Rattle.dcsctp_spec_lemmas.specs.types.Offer.{no_capabilities as no_offer}
 use Rattle.dcsctp_spec_runs.specs.Past.{number_to_begin, number_to_accept, InPlace}
 use Rattle.dcsctp_spec_lemmas.specs.spec.queues.Transfer.{Transfer}
@@ -42,7 +42,7 @@ own = record { tag = 7; first_tsn = 100 }
 it_is_established : (options : Options) (transfer : Transfer) → (restored options transfer).core
     ≡ open_in established own (record {
       peer = record { tag = 9; first_tsn = 200 };
-      capabilities = capabilities_restored options no_capabilities;
+      capabilities = capabilities_restored options no_handover_capabilities;
       own_next = 102;
       own_outstanding = None;
       peer_last = 202;
@@ -64,10 +64,10 @@ no_heartbeat options transfer = refl
 
 -- ---- zero checksum goes by the method of the options
 
-method_of_options : (options : Options) → (capabilities_restored options (record no_capabilities { zero_checksum = true })).zero_checksum_method ≡ options.zero_checksum_alternate_error_detection_method
+method_of_options : (options : Options) → (capabilities_restored options (record no_handover_capabilities { zero_checksum = true })).zero_checksum_method ≡ options.zero_checksum_alternate_error_detection_method
 method_of_options options = refl
 
-no_method : (options : Options) → (capabilities_restored options no_capabilities).zero_checksum_method.0 ≡ 0
+no_method : (options : Options) → (capabilities_restored options no_handover_capabilities).zero_checksum_method.0 ≡ 0
 no_method options = refl
 
 -- ---- the call
@@ -86,7 +86,7 @@ open_one_stays held = refl
 
 -- ---- numbers go on from the snapshot
 
-link : Link
+link : AssociationIdentity
 link =
     record { my = own; peer = record { tag = 9; first_tsn = 200 }; capabilities = no_offer }
 

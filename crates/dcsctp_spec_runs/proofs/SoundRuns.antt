@@ -4,14 +4,14 @@ use Rattle.std.specs.List.{AllByRecursion}
 use Rattle.dcsctp_spec_lemmas.specs.types.declared.options.Options.{Options}
 use Rattle.dcsctp_spec_lemmas.specs.types.declared.schedule.Side.{Side}
 use Rattle.dcsctp_spec_lemmas.specs.types.declared.schedule.Side.TheVariants as sides
-use Rattle.dcsctp_spec_lemmas.specs.spec.endpoint.CallTurns.{Turned, AlongTurns}
+use Rattle.dcsctp_spec_lemmas.specs.spec.endpoint.CallTurns.{Transition, AlongTurns}
 use Rattle.dcsctp_spec_lemmas.specs.spec.endpoint.Endpoint.{Endpoint, Core, closed, cookie_wait, cookie_echoed, open_in, fresh_endpoint}
 use Rattle.dcsctp_spec_lemmas.specs.spec.Handover.{readiness_of}
 use Rattle.dcsctp_spec_lemmas.specs.types.Schedule.{OutsideContent, input_outside, handover_outside, restore_outside, ActContent, step_act, outside_act}
 use Rattle.dcsctp_spec_lemmas.specs.types.Snapshot.{Snapshot, is_valid_snapshot}
 use Rattle.dcsctp_spec_lemmas.specs.spec.SocketSnapshot.{snapshot_in, snapshot_of}
 use Rattle.dcsctp_spec_lemmas.specs.spec.HandoverInputs.{inputs_of_snapshot}
-use Rattle.dcsctp_spec_runs.specs.Sockets.{inputs_where_valid, inputs_of_both, OutsideTurns, TurnsOfAct, Both, of_side, of_other, Worked, SocketRun, turns_after, endpoint_after, packets_shown, side_of_act}
+use Rattle.dcsctp_spec_runs.specs.Sockets.{inputs_where_valid, inputs_of_both, OutsideTurns, TurnsOfAct, Both, of_side, of_other, PerformedAct, SocketRun, turns_after, endpoint_after, packets_shown, side_of_act}
 use Rattle.dcsctp_spec_lemmas.specs.spec.Soundness.{IsSoundCore, IsSound}
 use Rattle.dcsctp_spec_runs.specs.SoundRuns.{SocketsStaySound}
 use Rattle.dcsctp_spec_laws.proofs.AlongLemmas.{turns_along, input_along_where}
@@ -35,7 +35,7 @@ valid_says : (is_valid : Bool) (p : Options) (core : Core) (state : Snapshot) �
 valid_says true p core state is = restore_says p core state is
 valid_says false p core state is = tt
 
-outside_along : (e : Endpoint) (outside : OutsideContent) (ts : List Turned) → IsSound e → OutsideTurns e outside ts → AlongTurns KeepsSound e ts
+outside_along : (e : Endpoint) (outside : OutsideContent) (ts : List Transition) → IsSound e → OutsideTurns e outside ts → AlongTurns KeepsSound e ts
 outside_along e (input_outside side bytes) ts h turns = input_along_where KeepsSound MaySound these_may_come turn_sound e bytes ts turns
 outside_along e (handover_outside side) ts h turns =
     turns_along KeepsSound MaySound these_may_come turn_sound e (inputs_of_both (readiness_of e) (snapshot_of e)) ts (both_says e (readiness_of e) h) turns
@@ -43,17 +43,17 @@ outside_along e (restore_outside side state) ts h turns =
     turns_along KeepsSound MaySound these_may_come turn_sound e (inputs_where_valid (is_valid_snapshot e.options state) e.core state) ts
     (valid_says (is_valid_snapshot e.options state) e.options e.core state refl) turns
 
-act_along : (e : Endpoint) (packets : List (List ℕ)) (act : ActContent) (ts : List Turned) → IsSound e → TurnsOfAct e packets act ts → AlongTurns KeepsSound e ts
+act_along : (e : Endpoint) (packets : List (List ℕ)) (act : ActContent) (ts : List Transition) → IsSound e → TurnsOfAct e packets act ts → AlongTurns KeepsSound e ts
 act_along e packets (step_act step) ts h turns = step_along KeepsSound MaySound these_may_come turn_sound e packets step ts turns
 act_along e packets (outside_act outside) ts h turns = outside_along e outside ts h turns
 
 -- ---- a run
 
-run_along : (options : Both Options) (run : List Worked) → SocketRun options run → (side : Side) → GoodSide KeepsSound options (turns_after run) side
+run_along : (options : Both Options) (run : List PerformedAct) → SocketRun options run → (side : Side) → GoodSide KeepsSound options (turns_after run) side
 run_along options [] runs sides.A = tt
 run_along options [] runs sides.B = tt
 run_along options (worked ∷ earlier) runs side =
-    let before : Both (List Turned) = turns_after earlier in
+    let before : Both (List Transition) = turns_after earlier in
     let mover : Side = side_of_act worked.act in
     let start : Endpoint = fresh_endpoint (of_side mover options) in
     let sound : IsSound (endpoint_after (of_side mover options) (of_side mover before)) = all_sound start (of_side mover before) (run_along options earlier runs.1 mover) tt in

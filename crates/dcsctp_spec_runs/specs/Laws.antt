@@ -7,8 +7,8 @@ use Rattle.dcsctp_spec_lemmas.specs.types.Settings.{SameOptions, wire_options}
 use Rattle.dcsctp_spec_lemmas.specs.spec.Admission.{all_chunks, shutdown_acks_alone, refused, admits, shutdown_acks_in, is_single_init}
 use Rattle.dcsctp_spec_lemmas.specs.types.declared.schedule.Side.{Side}
 use Rattle.dcsctp_spec_lemmas.specs.types.Schedule.{ActContent}
-use Rattle.dcsctp_spec_runs.specs.Sockets.{Both, of_side, TurnsOfAct, Worked, SocketRun, turns_after, endpoint_after}
-use Rattle.dcsctp_spec_lemmas.specs.spec.endpoint.CallTurns.{Turned, Turns, ChunkTurns, AdmittedTurns, HandleInput, after_all, words_of, effects_of, events_of}
+use Rattle.dcsctp_spec_runs.specs.Sockets.{Both, of_side, TurnsOfAct, PerformedAct, SocketRun, turns_after, endpoint_after}
+use Rattle.dcsctp_spec_lemmas.specs.spec.endpoint.CallTurns.{Transition, Turns, ChunkTurns, AdmittedTurns, HandleInput, after_all, words_of, effects_of, events_of}
 use Rattle.dcsctp_spec_lemmas.specs.spec.endpoint.Event.{Event, sent, error}
 use Rattle.dcsctp_spec_lemmas.specs.spec.endpoint.Turn.{Input, packet_ends, unreadable_text, refusal_outcome}
 use Rattle.dcsctp_spec_lemmas.specs.spec.association.Controlled.{IsControlled}
@@ -18,7 +18,7 @@ use Rattle.dcsctp_spec_lemmas.specs.wire.Format.{IsPacket}
 use Rattle.dcsctp_spec_lemmas.specs.types.Offer.{Offer, offer_of, offer_in, offer_parameters, offer_announced, capabilities_offered, negotiated, answering_offer}
 use Rattle.dcsctp_spec_lemmas.specs.spec.Packet.{Introduction, Content, shutdown_ack, Packet, Emission, cookie_parameters, packet_in}
 use Rattle.dcsctp_spec_lemmas.specs.spec.endpoint.Endpoint.{Endpoint, Core}
-use Rattle.dcsctp_spec_runs.specs.World.{MayBeWorked, ChunkChanges}
+use Rattle.dcsctp_spec_runs.specs.World.{MayBeHandled, ChunkChanges}
 use Rattle.dcsctp_spec_lemmas.specs.spec.association.Acts.{chunk_change}
 use Rattle.dcsctp_spec_lemmas.specs.spec.association.Choices.{Choices}
 use Rattle.dcsctp_spec_lemmas.specs.spec.association.ShutdownChanges.{reflected_change}
@@ -27,7 +27,7 @@ use Rattle.dcsctp_spec_lemmas.specs.spec.queues.Tracker.{is_acknowledgement_due}
 use Rattle.dcsctp_spec_lemmas.specs.spec.queues.Transfer.{Transfer}
 use Rattle.dcsctp_spec_lemmas.specs.spec.endpoint.BegunResets.{core_asking}
 use Rattle.dcsctp_spec_lemmas.specs.spec.endpoint.HandshakeOutcomes.{InitTurn}
-use Rattle.dcsctp_spec_lemmas.specs.spec.endpoint.FlushOutcomes.{Answer, FlushAnswers, flush_of, IsWithin, KeepsLimits}
+use Rattle.dcsctp_spec_lemmas.specs.spec.endpoint.FlushOutcomes.{Answer, FlushAnswers, flush_of, IsWithinMtu, KeepsLimits}
 use Rattle.dcsctp_spec_laws.specs.TurnLaws.{FitsContent, StandsBefore}
 
 -- Two ends agree: the features are equal, and the incoming streams of one are the outgoing ones of the other.
@@ -61,9 +61,9 @@ abbrev pub InitBringsOnePacket : Type 0
 InitBringsOnePacket = (e : Endpoint) (theirs : Introduction) (o : Outcome) → InitTurn e theirs o → CountsSentOnly e o.after × AtMostOnePacket o.events
 
 -- Is an acknowledgement of data due that came earlier?
-abbrev pub is_due_below : Option Transfer → Bool
-is_due_below None = false
-is_due_below (Some transfer) = is_acknowledgement_due transfer.tracker
+abbrev pub is_earlier_acknowledgement_due : Option Transfer → Bool
+is_earlier_acknowledgement_due None = false
+is_earlier_acknowledgement_due (Some transfer) = is_acknowledgement_due transfer.tracker
 
 -- The association is as it was. If an acknowledgement was due, the flush that sends it may have begun an own request to reset
 -- streams: then its number is outstanding, and nothing else of the association has changed (RFC 6525, section 5.1.2).
@@ -75,9 +75,9 @@ pub data StaysAs (is_due : Bool) (old new : Core) : Type 0 where
 -- is refused (RFC 9260, sections 5.2 and 8.5.1).
 abbrev pub InitPacketLeavesAssociation : Type 0
 InitPacketLeavesAssociation =
-    (e : Endpoint) (bytes : List ℕ) (turns : List Turned) → HandleInput e bytes turns
+    (e : Endpoint) (bytes : List ℕ) (turns : List Transition) → HandleInput e bytes turns
     → ((packet : PacketContent) → IsPacket (wire_options e.options) packet bytes → is_single_init (packet_in packet).contents ≡ true)
-    → StaysAs (is_due_below e.below.transfer) e.core (after_all e turns).core
+    → StaysAs (is_earlier_acknowledgement_due e.queues.transfer) e.core (after_all e turns).core
 
 -- What a socket announces in an INIT or INIT ACK is read back from it, with a cookie after it or without.
 abbrev pub OfferReadsBack : Type 0
@@ -91,53 +91,53 @@ CapabilitiesHoldOffer = (offer : Offer) → offer_in (capabilities_offered offer
 
 -- A packet that can't be read, or that admission refuses, is counted, adds one error, and changes
 -- nothing else (RFC 9260, section 8.5).
-pub record IsRefused (e : Endpoint) (text : List ℕ) (turns : List Turned) : Type 0 where
+pub record IsPacketRefused (e : Endpoint) (text : List ℕ) (turns : List Transition) : Type 0 where
   pub endpoint : after_all e turns ≡ record e { counts = record e.counts { packets_received = count_up e.counts.packets_received } }
   pub events : events_of turns ≡ error ParseFailed text ∷ []
   pub words : words_of turns ≡ []
   pub effects : effects_of turns ≡ []
 
 pub record RefusedPacketAddsOneError : Type 0 where
-  pub unreadable : (e : Endpoint) (bytes : List ℕ) (turns : List Turned) → HandleInput e bytes turns
+  pub unreadable : (e : Endpoint) (bytes : List ℕ) (turns : List Transition) → HandleInput e bytes turns
       → ((packet : PacketContent) → IsPacket (wire_options e.options) packet bytes → ⊥)
-      → IsRefused e unreadable_text turns
-  pub refused : (e : Endpoint) (bytes text : List ℕ) (packet : PacketContent) (turns : List Turned) → HandleInput e bytes turns
+      → IsPacketRefused e unreadable_text turns
+  pub refused : (e : Endpoint) (bytes text : List ℕ) (packet : PacketContent) (turns : List Transition) → HandleInput e bytes turns
       → IsPacket (wire_options e.options) packet bytes → admits e.core (packet_in packet) ≡ refused text
-      → IsRefused e text turns
+      → IsPacketRefused e text turns
 
 -- Whatever admission lets in is let in by `World`, too: a whole packet, or only its SHUTDOWN ACK chunks. Each of these that is
 -- handled is answered, and the association is unchanged (RFC 9260, sections 8.4 and 8.5.1).
-pub record AdmittedPacketsMayBeWorked : Type 0 where
-  pub whole : (core : Core) (packet : Packet) → admits core packet ≡ all_chunks → MayBeWorked core packet
+pub record AdmittedPacketsMayBeHandled : Type 0 where
+  pub whole : (core : Core) (packet : Packet) → admits core packet ≡ all_chunks → MayBeHandled core packet
   pub cut : (core : Core) (packet : Packet) → admits core packet ≡ shutdown_acks_alone
-      → MayBeWorked core (record packet { contents = shutdown_acks_in packet.contents })
+      → MayBeHandled core (record packet { contents = shutdown_acks_in packet.contents })
   pub answered : (options : Options) (core : Core) (packet : Packet) (choices : Choices) → admits core packet ≡ shutdown_acks_alone
       → chunk_change options core packet.tag shutdown_ack choices ≡ reflected_change core packet.tag choices.following
 
 -- ---- the turns of an endpoint as turns of its association
 
 -- where each of a packet's chunks fits at its turn
-abbrev pub FitsTurns : Endpoint → List Content → List Turned → Type 0
+abbrev pub FitsTurns : Endpoint → List Content → List Transition → Type 0
 FitsTurns e [] turns = Unit {0}
 FitsTurns e (content ∷ contents) [] = Unit {0}
 FitsTurns e (content ∷ contents) (turn ∷ turns) = FitsContent e content × FitsTurns turn.outcome.after contents turns
 
 -- turn by turn
-abbrev pub AllControlled : Endpoint → List Turned → List Change → Type 0
+abbrev pub AllControlled : Endpoint → List Transition → List Change → Type 0
 AllControlled e [] [] = Unit {0}
 AllControlled e [] (change ∷ changes) = ⊥
 AllControlled e (turn ∷ turns) [] = ⊥
 AllControlled e (turn ∷ turns) (change ∷ changes) = IsControlled e turn.outcome change × AllControlled turn.outcome.after turns changes
 
 -- what is left of a packet's turns: those of its end, or none
-pub data IsRest (e : Endpoint) (ends : List Input) (turns : List Turned) : Type 0 where
+pub data IsRest (e : Endpoint) (ends : List Input) (turns : List Transition) : Type 0 where
   dropped : turns ≡ [] → IsRest e ends turns
   ended : Turns e ends turns → IsRest e ends turns
 
 -- The turns of a packet's chunks are chunks that the association handles. After them comes the end of the packet, or nothing.
-pub record AreChunks (e : Endpoint) (tag : ℕ) (contents : List Content) (ends : List Input) (turns : List Turned) : Type 0 where
-  pub chunks : List Turned
-  pub rest : List Turned
+pub record AreChunkTurns (e : Endpoint) (tag : ℕ) (contents : List Content) (ends : List Input) (turns : List Transition) : Type 0 where
+  pub chunks : List Transition
+  pub rest : List Transition
   pub parts : turns ≡ chunks ++ rest
   pub changes : List Change
   pub moves : ChunkChanges e.options e.core tag contents changes
@@ -146,31 +146,31 @@ pub record AreChunks (e : Endpoint) (tag : ℕ) (contents : List Content) (ends 
 
 abbrev pub PacketsAreControlled : Type 0
 PacketsAreControlled =
-    (e : Endpoint) (tag : ℕ) (contents : List Content) (ends : List Input) (turns : List Turned) → ChunkTurns e tag contents ends turns
-    → FitsTurns e contents turns → AreChunks e tag contents ends turns
+    (e : Endpoint) (tag : ℕ) (contents : List Content) (ends : List Input) (turns : List Transition) → ChunkTurns e tag contents ends turns
+    → FitsTurns e contents turns → AreChunkTurns e tag contents ends turns
 
 -- A packet's turns: what precedes its chunks; these, as they may be handled; and its end.
-pub record IsDelivery (e : Endpoint) (packet : Packet) (begun : Turned) (turns : List Turned) : Type 0 where
+pub record IsDelivery (e : Endpoint) (packet : Packet) (begun : Transition) (turns : List Transition) : Type 0 where
   pub before : StandsBefore e begun.outcome
-  pub worked : AreChunks begun.outcome.after packet.tag packet.contents (packet_ends ∷ []) turns
-  pub may : MayBeWorked begun.outcome.after.core packet
+  pub worked : AreChunkTurns begun.outcome.after packet.tag packet.contents (packet_ends ∷ []) turns
+  pub may : MayBeHandled begun.outcome.after.core packet
 
 -- The outcome of a packet that was counted: a delivery to the association, of all its chunks or its SHUTDOWN ACK chunks; or one
 -- error.
-pub data Delivered (e : Endpoint) (packet : Packet) : List Turned → Type 0 where
-  whole : (begun : Turned) (turns : List Turned) → IsDelivery e packet begun turns → Delivered e packet (begun ∷ turns)
-  acks : (turns : List Turned) → AreChunks e packet.tag (shutdown_acks_in packet.contents) [] turns → Delivered e packet turns
-  reported : (text : List ℕ) (turn : Turned) → turn.outcome ≡ refusal_outcome e text → Delivered e packet (turn ∷ [])
+pub data DeliversPacket (e : Endpoint) (packet : Packet) : List Transition → Type 0 where
+  whole : (begun : Transition) (turns : List Transition) → IsDelivery e packet begun turns → DeliversPacket e packet (begun ∷ turns)
+  acks : (turns : List Transition) → AreChunkTurns e packet.tag (shutdown_acks_in packet.contents) [] turns → DeliversPacket e packet turns
+  reported : (text : List ℕ) (turn : Transition) → turn.outcome ≡ refusal_outcome e text → DeliversPacket e packet (turn ∷ [])
 
 -- where the chunks of a packet fit at their turns, after the one that stands before them
-abbrev pub FitsBehind : List Content → List Turned → Type 0
+abbrev pub FitsBehind : List Content → List Transition → Type 0
 FitsBehind contents [] = Unit {0}
 FitsBehind contents (begun ∷ turns) = FitsTurns begun.outcome.after contents turns
 
 abbrev pub DeliveriesAreControlled : Type 0
 DeliveriesAreControlled =
-    (e : Endpoint) (packet : Packet) (turns : List Turned) → AdmittedTurns e packet (admits e.core packet) turns → FitsBehind packet.contents turns
-    → Delivered e packet turns
+    (e : Endpoint) (packet : Packet) (turns : List Transition) → AdmittedTurns e packet (admits e.core packet) turns → FitsBehind packet.contents turns
+    → DeliversPacket e packet turns
 
 -- ---- a flush
 
@@ -178,7 +178,7 @@ DeliveriesAreControlled =
 -- ECHO isn't answered it sends at most one. None is longer than `mtu`. Its other events are only of amounts and messages.
 abbrev pub FlushKeepsLimits : Type 0
 FlushKeepsLimits =
-    (e : Endpoint) (draft : Emission) (answers : List Answer) → FlushAnswers e draft answers → IsWithin e draft
+    (e : Endpoint) (draft : Emission) (answers : List Answer) → FlushAnswers e draft answers → IsWithinMtu e draft
     → KeepsLimits e (flush_of e draft answers).events
 
 -- ---- two sockets
@@ -186,7 +186,7 @@ FlushKeepsLimits =
 -- The options of a socket never change, except for the longest message that it takes. That holds whatever the user calls and
 -- whatever is delivered.
 pub record SocketsKeepOptions : Type 0 where
-  pub act : (e : Endpoint) (packets : List (List ℕ)) (act : ActContent) (turns : List Turned) → TurnsOfAct e packets act turns
+  pub act : (e : Endpoint) (packets : List (List ℕ)) (act : ActContent) (turns : List Transition) → TurnsOfAct e packets act turns
       → SameOptions e.options (after_all e turns).options
-  pub run : (options : Both Options) (steps : List Worked) → SocketRun options steps
+  pub run : (options : Both Options) (steps : List PerformedAct) → SocketRun options steps
       → (side : Side) → SameOptions (of_side side options) (endpoint_after (of_side side options) (of_side side (turns_after steps))).options

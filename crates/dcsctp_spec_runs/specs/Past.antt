@@ -1,13 +1,13 @@
 -- What one side has done so far, newest first, and where in it each effect may be.
 use Rattle.std.specs.Prelude.{◌≡◌, ◌≢◌, ℕ, ◌+◌, ◌%◌, ◌^◌, Option, None, Some, List, [], ◌∷◌, ◌⊎◌}
 use Rattle.dcsctp_spec_lemmas.specs.types.declared.association.Pair.{Pair}
-use Rattle.dcsctp_spec_lemmas.specs.spec.association.Effect.{Link, Effect, draws, sends, holds, connects, ends, begins, gives_up, completes, fails, accepts, performs, resumes}
+use Rattle.dcsctp_spec_lemmas.specs.spec.association.Effect.{AssociationIdentity, Effect, draws, sends, holds, connects, ends, begins, gives_up, completes, fails, accepts, performs, resumes}
 use Rattle.dcsctp_spec_lemmas.specs.spec.association.FlushChanges.{next_number}
 
 -- It is one of these.
-abbrev pub Has : Effect → List Effect → Type 0
-Has effect [] = ⊥
-Has effect (newest ∷ earlier) = (effect ≡ newest) ⊎ Has effect earlier
+abbrev pub HasEffect : Effect → List Effect → Type 0
+HasEffect effect [] = ⊥
+HasEffect effect (newest ∷ earlier) = (effect ≡ newest) ⊎ HasEffect effect earlier
 
 -- Each effect is as the rule wants it, by what came before it.
 abbrev pub Each : (Effect → List Effect → Type 0) → List Effect → Type 0
@@ -18,7 +18,7 @@ Each Rule (newest ∷ earlier) = Rule newest earlier × Each Rule earlier
 
 -- A tag that is drawn was never drawn before.
 abbrev pub FreshDraw : Effect → List Effect → Type 0
-FreshDraw (draws pair) earlier = (other : Pair) → Has (draws other) earlier → pair.tag ≢ other.tag
+FreshDraw (draws pair) earlier = (other : Pair) → HasEffect (draws other) earlier → pair.tag ≢ other.tag
 FreshDraw (sends packet) earlier = Unit {0}
 FreshDraw (holds link) earlier = Unit {0}
 FreshDraw (connects link) earlier = Unit {0}
@@ -38,7 +38,7 @@ HasFreshTags past = Each FreshDraw past
 -- ---- what the past leaves
 
 -- the existing association
-abbrev pub current : List Effect → Option Link
+abbrev pub current : List Effect → Option AssociationIdentity
 current [] = None
 current (holds link ∷ earlier) = Some link
 current (resumes link own last ∷ earlier) = Some link
@@ -54,7 +54,7 @@ current (accepts number ∷ earlier) = current earlier
 current (performs peer number ∷ earlier) = current earlier
 
 -- the existing association and hasn't connected
-abbrev pub unconnected : List Effect → Option Link
+abbrev pub unconnected : List Effect → Option AssociationIdentity
 unconnected [] = None
 unconnected (holds link ∷ earlier) = Some link
 unconnected (resumes link own last ∷ earlier) = Some link
@@ -151,11 +151,11 @@ number_to_perform (fails number ∷ earlier) = number_to_perform earlier
 number_to_perform (gives_up number ∷ earlier) = number_to_perform earlier
 
 -- its own pair of an association, if there is one, and its peer's
-abbrev pub my_of : Option Link → Option Pair
+abbrev pub my_of : Option AssociationIdentity → Option Pair
 my_of None = None
 my_of (Some link) = Some link.my
 
-abbrev pub peer_of : Option Link → Option Pair
+abbrev pub peer_of : Option AssociationIdentity → Option Pair
 peer_of None = None
 peer_of (Some link) = Some link.peer
 

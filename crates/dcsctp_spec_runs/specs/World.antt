@@ -10,7 +10,7 @@ use Rattle.dcsctp_spec_lemmas.specs.spec.association.Choices.{Choices}
 use Rattle.dcsctp_spec_lemmas.specs.spec.association.Acts.{Act, act_change, chunk_change, ChunkChange}
 use Rattle.dcsctp_spec_lemmas.specs.spec.association.ResumeChanges.{resumed_held, resume_change}
 use Rattle.dcsctp_spec_lemmas.specs.spec.Admission.{shutdown_acks_in}
-use Rattle.dcsctp_spec_runs.specs.Past.{Has}
+use Rattle.dcsctp_spec_runs.specs.Past.{HasEffect}
 
 -- ---- one side
 
@@ -20,8 +20,8 @@ pub record SideState : Type 0 where
   -- all effects so far, newest first
   pub past : List Effect
 
-abbrev pub fresh_side : Options → SideState
-fresh_side options = record { options = options; core = closed; past = [] }
+abbrev pub fresh_side_state : Options → SideState
+fresh_side_state options = record { options = options; core = closed; past = [] }
 
 -- the past after these effects, which come in order
 abbrev pub after_effects : List Effect → List Effect → List Effect
@@ -49,7 +49,7 @@ ControlTurns options core (change ∷ changes) = ControlTurn options core change
 
 -- A side after several steps of one or more turns, newest first, whatever packets it was handed.
 abbrev pub side_after : Options → List (List Change) → SideState
-side_after options [] = fresh_side options
+side_after options [] = fresh_side_state options
 side_after options (changes ∷ earlier) = after_changes (side_after options earlier) changes
 
 abbrev pub SideRun : Options → List (List Change) → Type 0
@@ -72,11 +72,11 @@ HasEnding (content ∷ contents) = IsEnding content ⊎ HasEnding contents
 
 -- The packets whose chunks may be handled (RFC 9260, sections 8.4 and 8.5): under its own tag, with a COOKIE ECHO in front, one
 -- INIT, and any with an ending chunk. Admission lets in fewer: an INIT only under tag 0, and ending chunks by their own rules.
-pub data MayBeWorked (core : Core) (packet : Packet) : Type 0 where
-  own_tag_borne : packet.tag ≡ own_tag core → MayBeWorked core packet
-  echo_in_front : (cookie : List ℕ) (behind : List Content) → packet.contents ≡ cookie_echo cookie ∷ behind → MayBeWorked core packet
-  init_alone : (theirs : Introduction) → packet.contents ≡ init theirs ∷ [] → MayBeWorked core packet
-  ending_in : HasEnding packet.contents → MayBeWorked core packet
+pub data MayBeHandled (core : Core) (packet : Packet) : Type 0 where
+  own_tag_borne : packet.tag ≡ own_tag core → MayBeHandled core packet
+  echo_in_front : (cookie : List ℕ) (behind : List Content) → packet.contents ≡ cookie_echo cookie ∷ behind → MayBeHandled core packet
+  init_alone : (theirs : Introduction) → packet.contents ≡ init theirs ∷ [] → MayBeHandled core packet
+  ending_in : HasEnding packet.contents → MayBeHandled core packet
 
 -- The chunks of a packet one after another, as far as they are handled. The rest may be dropped after each, whatever follows it.
 -- A socket drops it only after an unknown chunk, an end or a refused COOKIE ECHO.
@@ -89,7 +89,7 @@ ChunkChanges options core header (content ∷ contents) (change ∷ changes) =
 -- The outcome of a packet: its chunks are handled if they may be, or its SHUTDOWN ACK chunks alone, whatever its tag (RFC 9260,
 -- section 8.5.1).
 pub data PacketChanges (options : Options) (core : Core) (packet : Packet) (changes : List Change) : Type 0 where
-  worked_whole : MayBeWorked core packet → ChunkChanges options core packet.tag packet.contents changes → PacketChanges options core packet changes
+  worked_whole : MayBeHandled core packet → ChunkChanges options core packet.tag packet.contents changes → PacketChanges options core packet changes
   worked_acks : ChunkChanges options core packet.tag (shutdown_acks_in packet.contents) changes → PacketChanges options core packet changes
 
 -- ---- two sides
@@ -104,7 +104,7 @@ pub data Move : Type 0 where
 -- long ago.
 abbrev pub MoveChanges : SideState → List Effect → Move → List Change → Type 0
 MoveChanges side sent (does act) changes = (choices : Choices) × (changes ≡ act_change side.options side.core act choices ∷ [])
-MoveChanges side sent (receives packet) changes = Has (sends packet) sent × PacketChanges side.options side.core packet changes
+MoveChanges side sent (receives packet) changes = HasEffect (sends packet) sent × PacketChanges side.options side.core packet changes
 
 -- a move, and what came of it
 pub record Moved : Type 0 where
@@ -130,7 +130,7 @@ pub data Which : Type 0 where
   at_b : Which
 
 -- who moves, how, and its outcome
-pub record Step : Type 0 where
+pub record WorldStep : Type 0 where
   pub side : Which
   pub move : Move
   pub changes : List Change
@@ -140,8 +140,8 @@ step_after world at_a changes = record world { a = after_changes world.a changes
 step_after world at_b changes = record world { b = after_changes world.b changes }
 
 -- the world after these steps, newest first
-abbrev pub world_after : Options → Options → List Step → World
-world_after options_a options_b [] = record { a = fresh_side options_a; b = fresh_side options_b }
+abbrev pub world_after : Options → Options → List WorldStep → World
+world_after options_a options_b [] = record { a = fresh_side_state options_a; b = fresh_side_state options_b }
 world_after options_a options_b (step ∷ earlier) = step_after (world_after options_a options_b earlier) step.side step.changes
 
 abbrev pub StepChanges : World → Which → Move → List Change → Type 0
@@ -149,10 +149,10 @@ StepChanges world at_a move changes = MoveChanges world.a world.b.past move chan
 StepChanges world at_b move changes = MoveChanges world.b world.a.past move changes
 
 -- A run: each of these steps comes of the world before it. Its moves are the schedule.
-abbrev pub Run : Options → Options → List Step → Type 0
-Run options_a options_b [] = Unit {0}
-Run options_a options_b (step ∷ earlier) =
-    StepChanges (world_after options_a options_b earlier) step.side step.move step.changes × Run options_a options_b earlier
+abbrev pub WorldRun : Options → Options → List WorldStep → Type 0
+WorldRun options_a options_b [] = Unit {0}
+WorldRun options_a options_b (step ∷ earlier) =
+    StepChanges (world_after options_a options_b earlier) step.side step.move step.changes × WorldRun options_a options_b earlier
 
 -- the steps of one side, newest first
 abbrev pub steps_with : Which → Which → List Change → List (List Change) → List (List Change)
@@ -161,11 +161,11 @@ steps_with at_a at_b changes earlier = earlier
 steps_with at_b at_a changes earlier = earlier
 steps_with at_b at_b changes earlier = changes ∷ earlier
 
-abbrev pub steps_of : Which → List Step → List (List Change)
+abbrev pub steps_of : Which → List WorldStep → List (List Change)
 steps_of which [] = []
 steps_of which (step ∷ earlier) = steps_with which step.side step.changes (steps_of which earlier)
 
 -- the steps of a run, newest first, with these moves of one side after them
-abbrev pub with_moves : Which → List Moved → List Step → List Step
+abbrev pub with_moves : Which → List Moved → List WorldStep → List WorldStep
 with_moves which [] steps = steps
 with_moves which (moved ∷ moves) steps = with_moves which moves (record { side = which; move = moved.move; changes = moved.changes } ∷ steps)

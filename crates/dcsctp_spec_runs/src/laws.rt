@@ -3,7 +3,7 @@
 ghost use Rattle.std.specs.Prelude.{◌≡◌, ◌<◌, ◌^◌, ◌||◌, ℕ, bit_or};
 ghost use Rattle.dcsctp_spec_lemmas.specs.types.Readiness.{has_reason};
 ghost use Rattle.dcsctp_spec_lemmas.specs.types.Settings.{FitsOptions};
-ghost use Rattle.dcsctp_spec_runs.specs.Laws.{NegotiationIsMutual, AnswerKeepsAgreement, InitBringsOnePacket, InitPacketLeavesAssociation, OfferReadsBack, CapabilitiesHoldOffer, RefusedPacketAddsOneError, AdmittedPacketsMayBeWorked, PacketsAreControlled, DeliveriesAreControlled, FlushKeepsLimits, SocketsKeepOptions};
+ghost use Rattle.dcsctp_spec_runs.specs.Laws.{NegotiationIsMutual, AnswerKeepsAgreement, InitBringsOnePacket, InitPacketLeavesAssociation, OfferReadsBack, CapabilitiesHoldOffer, RefusedPacketAddsOneError, AdmittedPacketsMayBeHandled, PacketsAreControlled, DeliveriesAreControlled, FlushKeepsLimits, SocketsKeepOptions};
 ghost use Rattle.dcsctp_spec_lemmas.specs.spec.CookieFits.{CookieReadsBack};
 ghost use Rattle.dcsctp_spec_runs.specs.SoundRuns.{SocketsStaySound};
 ghost use Rattle.dcsctp_spec_runs.specs.ReceivedReadBack.{TrackerReadsBack, SameTsnsAreNew, StreamsReadBack};
@@ -80,7 +80,7 @@ pub fn refused_packet_adds_one_error()
 /// Whatever admission lets in is let in by `World`, too (RFC 9260, sections 8.4 and 8.5.1): whole packets, or
 /// only SHUTDOWN ACK chunks. The latter leave the association unchanged.
 pub fn admitted_packets_may_be_worked()
-    ensures { AdmittedPacketsMayBeWorked }
+    ensures { AdmittedPacketsMayBeHandled }
 {}
 
 /// The turns of a packet's chunks are a delivery to the association.

@@ -11,7 +11,7 @@ use Rattle.dcsctp_spec_lemmas.specs.spec.association.Effect.{Effect, begins, giv
 use Rattle.dcsctp_spec_lemmas.specs.spec.association.Choices.{Choices}
 use Rattle.dcsctp_spec_lemmas.specs.spec.association.FlushChanges.{further_packets, flush, reset_request}
 use Rattle.dcsctp_spec_lemmas.specs.spec.endpoint.Cause.{causes_of}
-use Rattle.dcsctp_spec_lemmas.specs.spec.association.Acts.{Act, connect, t1_expires, shut_down, step_of_shutdown, shutdown_repeats, abort_with, flushes, request_again, request_renewed, hands_over, sent_by, hand_over_change_in, hand_over_change, flush_change, request_sent, request_again_change, renewed_by, request_renewed_change, act_change}
+use Rattle.dcsctp_spec_lemmas.specs.spec.association.Acts.{Act, connect, t1_expires, shut_down, step_of_shutdown, shutdown_repeats, abort_with, flushes, request_again, request_renewed, hands_over, sent_then_flushed, hand_over_change_in, hand_over_change, flush_change, request_sent, request_again_change, renewed_by, request_renewed_change, act_change}
 use Rattle.dcsctp_spec_runs.specs.Past.{HasFreshTags}
 use Rattle.dcsctp_spec_runs.specs.World.{after_effects}
 use Rattle.dcsctp_theorem_association.proofs.Facts.{TrueEffects, TruePast, PeerFacts, TrueCore}
@@ -23,12 +23,12 @@ use Rattle.dcsctp_theorem_association.proofs.HandshakeKept.{connect_kept, t1_aga
 use Rattle.dcsctp_theorem_association.proofs.ShutdownKept.{step_kept, call_kept, aborts_kept, again_kept}
 
 -- packets that speak of no association, and a flush
-sent_true : (my_offer their_offer : Offer) (mine theirs : List Effect) (held : Held) (choices : Choices) → TrueEffects my_offer their_offer mine theirs (sent_by held choices).effects
+sent_true : (my_offer their_offer : Offer) (mine theirs : List Effect) (held : Held) (choices : Choices) → TrueEffects my_offer their_offer mine theirs (sent_then_flushed held choices).effects
 sent_true my_offer their_offer mine theirs held choices =
     effects-append my_offer their_offer mine theirs (further_packets held.peer.tag choices.plain) (flush held.peer.tag held [] choices.filling).effects
     (further_true my_offer their_offer mine theirs held.peer.tag choices.plain) (flush_true my_offer their_offer mine theirs held.peer.tag held [] choices.filling tt)
 
-sent_free : (held : Held) (choices : Choices) → AllEchoFree (sent_by held choices).effects
+sent_free : (held : Held) (choices : Choices) → AllEchoFree (sent_then_flushed held choices).effects
 sent_free held choices =
     free_append (further_packets held.peer.tag choices.plain) (flush held.peer.tag held [] choices.filling).effects
     (further_free held.peer.tag choices.plain) (flush_free held.peer.tag held [] choices.filling tt)
@@ -38,7 +38,7 @@ pub flush_kept : (my_offer their_offer : Offer) (mine theirs : List Effect) (cor
 flush_kept my_offer their_offer mine theirs closed choices h = unchanged_kept my_offer their_offer mine theirs closed h
 flush_kept my_offer their_offer mine theirs (cookie_wait my) choices h = unchanged_kept my_offer their_offer mine theirs (cookie_wait my) h
 flush_kept my_offer their_offer mine theirs (cookie_echoed my held bytes) choices h =
-    let effects : List Effect = (sent_by held choices).effects in
+    let effects : List Effect = (sent_then_flushed held choices).effects in
     record {
       effects = sent_true my_offer their_offer mine theirs held choices;
       core = (
@@ -49,7 +49,7 @@ flush_kept my_offer their_offer mine theirs (cookie_echoed my held bytes) choice
       );
     }
 flush_kept my_offer their_offer mine theirs (open_in phase my held) choices h =
-    open_kept my_offer their_offer mine theirs phase my (flush held.peer.tag held [] choices.filling).held (sent_by held choices).effects next_chunk
+    open_kept my_offer their_offer mine theirs phase my (flush held.peer.tag held [] choices.filling).held (sent_then_flushed held choices).effects next_chunk
     (flush_peer my_offer their_offer mine theirs my held.peer.tag held [] choices.filling h) (sent_true my_offer their_offer mine theirs held choices)
 
 hand_over_in_kept : (my_offer their_offer : Offer) (mine theirs : List Effect) (phase : OpenPhase) (my : Pair) (held : Held)

@@ -6,9 +6,9 @@ use Rattle.dcsctp_spec_lemmas.specs.types.Offer.{Offer, offer_of}
 use Rattle.dcsctp_spec_runs.specs.Laws.{AnswerKeepsAgreement}
 use Rattle.dcsctp_spec_lemmas.specs.spec.association.Effect.{Effect, draws, sends, holds, connects, ends, begins, gives_up, completes, fails, accepts, performs, resumes, Change}
 use Rattle.dcsctp_spec_lemmas.specs.spec.association.FlushChanges.{next_number}
-use Rattle.dcsctp_spec_runs.specs.Past.{Has, Each, HasFreshTags, InPlace, current, my_of, outstanding, number_to_begin, requests_begun}
-use Rattle.dcsctp_spec_runs.specs.World.{SideState, after_changes, after_change, Which, at_a, at_b, Move, MoveChanges, Step, World, step_after, world_after, StepChanges, Run, steps_of}
-use Rattle.dcsctp_theorem_association.specs.Agreement.{ConnectsCrossed, FindsPerformed, Agrees, SidesAgree, RunsAlone, SidesRunAlone}
+use Rattle.dcsctp_spec_runs.specs.Past.{HasEffect, Each, HasFreshTags, InPlace, current, my_of, outstanding, number_to_begin, requests_begun}
+use Rattle.dcsctp_spec_runs.specs.World.{SideState, after_changes, after_change, Which, at_a, at_b, Move, MoveChanges, WorldStep, World, step_after, world_after, StepChanges, WorldRun, steps_of}
+use Rattle.dcsctp_theorem_association.specs.Agreement.{ConnectsCrossed, FindsPerformed, AgreesWithPeer, SidesAgree, RunsAlone, SidesRunAlone}
 use Rattle.dcsctp_theorem_association.specs.OneSide.{EffectsInPlace}
 use Rattle.dcsctp_theorem_association.proofs.Facts.{number_before, agreed_link, Found, TruePast}
 use Rattle.dcsctp_theorem_association.proofs.Growth.{true_of}
@@ -53,7 +53,7 @@ true_after_step law world at_b move changes h fresh turns =
     true_step law world.b world.a move changes h.b h.a fresh.b fresh.a turns in
     record { a = both.1; b = both.0 }
 
-true_run : AnswerKeepsAgreement → (options_a options_b : Options) (steps : List Step) → Run options_a options_b steps
+true_run : AnswerKeepsAgreement → (options_a options_b : Options) (steps : List WorldStep) → WorldRun options_a options_b steps
     → FreshWorld (world_after options_a options_b steps) → TrueWorld (world_after options_a options_b steps)
 true_run law options_a options_b [] run fresh = record { a = record { past = tt; core = tt }; b = record { past = tt; core = tt } }
 true_run law options_a options_b (step ∷ earlier) run fresh =
@@ -151,7 +151,7 @@ not_before number begun my counted few is =
     absurd (omega arith)
 
 performed_where : (theirs : List Effect) (my : Pair) (number : ℕ) (earlier : List Effect) → Counted number my (requests_begun earlier) → requests_begun earlier ≤ 2 ^ 32 - 1
-    → Has (performs my number) theirs ⊎ (number ≡ number_before my) → Has (performs my number) theirs
+    → HasEffect (performs my number) theirs ⊎ (number ≡ number_before my) → HasEffect (performs my number) theirs
 performed_where theirs my number earlier counted few (inl h) = h
 performed_where theirs my number earlier counted few (inr e) = absurd (not_before number (requests_begun earlier) my counted few e)
 
@@ -164,7 +164,7 @@ performed my_offer their_offer (connects link ∷ earlier) theirs rules h = (tt,
 performed my_offer their_offer (ends ∷ earlier) theirs rules h = (tt, performed my_offer their_offer earlier theirs rules.1 h.1)
 performed my_offer their_offer (begins number ∷ earlier) theirs rules h = (tt, performed my_offer their_offer earlier theirs rules.1 h.1)
 performed my_offer their_offer (completes my number ∷ earlier) theirs rules h =
-    let found : requests_begun earlier ≤ 2 ^ 32 - 1 → Has (performs my number) theirs = λ few. performed_where theirs my number earlier
+    let found : requests_begun earlier ≤ 2 ^ 32 - 1 → HasEffect (performs my number) theirs = λ few. performed_where theirs my number earlier
     (outstanding_counted earlier number my rules.1 (none_resumed my_offer their_offer earlier theirs h.1) rules.0.0 rules.0.1) few h.0 in
     (found, performed my_offer their_offer earlier theirs rules.1 h.1)
 performed my_offer their_offer (fails number ∷ earlier) theirs rules h = (tt, performed my_offer their_offer earlier theirs rules.1 h.1)
@@ -175,7 +175,7 @@ performed my_offer their_offer (resumes link own last ∷ earlier) theirs rules 
 
 -- ---- the theorem
 
-agrees : (one other : SideState) → TrueSide (offer_of other.options) one other.past → Each InPlace one.past → Agrees one other
+agrees : (one other : SideState) → TrueSide (offer_of other.options) one other.past → Each InPlace one.past → AgreesWithPeer one other
 agrees one other h rules =
     record { connected = crossed one other h; performed = performed (offer_of one.options) (offer_of other.options) one.past other.past rules h.past }
 

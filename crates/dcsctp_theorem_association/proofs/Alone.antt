@@ -5,7 +5,7 @@ use Rattle.dcsctp_spec_lemmas.specs.spec.Packet.{Content, Packet}
 use Rattle.dcsctp_spec_lemmas.specs.spec.Admission.{shutdown_acks_in}
 use Rattle.dcsctp_spec_lemmas.specs.spec.endpoint.Endpoint.{Core}
 use Rattle.dcsctp_spec_lemmas.specs.spec.association.Effect.{Effect, Change}
-use Rattle.dcsctp_spec_runs.specs.World.{SideState, after_change, after_changes, acted, worked, ControlTurns, SideRun, side_after, ChunkChanges, PacketChanges, worked_whole, worked_acks, Move, does, receives, MoveChanges, Which, at_a, at_b, World, step_after, world_after, Step, StepChanges, Run, steps_with, steps_of}
+use Rattle.dcsctp_spec_runs.specs.World.{SideState, after_change, after_changes, acted, worked, ControlTurns, SideRun, side_after, ChunkChanges, PacketChanges, worked_whole, worked_acks, Move, does, receives, MoveChanges, Which, at_a, at_b, World, step_after, world_after, WorldStep, StepChanges, WorldRun, steps_with, steps_of}
 use Rattle.dcsctp_theorem_association.specs.Agreement.{SidesRunAlone}
 
 chunk_turns : (options : Options) (core : Core) (header : ℕ) (contents : List Content) (changes : List Change)
@@ -57,7 +57,7 @@ b_alone : (options : Options) (steps : List (List Change)) (world : World) (whic
 b_alone options steps world at_a move changes h turns = h
 b_alone options steps world at_b move changes h turns = one_more options steps world.b world.a.past move changes h turns
 
-both_alone : (options_a options_b : Options) (steps : List Step) → Run options_a options_b steps
+both_alone : (options_a options_b : Options) (steps : List WorldStep) → WorldRun options_a options_b steps
     → Alone options_a (steps_of at_a steps) (world_after options_a options_b steps).a × Alone options_b (steps_of at_b steps) (world_after options_a options_b steps).b
 both_alone options_a options_b [] run = (record { is_run = tt; is = refl }, record { is_run = tt; is = refl })
 both_alone options_a options_b (step ∷ earlier) run =

@@ -9,8 +9,8 @@ use Rattle.dcsctp_spec_lemmas.specs.spec.Packet.{Plain, Content, re_config}
 use Rattle.dcsctp_spec_lemmas.specs.spec.association.Effect.{Effect, ends, completes, fails, emitted, emitted_alone}
 use Rattle.dcsctp_spec_lemmas.specs.spec.association.Choices.{plain_contents, Filling, Choices}
 use Rattle.dcsctp_spec_lemmas.specs.spec.association.FlushChanges.{reset_to_begin, further_packets, chunks_behind, flush_packets, flushed_with, flush_where, flush}
-use Rattle.dcsctp_spec_lemmas.specs.spec.association.ResetChanges.{Place, again, next, astray, place_of, Answered, worked, repeated, outgoing_by, incoming_by, Informed, informed_where, is_outstanding, WorkedParameters, work_parameters, work_chunk, answers_emitted, reset_sent, reset_worked}
-use Rattle.dcsctp_spec_runs.specs.Past.{Has}
+use Rattle.dcsctp_spec_lemmas.specs.spec.association.ResetChanges.{RequestPlace, again, next, astray, request_place, RequestOutcome, performed_request, repeated, outgoing_by, incoming_by, Informed, informed_where, is_outstanding, HandledParameters, work_parameters, work_chunk, answers_emitted, reset_sent, peer_part_handled}
+use Rattle.dcsctp_spec_runs.specs.Past.{HasEffect}
 use Rattle.dcsctp_theorem_association.specs.OneSide.{IsSuccess, IsRefusal, HasResponse}
 
 -- ---- one effect and several
@@ -25,7 +25,7 @@ abbrev pub AllAnswer : List ResetParameter → List Effect → Type 0
 AllAnswer parameters [] = Unit {0}
 AllAnswer parameters (effect ∷ effects) = Answers parameters effect × AllAnswer parameters effects
 
-pub answer_of : (parameters : List ResetParameter) (effect : Effect) (effects : List Effect) → AllAnswer parameters effects → Has effect effects → Answers parameters effect
+pub answer_of : (parameters : List ResetParameter) (effect : Effect) (effects : List Effect) → AllAnswer parameters effects → HasEffect effect effects → Answers parameters effect
 answer_of parameters effect [] all h = absurd h
 answer_of parameters effect (newest ∷ effects) all (inl e) = subst (Answers parameters) (sym e) all.0
 answer_of parameters effect (newest ∷ effects) all (inr h) = answer_of parameters effect effects all.1 h
@@ -92,7 +92,7 @@ module _ (parameters : List ResetParameter) where
 
   -- ---- requests of the peer
 
-  worked_answers : (held : Held) (number : ℕ) (is_reached : Bool) → AllAnswer parameters (worked held number is_reached).effects
+  worked_answers : (held : Held) (number : ℕ) (is_reached : Bool) → AllAnswer parameters (performed_request held number is_reached).effects
   worked_answers held number true = (tt, tt)
   worked_answers held number false = tt
 
@@ -100,12 +100,12 @@ module _ (parameters : List ResetParameter) where
   repeated_answers held InProgress is_reached = worked_answers held held.peer_last is_reached
   repeated_answers held result is_reached = tt
 
-  outgoing_answers : (held : Held) (number : ℕ) (is_reached : Bool) (place : Place) → AllAnswer parameters (outgoing_by held number is_reached place).effects
+  outgoing_answers : (held : Held) (number : ℕ) (is_reached : Bool) (place : RequestPlace) → AllAnswer parameters (outgoing_by held number is_reached place).effects
   outgoing_answers held number is_reached again = repeated_answers held held.peer_result is_reached
   outgoing_answers held number is_reached next = (tt, worked_answers held number is_reached)
   outgoing_answers held number is_reached astray = tt
 
-  incoming_answers : (held : Held) (number : ℕ) (place : Place) → AllAnswer parameters (incoming_by held number place).effects
+  incoming_answers : (held : Held) (number : ℕ) (place : RequestPlace) → AllAnswer parameters (incoming_by held number place).effects
   incoming_answers held number again = tt
   incoming_answers held number next = (tt, tt)
   incoming_answers held number astray = tt
@@ -143,15 +143,15 @@ module _ (my : Pair) where
   parameters_answer is_reached true held (outgoing_reset_request number answered reset ∷ parameters) = tt
   parameters_answer is_reached false held (outgoing_reset_request number answered reset ∷ parameters) =
       let all : List ResetParameter = outgoing_reset_request number answered reset ∷ parameters in
-      let first : Answered = outgoing_by held number is_reached (place_of held.peer_last number) in
+      let first : RequestOutcome = outgoing_by held number is_reached (request_place held.peer_last number) in
       let rest : List Effect = (work_parameters my is_reached true first.held parameters).effects in
-      all_answer-append all first.effects rest (outgoing_answers all held number is_reached (place_of held.peer_last number))
+      all_answer-append all first.effects rest (outgoing_answers all held number is_reached (request_place held.peer_last number))
       (all_answer-more (outgoing_reset_request number answered reset) parameters rest (parameters_answer is_reached true first.held parameters))
   parameters_answer is_reached has_worked held (incoming_reset_request number streams ∷ parameters) =
       let all : List ResetParameter = incoming_reset_request number streams ∷ parameters in
-      let first : Answered = incoming_by held number (place_of held.peer_last number) in
+      let first : RequestOutcome = incoming_by held number (request_place held.peer_last number) in
       let rest : List Effect = (work_parameters my is_reached has_worked first.held parameters).effects in
-      all_answer-append all first.effects rest (incoming_answers all held number (place_of held.peer_last number))
+      all_answer-append all first.effects rest (incoming_answers all held number (request_place held.peer_last number))
       (all_answer-more (incoming_reset_request number streams) parameters rest (parameters_answer is_reached has_worked first.held parameters))
   parameters_answer is_reached has_worked held (reconfiguration_response number result ∷ parameters) =
       let all : List ResetParameter = reconfiguration_response number result ∷ parameters in
@@ -167,8 +167,8 @@ module _ (my : Pair) where
   chunk_answers is_reached held [] = tt
   chunk_answers is_reached held (parameter ∷ parameters) = parameters_answer is_reached false held (parameter ∷ parameters)
 
-  pub reset_answers : (held : Held) (parameters : List ResetParameter) (choices : Choices) → AllAnswer parameters (reset_worked my held parameters choices).effects
+  pub reset_answers : (held : Held) (parameters : List ResetParameter) (choices : Choices) → AllAnswer parameters (peer_part_handled my held parameters choices).effects
   reset_answers held parameters choices =
-      let first : WorkedParameters = work_chunk my choices.is_reached held parameters in
+      let first : HandledParameters = work_chunk my choices.is_reached held parameters in
       all_answer-append parameters first.effects (reset_sent first.is_refused first.held first.answers choices).effects
       (chunk_answers choices.is_reached held parameters) (sent_answers parameters first.is_refused first.held first.answers choices)

@@ -17,7 +17,7 @@ use Rattle.dcsctp_spec_lemmas.specs.spec.association.HandshakeChanges.{introduct
 use Rattle.dcsctp_spec_lemmas.specs.spec.association.CookieEchoChanges.{Resolution, establish_new, restart, simultaneous_init, discard, maintain_existing, invalid_tag, stale, aged, resolve, held_by_cookie, new_association_change, restart_change, maintain_change, resolved_change, read_echo_change}
 use Rattle.dcsctp_spec_lemmas.specs.spec.association.ResetChanges.{re_config_change}
 use Rattle.dcsctp_spec_lemmas.specs.spec.association.ShutdownChanges.{shutdown_step_change_in, shutdown_step_change, shutdown_call_change, abort_call_change, shutdown_again_change, abort_change, shutdown_change, shutdown_ack_change, shutdown_complete_change}
-use Rattle.dcsctp_spec_lemmas.specs.spec.association.Acts.{Act, connect, t1_expires, shut_down, step_of_shutdown, shutdown_repeats, abort_with, hands_over, flushes, request_again, request_renewed, sent_by, flush_change, hand_over_change, request_sent, request_again_change, renewed_by, request_renewed_change, act_change, violation_change, plain_change, chunk_change}
+use Rattle.dcsctp_spec_lemmas.specs.spec.association.Acts.{Act, connect, t1_expires, shut_down, step_of_shutdown, shutdown_repeats, abort_with, hands_over, flushes, request_again, request_renewed, sent_then_flushed, flush_change, hand_over_change, request_sent, request_again_change, renewed_by, request_renewed_change, act_change, violation_change, plain_change, chunk_change}
 use Rattle.dcsctp_theorem_association.specs.OneSide.{parameters_in, AnswersEndRequests}
 use Rattle.dcsctp_theorem_association.proofs.AnswerEnds.{AllAnswer, answer_of, all_answer-append, alone_answers, end_answers-alone, further_answer, flush_answers, reset_answers}
 
@@ -90,7 +90,7 @@ echo_ends options core header (Ok cookie) choices = resolved_ends options core c
 
 -- ---- flushes and resets
 
-sent_ends : (held : Held) (choices : Choices) → EndsNone (sent_by held choices).effects
+sent_ends : (held : Held) (choices : Choices) → EndsNone (sent_then_flushed held choices).effects
 sent_ends held choices =
     all_answer-append [] (further_packets held.peer.tag choices.plain) (flush held.peer.tag held [] choices.filling).effects (further_answer [] held.peer.tag choices.plain)
     (flush_answers [] held.peer.tag held [] choices.filling)

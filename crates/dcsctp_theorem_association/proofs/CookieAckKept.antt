@@ -7,11 +7,11 @@ use Rattle.dcsctp_spec_lemmas.specs.spec.Cookie.{Cookie, cookie_at}
 use Rattle.dcsctp_spec_lemmas.specs.spec.Packet.{Content}
 use Rattle.dcsctp_spec_lemmas.specs.spec.endpoint.Endpoint.{Core, closed, cookie_wait, cookie_echoed, open_in, established, own_tag}
 use Rattle.dcsctp_spec_lemmas.specs.spec.endpoint.Following.{next_chunk}
-use Rattle.dcsctp_spec_lemmas.specs.spec.association.Effect.{Effect, holds, connects, link_of}
+use Rattle.dcsctp_spec_lemmas.specs.spec.association.Effect.{Effect, holds, connects, identity_of}
 use Rattle.dcsctp_spec_lemmas.specs.spec.association.Choices.{Filling, Choices}
 use Rattle.dcsctp_spec_lemmas.specs.spec.association.FlushChanges.{flush}
 use Rattle.dcsctp_spec_lemmas.specs.spec.association.HandshakeChanges.{cookie_ack_change}
-use Rattle.dcsctp_spec_runs.specs.Past.{Has}
+use Rattle.dcsctp_spec_runs.specs.Past.{HasEffect}
 use Rattle.dcsctp_theorem_association.proofs.Facts.{agreed_link, TrueAck, TrueEffects, PeerFacts, OneEcho, EchoedCookie, TrueCore}
 use Rattle.dcsctp_theorem_association.proofs.Growth.{one_more, effects_grow}
 use Rattle.dcsctp_theorem_association.proofs.Flushes.{flush_true, flush_peer}
@@ -21,25 +21,25 @@ use Rattle.dcsctp_theorem_association.proofs.HandshakeKept.{same_reading}
 -- The cookie that is acknowledged is the one that the association echoes.
 acknowledged : (my_offer their_offer : Offer) (mine theirs : List Effect) (my : Pair) (held : Held) (bytes : List ℕ) (header : ℕ)
     → OneEcho my.tag bytes mine → EchoedCookie my_offer my held bytes → TrueAck their_offer my_offer theirs mine header → header ≡ my.tag
-    → Has (holds (agreed_link their_offer my_offer held.peer my)) theirs
+    → HasEffect (holds (agreed_link their_offer my_offer held.peer my)) theirs
 acknowledged my_offer their_offer mine theirs my held bytes header one echo ack is =
     let same_bytes : ack.bytes ≡ bytes = one ack.header ack.bytes ack.behind ack.cookie ack.echoed ack.reads (sym ack.under ∙ is) in
     let same_cookie : ack.cookie ≡ echo.cookie = same_reading bytes ack.cookie echo.cookie (subst (λ (b : List ℕ). cookie_at b ≡ Ok ack.cookie) same_bytes ack.reads) echo.reads in
     let maker : ack.cookie.maker ≡ held.peer = ap (λ (c : Cookie). c.maker) same_cookie ∙ echo.maker in
     let addressee : ack.cookie.addressee ≡ my = ap (λ (c : Cookie). c.addressee) same_cookie ∙ echo.addressee in
-    subst (λ (p : Pair). Has (holds (agreed_link their_offer my_offer held.peer p)) theirs) addressee
-    (subst (λ (p : Pair). Has (holds (agreed_link their_offer my_offer p ack.cookie.addressee)) theirs) maker ack.held)
+    subst (λ (p : Pair). HasEffect (holds (agreed_link their_offer my_offer held.peer p)) theirs) addressee
+    (subst (λ (p : Pair). HasEffect (holds (agreed_link their_offer my_offer p ack.cookie.addressee)) theirs) maker ack.held)
 
 -- a connected association after a flush
 pub connected_kept : (my_offer their_offer : Offer) (mine theirs : List Effect) (my : Pair) (held : Held) (tag : ℕ) (front : List Content) (filling : Filling)
-    → PeerFacts my_offer their_offer mine theirs my held → Has (holds (agreed_link their_offer my_offer held.peer my)) theirs
+    → PeerFacts my_offer their_offer mine theirs my held → HasEffect (holds (agreed_link their_offer my_offer held.peer my)) theirs
     → TrueEffects my_offer their_offer mine theirs (flush tag held front filling).effects
-    → Kept my_offer their_offer mine theirs (record { core = open_in established my (flush tag held front filling).held; effects = connects (link_of my held) ∷ (flush tag held front filling).effects; following = next_chunk })
+    → Kept my_offer their_offer mine theirs (record { core = open_in established my (flush tag held front filling).held; effects = connects (identity_of my held) ∷ (flush tag held front filling).effects; following = next_chunk })
 connected_kept my_offer their_offer mine theirs my held tag front filling h found effects =
-    open_kept my_offer their_offer mine theirs established my (flush tag held front filling).held (connects (link_of my held) ∷ (flush tag held front filling).effects) next_chunk
+    open_kept my_offer their_offer mine theirs established my (flush tag held front filling).held (connects (identity_of my held) ∷ (flush tag held front filling).effects) next_chunk
     (flush_peer my_offer their_offer mine theirs my tag held front filling h) (
       record { capabilities = h.capabilities; held = found },
-      effects_grow my_offer their_offer mine theirs (connects (link_of my held) ∷ mine) (flush tag held front filling).effects (one_more (connects (link_of my held)) mine) effects,
+      effects_grow my_offer their_offer mine theirs (connects (identity_of my held) ∷ mine) (flush tag held front filling).effects (one_more (connects (identity_of my held)) mine) effects,
     )
 
 pub cookie_ack_kept : (my_offer their_offer : Offer) (mine theirs : List Effect) (core : Core) (choices : Choices) (header : ℕ)

@@ -9,11 +9,11 @@ use Rattle.dcsctp_spec_lemmas.specs.spec.Cookie.{Cookie}
 use Rattle.dcsctp_spec_lemmas.specs.spec.Packet.{Content, cookie_echo, cookie_ack}
 use Rattle.dcsctp_spec_lemmas.specs.spec.endpoint.Endpoint.{Core, closed, cookie_wait, cookie_echoed, open_in, established, shutdown_pending, shutdown_sent, shutdown_received, shutdown_ack_sent}
 use Rattle.dcsctp_spec_lemmas.specs.spec.endpoint.Following.{next_chunk, dropped_rest}
-use Rattle.dcsctp_spec_lemmas.specs.spec.association.Effect.{Link, Effect, sends, holds, connects, link_of}
+use Rattle.dcsctp_spec_lemmas.specs.spec.association.Effect.{AssociationIdentity, Effect, sends, holds, connects, identity_of}
 use Rattle.dcsctp_spec_lemmas.specs.spec.association.Choices.{Choices}
 use Rattle.dcsctp_spec_lemmas.specs.spec.association.FlushChanges.{flush}
 use Rattle.dcsctp_spec_lemmas.specs.spec.association.CookieEchoChanges.{Resolution, establish_new, restart, simultaneous_init, discard, maintain_existing, invalid_tag, stale, aged, case_by, case_without_peer, case_with_peer, resolve, held_by_cookie, new_association_change, restart_change, maintain_change, resolved_change, read_echo_change, cookie_echo_change}
-use Rattle.dcsctp_spec_runs.specs.Past.{Has}
+use Rattle.dcsctp_spec_runs.specs.Past.{HasEffect}
 use Rattle.dcsctp_spec_lemmas.proofs.ControlEcho.{kept_by_age}
 use Rattle.dcsctp_theorem_association.proofs.Facts.{agreed_link, TrueEcho, TrueAck, PeerFacts, TrueCore}
 use Rattle.dcsctp_theorem_association.proofs.Flushes.{flush_true, flush_peer}
@@ -25,17 +25,17 @@ use Rattle.dcsctp_theorem_association.proofs.CookieAckKept.{connected_kept}
 
 -- its pairs are those of an association that the other side held
 new_link : (options : Options) (their_offer : Offer) (cookie : Cookie) → cookie.offer ≡ their_offer
-    → link_of cookie.maker (held_by_cookie options cookie) ≡ agreed_link (offer_of options) their_offer cookie.maker cookie.addressee
+    → identity_of cookie.maker (held_by_cookie options cookie) ≡ agreed_link (offer_of options) their_offer cookie.maker cookie.addressee
 new_link options their_offer cookie e = ap (λ (o : Offer). agreed_link (offer_of options) o cookie.maker cookie.addressee) e
 
 pub new_kept : (options : Options) (their_offer : Offer) (mine theirs : List Effect) (header : ℕ) (bytes : List ℕ) (behind : List Content) (choices : Choices)
     → (echo : TrueEcho their_offer (offer_of options) theirs mine header bytes)
-    → Has (sends (record { tag = header; contents = cookie_echo bytes ∷ behind })) theirs
+    → HasEffect (sends (record { tag = header; contents = cookie_echo bytes ∷ behind })) theirs
     → Kept (offer_of options) their_offer mine theirs (new_association_change options echo.cookie choices)
 new_kept options their_offer mine theirs header bytes behind choices echo delivered =
     let held : Held = held_by_cookie options echo.cookie in
-    let link : Link = link_of echo.cookie.maker held in
-    let shown : Has (holds (agreed_link (offer_of options) their_offer echo.cookie.maker echo.cookie.addressee)) (connects link ∷ holds link ∷ mine) =
+    let link : AssociationIdentity = identity_of echo.cookie.maker held in
+    let shown : HasEffect (holds (agreed_link (offer_of options) their_offer echo.cookie.maker echo.cookie.addressee)) (connects link ∷ holds link ∷ mine) =
     inr (inl (ap holds (sym (new_link options their_offer echo.cookie echo.offer)))) in
     let agreed : held.capabilities ≡ negotiated (offer_of options) their_offer = ap (negotiated (offer_of options)) echo.offer in
     let facts : PeerFacts (offer_of options) their_offer (connects link ∷ holds link ∷ mine) theirs echo.cookie.maker held =
@@ -107,7 +107,7 @@ same_pairs my_offer their_offer mine theirs my held header bytes my_tags their_t
 -- the COOKIE ACK that goes out
 maintained_ack : (my_offer their_offer : Offer) (mine theirs : List Effect) (my : Pair) (held : Held) (header : ℕ) (bytes : List ℕ) (behind : List Content)
     → PeerFacts my_offer their_offer mine theirs my held → (echo : TrueEcho their_offer my_offer theirs mine header bytes)
-    → Has (sends (record { tag = header; contents = cookie_echo bytes ∷ behind })) theirs → SamePairs my held echo.cookie
+    → HasEffect (sends (record { tag = header; contents = cookie_echo bytes ∷ behind })) theirs → SamePairs my held echo.cookie
     → TrueAck my_offer their_offer mine theirs echo.cookie.addressee.tag
 maintained_ack my_offer their_offer mine theirs my held header bytes behind h echo delivered pairs =
     record {
@@ -118,13 +118,13 @@ maintained_ack my_offer their_offer mine theirs my held header bytes behind h ec
       cookie = echo.cookie;
       reads = echo.reads;
       under = refl;
-      held = subst (λ (p : Pair). Has (holds (agreed_link my_offer their_offer p echo.cookie.addressee)) mine) (sym pairs.maker)
-          (subst (λ (p : Pair). Has (holds (agreed_link my_offer their_offer my p)) mine) (sym pairs.addressee) h.shown);
+      held = subst (λ (p : Pair). HasEffect (holds (agreed_link my_offer their_offer p echo.cookie.addressee)) mine) (sym pairs.maker)
+          (subst (λ (p : Pair). HasEffect (holds (agreed_link my_offer their_offer my p)) mine) (sym pairs.addressee) h.shown);
     }
 
 maintains_kept : (my_offer their_offer : Offer) (mine theirs : List Effect) (core : Core) (header : ℕ) (bytes : List ℕ) (behind : List Content) (choices : Choices)
     → SameTag mine → SameTag theirs → TrueCore my_offer their_offer mine theirs core → (echo : TrueEcho their_offer my_offer theirs mine header bytes)
-    → Has (sends (record { tag = header; contents = cookie_echo bytes ∷ behind })) theirs → MaintainedIn core header echo.cookie
+    → HasEffect (sends (record { tag = header; contents = cookie_echo bytes ∷ behind })) theirs → MaintainedIn core header echo.cookie
     → Kept my_offer their_offer mine theirs (maintain_change core echo.cookie choices)
 maintains_kept my_offer their_offer mine theirs closed header bytes behind choices my_tags their_tags h echo delivered is = absurd is
 maintains_kept my_offer their_offer mine theirs (cookie_wait my) header bytes behind choices my_tags their_tags h echo delivered is = absurd is
@@ -132,8 +132,8 @@ maintains_kept my_offer their_offer mine theirs (cookie_echoed my held echoed) h
     let pairs : SamePairs my held echo.cookie = same_pairs my_offer their_offer mine theirs my held header bytes my_tags their_tags h.0 echo is in
     let ack : TrueAck my_offer their_offer mine theirs echo.cookie.addressee.tag = maintained_ack my_offer their_offer mine theirs my held header bytes behind h.0 echo delivered pairs in
     connected_kept my_offer their_offer mine theirs my held echo.cookie.addressee.tag (cookie_ack ∷ []) choices.filling h.0
-    (subst (λ (p : Pair). Has (holds (agreed_link their_offer my_offer held.peer p)) theirs) pairs.maker
-    (subst (λ (p : Pair). Has (holds (agreed_link their_offer my_offer p echo.cookie.maker)) theirs) pairs.addressee echo.held))
+    (subst (λ (p : Pair). HasEffect (holds (agreed_link their_offer my_offer held.peer p)) theirs) pairs.maker
+    (subst (λ (p : Pair). HasEffect (holds (agreed_link their_offer my_offer p echo.cookie.maker)) theirs) pairs.addressee echo.held))
     (flush_true my_offer their_offer mine theirs echo.cookie.addressee.tag held (cookie_ack ∷ []) choices.filling (ack, tt))
 maintains_kept my_offer their_offer mine theirs (open_in phase my held) header bytes behind choices my_tags their_tags h echo delivered is =
     let pairs : SamePairs my held echo.cookie = same_pairs my_offer their_offer mine theirs my held header bytes my_tags their_tags h echo is in
@@ -146,7 +146,7 @@ maintains_kept my_offer their_offer mine theirs (open_in phase my held) header b
 
 restarts_kept : (options : Options) (their_offer : Offer) (mine theirs : List Effect) (core : Core) (header : ℕ) (bytes : List ℕ) (behind : List Content) (choices : Choices)
     → TrueCore (offer_of options) their_offer mine theirs core → (echo : TrueEcho their_offer (offer_of options) theirs mine header bytes)
-    → Has (sends (record { tag = header; contents = cookie_echo bytes ∷ behind })) theirs
+    → HasEffect (sends (record { tag = header; contents = cookie_echo bytes ∷ behind })) theirs
     → Kept (offer_of options) their_offer mine theirs (restart_change options core echo.cookie choices)
 restarts_kept options their_offer mine theirs closed header bytes behind choices h echo delivered = new_kept options their_offer mine theirs header bytes behind choices echo delivered
 restarts_kept options their_offer mine theirs (cookie_wait my) header bytes behind choices h echo delivered = new_kept options their_offer mine theirs header bytes behind choices echo delivered
@@ -160,7 +160,7 @@ restarts_kept options their_offer mine theirs (open_in shutdown_ack_sent my held
 
 resolved_kept : (options : Options) (their_offer : Offer) (mine theirs : List Effect) (core : Core) (header : ℕ) (bytes : List ℕ) (behind : List Content) (choices : Choices) (resolution : Resolution)
     → SameTag mine → SameTag theirs → TrueCore (offer_of options) their_offer mine theirs core → (echo : TrueEcho their_offer (offer_of options) theirs mine header bytes)
-    → Has (sends (record { tag = header; contents = cookie_echo bytes ∷ behind })) theirs → (resolution ≡ maintain_existing → MaintainedIn core header echo.cookie)
+    → HasEffect (sends (record { tag = header; contents = cookie_echo bytes ∷ behind })) theirs → (resolution ≡ maintain_existing → MaintainedIn core header echo.cookie)
     → Kept (offer_of options) their_offer mine theirs (resolved_change options core echo.cookie choices resolution)
 resolved_kept options their_offer mine theirs core header bytes behind choices establish_new my_tags their_tags h echo delivered is =
     new_kept options their_offer mine theirs header bytes behind choices echo delivered
@@ -179,7 +179,7 @@ resolved_kept options their_offer mine theirs core header bytes behind choices s
 
 pub cookie_echo_kept : (options : Options) (their_offer : Offer) (mine theirs : List Effect) (core : Core) (header : ℕ) (bytes : List ℕ) (behind : List Content) (choices : Choices)
     → SameTag mine → SameTag theirs → TrueCore (offer_of options) their_offer mine theirs core → TrueEcho their_offer (offer_of options) theirs mine header bytes
-    → Has (sends (record { tag = header; contents = cookie_echo bytes ∷ behind })) theirs
+    → HasEffect (sends (record { tag = header; contents = cookie_echo bytes ∷ behind })) theirs
     → Kept (offer_of options) their_offer mine theirs (cookie_echo_change options core header bytes choices)
 cookie_echo_kept options their_offer mine theirs core header bytes behind choices my_tags their_tags h echo delivered =
     subst (λ (r : Result Cookie (List ℕ)). Kept (offer_of options) their_offer mine theirs (read_echo_change options core header r choices)) (sym echo.reads)

@@ -10,8 +10,8 @@ use Rattle.dcsctp_spec_lemmas.specs.spec.Cookie.{Cookie, cookie_at}
 use Rattle.dcsctp_spec_lemmas.specs.spec.Reconfiguration.{ResetParameter, outgoing_reset_request, incoming_reset_request, reconfiguration_response, other_reset_parameter}
 use Rattle.dcsctp_spec_lemmas.specs.spec.Packet.{Introduction, Content, init, init_ack, cookie_echo, cookie_ack, re_config, plain}
 use Rattle.dcsctp_spec_lemmas.specs.spec.endpoint.Endpoint.{Core, closed, cookie_wait, cookie_echoed, open_in}
-use Rattle.dcsctp_spec_lemmas.specs.spec.association.Effect.{Link, Effect, draws, sends, holds, connects, completes, performs, resumes}
-use Rattle.dcsctp_spec_runs.specs.Past.{Has}
+use Rattle.dcsctp_spec_lemmas.specs.spec.association.Effect.{AssociationIdentity, Effect, draws, sends, holds, connects, completes, performs, resumes}
+use Rattle.dcsctp_spec_runs.specs.Past.{HasEffect}
 
 -- Names: `mine` and `theirs` are the pasts of the side that is spoken of and of the other, `my_offer` and
 -- `their_offer` what the two announce.
@@ -21,7 +21,7 @@ abbrev pub number_before : Pair → ℕ
 number_before pair = (pair.first_tsn + (2 ^ 32 - 1)) % 2 ^ 32
 
 -- an association with what was negotiated
-abbrev pub agreed_link : Offer → Offer → Pair → Pair → Link
+abbrev pub agreed_link : Offer → Offer → Pair → Pair → AssociationIdentity
 agreed_link my_offer their_offer my peer = record { my = my; peer = peer; capabilities = negotiated my_offer their_offer }
 
 -- ---- what a packet says truly
@@ -32,8 +32,8 @@ pub record TrueInitAck (my_offer their_offer : Offer) (mine theirs : List Effect
   pub reads : cookie_at bytes ≡ Ok cookie
   pub under : tag ≡ cookie.addressee.tag
   pub pair : cookie.maker ≡ introduction.pair
-  pub maker : Has (draws cookie.maker) mine
-  pub addressee : Has (draws cookie.addressee) theirs
+  pub maker : HasEffect (draws cookie.maker) mine
+  pub addressee : HasEffect (draws cookie.addressee) theirs
   pub offer : cookie.offer ≡ their_offer
   pub announced : negotiated their_offer introduction.offer ≡ negotiated their_offer my_offer
 
@@ -42,34 +42,34 @@ pub record TrueEcho (my_offer their_offer : Offer) (mine theirs : List Effect) (
   pub cookie : Cookie
   pub reads : cookie_at bytes ≡ Ok cookie
   pub under : tag ≡ cookie.maker.tag
-  pub maker : Has (draws cookie.maker) theirs
-  pub addressee : Has (draws cookie.addressee) mine
+  pub maker : HasEffect (draws cookie.maker) theirs
+  pub addressee : HasEffect (draws cookie.addressee) mine
   pub offer : cookie.offer ≡ my_offer
-  pub held : Has (holds (agreed_link my_offer their_offer cookie.addressee cookie.maker)) mine
+  pub held : HasEffect (holds (agreed_link my_offer their_offer cookie.addressee cookie.maker)) mine
 
 -- COOKIE ACK: the other side echoed a cookie, and the sender held the association of its pairs.
 pub record TrueAck (my_offer their_offer : Offer) (mine theirs : List Effect) (tag : ℕ) : Type 0 where
   pub header : ℕ
   pub bytes : List ℕ
   pub behind : List Content
-  pub echoed : Has (sends (record { tag = header; contents = cookie_echo bytes ∷ behind })) theirs
+  pub echoed : HasEffect (sends (record { tag = header; contents = cookie_echo bytes ∷ behind })) theirs
   pub cookie : Cookie
   pub reads : cookie_at bytes ≡ Ok cookie
   pub under : tag ≡ cookie.addressee.tag
-  pub held : Has (holds (agreed_link my_offer their_offer cookie.maker cookie.addressee)) mine
+  pub held : HasEffect (holds (agreed_link my_offer their_offer cookie.maker cookie.addressee)) mine
 
 -- An answer to a reset request: one that was performed was performed under the pair of the packet's tag.
 pub record TruePerformed (mine theirs : List Effect) (tag number : ℕ) : Type 0 where
   pub pair : Pair
   pub under : tag ≡ pair.tag
-  pub drawn : Has (draws pair) theirs
-  pub performed : Has (performs pair number) mine
+  pub drawn : HasEffect (draws pair) theirs
+  pub performed : HasEffect (performs pair number) mine
 
 -- With nothing to do, it has the number before that pair's first TSN.
 pub record TrueNothing (theirs : List Effect) (tag number : ℕ) : Type 0 where
   pub pair : Pair
   pub under : tag ≡ pair.tag
-  pub drawn : Has (draws pair) theirs
+  pub drawn : HasEffect (draws pair) theirs
   pub before : number ≡ number_before pair
 
 abbrev pub TrueResult : List Effect → List Effect → ℕ → ℕ → ReconfigurationResponseResult → Type 0
@@ -90,7 +90,7 @@ TrueParameters mine theirs tag (parameter ∷ parameters) = TrueParameter mine t
 
 -- the first chunk of a packet
 abbrev pub TrueFront : Offer → Offer → List Effect → List Effect → ℕ → Content → Type 0
-TrueFront my_offer their_offer mine theirs tag (init introduction) = Has (draws introduction.pair) mine × (introduction.offer ≡ my_offer)
+TrueFront my_offer their_offer mine theirs tag (init introduction) = HasEffect (draws introduction.pair) mine × (introduction.offer ≡ my_offer)
 TrueFront my_offer their_offer mine theirs tag (init_ack introduction None) = ⊥
 TrueFront my_offer their_offer mine theirs tag (init_ack introduction (Some bytes)) = TrueInitAck my_offer their_offer mine theirs tag introduction bytes
 TrueFront my_offer their_offer mine theirs tag (cookie_echo bytes) = TrueEcho my_offer their_offer mine theirs tag bytes
@@ -121,15 +121,15 @@ TrueContents my_offer their_offer mine theirs tag (content ∷ contents) = TrueF
 -- ---- all that a side did
 
 -- the other side holds the crossed association, or held it
-pub record Found (my_offer their_offer : Offer) (theirs : List Effect) (link : Link) : Type 0 where
+pub record Found (my_offer their_offer : Offer) (theirs : List Effect) (link : AssociationIdentity) : Type 0 where
   pub capabilities : link.capabilities ≡ negotiated my_offer their_offer
-  pub held : Has (holds (agreed_link their_offer my_offer link.peer link.my)) theirs
+  pub held : HasEffect (holds (agreed_link their_offer my_offer link.peer link.my)) theirs
 
 -- Of two sides none is restored.
 abbrev pub TrueEffect : Offer → Offer → List Effect → List Effect → Effect → Type 0
 TrueEffect my_offer their_offer mine theirs (sends packet) = TrueContents my_offer their_offer mine theirs packet.tag packet.contents
 TrueEffect my_offer their_offer mine theirs (connects link) = Found my_offer their_offer theirs link
-TrueEffect my_offer their_offer mine theirs (completes my number) = Has (performs my number) theirs ⊎ (number ≡ number_before my)
+TrueEffect my_offer their_offer mine theirs (completes my number) = HasEffect (performs my number) theirs ⊎ (number ≡ number_before my)
 TrueEffect my_offer their_offer mine theirs (resumes link own last) = ⊥
 TrueEffect my_offer their_offer mine theirs effect = Unit {0}
 
@@ -147,24 +147,24 @@ TrueEffects my_offer their_offer mine theirs (effect ∷ effects) =
 -- ---- the association
 
 pub record PeerFacts (my_offer their_offer : Offer) (mine theirs : List Effect) (my : Pair) (held : Held) : Type 0 where
-  pub my_drawn : Has (draws my) mine
-  pub peer_drawn : Has (draws held.peer) theirs
+  pub my_drawn : HasEffect (draws my) mine
+  pub peer_drawn : HasEffect (draws held.peer) theirs
   pub capabilities : held.capabilities ≡ negotiated my_offer their_offer
-  pub shown : Has (holds (agreed_link my_offer their_offer my held.peer)) mine
+  pub shown : HasEffect (holds (agreed_link my_offer their_offer my held.peer)) mine
   pub nothing : held.peer_result ≡ SuccessNothingToDo → held.peer_last ≡ number_before held.peer
-  pub performed : held.peer_result ≡ SuccessPerformed → Has (performs held.peer held.peer_last) mine
+  pub performed : held.peer_result ≡ SuccessPerformed → HasEffect (performs held.peer held.peer_last) mine
 
 -- No cookie whose addressee has this tag was ever echoed.
 abbrev pub NoEcho : ℕ → List Effect → Type 0
 NoEcho tag past =
     (header : ℕ) (bytes : List ℕ) (behind : List Content) (cookie : Cookie)
-    → Has (sends (record { tag = header; contents = cookie_echo bytes ∷ behind })) past → cookie_at bytes ≡ Ok cookie → cookie.addressee.tag ≢ tag
+    → HasEffect (sends (record { tag = header; contents = cookie_echo bytes ∷ behind })) past → cookie_at bytes ≡ Ok cookie → cookie.addressee.tag ≢ tag
 
 -- None but this one.
 abbrev pub OneEcho : ℕ → List ℕ → List Effect → Type 0
 OneEcho tag echoed past =
     (header : ℕ) (bytes : List ℕ) (behind : List Content) (cookie : Cookie)
-    → Has (sends (record { tag = header; contents = cookie_echo bytes ∷ behind })) past → cookie_at bytes ≡ Ok cookie → cookie.addressee.tag ≡ tag → bytes ≡ echoed
+    → HasEffect (sends (record { tag = header; contents = cookie_echo bytes ∷ behind })) past → cookie_at bytes ≡ Ok cookie → cookie.addressee.tag ≡ tag → bytes ≡ echoed
 
 -- the cookie of the association that is echoed
 pub record EchoedCookie (my_offer : Offer) (my : Pair) (held : Held) (bytes : List ℕ) : Type 0 where
@@ -176,7 +176,7 @@ pub record EchoedCookie (my_offer : Offer) (my : Pair) (held : Held) (bytes : Li
 
 abbrev pub TrueCore : Offer → Offer → List Effect → List Effect → Core → Type 0
 TrueCore my_offer their_offer mine theirs closed = Unit {0}
-TrueCore my_offer their_offer mine theirs (cookie_wait my) = Has (draws my) mine × NoEcho my.tag mine
+TrueCore my_offer their_offer mine theirs (cookie_wait my) = HasEffect (draws my) mine × NoEcho my.tag mine
 TrueCore my_offer their_offer mine theirs (cookie_echoed my held bytes) =
     PeerFacts my_offer their_offer mine theirs my held × OneEcho my.tag bytes mine × EchoedCookie my_offer my held bytes
 TrueCore my_offer their_offer mine theirs (open_in phase my held) = PeerFacts my_offer their_offer mine theirs my held

@@ -8,13 +8,13 @@ use Rattle.dcsctp_spec_lemmas.specs.types.Offer.{Offer}
 use Rattle.dcsctp_spec_lemmas.specs.spec.Reconfiguration.{ResetParameter, outgoing_reset_request, incoming_reset_request, reconfiguration_response, other_reset_parameter}
 use Rattle.dcsctp_spec_lemmas.specs.spec.Packet.{Content, init, init_ack, cookie_echo, cookie_ack, re_config, abort, shutdown, shutdown_ack, shutdown_complete, plain}
 use Rattle.dcsctp_spec_lemmas.specs.spec.association.Effect.{Effect, draws, sends, holds, connects, ends, begins, gives_up, completes, fails, accepts, performs, resumes}
-use Rattle.dcsctp_spec_runs.specs.Past.{Has}
+use Rattle.dcsctp_spec_runs.specs.Past.{HasEffect}
 use Rattle.dcsctp_spec_runs.specs.World.{after_effects}
 use Rattle.dcsctp_theorem_association.proofs.Facts.{TrueResult, TrueParameter, TrueParameters, TrueFront, TrueContents, TrueEffect, TruePast, TrueEffects, PeerFacts}
 
 -- all of the first is in the second
 abbrev pub Within : List Effect → List Effect → Type 0
-Within small large = (effect : Effect) → Has effect small → Has effect large
+Within small large = (effect : Effect) → HasEffect effect small → HasEffect effect large
 
 pub same : (past : List Effect) → Within past past
 same past effect h = h
@@ -135,7 +135,7 @@ past_after my_offer their_offer mine theirs (effect ∷ effects) h k = past_afte
 
 -- what is true of an effect of the past
 pub true_of : (my_offer their_offer : Offer) (mine theirs : List Effect) (effect : Effect)
-    → TruePast my_offer their_offer mine theirs → Has effect mine → TrueEffect my_offer their_offer mine theirs effect
+    → TruePast my_offer their_offer mine theirs → HasEffect effect mine → TrueEffect my_offer their_offer mine theirs effect
 true_of my_offer their_offer [] theirs effect h k = absurd k
 true_of my_offer their_offer (newest ∷ earlier) theirs effect h (inl e) =
     rw e (effect_grows my_offer their_offer earlier theirs (newest ∷ earlier) theirs newest (one_more newest earlier) (same theirs) h.0)

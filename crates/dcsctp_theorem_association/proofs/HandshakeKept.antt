@@ -10,11 +10,11 @@ use Rattle.dcsctp_spec_lemmas.specs.spec.Cookie.{Cookie, cookie_at}
 use Rattle.dcsctp_spec_lemmas.specs.spec.Packet.{Introduction, Content, init, init_ack, cookie_echo}
 use Rattle.dcsctp_spec_lemmas.specs.spec.endpoint.Endpoint.{Core, closed, cookie_wait, cookie_echoed, open_in, established, shutdown_pending, shutdown_sent, shutdown_received, shutdown_ack_sent, own_tag}
 use Rattle.dcsctp_spec_lemmas.specs.spec.endpoint.Following.{next_chunk}
-use Rattle.dcsctp_spec_lemmas.specs.spec.association.Effect.{Effect, draws, sends, holds, link_of, emitted_alone}
+use Rattle.dcsctp_spec_lemmas.specs.spec.association.Effect.{Effect, draws, sends, holds, identity_of, emitted_alone}
 use Rattle.dcsctp_spec_lemmas.specs.spec.association.Choices.{Filling, Choices}
 use Rattle.dcsctp_spec_lemmas.specs.spec.association.FlushChanges.{flush}
 use Rattle.dcsctp_spec_lemmas.specs.spec.association.HandshakeChanges.{introduction_of, answering_introduction, new_held, sends_init, connect_change, answering_pair, IsCookieOf, sends_init_ack, drawn_answer_change, init_change, echo_change, held_by_init_ack, init_ack_change, t1_again_change, t1_gives_up_change}
-use Rattle.dcsctp_spec_runs.specs.Past.{Has, HasFreshTags}
+use Rattle.dcsctp_spec_runs.specs.Past.{HasEffect, HasFreshTags}
 use Rattle.dcsctp_spec_runs.specs.World.{after_effects}
 use Rattle.dcsctp_theorem_association.proofs.Facts.{agreed_link, TrueInitAck, TrueEcho, TrueFront, TruePast, PeerFacts, NoEcho, OneEcho, EchoedCookie, TrueCore}
 use Rattle.dcsctp_theorem_association.proofs.Growth.{same, after_within, true_of, peer_grows}
@@ -30,14 +30,14 @@ same_reading bytes one other e f = cc
 
 -- No cookie was echoed whose addressee has a tag that is drawn afresh.
 fresh_no_echo : (my_offer their_offer : Offer) (mine theirs : List Effect) (drawn : Pair) → TruePast my_offer their_offer mine theirs
-    → ((other : Pair) → Has (draws other) mine → drawn.tag ≢ other.tag) → NoEcho drawn.tag mine
+    → ((other : Pair) → HasEffect (draws other) mine → drawn.tag ≢ other.tag) → NoEcho drawn.tag mine
 fresh_no_echo my_offer their_offer mine theirs drawn past fresh header bytes behind cookie h reads is =
     let echo : TrueEcho my_offer their_offer mine theirs header bytes = (true_of my_offer their_offer mine theirs (sends (record { tag = header; contents = cookie_echo bytes ∷ behind })) past h).0 in
     let e : echo.cookie ≡ cookie = same_reading bytes echo.cookie cookie echo.reads reads in
     fresh echo.cookie.addressee echo.addressee (sym (ap (λ (c : Cookie). c.addressee.tag) e ∙ is))
 
 fresh_in_connect : (fits : Bool) (drawn : Pair) (content : Content) (mine : List Effect) → HasFreshTags (after_effects (draws drawn ∷ emitted_alone fits 0 content) mine)
-    → (other : Pair) → Has (draws other) mine → drawn.tag ≢ other.tag
+    → (other : Pair) → HasEffect (draws other) mine → drawn.tag ≢ other.tag
 fresh_in_connect true drawn content mine fresh = fresh.1.0
 fresh_in_connect false drawn content mine fresh = fresh.0
 
@@ -63,7 +63,7 @@ connect_kept options their_offer mine theirs (open_in phase my held) choices pas
 -- ---- INIT
 
 true_init_ack : AnswerKeepsAgreement → (options : Options) (their_offer : Offer) (mine theirs : List Effect) (introduction : Introduction) (pair : Pair) (bytes : List ℕ)
-    → Has (draws pair) mine → Has (draws introduction.pair) theirs → introduction.offer ≡ their_offer → IsCookieOf introduction pair bytes
+    → HasEffect (draws pair) mine → HasEffect (draws introduction.pair) theirs → introduction.offer ≡ their_offer → IsCookieOf introduction pair bytes
     → TrueInitAck (offer_of options) their_offer mine theirs introduction.pair.tag (answering_introduction options introduction pair) bytes
 true_init_ack law options their_offer mine theirs introduction pair bytes mine_drawn theirs_drawn offer is =
     record {
@@ -71,14 +71,14 @@ true_init_ack law options their_offer mine theirs introduction pair bytes mine_d
       reads = is.1;
       under = ap (λ (p : Pair). p.tag) (sym is.3);
       pair = is.2;
-      maker = subst (λ (p : Pair). Has (draws p) mine) (sym is.2) mine_drawn;
-      addressee = subst (λ (p : Pair). Has (draws p) theirs) (sym is.3) theirs_drawn;
+      maker = subst (λ (p : Pair). HasEffect (draws p) mine) (sym is.2) mine_drawn;
+      addressee = subst (λ (p : Pair). HasEffect (draws p) theirs) (sym is.3) theirs_drawn;
       offer = is.4 ∙ offer;
       announced = ap (λ (o : Offer). negotiated their_offer (answering_offer o (offer_of options))) offer ∙ law their_offer (offer_of options);
     }
 
 answer_kept : AnswerKeepsAgreement → (options : Options) (their_offer : Offer) (mine theirs : List Effect) (core : Core) (introduction : Introduction) (pair : Pair) (choices : Choices)
-    → TrueCore (offer_of options) their_offer mine theirs core → Has (draws pair) mine → Has (draws introduction.pair) theirs → introduction.offer ≡ their_offer
+    → TrueCore (offer_of options) their_offer mine theirs core → HasEffect (draws pair) mine → HasEffect (draws introduction.pair) theirs → introduction.offer ≡ their_offer
     → IsCookieOf introduction pair choices.cookie
     → Kept (offer_of options) their_offer mine theirs (record { core = core; effects = sends_init_ack options introduction pair choices; following = next_chunk })
 answer_kept law options their_offer mine theirs core introduction pair choices h mine_drawn theirs_drawn offer is =
@@ -88,7 +88,7 @@ answer_kept law options their_offer mine theirs core introduction pair choices h
     (alone_free choices.fits introduction.pair.tag content tt)
 
 draws_and_answers_kept : AnswerKeepsAgreement → (options : Options) (their_offer : Offer) (mine theirs : List Effect) (core : Core) (introduction : Introduction) (choices : Choices)
-    → TrueCore (offer_of options) their_offer mine theirs core → Has (draws introduction.pair) theirs → introduction.offer ≡ their_offer
+    → TrueCore (offer_of options) their_offer mine theirs core → HasEffect (draws introduction.pair) theirs → introduction.offer ≡ their_offer
     → IsCookieOf introduction choices.drawn choices.cookie
     → Kept (offer_of options) their_offer mine theirs (drawn_answer_change options core introduction choices)
 draws_and_answers_kept law options their_offer mine theirs core introduction choices h theirs_drawn offer is =
@@ -101,7 +101,7 @@ draws_and_answers_kept law options their_offer mine theirs core introduction cho
     (tt, alone_free choices.fits introduction.pair.tag content tt)
 
 pub init_kept : AnswerKeepsAgreement → (options : Options) (their_offer : Offer) (mine theirs : List Effect) (core : Core) (introduction : Introduction) (choices : Choices)
-    → TrueCore (offer_of options) their_offer mine theirs core → Has (draws introduction.pair) theirs → introduction.offer ≡ their_offer
+    → TrueCore (offer_of options) their_offer mine theirs core → HasEffect (draws introduction.pair) theirs → introduction.offer ≡ their_offer
     → IsCookieOf introduction (answering_pair core choices.drawn) choices.cookie
     → Kept (offer_of options) their_offer mine theirs (init_change options core introduction choices)
 init_kept law options their_offer mine theirs closed introduction choices h drawn offer is = draws_and_answers_kept law options their_offer mine theirs closed introduction choices h drawn offer is
@@ -130,11 +130,11 @@ true_echo my_offer their_offer mine theirs my held bytes h echo =
       cookie = echo.cookie;
       reads = echo.reads;
       under = ap (λ (p : Pair). p.tag) (sym echo.maker);
-      maker = subst (λ (p : Pair). Has (draws p) theirs) (sym echo.maker) h.peer_drawn;
-      addressee = subst (λ (p : Pair). Has (draws p) mine) (sym echo.addressee) h.my_drawn;
+      maker = subst (λ (p : Pair). HasEffect (draws p) theirs) (sym echo.maker) h.peer_drawn;
+      addressee = subst (λ (p : Pair). HasEffect (draws p) mine) (sym echo.addressee) h.my_drawn;
       offer = echo.offer;
-      held = subst (λ (p : Pair). Has (holds (agreed_link my_offer their_offer p echo.cookie.maker)) mine) (sym echo.addressee)
-          (subst (λ (p : Pair). Has (holds (agreed_link my_offer their_offer my p)) mine) (sym echo.maker) h.shown);
+      held = subst (λ (p : Pair). HasEffect (holds (agreed_link my_offer their_offer p echo.cookie.maker)) mine) (sym echo.addressee)
+          (subst (λ (p : Pair). HasEffect (holds (agreed_link my_offer their_offer my p)) mine) (sym echo.maker) h.shown);
     }
 
 pub echoes_kept : (my_offer their_offer : Offer) (mine theirs : List Effect) (my : Pair) (held : Held) (bytes : List ℕ) (fits : Bool) (filling : Filling)
@@ -164,26 +164,26 @@ echoes_kept my_offer their_offer mine theirs my held bytes true filling h one ec
 
 -- what an association begins with is true
 pub new_peer : (my_offer their_offer : Offer) (mine theirs : List Effect) (my peer : Pair) (capabilities : Capabilities)
-    → Has (draws my) mine → Has (draws peer) theirs → capabilities ≡ negotiated my_offer their_offer → Has (holds (agreed_link my_offer their_offer my peer)) mine
+    → HasEffect (draws my) mine → HasEffect (draws peer) theirs → capabilities ≡ negotiated my_offer their_offer → HasEffect (holds (agreed_link my_offer their_offer my peer)) mine
     → PeerFacts my_offer their_offer mine theirs my (new_held my peer capabilities)
 new_peer my_offer their_offer mine theirs my peer capabilities my_drawn peer_drawn agreed shown =
     record { my_drawn = my_drawn; peer_drawn = peer_drawn; capabilities = agreed; shown = shown; nothing = λ is. refl; performed = λ is. absurd (cc) }
 
 init_ack_in_wait : (options : Options) (their_offer : Offer) (mine theirs : List Effect) (my : Pair) (introduction : Introduction) (bytes : List ℕ) (choices : Choices) (header : ℕ)
-    → Has (draws my) mine → NoEcho my.tag mine → SameTag mine → TrueInitAck their_offer (offer_of options) theirs mine header introduction bytes → header ≡ my.tag
+    → HasEffect (draws my) mine → NoEcho my.tag mine → SameTag mine → TrueInitAck their_offer (offer_of options) theirs mine header introduction bytes → header ≡ my.tag
     → Kept (offer_of options) their_offer mine theirs (init_ack_change options (cookie_wait my) introduction (Some bytes) choices)
 init_ack_in_wait options their_offer mine theirs my introduction bytes choices header drawn none tags ack is =
     let held : Held = held_by_init_ack options my introduction in
     let my_pair : ack.cookie.addressee ≡ my = tags ack.cookie.addressee my ack.addressee drawn (sym ack.under ∙ is) in
-    let shown : Has (holds (agreed_link (offer_of options) their_offer my introduction.pair)) (holds (link_of my held) ∷ mine) =
+    let shown : HasEffect (holds (agreed_link (offer_of options) their_offer my introduction.pair)) (holds (identity_of my held) ∷ mine) =
     inl (ap (λ (c : Capabilities). holds (record { my = my; peer = introduction.pair; capabilities = c })) (sym ack.announced)) in
-    let facts : PeerFacts (offer_of options) their_offer (holds (link_of my held) ∷ mine) theirs my held =
-    new_peer (offer_of options) their_offer (holds (link_of my held) ∷ mine) theirs my introduction.pair (negotiated (offer_of options) introduction.offer)
-    (inr drawn) (subst (λ (p : Pair). Has (draws p) theirs) ack.pair ack.maker) ack.announced shown in
+    let facts : PeerFacts (offer_of options) their_offer (holds (identity_of my held) ∷ mine) theirs my held =
+    new_peer (offer_of options) their_offer (holds (identity_of my held) ∷ mine) theirs my introduction.pair (negotiated (offer_of options) introduction.offer)
+    (inr drawn) (subst (λ (p : Pair). HasEffect (draws p) theirs) ack.pair ack.maker) ack.announced shown in
     let echo : EchoedCookie (offer_of options) my held bytes = record { cookie = ack.cookie; reads = ack.reads; maker = ack.pair; addressee = my_pair; offer = ack.offer } in
-    let one : OneEcho my.tag bytes (holds (link_of my held) ∷ mine) = one_echo_more my.tag bytes (holds (link_of my held)) mine tt (none_is_one my.tag bytes mine none) in
-    let echoed : Kept (offer_of options) their_offer (holds (link_of my held) ∷ mine) theirs (echo_change my held bytes choices.fits choices.filling) =
-    echoes_kept (offer_of options) their_offer (holds (link_of my held) ∷ mine) theirs my held bytes choices.fits choices.filling facts one echo in
+    let one : OneEcho my.tag bytes (holds (identity_of my held) ∷ mine) = one_echo_more my.tag bytes (holds (identity_of my held)) mine tt (none_is_one my.tag bytes mine none) in
+    let echoed : Kept (offer_of options) their_offer (holds (identity_of my held) ∷ mine) theirs (echo_change my held bytes choices.fits choices.filling) =
+    echoes_kept (offer_of options) their_offer (holds (identity_of my held) ∷ mine) theirs my held bytes choices.fits choices.filling facts one echo in
     record { effects = (tt, echoed.effects); core = echoed.core }
 
 pub init_ack_kept : (options : Options) (their_offer : Offer) (mine theirs : List Effect) (core : Core) (introduction : Introduction) (cookie : Option (List ℕ)) (choices : Choices) (header : ℕ)

@@ -12,8 +12,8 @@ use Rattle.dcsctp_spec_lemmas.specs.spec.association.Effect.{Change}
 use Rattle.dcsctp_spec_lemmas.specs.spec.association.HandshakeChanges.{introduction_of, new_held}
 use Rattle.dcsctp_spec_lemmas.specs.spec.association.Acts.{connect}
 use Rattle.dcsctp_spec_lemmas.specs.spec.association.CookieEchoChanges.{case_without_peer, resolved_change, read_echo_change, new_association_change}
-use Rattle.dcsctp_spec_runs.specs.World.{own_tag_borne, echo_in_front, init_alone, worked_whole, does, at_a, at_b, Step, world_after, Run}
-use Rattle.dcsctp_theorem_association.specs.InTurn.{Handshake, choices_for, CookieReads, connecting, init_worked, init_ack_worked, cookie_echo_worked, delivered, Connected, HandshakeConnects, sent_first, works}
+use Rattle.dcsctp_spec_runs.specs.World.{own_tag_borne, echo_in_front, init_alone, worked_whole, does, at_a, at_b, WorldStep, world_after, WorldRun}
+use Rattle.dcsctp_theorem_association.specs.InTurn.{Handshake, choices_for, CookieReads, connecting, init_handled, init_ack_handled, cookie_echo_handled, delivery_in_turn, AreConnectedOnce, HandshakeConnects, sent_first, works}
 
 same_number : (n : ℕ) → (n == n) ≡ true
 same_number n = grind (arith, nat_tests)
@@ -33,25 +33,25 @@ reads_as_made options_a handshake reads =
 
 -- COOKIE ECHO makes the association
 establishes : (options_a options_b : Options) (handshake : Handshake) (reads : CookieReads options_a handshake)
-    → cookie_echo_worked options_a options_b handshake ≡ new_association_change options_b (made options_a handshake reads.0.window reads.0.tie reads.0.moment) (choices_for handshake handshake.b)
+    → cookie_echo_handled options_a options_b handshake ≡ new_association_change options_b (made options_a handshake reads.0.window reads.0.tie reads.0.moment) (choices_for handshake handshake.b)
 establishes options_a options_b handshake reads =
     ap (λ (r : Result Cookie (List ℕ)). read_echo_change options_b closed handshake.b.tag r (choices_for handshake handshake.b)) (reads_as_made options_a handshake reads)
     ∙ ap (λ (b : Bool). resolved_change options_b closed (made options_a handshake reads.0.window reads.0.tie reads.0.moment) (choices_for handshake handshake.b) (case_without_peer b)) (same_number handshake.b.tag)
 
 -- the steps, by what the COOKIE ECHO brings
-abbrev steps_from : Options → Options → Handshake → Change → List Step
+abbrev steps_from : Options → Options → Handshake → Change → List WorldStep
 steps_from options_a options_b handshake echoed =
-    delivered at_a echoed (works options_a (init_ack_worked options_a options_b handshake).core (sent_first echoed.effects) (choices_for handshake handshake.a))
-    ∷ delivered at_b (init_ack_worked options_a options_b handshake) echoed
-    ∷ delivered at_a (init_worked options_a options_b handshake) (init_ack_worked options_a options_b handshake)
-    ∷ delivered at_b (connecting options_a options_b handshake) (init_worked options_a options_b handshake)
+    delivery_in_turn at_a echoed (works options_a (init_ack_handled options_a options_b handshake).core (sent_first echoed.effects) (choices_for handshake handshake.a))
+    ∷ delivery_in_turn at_b (init_ack_handled options_a options_b handshake) echoed
+    ∷ delivery_in_turn at_a (init_handled options_a options_b handshake) (init_ack_handled options_a options_b handshake)
+    ∷ delivery_in_turn at_b (connecting options_a options_b handshake) (init_handled options_a options_b handshake)
     ∷ record { side = at_a; move = does connect; changes = connecting options_a options_b handshake ∷ [] }
     ∷ []
 
 -- and what they lead to
 record Leads (options_a options_b : Options) (handshake : Handshake) (echoed : Change) : Type 0 where
-  run : Run options_a options_b (steps_from options_a options_b handshake echoed)
-  connected : Connected options_a options_b handshake (world_after options_a options_b (steps_from options_a options_b handshake echoed))
+  run : WorldRun options_a options_b (steps_from options_a options_b handshake echoed)
+  connected : AreConnectedOnce options_a options_b handshake (world_after options_a options_b (steps_from options_a options_b handshake echoed))
 
 leads : AnswerKeepsAgreement → (options_a options_b : Options) (handshake : Handshake) (reads : CookieReads options_a handshake)
     → Leads options_a options_b handshake (new_association_change options_b (made options_a handshake reads.0.window reads.0.tie reads.0.moment) (choices_for handshake handshake.b))
@@ -80,6 +80,6 @@ leads law options_a options_b handshake reads =
 
 pub handshake_connects : AnswerKeepsAgreement → HandshakeConnects
 handshake_connects law options_a options_b handshake reads =
-    let h : Leads options_a options_b handshake (cookie_echo_worked options_a options_b handshake) =
+    let h : Leads options_a options_b handshake (cookie_echo_handled options_a options_b handshake) =
     subst (Leads options_a options_b handshake) (sym (establishes options_a options_b handshake reads)) (leads law options_a options_b handshake reads) in
     record { run = h.run; connected = h.connected }

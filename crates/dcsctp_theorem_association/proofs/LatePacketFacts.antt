@@ -8,9 +8,9 @@ use Rattle.dcsctp_spec_lemmas.specs.types.declared.ends.AbortReason.TheVariants.
 use Rattle.dcsctp_spec_lemmas.specs.spec.endpoint.Cause.{user_initiated_abort}
 use Rattle.dcsctp_spec_lemmas.specs.spec.Packet.{Content, init, init_ack, cookie_echo, cookie_ack, abort}
 use Rattle.dcsctp_spec_lemmas.specs.spec.endpoint.Endpoint.{closed, established, open_in}
-use Rattle.dcsctp_spec_lemmas.specs.spec.association.Effect.{Link, draws, sends, holds, connects, ends}
+use Rattle.dcsctp_spec_lemmas.specs.spec.association.Effect.{AssociationIdentity, draws, sends, holds, connects, ends}
 use Rattle.dcsctp_spec_lemmas.specs.spec.association.Acts.{connect, abort_with}
-use Rattle.dcsctp_spec_runs.specs.Past.{Has, HasFreshTags}
+use Rattle.dcsctp_spec_runs.specs.Past.{HasEffect, HasFreshTags}
 use Rattle.dcsctp_spec_runs.specs.World.{own_tag_borne, echo_in_front, init_alone, at_a, at_b}
 use Rattle.dcsctp_theorem_association.specs.Agreement.{FindsCrossed, ConnectsCrossed}
 use Rattle.dcsctp_theorem_association.proofs.Agreement.{FreshWorld}
@@ -132,7 +132,7 @@ late_ack_end : (a b : Options) → end_of a b late_ack
 unfolding cookie_bytes cookie_at
 late_ack_end a b = refl
 
-late_ack_connects : (a b : Options) → Has (connects (link again new_two)) (end_of a b late_ack).a.past
+late_ack_connects : (a b : Options) → HasEffect (connects (link again new_two)) (end_of a b late_ack).a.past
 unfolding cookie_bytes cookie_at
 late_ack_connects a b = inl refl
 
@@ -142,9 +142,9 @@ unfolding cookie_bytes cookie_at
 late_ack_held a b = refl
 
 -- It isn't crossed with A's.
-peer_differs : (other : Link) → Among other (link two one ∷ []) → again ≡ other.peer → ⊥
+peer_differs : (other : AssociationIdentity) → Among other (link two one ∷ []) → again ≡ other.peer → ⊥
 peer_differs other (inl is) crossed =
-    let same : again.first_tsn ≡ one.first_tsn = ap (λ (p : Pair). p.first_tsn) (crossed ∙ ap (λ (l : Link). l.peer) is) in absurd (omega (arith, same))
+    let same : again.first_tsn ≡ one.first_tsn = ap (λ (p : Pair). p.first_tsn) (crossed ∙ ap (λ (l : AssociationIdentity). l.peer) is) in absurd (omega (arith, same))
 peer_differs other (inr none) crossed = absurd none
 
 late_ack_is_not_found : (a b : Options) → FindsCrossed (end_of a b late_ack).a (end_of a b late_ack).b (link again new_two) → ⊥

@@ -6,11 +6,11 @@ use Rattle.dcsctp_spec_lemmas.specs.spec.Packet.{Plain, Content}
 use Rattle.dcsctp_spec_lemmas.specs.spec.Reconfiguration.{RequestedReset}
 use Rattle.dcsctp_spec_lemmas.specs.spec.endpoint.Endpoint.{Core, closed, open_in, established}
 use Rattle.dcsctp_spec_lemmas.specs.spec.endpoint.Following.{Following}
-use Rattle.dcsctp_spec_lemmas.specs.spec.association.Effect.{Link, Effect, draws, holds, connects, ends, begins, completes, performs, resumes, Change, emitted, emitted_alone, link_of, link_in}
+use Rattle.dcsctp_spec_lemmas.specs.spec.association.Effect.{AssociationIdentity, Effect, draws, holds, connects, ends, begins, completes, performs, resumes, Change, emitted, emitted_alone, identity_of, identity_in}
 use Rattle.dcsctp_spec_lemmas.specs.spec.association.Choices.{plain_contents, Filling, Choices}
 use Rattle.dcsctp_spec_lemmas.specs.spec.association.FlushChanges.{reset_to_begin, further_packets, chunks_behind, flushed_with, flush_where, flush}
-use Rattle.dcsctp_spec_lemmas.specs.spec.association.Acts.{sent_by, renewed_by}
-use Rattle.dcsctp_spec_runs.specs.Past.{Has}
+use Rattle.dcsctp_spec_lemmas.specs.spec.association.Acts.{sent_then_flushed, renewed_by}
+use Rattle.dcsctp_spec_runs.specs.Past.{HasEffect}
 use Rattle.dcsctp_spec_lemmas.specs.spec.association.ResumeChanges.{resume_change}
 use Rattle.dcsctp_theorem_association.specs.OneSide.{IsEstablished, outstanding_in, MayDraw, IsShown, Means}
 
@@ -19,13 +19,13 @@ use Rattle.dcsctp_theorem_association.specs.OneSide.{IsEstablished, outstanding_
 -- what an effect says of the association after its turn, where it isn't one that draws a pair
 abbrev pub Says : Core → Effect → Type 0
 Says core (draws pair) = ⊥
-Says core (holds link) = link_in core ≡ Some link
-Says core (resumes link own last) = link_in core ≡ Some link
+Says core (holds link) = identity_in core ≡ Some link
+Says core (resumes link own last) = identity_in core ≡ Some link
 Says core (connects link) = IsEstablished core link
 Says core ends = core ≡ closed
 Says core (begins number) = outstanding_in core ≡ Some number
-Says core (completes my number) = (link : Link) × (link_in core ≡ Some link) × (link.my ≡ my)
-Says core (performs peer number) = (link : Link) × (link_in core ≡ Some link) × (link.peer ≡ peer)
+Says core (completes my number) = (link : AssociationIdentity) × (identity_in core ≡ Some link) × (link.my ≡ my)
+Says core (performs peer number) = (link : AssociationIdentity) × (identity_in core ≡ Some link) × (link.peer ≡ peer)
 Says core effect = Unit {0}
 
 abbrev pub AllSay : Core → List Effect → Type 0
@@ -36,7 +36,7 @@ pub all_say-append : (core : Core) (xs ys : List Effect) → AllSay core xs → 
 all_say-append core [] ys a b = b
 all_say-append core (x ∷ xs) ys a b = (a.0, all_say-append core xs ys a.1 b)
 
-says_of : (core : Core) (effect : Effect) (effects : List Effect) → AllSay core effects → Has effect effects → Says core effect
+says_of : (core : Core) (effect : Effect) (effects : List Effect) → AllSay core effects → HasEffect effect effects → Says core effect
 says_of core effect [] all h = absurd h
 says_of core effect (newest ∷ effects) all (inl e) = subst (Says core) (sym e) all.0
 says_of core effect (newest ∷ effects) all (inr h) = says_of core effect effects all.1 h
@@ -61,7 +61,7 @@ tells_by : (core after : Core) (effect : Effect) → Says after effect → Tells
 tells_by core after (draws pair) s = absurd s
 tells_by core after effect s = s
 
-tells_of : (core after : Core) (effect : Effect) (effects : List Effect) → AllMean core after effects → Has effect effects → Tells core after effect
+tells_of : (core after : Core) (effect : Effect) (effects : List Effect) → AllMean core after effects → HasEffect effect effects → Tells core after effect
 tells_of core after effect (draws pair ∷ effects) all (inl e) = subst (Tells core after) (sym e) all.0
 tells_of core after effect (draws pair ∷ effects) all (inr h) = tells_by core after effect (says_of after effect effects all.1 h)
 tells_of core after effect effects all h = tells_by core after effect (says_of after effect effects all h)
@@ -69,15 +69,15 @@ tells_of core after effect effects all h = tells_by core after effect (says_of a
 -- Each effect says what is true, and what is newly held is shown.
 pub record Meant (core : Core) (change : Change) : Type 0 where
   pub says : AllMean core change.core change.effects
-  pub newly_held : (link : Link) → link_in change.core ≡ Some link → (link_in core ≡ Some link) ⊎ Has (holds link) change.effects
+  pub newly_held : (link : AssociationIdentity) → identity_in change.core ≡ Some link → (identity_in core ≡ Some link) ⊎ HasEffect (holds link) change.effects
 
-some_same : (link other : Link) → Some other ≡ Some link → link ≡ other
+some_same : (link other : AssociationIdentity) → Some other ≡ Some link → link ≡ other
 some_same link other e = cc
 
 means_of : (core : Core) (change : Change) → AllMean core change.core change.effects
-    → ((link : Link) → link_in change.core ≡ Some link → (link_in core ≡ Some link) ⊎ IsShown link change.effects) → Means core change
+    → ((link : AssociationIdentity) → identity_in change.core ≡ Some link → (identity_in core ≡ Some link) ⊎ IsShown link change.effects) → Means core change
 means_of core change says shown =
-    let tells : (effect : Effect) → Has effect change.effects → Tells core change.core effect = λ effect h. tells_of core change.core effect change.effects says h in
+    let tells : (effect : Effect) → HasEffect effect change.effects → Tells core change.core effect = λ effect h. tells_of core change.core effect change.effects says h in
     record {
       held = λ link h. tells (holds link) h;
       restored = λ link own last h. tells (resumes link own last) h;
@@ -97,15 +97,15 @@ means_by core change m = means_of core change m.says (λ link e. elim (m.newly_h
 pub resume_means : (core : Core) (my : Pair) (held : Held) → Means core (resume_change my held)
 resume_means core my held =
     means_of core (resume_change my held) (refl, (record { held = held; phase = refl; linked = refl }, tt))
-    (λ link e. inr (inr (held.own_next, held.peer_last, inl (ap (λ (l : Link). resumes l held.own_next held.peer_last) (some_same link (link_of my held) e)))))
+    (λ link e. inr (inr (held.own_next, held.peer_last, inl (ap (λ (l : AssociationIdentity). resumes l held.own_next held.peer_last) (some_same link (identity_of my held) e)))))
 
 -- The same association is held, or none.
-pub same_meant : {core after : Core} {effects : List Effect} {following : Following} → link_in after ≡ link_in core → AllSay after effects
+pub same_meant : {core after : Core} {effects : List Effect} {following : Following} → identity_in after ≡ identity_in core → AllSay after effects
     → Meant core (record { core = after; effects = effects; following = following })
 same_meant {core} {after} {effects} same all = record { says = none_drawn core after effects all; newly_held = λ link e. inl (sym same ∙ e) }
 
 -- The association stays, and a pair is drawn.
-pub drawn_meant : {core after : Core} {pair : Pair} {effects : List Effect} {following : Following} → MayDraw core → link_in after ≡ link_in core → AllSay after effects
+pub drawn_meant : {core after : Core} {pair : Pair} {effects : List Effect} {following : Following} → MayDraw core → identity_in after ≡ identity_in core → AllSay after effects
     → Meant core (record { core = after; effects = draws pair ∷ effects; following = following })
 drawn_meant may same all = record { says = (may, all); newly_held = λ link e. inl (sym same ∙ e) }
 
@@ -141,16 +141,16 @@ packets_say core tag contents packets =
 
 -- The association is the same after a flush.
 flushed_link : (my : Pair) (tag : ℕ) (held : Held) (front : List Content) (filling : Filling) (reset : Option RequestedReset)
-    → link_of my (flushed_with tag held front filling reset).held ≡ link_of my held
+    → identity_of my (flushed_with tag held front filling reset).held ≡ identity_of my held
 flushed_link my tag held front filling None = refl
 flushed_link my tag held front filling (Some reset) = refl
 
 flush_where_link : (my : Pair) (is_allowed : Bool) (tag : ℕ) (held : Held) (front : List Content) (filling : Filling)
-    → link_of my (flush_where is_allowed tag held front filling).held ≡ link_of my held
+    → identity_of my (flush_where is_allowed tag held front filling).held ≡ identity_of my held
 flush_where_link my false tag held front filling = refl
 flush_where_link my true tag held front filling = flushed_link my tag held front filling (reset_to_begin held.own_outstanding filling.reset)
 
-pub flush_link : (my : Pair) (tag : ℕ) (held : Held) (front : List Content) (filling : Filling) → link_of my (flush tag held front filling).held ≡ link_of my held
+pub flush_link : (my : Pair) (tag : ℕ) (held : Held) (front : List Content) (filling : Filling) → identity_of my (flush tag held front filling).held ≡ identity_of my held
 flush_link my tag held front filling = flush_where_link my filling.is_allowed tag held front filling
 
 flushed_says : (core : Core) (tag : ℕ) (held : Held) (front : List Content) (filling : Filling) (reset : Option RequestedReset)
@@ -169,13 +169,13 @@ pub flush_says : (core : Core) (tag : ℕ) (held : Held) (front : List Content) 
 flush_says core tag held front filling e = flush_where_says core filling.is_allowed tag held front filling e
 
 -- with packets before it
-pub sent_says : (core : Core) (held : Held) (choices : Choices) → outstanding_in core ≡ (sent_by held choices).held.own_outstanding → AllSay core (sent_by held choices).effects
+pub sent_says : (core : Core) (held : Held) (choices : Choices) → outstanding_in core ≡ (sent_then_flushed held choices).held.own_outstanding → AllSay core (sent_then_flushed held choices).effects
 sent_says core held choices e =
     all_say-append core (further_packets held.peer.tag choices.plain) (flush held.peer.tag held [] choices.filling).effects (further_say core held.peer.tag choices.plain)
     (flush_says core held.peer.tag held [] choices.filling e)
 
 -- A request that goes out under the next number: the association is the same, and that number is outstanding then.
-pub renewed_link : (my : Pair) (held : Held) (number : Option ℕ) (reset : RequestedReset) (fits : Bool) → link_of my (renewed_by held number reset fits).held ≡ link_of my held
+pub renewed_link : (my : Pair) (held : Held) (number : Option ℕ) (reset : RequestedReset) (fits : Bool) → identity_of my (renewed_by held number reset fits).held ≡ identity_of my held
 renewed_link my held None reset fits = refl
 renewed_link my held (Some number) reset false = refl
 renewed_link my held (Some number) reset true = refl
@@ -188,7 +188,7 @@ renewed_says core held (Some number) reset true e = (tt, (e, (tt, tt)))
 
 -- Established has connected after a flush.
 pub connects_says : (my : Pair) (tag : ℕ) (held : Held) (front : List Content) (filling : Filling)
-    → AllSay (open_in established my (flush tag held front filling).held) (connects (link_of my held) ∷ (flush tag held front filling).effects)
+    → AllSay (open_in established my (flush tag held front filling).held) (connects (identity_of my held) ∷ (flush tag held front filling).effects)
 connects_says my tag held front filling =
     let after : Held = (flush tag held front filling).held in
     (record { held = after; phase = refl; linked = flush_link my tag held front filling }, flush_says (open_in established my after) tag held front filling refl)

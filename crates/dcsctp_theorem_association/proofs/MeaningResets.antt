@@ -7,64 +7,64 @@ use Rattle.dcsctp_spec_lemmas.specs.wire.declared.reconfiguration.Reconfiguratio
 use Rattle.dcsctp_spec_lemmas.specs.spec.Reconfiguration.{ResetParameter, outgoing_reset_request, incoming_reset_request, reconfiguration_response, other_reset_parameter}
 use Rattle.dcsctp_spec_lemmas.specs.spec.Packet.{re_config}
 use Rattle.dcsctp_spec_lemmas.specs.spec.endpoint.Endpoint.{Core}
-use Rattle.dcsctp_spec_lemmas.specs.spec.association.Effect.{Link, link_of, link_in}
+use Rattle.dcsctp_spec_lemmas.specs.spec.association.Effect.{AssociationIdentity, identity_of, identity_in}
 use Rattle.dcsctp_spec_lemmas.specs.spec.association.Choices.{Choices}
 use Rattle.dcsctp_spec_lemmas.specs.spec.association.FlushChanges.{flush}
-use Rattle.dcsctp_spec_lemmas.specs.spec.association.ResetChanges.{Place, again, next, astray, place_of, Answered, worked, repeated, outgoing_by, incoming_by, Informed, informed_where, is_outstanding, WorkedParameters, work_parameters, work_chunk, answers_emitted, reset_sent, reset_worked}
+use Rattle.dcsctp_spec_lemmas.specs.spec.association.ResetChanges.{RequestPlace, again, next, astray, request_place, RequestOutcome, performed_request, repeated, outgoing_by, incoming_by, Informed, informed_where, is_outstanding, HandledParameters, work_parameters, work_chunk, answers_emitted, reset_sent, peer_part_handled}
 use Rattle.dcsctp_theorem_association.specs.OneSide.{outstanding_in}
 use Rattle.dcsctp_theorem_association.proofs.Meaning.{AllSay, all_say-append, alone_says, flush_link, flush_says}
 
 -- ---- the association is the same
 
 module _ (my : Pair) where
-  worked_link : (held : Held) (number : ℕ) (is_reached : Bool) → link_of my (worked held number is_reached).held ≡ link_of my held
+  worked_link : (held : Held) (number : ℕ) (is_reached : Bool) → identity_of my (performed_request held number is_reached).held ≡ identity_of my held
   worked_link held number true = refl
   worked_link held number false = refl
 
-  repeated_link : (held : Held) (result : ReconfigurationResponseResult) (is_reached : Bool) → link_of my (repeated held result is_reached).held ≡ link_of my held
+  repeated_link : (held : Held) (result : ReconfigurationResponseResult) (is_reached : Bool) → identity_of my (repeated held result is_reached).held ≡ identity_of my held
   repeated_link held InProgress is_reached = worked_link held held.peer_last is_reached
   repeated_link held result is_reached = refl
 
-  outgoing_link : (held : Held) (number : ℕ) (is_reached : Bool) (place : Place) → link_of my (outgoing_by held number is_reached place).held ≡ link_of my held
+  outgoing_link : (held : Held) (number : ℕ) (is_reached : Bool) (place : RequestPlace) → identity_of my (outgoing_by held number is_reached place).held ≡ identity_of my held
   outgoing_link held number is_reached again = repeated_link held held.peer_result is_reached
   outgoing_link held number is_reached next = worked_link held number is_reached
   outgoing_link held number is_reached astray = refl
 
-  incoming_link : (held : Held) (number : ℕ) (place : Place) → link_of my (incoming_by held number place).held ≡ link_of my held
+  incoming_link : (held : Held) (number : ℕ) (place : RequestPlace) → identity_of my (incoming_by held number place).held ≡ identity_of my held
   incoming_link held number again = refl
   incoming_link held number place = refl
 
-  informed_link : (held : Held) (number : ℕ) (result : ReconfigurationResponseResult) (is_it : Bool) → link_of my (informed_where my held number result is_it).held ≡ link_of my held
+  informed_link : (held : Held) (number : ℕ) (result : ReconfigurationResponseResult) (is_it : Bool) → identity_of my (informed_where my held number result is_it).held ≡ identity_of my held
   informed_link held number result false = refl
   informed_link held number InProgress true = refl
   informed_link held number result true = refl
 
   parameters_link : (is_reached has_worked : Bool) (held : Held) (parameters : List ResetParameter)
-      → link_of my (work_parameters my is_reached has_worked held parameters).held ≡ link_of my held
+      → identity_of my (work_parameters my is_reached has_worked held parameters).held ≡ identity_of my held
   parameters_link is_reached has_worked held [] = refl
   parameters_link is_reached true held (outgoing_reset_request number answered reset ∷ parameters) = refl
   parameters_link is_reached false held (outgoing_reset_request number answered reset ∷ parameters) =
-      let first : Answered = outgoing_by held number is_reached (place_of held.peer_last number) in
-      parameters_link is_reached true first.held parameters ∙ outgoing_link held number is_reached (place_of held.peer_last number)
+      let first : RequestOutcome = outgoing_by held number is_reached (request_place held.peer_last number) in
+      parameters_link is_reached true first.held parameters ∙ outgoing_link held number is_reached (request_place held.peer_last number)
   parameters_link is_reached has_worked held (incoming_reset_request number streams ∷ parameters) =
-      let first : Answered = incoming_by held number (place_of held.peer_last number) in
-      parameters_link is_reached has_worked first.held parameters ∙ incoming_link held number (place_of held.peer_last number)
+      let first : RequestOutcome = incoming_by held number (request_place held.peer_last number) in
+      parameters_link is_reached has_worked first.held parameters ∙ incoming_link held number (request_place held.peer_last number)
   parameters_link is_reached has_worked held (reconfiguration_response number result ∷ parameters) =
       let first : Informed = informed_where my held number result (is_outstanding number held.own_outstanding) in
       parameters_link is_reached has_worked first.held parameters ∙ informed_link held number result (is_outstanding number held.own_outstanding)
   parameters_link is_reached has_worked held (other_reset_parameter parameter ∷ parameters) = parameters_link is_reached has_worked held parameters
 
-  chunk_link : (is_reached : Bool) (held : Held) (parameters : List ResetParameter) → link_of my (work_chunk my is_reached held parameters).held ≡ link_of my held
+  chunk_link : (is_reached : Bool) (held : Held) (parameters : List ResetParameter) → identity_of my (work_chunk my is_reached held parameters).held ≡ identity_of my held
   chunk_link is_reached held [] = refl
   chunk_link is_reached held (parameter ∷ parameters) = parameters_link is_reached false held (parameter ∷ parameters)
 
-  sent_link : (is_refused : Bool) (held : Held) (answers : List ResetParameter) (choices : Choices) → link_of my (reset_sent is_refused held answers choices).held ≡ link_of my held
+  sent_link : (is_refused : Bool) (held : Held) (answers : List ResetParameter) (choices : Choices) → identity_of my (reset_sent is_refused held answers choices).held ≡ identity_of my held
   sent_link true held answers choices = refl
   sent_link false held answers choices = flush_link my held.peer.tag held [] choices.filling
 
-  pub reset_link : (held : Held) (parameters : List ResetParameter) (choices : Choices) → link_of my (reset_worked my held parameters choices).held ≡ link_of my held
+  pub reset_link : (held : Held) (parameters : List ResetParameter) (choices : Choices) → identity_of my (peer_part_handled my held parameters choices).held ≡ identity_of my held
   reset_link held parameters choices =
-      let first : WorkedParameters = work_chunk my choices.is_reached held parameters in
+      let first : HandledParameters = work_chunk my choices.is_reached held parameters in
       sent_link first.is_refused first.held first.answers choices ∙ chunk_link choices.is_reached held parameters
 
 -- ---- the effects
@@ -72,34 +72,34 @@ module _ (my : Pair) where
 module _ (core : Core) (my : Pair) where
   -- This one is held.
   abbrev HoldsNow : Held → Type 0
-  HoldsNow held = link_in core ≡ Some (link_of my held)
+  HoldsNow held = identity_in core ≡ Some (identity_of my held)
 
   -- and one that is the same
-  holds_same : (held after : Held) → HoldsNow held → link_of my after ≡ link_of my held → HoldsNow after
-  holds_same held after h same = h ∙ ap (λ (l : Link). Some l) (sym same)
+  holds_same : (held after : Held) → HoldsNow held → identity_of my after ≡ identity_of my held → HoldsNow after
+  holds_same held after h same = h ∙ ap (λ (l : AssociationIdentity). Some l) (sym same)
 
-  worked_says : (held : Held) (number : ℕ) (is_reached : Bool) → HoldsNow held → AllSay core (worked held number is_reached).effects
-  worked_says held number true h = ((link_of my held, h, refl), tt)
+  worked_says : (held : Held) (number : ℕ) (is_reached : Bool) → HoldsNow held → AllSay core (performed_request held number is_reached).effects
+  worked_says held number true h = ((identity_of my held, h, refl), tt)
   worked_says held number false h = tt
 
   repeated_says : (held : Held) (result : ReconfigurationResponseResult) (is_reached : Bool) → HoldsNow held → AllSay core (repeated held result is_reached).effects
   repeated_says held InProgress is_reached h = worked_says held held.peer_last is_reached h
   repeated_says held result is_reached h = tt
 
-  outgoing_says : (held : Held) (number : ℕ) (is_reached : Bool) (place : Place) → HoldsNow held → AllSay core (outgoing_by held number is_reached place).effects
+  outgoing_says : (held : Held) (number : ℕ) (is_reached : Bool) (place : RequestPlace) → HoldsNow held → AllSay core (outgoing_by held number is_reached place).effects
   outgoing_says held number is_reached again h = repeated_says held held.peer_result is_reached h
   outgoing_says held number is_reached next h = (tt, worked_says held number is_reached h)
   outgoing_says held number is_reached astray h = tt
 
-  incoming_says : (held : Held) (number : ℕ) (place : Place) → AllSay core (incoming_by held number place).effects
+  incoming_says : (held : Held) (number : ℕ) (place : RequestPlace) → AllSay core (incoming_by held number place).effects
   incoming_says held number again = tt
   incoming_says held number next = (tt, tt)
   incoming_says held number astray = tt
 
   informed_says : (held : Held) (number : ℕ) (result : ReconfigurationResponseResult) (is_it : Bool) → HoldsNow held → AllSay core (informed_where my held number result is_it).effects
   informed_says held number result false h = tt
-  informed_says held number SuccessNothingToDo true h = ((link_of my held, h, refl), tt)
-  informed_says held number SuccessPerformed true h = ((link_of my held, h, refl), tt)
+  informed_says held number SuccessNothingToDo true h = ((identity_of my held, h, refl), tt)
+  informed_says held number SuccessPerformed true h = ((identity_of my held, h, refl), tt)
   informed_says held number InProgress true h = tt
   informed_says held number result true h = (tt, tt)
 
@@ -108,15 +108,15 @@ module _ (core : Core) (my : Pair) where
   parameters_say is_reached has_worked held [] h = tt
   parameters_say is_reached true held (outgoing_reset_request number answered reset ∷ parameters) h = tt
   parameters_say is_reached false held (outgoing_reset_request number answered reset ∷ parameters) h =
-      let first : Answered = outgoing_by held number is_reached (place_of held.peer_last number) in
+      let first : RequestOutcome = outgoing_by held number is_reached (request_place held.peer_last number) in
       all_say-append core first.effects (work_parameters my is_reached true first.held parameters).effects
-      (outgoing_says held number is_reached (place_of held.peer_last number) h)
-      (parameters_say is_reached true first.held parameters (holds_same held first.held h (outgoing_link my held number is_reached (place_of held.peer_last number))))
+      (outgoing_says held number is_reached (request_place held.peer_last number) h)
+      (parameters_say is_reached true first.held parameters (holds_same held first.held h (outgoing_link my held number is_reached (request_place held.peer_last number))))
   parameters_say is_reached has_worked held (incoming_reset_request number streams ∷ parameters) h =
-      let first : Answered = incoming_by held number (place_of held.peer_last number) in
+      let first : RequestOutcome = incoming_by held number (request_place held.peer_last number) in
       all_say-append core first.effects (work_parameters my is_reached has_worked first.held parameters).effects
-      (incoming_says held number (place_of held.peer_last number))
-      (parameters_say is_reached has_worked first.held parameters (holds_same held first.held h (incoming_link my held number (place_of held.peer_last number))))
+      (incoming_says held number (request_place held.peer_last number))
+      (parameters_say is_reached has_worked first.held parameters (holds_same held first.held h (incoming_link my held number (request_place held.peer_last number))))
   parameters_say is_reached has_worked held (reconfiguration_response number result ∷ parameters) h =
       let first : Informed = informed_where my held number result (is_outstanding number held.own_outstanding) in
       all_say-append core first.effects (work_parameters my is_reached has_worked first.held parameters).effects
@@ -139,12 +139,12 @@ module _ (core : Core) (my : Pair) where
       all_say-append core (answers_emitted choices.fits held.peer.tag answers) (flush held.peer.tag held [] choices.filling).effects
       (answers_say choices.fits held.peer.tag answers) (flush_says core held.peer.tag held [] choices.filling e)
 
-  pub reset_says : (held : Held) (parameters : List ResetParameter) (choices : Choices) → HoldsNow (reset_worked my held parameters choices).held
-      → outstanding_in core ≡ (reset_worked my held parameters choices).held.own_outstanding
-      → AllSay core (reset_worked my held parameters choices).effects
+  pub reset_says : (held : Held) (parameters : List ResetParameter) (choices : Choices) → HoldsNow (peer_part_handled my held parameters choices).held
+      → outstanding_in core ≡ (peer_part_handled my held parameters choices).held.own_outstanding
+      → AllSay core (peer_part_handled my held parameters choices).effects
   reset_says held parameters choices h e =
-      let first : WorkedParameters = work_chunk my choices.is_reached held parameters in
+      let first : HandledParameters = work_chunk my choices.is_reached held parameters in
       all_say-append core first.effects (reset_sent first.is_refused first.held first.answers choices).effects
       (chunk_says choices.is_reached held parameters
-      (holds_same (reset_worked my held parameters choices).held held h (sym (reset_link my held parameters choices))))
+      (holds_same (peer_part_handled my held parameters choices).held held h (sym (reset_link my held parameters choices))))
       (sent_says first.is_refused first.held first.answers choices e)

@@ -6,13 +6,13 @@ use Rattle.dcsctp_spec_lemmas.specs.spec.endpoint.Cause.{Cause}
 use Rattle.dcsctp_spec_lemmas.specs.spec.Packet.{abort}
 use Rattle.dcsctp_spec_lemmas.specs.spec.endpoint.Endpoint.{Core, cookie_wait, cookie_echoed, open_in, OpenPhase, established, shutdown_pending, shutdown_sent, shutdown_received, shutdown_ack_sent}
 use Rattle.dcsctp_spec_lemmas.specs.spec.endpoint.Following.{Following}
-use Rattle.dcsctp_spec_lemmas.specs.spec.association.Effect.{Change, link_of, link_in}
+use Rattle.dcsctp_spec_lemmas.specs.spec.association.Effect.{Change, identity_of, identity_in}
 use Rattle.dcsctp_spec_lemmas.specs.spec.association.ShutdownChanges.{shutdown_step_change_in, shutdown_step_change, shutdown_call_change, abort_call_change, shutdown_again_change, abort_change, shutdown_change, shutdown_ack_change, shutdown_complete_change}
 use Rattle.dcsctp_spec_lemmas.specs.spec.association.Acts.{hand_over_change}
 use Rattle.dcsctp_theorem_association.proofs.Meaning.{AllSay, Meant, same_meant, ended_meant, end_says-alone}
 
 step_link_in : (phase : OpenPhase) (my : Pair) (held : Held) (tsn : ℕ) (is_acknowledged : Bool)
-    → link_in (shutdown_step_change_in phase my held tsn is_acknowledged).core ≡ Some (link_of my held)
+    → identity_in (shutdown_step_change_in phase my held tsn is_acknowledged).core ≡ Some (identity_of my held)
 step_link_in shutdown_pending my held tsn false = refl
 step_link_in shutdown_pending my held tsn true = refl
 step_link_in shutdown_received my held tsn false = refl
@@ -28,13 +28,13 @@ step_says_in after shutdown_received my held tsn true = (tt, tt)
 step_says_in after phase my held tsn is_acknowledged = tt
 
 -- a step after which the phase is another
-step_meant_in : (core : Core) (phase : OpenPhase) (my : Pair) (held : Held) (tsn : ℕ) (is_acknowledged : Bool) → Some (link_of my held) ≡ link_in core
+step_meant_in : (core : Core) (phase : OpenPhase) (my : Pair) (held : Held) (tsn : ℕ) (is_acknowledged : Bool) → Some (identity_of my held) ≡ identity_in core
     → Meant core (shutdown_step_change_in phase my held tsn is_acknowledged)
 step_meant_in core phase my held tsn is_acknowledged same =
     let stepped : Change = shutdown_step_change_in phase my held tsn is_acknowledged in
     same_meant (step_link_in phase my held tsn is_acknowledged ∙ same) (step_says_in stepped.core phase my held tsn is_acknowledged)
 
-pub step_link : (core : Core) (tsn : ℕ) (is_acknowledged : Bool) → link_in (shutdown_step_change core tsn is_acknowledged).core ≡ link_in core
+pub step_link : (core : Core) (tsn : ℕ) (is_acknowledged : Bool) → identity_in (shutdown_step_change core tsn is_acknowledged).core ≡ identity_in core
 step_link (open_in phase my held) tsn is_acknowledged = step_link_in phase my held tsn is_acknowledged
 step_link core tsn is_acknowledged = refl
 
@@ -67,7 +67,7 @@ abort_meant (cookie_echoed my held cookie) = ended_meant (refl, tt)
 abort_meant (open_in phase my held) = ended_meant (refl, tt)
 abort_meant core = same_meant refl tt
 
-pub shutdown_link : (core : Core) (tsn : ℕ) (is_acknowledged : Bool) → link_in (shutdown_change core tsn is_acknowledged).core ≡ link_in core
+pub shutdown_link : (core : Core) (tsn : ℕ) (is_acknowledged : Bool) → identity_in (shutdown_change core tsn is_acknowledged).core ≡ identity_in core
 shutdown_link (open_in established my held) tsn is_acknowledged = step_link_in shutdown_received my held tsn is_acknowledged
 shutdown_link (open_in shutdown_pending my held) tsn is_acknowledged = step_link_in shutdown_received my held tsn is_acknowledged
 shutdown_link (open_in shutdown_received my held) tsn is_acknowledged = step_link_in shutdown_received my held tsn is_acknowledged

@@ -10,15 +10,15 @@ use Rattle.dcsctp_spec_lemmas.specs.spec.Reconfiguration.{ResetParameter, Reques
 use Rattle.dcsctp_spec_lemmas.specs.spec.Packet.{Introduction, Content, init, init_ack, cookie_echo, cookie_ack, re_config, abort, shutdown, shutdown_ack, shutdown_complete, plain}
 use Rattle.dcsctp_spec_lemmas.specs.spec.endpoint.Endpoint.{Core, closed, cookie_wait, cookie_echoed, open_in, OpenPhase, established, shutdown_ack_sent}
 use Rattle.dcsctp_spec_lemmas.specs.spec.endpoint.Following.{next_chunk}
-use Rattle.dcsctp_spec_lemmas.specs.spec.association.Effect.{Link, holds, connects, Change, link_of, link_in}
+use Rattle.dcsctp_spec_lemmas.specs.spec.association.Effect.{AssociationIdentity, holds, connects, Change, identity_of, identity_in}
 use Rattle.dcsctp_spec_lemmas.specs.spec.association.ResumeChanges.{resumed_held}
 use Rattle.dcsctp_spec_lemmas.specs.spec.association.Choices.{Filling, Choices}
 use Rattle.dcsctp_spec_lemmas.specs.spec.association.FlushChanges.{reset_request, Flushed, flush}
 use Rattle.dcsctp_spec_lemmas.specs.spec.association.HandshakeChanges.{introduction_of, connect_change, init_change, echo_change, held_by_init_ack, init_ack_change, cookie_ack_change, t1_again_change, t1_gives_up_change}
 use Rattle.dcsctp_spec_lemmas.specs.spec.association.CookieEchoChanges.{Resolution, establish_new, restart, simultaneous_init, discard, maintain_existing, invalid_tag, stale, aged, resolve, held_by_cookie, new_association_change, restart_change, maintain_change, resolved_change, read_echo_change}
-use Rattle.dcsctp_spec_lemmas.specs.spec.association.ResetChanges.{re_config_change, reset_worked}
+use Rattle.dcsctp_spec_lemmas.specs.spec.association.ResetChanges.{re_config_change, peer_part_handled}
 use Rattle.dcsctp_spec_lemmas.specs.spec.association.ShutdownChanges.{shutdown_step_change, shutdown_change}
-use Rattle.dcsctp_spec_lemmas.specs.spec.association.Acts.{Act, connect, t1_expires, shut_down, step_of_shutdown, shutdown_repeats, abort_with, hands_over, flushes, request_again, request_renewed, sent_by, flush_change, request_sent, request_again_change, renewed_by, request_renewed_change, act_change, violation_change, plain_change, chunk_change, shutdown_chunk_change}
+use Rattle.dcsctp_spec_lemmas.specs.spec.association.Acts.{Act, connect, t1_expires, shut_down, step_of_shutdown, shutdown_repeats, abort_with, hands_over, flushes, request_again, request_renewed, sent_then_flushed, flush_change, request_sent, request_again_change, renewed_by, request_renewed_change, act_change, violation_change, plain_change, chunk_change, shutdown_chunk_change}
 use Rattle.dcsctp_spec_runs.specs.World.{acted, worked, resumed}
 use Rattle.dcsctp_theorem_association.specs.OneSide.{Means, EffectsMean}
 use Rattle.dcsctp_theorem_association.proofs.Meaning.{AllSay, all_say-append, Meant, means_by, resume_means, same_meant, drawn_meant, ended_meant, alone_says, end_says-alone, flush_link, flush_says, sent_says, renewed_link, renewed_says, connects_says}
@@ -27,12 +27,12 @@ use Rattle.dcsctp_theorem_association.proofs.MeaningShutdown.{step_link, step_sa
 
 -- ---- what is held
 
-some_link : {one two : Link} → one ≡ two → Some one ≡ Some two
-some_link e = ap (λ (l : Link). Some l) e
+some_link : {one two : AssociationIdentity} → one ≡ two → Some one ≡ Some two
+some_link e = ap (λ (l : AssociationIdentity). Some l) e
 
 -- An association with a peer is newly held, and is shown as that in front of these effects.
-shown_meant : (core : Core) (my : Pair) (held : Held) (change : Change) → link_in change.core ≡ Some (link_of my held) → AllSay change.core change.effects
-    → Meant core (record change { effects = holds (link_of my held) ∷ change.effects })
+shown_meant : (core : Core) (my : Pair) (held : Held) (change : Change) → identity_in change.core ≡ Some (identity_of my held) → AllSay change.core change.effects
+    → Meant core (record change { effects = holds (identity_of my held) ∷ change.effects })
 shown_meant core my held change same all = record { says = (same, all); newly_held = λ link e. inr (inl (cc)) }
 
 -- An open association stays, after a flush.
@@ -54,7 +54,7 @@ init_meant options (open_in shutdown_ack_sent my held) theirs choices = same_mea
 init_meant options closed theirs choices = drawn_meant tt refl (alone_says closed choices.fits _ _)
 init_meant options (open_in phase my held) theirs choices = drawn_meant tt refl (alone_says (open_in phase my held) choices.fits _ _)
 
-echoes_link : (my : Pair) (held : Held) (cookie : List ℕ) (fits : Bool) (filling : Filling) → link_in (echo_change my held cookie fits filling).core ≡ Some (link_of my held)
+echoes_link : (my : Pair) (held : Held) (cookie : List ℕ) (fits : Bool) (filling : Filling) → identity_in (echo_change my held cookie fits filling).core ≡ Some (identity_of my held)
 echoes_link my held cookie false filling = refl
 echoes_link my held cookie true filling = some_link (flush_link my held.peer.tag held (cookie_echo cookie ∷ []) filling)
 
@@ -99,7 +99,7 @@ new_meant options core cookie choices =
     let held : Held = held_by_cookie options cookie in
     let after : Flushed = flush tag held (cookie_ack ∷ []) choices.filling in
     shown_meant core my held
-    (record { core = open_in established my after.held; effects = connects (link_of my held) ∷ after.effects; following = next_chunk })
+    (record { core = open_in established my after.held; effects = connects (identity_of my held) ∷ after.effects; following = next_chunk })
     (some_link (flush_link my tag held (cookie_ack ∷ []) choices.filling))
     (connects_says my tag held (cookie_ack ∷ []) choices.filling)
 
@@ -128,14 +128,14 @@ echo_meant options core header (Ok cookie) choices = resolved_meant options core
 
 -- ---- flushes and resets
 
-flush_change_link : (core : Core) (choices : Choices) → link_in (flush_change core choices).core ≡ link_in core
+flush_change_link : (core : Core) (choices : Choices) → identity_in (flush_change core choices).core ≡ identity_in core
 flush_change_link (cookie_echoed my held cookie) choices = some_link (flush_link my held.peer.tag held [] choices.filling)
 flush_change_link (open_in phase my held) choices = some_link (flush_link my held.peer.tag held [] choices.filling)
 flush_change_link core choices = refl
 
 flush_change_says : (core : Core) (choices : Choices) → AllSay (flush_change core choices).core (flush_change core choices).effects
-flush_change_says (cookie_echoed my held cookie) choices = sent_says (cookie_echoed my (sent_by held choices).held cookie) held choices refl
-flush_change_says (open_in phase my held) choices = sent_says (open_in phase my (sent_by held choices).held) held choices refl
+flush_change_says (cookie_echoed my held cookie) choices = sent_says (cookie_echoed my (sent_then_flushed held choices).held cookie) held choices refl
+flush_change_says (open_in phase my held) choices = sent_says (open_in phase my (sent_then_flushed held choices).held) held choices refl
 flush_change_says core choices = tt
 
 flush_meant : (core : Core) (choices : Choices) → Meant core (flush_change core choices)
@@ -144,10 +144,10 @@ flush_meant core choices = same_meant (flush_change_link core choices) (flush_ch
 re_config_meant : (core : Core) (parameters : List ResetParameter) (choices : Choices) → Meant core (re_config_change core parameters choices)
 re_config_meant (cookie_echoed my held cookie) parameters choices =
     same_meant (some_link (reset_link my held parameters choices))
-    (reset_says (cookie_echoed my (reset_worked my held parameters choices).held cookie) my held parameters choices refl refl)
+    (reset_says (cookie_echoed my (peer_part_handled my held parameters choices).held cookie) my held parameters choices refl refl)
 re_config_meant (open_in phase my held) parameters choices =
     same_meant (some_link (reset_link my held parameters choices))
-    (reset_says (open_in phase my (reset_worked my held parameters choices).held) my held parameters choices refl refl)
+    (reset_says (open_in phase my (peer_part_handled my held parameters choices).held) my held parameters choices refl refl)
 re_config_meant core parameters choices = same_meant refl tt
 
 request_says : (core : Core) (held : Held) (request : Option ℕ) (reset : RequestedReset) (fits : Bool) → AllSay core (request_sent held request reset fits)

@@ -11,8 +11,8 @@ use Rattle.dcsctp_spec_lemmas.specs.spec.association.Choices.{Choices}
 use Rattle.dcsctp_spec_lemmas.specs.spec.association.Acts.{MakesCookie, act_change, chunk_change, flush_change, plain_change, violation_change, shutdown_chunk_change}
 use Rattle.dcsctp_spec_lemmas.specs.spec.Admission.{shutdown_acks_in}
 use Rattle.dcsctp_spec_lemmas.specs.spec.association.ShutdownChanges.{shutdown_step_change, shutdown_change}
-use Rattle.dcsctp_spec_runs.specs.Past.{Has, HasFreshTags}
-use Rattle.dcsctp_spec_runs.specs.World.{after_effects, SideState, after_change, after_changes, HasEnding, MayBeWorked, own_tag_borne, echo_in_front, init_alone, ending_in, ChunkChanges, PacketChanges, worked_whole, worked_acks, Move, does, receives, MoveChanges}
+use Rattle.dcsctp_spec_runs.specs.Past.{HasEffect, HasFreshTags}
+use Rattle.dcsctp_spec_runs.specs.World.{after_effects, SideState, after_change, after_changes, HasEnding, MayBeHandled, own_tag_borne, echo_in_front, init_alone, ending_in, ChunkChanges, PacketChanges, worked_whole, worked_acks, Move, does, receives, MoveChanges}
 use Rattle.dcsctp_theorem_association.proofs.Facts.{TrueFront, Behind, AllBehind, TrueContents, TruePast, TrueCore}
 use Rattle.dcsctp_theorem_association.proofs.Growth.{after_within, past_after, past_grows, true_of}
 use Rattle.dcsctp_theorem_association.proofs.Echoes.{core_grows}
@@ -74,7 +74,7 @@ none_ending (plain chunk ∷ contents) h (inl k) = k
 none_ending (plain chunk ∷ contents) h (inr k) = none_ending contents h.1 k
 
 own_tagged : (core : Core) (header : ℕ) (content : Content) (behind : List Content) → AllBehind behind
-    → MayBeWorked core (record { tag = header; contents = content ∷ behind }) → OwnTagged core header content
+    → MayBeHandled core (record { tag = header; contents = content ∷ behind }) → OwnTagged core header content
 own_tagged core header (init introduction) behind h k = tt
 own_tagged core header (init_ack introduction cookie) behind h (own_tag_borne e) = e
 own_tagged core header (init_ack introduction cookie) behind h (echo_in_front bytes others e) = absurd (cc)
@@ -100,7 +100,7 @@ own_tagged core header (plain chunk) behind h k = tt
 
 front_kept : AnswerKeepsAgreement → (options : Options) (their_offer : Offer) (mine theirs : List Effect) (core : Core) (header : ℕ) (content : Content) (behind : List Content) (choices : Choices)
     → SameTag mine → SameTag theirs → TrueCore (offer_of options) their_offer mine theirs core
-    → Has (sends (record { tag = header; contents = content ∷ behind })) theirs → TrueFront their_offer (offer_of options) theirs mine header content
+    → HasEffect (sends (record { tag = header; contents = content ∷ behind })) theirs → TrueFront their_offer (offer_of options) theirs mine header content
     → OwnTagged core header content → MakesCookie core content choices
     → Kept (offer_of options) their_offer mine theirs (chunk_change options core header content choices)
 front_kept law options their_offer mine theirs core header (init introduction) behind choices my_tags their_tags h delivered is own makes =
@@ -171,8 +171,8 @@ behind_true_after their_offer side theirs header (content ∷ contents) (change 
 
 packet_true_after : AnswerKeepsAgreement → (their_offer : Offer) (side : SideState) (theirs : List Effect) (header : ℕ) (contents : List Content) (changes : List Change)
     → TrueSide their_offer side theirs → HasFreshTags (after_changes side changes).past → SameTag theirs
-    → Has (sends (record { tag = header; contents = contents })) theirs → TrueContents their_offer (offer_of side.options) theirs side.past header contents
-    → MayBeWorked side.core (record { tag = header; contents = contents }) → ChunkChanges side.options side.core header contents changes
+    → HasEffect (sends (record { tag = header; contents = contents })) theirs → TrueContents their_offer (offer_of side.options) theirs side.past header contents
+    → MayBeHandled side.core (record { tag = header; contents = contents }) → ChunkChanges side.options side.core header contents changes
     → TrueSide their_offer (after_changes side changes) theirs
 packet_true_after law their_offer side theirs header contents [] h fresh their_tags delivered is may turns = h
 packet_true_after law their_offer side theirs header [] (change ∷ changes) h fresh their_tags delivered is may turns = absurd turns
@@ -204,7 +204,7 @@ acks_true_after their_offer side theirs header (plain chunk ∷ contents) change
 
 packet_turns_true : AnswerKeepsAgreement → (their_offer : Offer) (side : SideState) (theirs : List Effect) (packet : Packet) (changes : List Change)
     → TrueSide their_offer side theirs → HasFreshTags (after_changes side changes).past → SameTag theirs
-    → Has (sends packet) theirs → TrueContents their_offer (offer_of side.options) theirs side.past packet.tag packet.contents
+    → HasEffect (sends packet) theirs → TrueContents their_offer (offer_of side.options) theirs side.past packet.tag packet.contents
     → PacketChanges side.options side.core packet changes → TrueSide their_offer (after_changes side changes) theirs
 packet_turns_true law their_offer side theirs packet changes h fresh tags delivered is (worked_whole may turns) =
     packet_true_after law their_offer side theirs packet.tag packet.contents changes h fresh tags delivered is may turns

@@ -9,7 +9,7 @@ use Rattle.dcsctp_spec_lemmas.specs.spec.Reconfiguration.{ResetParameter, Reques
 use Rattle.dcsctp_spec_lemmas.specs.spec.Packet.{Introduction, Content, init, init_ack, cookie_echo, cookie_ack, re_config, abort, shutdown, shutdown_ack, shutdown_complete, plain}
 use Rattle.dcsctp_spec_lemmas.specs.spec.endpoint.Endpoint.{Core, closed, cookie_wait, cookie_echoed, open_in, OpenPhase, established, shutdown_pending, shutdown_sent, shutdown_received, shutdown_ack_sent}
 use Rattle.dcsctp_spec_lemmas.specs.spec.endpoint.Following.{Following, next_chunk}
-use Rattle.dcsctp_spec_lemmas.specs.spec.association.Effect.{Link, Effect, holds, Change, link_of}
+use Rattle.dcsctp_spec_lemmas.specs.spec.association.Effect.{AssociationIdentity, Effect, holds, Change, identity_of}
 use Rattle.dcsctp_spec_lemmas.specs.spec.association.Choices.{Filling, Choices}
 use Rattle.dcsctp_spec_lemmas.specs.spec.association.FlushChanges.{reset_request}
 use Rattle.dcsctp_spec_lemmas.specs.spec.association.HandshakeChanges.{connect_change, init_change, echo_change, held_by_init_ack, init_ack_change, cookie_ack_change, t1_again_change, t1_gives_up_change}
@@ -63,7 +63,7 @@ echoes_ends_once core my held cookie false filling = stays_echoed refl
 echoes_ends_once core my held cookie true filling = stays_echoed (no_ends-flush held.peer.tag held (cookie_echo cookie ∷ []) filling)
 
 -- with an effect in front that is no end
-holds_ends_once : (link : Link) (core : Core) (change : Change) → OneEnd core change → OneEnd core (record change { effects = holds link ∷ change.effects })
+holds_ends_once : (link : AssociationIdentity) (core : Core) (change : Change) → OneEnd core change → OneEnd core (record change { effects = holds link ∷ change.effects })
 holds_ends_once link core change (it_ends a b c) = it_ends a b c
 holds_ends_once link core change (it_stays a b) = it_stays a b
 
@@ -71,7 +71,7 @@ init_ack_ends_once : (options : Options) (core : Core) (theirs : Introduction) (
 init_ack_ends_once options (cookie_wait my) theirs None choices = ends_wait (one_end-alone choices.fits _ _)
 init_ack_ends_once options (cookie_wait my) theirs (Some cookie) choices =
     let held : Held = held_by_init_ack options my theirs in
-    holds_ends_once (link_of my held) (cookie_wait my) (echo_change my held cookie choices.fits choices.filling) (echoes_ends_once (cookie_wait my) my held cookie choices.fits choices.filling)
+    holds_ends_once (identity_of my held) (cookie_wait my) (echo_change my held cookie choices.fits choices.filling) (echoes_ends_once (cookie_wait my) my held cookie choices.fits choices.filling)
 init_ack_ends_once options core theirs cookie choices = stays refl
 
 cookie_ack_ends_once : (core : Core) (choices : Choices) → OneEnd core (cookie_ack_change core choices)

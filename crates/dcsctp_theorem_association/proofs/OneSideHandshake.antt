@@ -8,7 +8,7 @@ use Rattle.dcsctp_spec_lemmas.specs.spec.Cookie.{Cookie}
 use Rattle.dcsctp_spec_lemmas.specs.spec.endpoint.Cause.{missing_mandatory_parameter}
 use Rattle.dcsctp_spec_lemmas.specs.spec.Packet.{Introduction, Content, init, cookie_echo, cookie_ack, abort, Packet}
 use Rattle.dcsctp_spec_lemmas.specs.spec.endpoint.Endpoint.{Core, closed, cookie_wait, cookie_echoed, open_in, OpenPhase, established, shutdown_ack_sent}
-use Rattle.dcsctp_spec_lemmas.specs.spec.association.Effect.{Link, Effect, draws, sends, holds, connects, ends, Change, emitted, emitted_alone, link_of}
+use Rattle.dcsctp_spec_lemmas.specs.spec.association.Effect.{AssociationIdentity, Effect, draws, sends, holds, connects, ends, Change, emitted, emitted_alone, identity_of}
 use Rattle.dcsctp_spec_lemmas.specs.spec.association.Choices.{Filling, Choices}
 use Rattle.dcsctp_spec_lemmas.specs.spec.association.HandshakeChanges.{introduction_of, connect_change, init_change, echo_change, held_by_init_ack, init_ack_change, cookie_ack_change, t1_again_change, t1_gives_up_change}
 use Rattle.dcsctp_spec_lemmas.specs.spec.association.CookieEchoChanges.{Resolution, establish_new, restart, simultaneous_init, discard, maintain_existing, invalid_tag, stale, aged, resolve, held_by_cookie, new_association_change, restart_change, maintain_change, resolved_change, read_echo_change}
@@ -25,8 +25,8 @@ pub record Unheld (past : List Effect) : Type 0 where
 abbrev pub Good : Core → List Effect → Type 0
 Good closed past = Unheld past
 Good (cookie_wait my) past = Unheld past
-Good (cookie_echoed my held cookie) past = Stands (link_of my held) (Some (link_of my held)) held past
-Good (open_in phase my held) past = (waiting : Option Link) × Stands (link_of my held) waiting held past
+Good (cookie_echoed my held cookie) past = Stands (identity_of my held) (Some (identity_of my held)) held past
+Good (open_in phase my held) past = (waiting : Option AssociationIdentity) × Stands (identity_of my held) waiting held past
 
 -- A change keeps that.
 abbrev pub Keeps : Core → Change → Type 0
@@ -71,14 +71,14 @@ good-ended_alone core false tag content past good = good-ends core past good
 
 -- ---- what is held changes
 
-same_link : {link : Link} {waiting : Option Link} {held : Held} {past : List Effect} → Stands link waiting held past → link ≡ link_of link.my held
+same_link : {link : AssociationIdentity} {waiting : Option AssociationIdentity} {held : Held} {past : List Effect} → Stands link waiting held past → link ≡ identity_of link.my held
 same_link {link = link} s = λ i. record { my = link.my; peer = sym s.same_peer i; capabilities = sym s.same_capabilities i }
 
-pub stands_open : {link : Link} {waiting : Option Link} {held : Held} {past : List Effect} (phase : OpenPhase) → Stands link waiting held past → Good (open_in phase link.my held) past
-stands_open {waiting = waiting} {held = held} {past = past} phase s = (waiting, subst (λ (l : Link). Stands l waiting held past) (same_link s) s)
+pub stands_open : {link : AssociationIdentity} {waiting : Option AssociationIdentity} {held : Held} {past : List Effect} (phase : OpenPhase) → Stands link waiting held past → Good (open_in phase link.my held) past
+stands_open {waiting = waiting} {held = held} {past = past} phase s = (waiting, subst (λ (l : AssociationIdentity). Stands l waiting held past) (same_link s) s)
 
-pub stands_echoed : {link : Link} {held : Held} {past : List Effect} (cookie : List ℕ) → Stands link (Some link) held past → Good (cookie_echoed link.my held cookie) past
-stands_echoed {held = held} {past = past} cookie s = subst (λ (l : Link). Stands l (Some l) held past) (same_link s) s
+pub stands_echoed : {link : AssociationIdentity} {held : Held} {past : List Effect} (cookie : List ℕ) → Stands link (Some link) held past → Good (cookie_echoed link.my held cookie) past
+stands_echoed {held = held} {past = past} cookie s = subst (λ (l : AssociationIdentity). Stands l (Some l) held past) (same_link s) s
 
 -- ---- the handshake
 
@@ -96,19 +96,19 @@ init_keeps options core theirs choices past good = good-emitted_alone core choic
 echoes_keeps : (my : Pair) (held : Held) (cookie : List ℕ) (fits : Bool) (filling : Filling) → Keeps (cookie_echoed my held cookie) (echo_change my held cookie fits filling)
 echoes_keeps my held cookie false filling past good = good
 echoes_keeps my held cookie true filling past good =
-    stands_echoed cookie (flush_leads (link_of my held) (Some (link_of my held)) held.peer.tag held (cookie_echo cookie ∷ []) filling past good)
+    stands_echoed cookie (flush_leads (identity_of my held) (Some (identity_of my held)) held.peer.tag held (cookie_echo cookie ∷ []) filling past good)
 
 pub init_ack_keeps : (options : Options) (core : Core) (theirs : Introduction) (cookie : Option (List ℕ)) (choices : Choices) → Keeps core (init_ack_change options core theirs cookie choices)
 init_ack_keeps options (cookie_wait my) theirs None choices past good =
     good-ended_alone (cookie_wait my) choices.fits theirs.pair.tag (abort false (missing_mandatory_parameter (state_cookie_type ∷ []) ∷ [])) past good
 init_ack_keeps options (cookie_wait my) theirs (Some cookie) choices past good =
     let held : Held = held_by_init_ack options my theirs in
-    echoes_keeps my held cookie choices.fits choices.filling (holds (link_of my held) ∷ past) (stands-new my theirs.pair held.capabilities past good.in_place)
+    echoes_keeps my held cookie choices.fits choices.filling (holds (identity_of my held) ∷ past) (stands-new my theirs.pair held.capabilities past good.in_place)
 init_ack_keeps options core theirs cookie choices past good = good
 
 pub cookie_ack_keeps : (core : Core) (choices : Choices) → Keeps core (cookie_ack_change core choices)
 cookie_ack_keeps (cookie_echoed my held cookie) choices past good =
-    stands_open established (flush_leads (link_of my held) None held.peer.tag held [] choices.filling (connects (link_of my held) ∷ past) (stands-connects good))
+    stands_open established (flush_leads (identity_of my held) None held.peer.tag held [] choices.filling (connects (identity_of my held) ∷ past) (stands-connects good))
 cookie_ack_keeps core choices past good = good
 
 pub t1_again_keeps : (options : Options) (core : Core) (choices : Choices) → Keeps core (t1_again_change options core choices)
@@ -127,7 +127,7 @@ new_keeps : (options : Options) (cookie : Cookie) (choices : Choices) (past : Li
     → Good (new_association_change options cookie choices).core (after_effects (new_association_change options cookie choices).effects past)
 new_keeps options cookie choices past in_place =
     let held : Held = held_by_cookie options cookie in
-    let link : Link = link_of cookie.maker held in
+    let link : AssociationIdentity = identity_of cookie.maker held in
     stands_open established (flush_leads link None cookie.addressee.tag held (cookie_ack ∷ []) choices.filling (connects link ∷ holds link ∷ past)
     (stands-connects (stands-new cookie.maker cookie.addressee held.capabilities past in_place)))
 
@@ -137,9 +137,9 @@ restarts_keeps options core cookie choices past good = new_keeps options cookie 
 
 maintains_keeps : (core : Core) (cookie : Cookie) (choices : Choices) → Keeps core (maintain_change core cookie choices)
 maintains_keeps (cookie_echoed my held echoed) cookie choices past good =
-    stands_open established (flush_leads (link_of my held) None cookie.addressee.tag held (cookie_ack ∷ []) choices.filling (connects (link_of my held) ∷ past) (stands-connects good))
+    stands_open established (flush_leads (identity_of my held) None cookie.addressee.tag held (cookie_ack ∷ []) choices.filling (connects (identity_of my held) ∷ past) (stands-connects good))
 maintains_keeps (open_in phase my held) cookie choices past good =
-    stands_open phase (flush_leads (link_of my held) good.0 cookie.addressee.tag held (cookie_ack ∷ []) choices.filling past good.1)
+    stands_open phase (flush_leads (identity_of my held) good.0 cookie.addressee.tag held (cookie_ack ∷ []) choices.filling past good.1)
 maintains_keeps core cookie choices past good = good
 
 resolved_keeps : (options : Options) (core : Core) (cookie : Cookie) (choices : Choices) (resolution : Resolution) → Keeps core (resolved_change options core cookie choices resolution)

@@ -6,18 +6,18 @@ use Rattle.dcsctp_spec_lemmas.specs.types.declared.capabilities.Capabilities.{Ca
 use Rattle.dcsctp_spec_lemmas.specs.wire.declared.reconfiguration.ReconfigurationResponseResult.TheVariants.{InProgress}
 use Rattle.dcsctp_spec_lemmas.specs.spec.Packet.{Plain, Content, Packet}
 use Rattle.dcsctp_spec_lemmas.specs.spec.Reconfiguration.{RequestedReset}
-use Rattle.dcsctp_spec_lemmas.specs.spec.association.Effect.{Link, Effect, draws, sends, holds, connects, begins, gives_up, resumes, emitted, link_of}
+use Rattle.dcsctp_spec_lemmas.specs.spec.association.Effect.{AssociationIdentity, Effect, draws, sends, holds, connects, begins, gives_up, resumes, emitted, identity_of}
 use Rattle.dcsctp_spec_lemmas.specs.spec.association.Choices.{plain_contents, Filling, Choices}
 use Rattle.dcsctp_spec_lemmas.specs.spec.association.FlushChanges.{Flushed, next_number, reset_to_begin, further_packets, flushed_with, flush_where, flush}
 use Rattle.dcsctp_spec_lemmas.specs.spec.association.HandshakeChanges.{new_held}
-use Rattle.dcsctp_spec_lemmas.specs.spec.association.Acts.{sent_by, renewed_by}
+use Rattle.dcsctp_spec_lemmas.specs.spec.association.Acts.{sent_then_flushed, renewed_by}
 use Rattle.dcsctp_spec_lemmas.specs.spec.association.ResumeChanges.{resumed_held}
 use Rattle.dcsctp_spec_runs.specs.Past.{Each, InPlace, current, unconnected, number_to_begin, outstanding, number_to_accept, number_to_perform}
 use Rattle.dcsctp_spec_runs.specs.World.{after_effects}
 
 -- The association that is held is this link, as the past has it; it has connected, unless it is the one that
 -- waits. The numbers are those that the past leaves, and each effect so far is in place.
-pub record Stands (link : Link) (waiting : Option Link) (held : Held) (past : List Effect) : Type 0 where
+pub record Stands (link : AssociationIdentity) (waiting : Option AssociationIdentity) (held : Held) (past : List Effect) : Type 0 where
   pub same_peer : held.peer ≡ link.peer
   pub same_capabilities : held.capabilities ≡ link.capabilities
   pub is_current : current past ≡ Some link
@@ -29,7 +29,7 @@ pub record Stands (link : Link) (waiting : Option Link) (held : Held) (past : Li
   pub in_place : Each InPlace past
 
 -- Where `before` stands, `after` stands once these effects are added.
-abbrev pub Leads : Link → Option Link → Held → List Effect → Held → Type 0
+abbrev pub Leads : AssociationIdentity → Option AssociationIdentity → Held → List Effect → Held → Type 0
 Leads link waiting before effects after = (past : List Effect) → Stands link waiting before past → Stands link waiting after (after_effects effects past)
 
 pub after_effects-append : (xs ys past : List Effect) → after_effects (xs ++ ys) past ≡ after_effects ys (after_effects xs past)
@@ -38,7 +38,7 @@ after_effects-append (x ∷ xs) ys past = after_effects-append xs ys (x ∷ past
 
 -- ---- one effect
 
-pub stands-sends : {link : Link} {waiting : Option Link} {held : Held} {past : List Effect} (packet : Packet) → Stands link waiting held past → Stands link waiting held (sends packet ∷ past)
+pub stands-sends : {link : AssociationIdentity} {waiting : Option AssociationIdentity} {held : Held} {past : List Effect} (packet : Packet) → Stands link waiting held past → Stands link waiting held (sends packet ∷ past)
 stands-sends packet s = record {
   same_peer = s.same_peer;
   same_capabilities = s.same_capabilities;
@@ -51,7 +51,7 @@ stands-sends packet s = record {
   in_place = (tt, s.in_place);
 }
 
-pub stands-draws : {link : Link} {waiting : Option Link} {held : Held} {past : List Effect} (pair : Pair) → Stands link waiting held past → Stands link waiting held (draws pair ∷ past)
+pub stands-draws : {link : AssociationIdentity} {waiting : Option AssociationIdentity} {held : Held} {past : List Effect} (pair : Pair) → Stands link waiting held past → Stands link waiting held (draws pair ∷ past)
 stands-draws pair s = record {
   same_peer = s.same_peer;
   same_capabilities = s.same_capabilities;
@@ -64,7 +64,7 @@ stands-draws pair s = record {
   in_place = (tt, s.in_place);
 }
 
-pub stands-connects : {link : Link} {held : Held} {past : List Effect} → Stands link (Some link) held past → Stands link None held (connects link ∷ past)
+pub stands-connects : {link : AssociationIdentity} {held : Held} {past : List Effect} → Stands link (Some link) held past → Stands link None held (connects link ∷ past)
 stands-connects s = record {
   same_peer = s.same_peer;
   same_capabilities = s.same_capabilities;
@@ -77,7 +77,7 @@ stands-connects s = record {
   in_place = (s.is_waiting, s.in_place);
 }
 
-stands-begins : {link : Link} {waiting : Option Link} {held : Held} {past : List Effect} → held.own_outstanding ≡ None → Stands link waiting held past
+stands-begins : {link : AssociationIdentity} {waiting : Option AssociationIdentity} {held : Held} {past : List Effect} → held.own_outstanding ≡ None → Stands link waiting held past
     → Stands link waiting (record held { own_next = next_number held.own_next; own_outstanding = Some held.own_next }) (begins held.own_next ∷ past)
 stands-begins none s = record {
   same_peer = s.same_peer;
@@ -92,7 +92,7 @@ stands-begins none s = record {
 }
 
 -- the own request is given up: then none is outstanding
-stands-gives_up : {link : Link} {waiting : Option Link} {held : Held} {past : List Effect} (number : ℕ) → held.own_outstanding ≡ Some number → Stands link waiting held past
+stands-gives_up : {link : AssociationIdentity} {waiting : Option AssociationIdentity} {held : Held} {past : List Effect} (number : ℕ) → held.own_outstanding ≡ Some number → Stands link waiting held past
     → Stands link waiting (record held { own_outstanding = None }) (gives_up number ∷ past)
 stands-gives_up number some s = record {
   same_peer = s.same_peer;
@@ -112,7 +112,7 @@ first_number first_tsn = omega arith
 
 -- where an association is new
 pub stands-new : (my peer : Pair) (capabilities : Capabilities) (past : List Effect) → Each InPlace past
-    → Stands (link_of my (new_held my peer capabilities)) (Some (link_of my (new_held my peer capabilities))) (new_held my peer capabilities) (holds (link_of my (new_held my peer capabilities)) ∷ past)
+    → Stands (identity_of my (new_held my peer capabilities)) (Some (identity_of my (new_held my peer capabilities))) (new_held my peer capabilities) (holds (identity_of my (new_held my peer capabilities)) ∷ past)
 stands-new my peer capabilities past in_place = record {
   same_peer = refl;
   same_capabilities = refl;
@@ -127,7 +127,7 @@ stands-new my peer capabilities past in_place = record {
 
 -- where one is restored
 pub stands-resumed : (my peer : Pair) (capabilities : Capabilities) (own last : ℕ) (past : List Effect) → current past ≡ None → Each InPlace past
-    → Stands (link_of my (resumed_held peer capabilities own last)) (Some (link_of my (resumed_held peer capabilities own last))) (resumed_held peer capabilities own last) (resumes (link_of my (resumed_held peer capabilities own last)) own last ∷ past)
+    → Stands (identity_of my (resumed_held peer capabilities own last)) (Some (identity_of my (resumed_held peer capabilities own last))) (resumed_held peer capabilities own last) (resumes (identity_of my (resumed_held peer capabilities own last)) own last ∷ past)
 stands-resumed my peer capabilities own last past none in_place = record {
   same_peer = refl;
   same_capabilities = refl;
@@ -142,7 +142,7 @@ stands-resumed my peer capabilities own last past none in_place = record {
 
 -- ---- the effects of a flush
 
-module _ (link : Link) (waiting : Option Link) where
+module _ (link : AssociationIdentity) (waiting : Option AssociationIdentity) where
   pub leads-append : (before between after : Held) (xs ys : List Effect) → Leads link waiting before xs between → Leads link waiting between ys after → Leads link waiting before (xs ++ ys) after
   leads-append before between after xs ys first second past s =
       subst (Stands link waiting after) (sym (after_effects-append xs ys past)) (second (after_effects xs past) (first past s))
@@ -175,7 +175,7 @@ module _ (link : Link) (waiting : Option Link) where
   pub flush_leads : (tag : ℕ) (held : Held) (front : List Content) (filling : Filling) → Leads link waiting held (flush tag held front filling).effects (flush tag held front filling).held
   flush_leads tag held front filling = flush_leads_where filling.is_allowed tag held front filling
 
-  pub sent_leads : (held : Held) (choices : Choices) → Leads link waiting held (sent_by held choices).effects (sent_by held choices).held
+  pub sent_leads : (held : Held) (choices : Choices) → Leads link waiting held (sent_then_flushed held choices).effects (sent_then_flushed held choices).held
   sent_leads held choices =
       let after : Flushed = flush held.peer.tag held [] choices.filling in
       leads-append held held after.held (further_packets held.peer.tag choices.plain) after.effects

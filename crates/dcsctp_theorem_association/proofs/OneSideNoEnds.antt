@@ -9,8 +9,8 @@ use Rattle.dcsctp_spec_lemmas.specs.spec.Packet.{Plain, Content, re_config}
 use Rattle.dcsctp_spec_lemmas.specs.spec.association.Effect.{Effect, ends, emitted, emitted_alone}
 use Rattle.dcsctp_spec_lemmas.specs.spec.association.Choices.{plain_contents, Filling, Choices}
 use Rattle.dcsctp_spec_lemmas.specs.spec.association.FlushChanges.{Flushed, reset_to_begin, further_packets, flushed_with, flush_where, flush}
-use Rattle.dcsctp_spec_lemmas.specs.spec.association.ResetChanges.{Place, again, next, astray, place_of, Answered, worked, repeated, outgoing_by, incoming_by, Informed, informed_where, is_outstanding, WorkedParameters, work_parameters, work_chunk, answers_emitted, reset_sent, reset_worked}
-use Rattle.dcsctp_spec_lemmas.specs.spec.association.Acts.{sent_by}
+use Rattle.dcsctp_spec_lemmas.specs.spec.association.ResetChanges.{RequestPlace, again, next, astray, request_place, RequestOutcome, performed_request, repeated, outgoing_by, incoming_by, Informed, informed_where, is_outstanding, HandledParameters, work_parameters, work_chunk, answers_emitted, reset_sent, peer_part_handled}
+use Rattle.dcsctp_spec_lemmas.specs.spec.association.Acts.{sent_then_flushed}
 use Rattle.dcsctp_theorem_association.specs.OneSide.{ends_in}
 
 -- ---- packets and flushes
@@ -50,14 +50,14 @@ no_ends-flush_where true tag held front filling = no_ends-flushed tag held front
 pub no_ends-flush : (tag : ℕ) (held : Held) (front : List Content) (filling : Filling) → ends_in (flush tag held front filling).effects ≡ 0
 no_ends-flush tag held front filling = no_ends-flush_where filling.is_allowed tag held front filling
 
-pub no_ends-sent : (held : Held) (choices : Choices) → ends_in (sent_by held choices).effects ≡ 0
+pub no_ends-sent : (held : Held) (choices : Choices) → ends_in (sent_then_flushed held choices).effects ≡ 0
 no_ends-sent held choices =
     no_ends-append (further_packets held.peer.tag choices.plain) (flush held.peer.tag held [] choices.filling).effects
     (no_ends-further held.peer.tag choices.plain) (no_ends-flush held.peer.tag held [] choices.filling)
 
 -- ---- RE-CONFIG
 
-no_ends-worked : (held : Held) (number : ℕ) (is_reached : Bool) → ends_in (worked held number is_reached).effects ≡ 0
+no_ends-worked : (held : Held) (number : ℕ) (is_reached : Bool) → ends_in (performed_request held number is_reached).effects ≡ 0
 no_ends-worked held number true = refl
 no_ends-worked held number false = refl
 
@@ -65,12 +65,12 @@ no_ends-repeated : (held : Held) (result : ReconfigurationResponseResult) (is_re
 no_ends-repeated held InProgress is_reached = no_ends-worked held held.peer_last is_reached
 no_ends-repeated held result is_reached = refl
 
-no_ends-outgoing : (held : Held) (number : ℕ) (is_reached : Bool) (place : Place) → ends_in (outgoing_by held number is_reached place).effects ≡ 0
+no_ends-outgoing : (held : Held) (number : ℕ) (is_reached : Bool) (place : RequestPlace) → ends_in (outgoing_by held number is_reached place).effects ≡ 0
 no_ends-outgoing held number is_reached again = no_ends-repeated held held.peer_result is_reached
 no_ends-outgoing held number is_reached next = no_ends-worked held number is_reached
 no_ends-outgoing held number is_reached astray = refl
 
-no_ends-incoming : (held : Held) (number : ℕ) (place : Place) → ends_in (incoming_by held number place).effects ≡ 0
+no_ends-incoming : (held : Held) (number : ℕ) (place : RequestPlace) → ends_in (incoming_by held number place).effects ≡ 0
 no_ends-incoming held number again = refl
 no_ends-incoming held number place = refl
 
@@ -83,14 +83,14 @@ no_ends-parameters : (my : Pair) (is_reached has_worked : Bool) (held : Held) (p
 no_ends-parameters my is_reached has_worked held [] = refl
 no_ends-parameters my is_reached true held (outgoing_reset_request number answered reset ∷ parameters) = refl
 no_ends-parameters my is_reached false held (outgoing_reset_request number answered reset ∷ parameters) =
-    let first : Answered = outgoing_by held number is_reached (place_of held.peer_last number) in
+    let first : RequestOutcome = outgoing_by held number is_reached (request_place held.peer_last number) in
     no_ends-append first.effects (work_parameters my is_reached true first.held parameters).effects
-    (no_ends-outgoing held number is_reached (place_of held.peer_last number))
+    (no_ends-outgoing held number is_reached (request_place held.peer_last number))
     (no_ends-parameters my is_reached true first.held parameters)
 no_ends-parameters my is_reached has_worked held (incoming_reset_request number streams ∷ parameters) =
-    let first : Answered = incoming_by held number (place_of held.peer_last number) in
+    let first : RequestOutcome = incoming_by held number (request_place held.peer_last number) in
     no_ends-append first.effects (work_parameters my is_reached has_worked first.held parameters).effects
-    (no_ends-incoming held number (place_of held.peer_last number))
+    (no_ends-incoming held number (request_place held.peer_last number))
     (no_ends-parameters my is_reached has_worked first.held parameters)
 no_ends-parameters my is_reached has_worked held (reconfiguration_response number result ∷ parameters) =
     let first : Informed = informed_where my held number result (is_outstanding number held.own_outstanding) in
@@ -113,9 +113,9 @@ no_ends-reset_sent false held answers choices =
     no_ends-append (answers_emitted choices.fits held.peer.tag answers) (flush held.peer.tag held [] choices.filling).effects
     (no_ends-answers choices.fits held.peer.tag answers) (no_ends-flush held.peer.tag held [] choices.filling)
 
-pub no_ends-reset : (my : Pair) (held : Held) (parameters : List ResetParameter) (choices : Choices) → ends_in (reset_worked my held parameters choices).effects ≡ 0
+pub no_ends-reset : (my : Pair) (held : Held) (parameters : List ResetParameter) (choices : Choices) → ends_in (peer_part_handled my held parameters choices).effects ≡ 0
 no_ends-reset my held parameters choices =
-    let first : WorkedParameters = work_chunk my choices.is_reached held parameters in
+    let first : HandledParameters = work_chunk my choices.is_reached held parameters in
     let after : Flushed = reset_sent first.is_refused first.held first.answers choices in
     no_ends-append first.effects after.effects
     (no_ends-chunk my choices.is_reached held parameters)

@@ -5,17 +5,17 @@ use Rattle.dcsctp_spec_lemmas.specs.types.declared.association.Held.{Held}
 use Rattle.dcsctp_spec_lemmas.specs.wire.declared.reconfiguration.ReconfigurationResponseResult.{ReconfigurationResponseResult}
 use Rattle.dcsctp_spec_lemmas.specs.wire.declared.reconfiguration.ReconfigurationResponseResult.TheVariants.{SuccessNothingToDo, SuccessPerformed, InProgress}
 use Rattle.dcsctp_spec_lemmas.specs.spec.Reconfiguration.{ResetParameter, outgoing_reset_request, incoming_reset_request, reconfiguration_response, other_reset_parameter}
-use Rattle.dcsctp_spec_lemmas.specs.spec.association.Effect.{Link, Effect, completes, fails, accepts, performs}
+use Rattle.dcsctp_spec_lemmas.specs.spec.association.Effect.{AssociationIdentity, Effect, completes, fails, accepts, performs}
 use Rattle.dcsctp_spec_lemmas.specs.spec.association.Choices.{Choices}
 use Rattle.dcsctp_spec_lemmas.specs.spec.association.FlushChanges.{Flushed, next_number, flush}
-use Rattle.dcsctp_spec_lemmas.specs.spec.association.ResetChanges.{Place, again, next, astray, place_of, Answered, with_last, worked, repeated, outgoing_by, incoming_by, without_outstanding, informed_by, informed_where, is_outstanding, Informed, WorkedParameters, work_parameters, work_chunk, answers_emitted, reset_sent, reset_worked}
+use Rattle.dcsctp_spec_lemmas.specs.spec.association.ResetChanges.{RequestPlace, again, next, astray, request_place, RequestOutcome, with_last, performed_request, repeated, outgoing_by, incoming_by, without_outstanding, informed_by, informed_where, is_outstanding, Informed, HandledParameters, work_parameters, work_chunk, answers_emitted, reset_sent, peer_part_handled}
 use Rattle.dcsctp_spec_runs.specs.Past.{my_of, peer_of}
 use Rattle.dcsctp_theorem_association.proofs.OneSideLemmas.{Stands, Leads, stands-sends, leads-append, flush_leads}
 
 -- ---- which number
 
 -- what a place says of the last number and this one
-abbrev Placed : Place → ℕ → ℕ → Type 0
+abbrev Placed : RequestPlace → ℕ → ℕ → Type 0
 Placed again last number = number ≡ last
 Placed next last number = number ≡ next_number last
 Placed astray last number = Unit {0}
@@ -26,13 +26,13 @@ placed_by last number true is_next a b = (Decides-eqb number last).0 a
 placed_by last number false true a b = (Decides-eqb number (next_number last)).0 b
 placed_by last number false false a b = tt
 
-placed : (last number : ℕ) → Placed (place_of last number) last number
+placed : (last number : ℕ) → Placed (request_place last number) last number
 placed last number = placed_by last number (number == last) (number == next_number last) refl refl
 
 -- ---- one effect
 
 -- The next request is accepted.
-stands-accepts : {link : Link} {waiting : Option Link} {held : Held} {past : List Effect} (number : ℕ) (result : ReconfigurationResponseResult) → number ≡ next_number held.peer_last
+stands-accepts : {link : AssociationIdentity} {waiting : Option AssociationIdentity} {held : Held} {past : List Effect} (number : ℕ) (result : ReconfigurationResponseResult) → number ≡ next_number held.peer_last
     → Stands link waiting held past → Stands link waiting (with_last held number result) (accepts number ∷ past)
 stands-accepts number result e s = record {
   same_peer = s.same_peer;
@@ -47,7 +47,7 @@ stands-accepts number result e s = record {
 }
 
 -- The last request is performed, if it is in progress.
-stands-performs : {link : Link} {waiting : Option Link} {held : Held} {past : List Effect} → held.peer_result ≡ InProgress
+stands-performs : {link : AssociationIdentity} {waiting : Option AssociationIdentity} {held : Held} {past : List Effect} → held.peer_result ≡ InProgress
     → Stands link waiting held past → Stands link waiting (with_last held held.peer_last SuccessPerformed) (performs held.peer held.peer_last ∷ past)
 stands-performs {held = held} e s = record {
   same_peer = s.same_peer;
@@ -62,7 +62,7 @@ stands-performs {held = held} e s = record {
 }
 
 -- The last request is answered once more, as in progress only if it was.
-stands-answers : {link : Link} {waiting : Option Link} {held : Held} {past : List Effect} (number : ℕ) (result : ReconfigurationResponseResult) → number ≡ held.peer_last → (result ≡ InProgress → held.peer_result ≡ InProgress)
+stands-answers : {link : AssociationIdentity} {waiting : Option AssociationIdentity} {held : Held} {past : List Effect} (number : ℕ) (result : ReconfigurationResponseResult) → number ≡ held.peer_last → (result ≡ InProgress → held.peer_result ≡ InProgress)
     → Stands link waiting held past → Stands link waiting (with_last held number result) past
 stands-answers number result e f s = record {
   same_peer = s.same_peer;
@@ -77,7 +77,7 @@ stands-answers number result e f s = record {
 }
 
 -- The outstanding request ends.
-stands-completes : {link : Link} {waiting : Option Link} {held : Held} {past : List Effect} (number : ℕ) → held.own_outstanding ≡ Some number
+stands-completes : {link : AssociationIdentity} {waiting : Option AssociationIdentity} {held : Held} {past : List Effect} (number : ℕ) → held.own_outstanding ≡ Some number
     → Stands link waiting held past → Stands link waiting (without_outstanding held) (completes link.my number ∷ past)
 stands-completes number e s = record {
   same_peer = s.same_peer;
@@ -91,7 +91,7 @@ stands-completes number e s = record {
   in_place = ((s.is_outstanding ∙ e, ap my_of s.is_current), s.in_place);
 }
 
-stands-fails : {link : Link} {waiting : Option Link} {held : Held} {past : List Effect} (number : ℕ) → held.own_outstanding ≡ Some number
+stands-fails : {link : AssociationIdentity} {waiting : Option AssociationIdentity} {held : Held} {past : List Effect} (number : ℕ) → held.own_outstanding ≡ Some number
     → Stands link waiting held past → Stands link waiting (without_outstanding held) (fails number ∷ past)
 stands-fails number e s = record {
   same_peer = s.same_peer;
@@ -110,10 +110,10 @@ is_outstanding_means : (number : ℕ) (request : Option ℕ) → is_outstanding 
 is_outstanding_means number None e = absurd (cc)
 is_outstanding_means number (Some other) e = ap (λ (n : ℕ). Some n) (sym ((Decides-eqb number other).0 e))
 
-module _ (link : Link) (waiting : Option Link) where
+module _ (link : AssociationIdentity) (waiting : Option AssociationIdentity) where
   -- ---- a request of the peer
 
-  worked_leads : (held : Held) (is_reached : Bool) → held.peer_result ≡ InProgress → Leads link waiting held (worked held held.peer_last is_reached).effects (worked held held.peer_last is_reached).held
+  worked_leads : (held : Held) (is_reached : Bool) → held.peer_result ≡ InProgress → Leads link waiting held (performed_request held held.peer_last is_reached).effects (performed_request held held.peer_last is_reached).held
   worked_leads held true e past s = stands-performs e s
   worked_leads held false e past s = stands-answers held.peer_last InProgress refl (λ i. e) s
 
@@ -122,17 +122,17 @@ module _ (link : Link) (waiting : Option Link) where
   repeated_leads held result is_reached e past s = s
 
   accepted_leads : (held : Held) (number : ℕ) (is_reached : Bool) → number ≡ next_number held.peer_last
-      → Leads link waiting held (accepts number ∷ (worked held number is_reached).effects) (worked held number is_reached).held
+      → Leads link waiting held (accepts number ∷ (performed_request held number is_reached).effects) (performed_request held number is_reached).held
   accepted_leads held number true e past s = stands-performs refl (stands-accepts number InProgress e s)
   accepted_leads held number false e past s = stands-accepts number InProgress e s
 
-  outgoing_leads : (held : Held) (number : ℕ) (is_reached : Bool) (place : Place) → Placed place held.peer_last number
+  outgoing_leads : (held : Held) (number : ℕ) (is_reached : Bool) (place : RequestPlace) → Placed place held.peer_last number
       → Leads link waiting held (outgoing_by held number is_reached place).effects (outgoing_by held number is_reached place).held
   outgoing_leads held number is_reached again e past s = repeated_leads held held.peer_result is_reached refl past s
   outgoing_leads held number is_reached next e past s = accepted_leads held number is_reached e past s
   outgoing_leads held number is_reached astray e past s = s
 
-  incoming_leads : (held : Held) (number : ℕ) (place : Place) → Placed place held.peer_last number
+  incoming_leads : (held : Held) (number : ℕ) (place : RequestPlace) → Placed place held.peer_last number
       → Leads link waiting held (incoming_by held number place).effects (incoming_by held number place).held
   incoming_leads held number again e past s = stands-answers number SuccessNothingToDo e (λ i. absurd (cc)) s
   incoming_leads held number next e past s = stands-accepts number SuccessNothingToDo e s
@@ -159,20 +159,20 @@ module _ (link : Link) (waiting : Option Link) where
   parameters_lead is_reached has_worked held [] past s = s
   parameters_lead is_reached true held (outgoing_reset_request number answered reset ∷ parameters) past s = s
   parameters_lead is_reached false held (outgoing_reset_request number answered reset ∷ parameters) past s =
-      let first : Answered = outgoing_by held number is_reached (place_of held.peer_last number) in
-      let rest : WorkedParameters = work_parameters link.my is_reached true first.held parameters in
+      let first : RequestOutcome = outgoing_by held number is_reached (request_place held.peer_last number) in
+      let rest : HandledParameters = work_parameters link.my is_reached true first.held parameters in
       leads-append link waiting held first.held rest.held first.effects rest.effects
-      (outgoing_leads held number is_reached (place_of held.peer_last number) (placed held.peer_last number))
+      (outgoing_leads held number is_reached (request_place held.peer_last number) (placed held.peer_last number))
       (parameters_lead is_reached true first.held parameters) past s
   parameters_lead is_reached has_worked held (incoming_reset_request number streams ∷ parameters) past s =
-      let first : Answered = incoming_by held number (place_of held.peer_last number) in
-      let rest : WorkedParameters = work_parameters link.my is_reached has_worked first.held parameters in
+      let first : RequestOutcome = incoming_by held number (request_place held.peer_last number) in
+      let rest : HandledParameters = work_parameters link.my is_reached has_worked first.held parameters in
       leads-append link waiting held first.held rest.held first.effects rest.effects
-      (incoming_leads held number (place_of held.peer_last number) (placed held.peer_last number))
+      (incoming_leads held number (request_place held.peer_last number) (placed held.peer_last number))
       (parameters_lead is_reached has_worked first.held parameters) past s
   parameters_lead is_reached has_worked held (reconfiguration_response number result ∷ parameters) past s =
       let first : Informed = informed_where link.my held number result (is_outstanding number held.own_outstanding) in
-      let rest : WorkedParameters = work_parameters link.my is_reached has_worked first.held parameters in
+      let rest : HandledParameters = work_parameters link.my is_reached has_worked first.held parameters in
       leads-append link waiting held first.held rest.held first.effects rest.effects
       (informed_leads_where held number result (is_outstanding number held.own_outstanding) (is_outstanding_means number held.own_outstanding))
       (parameters_lead is_reached has_worked first.held parameters) past s
@@ -200,10 +200,10 @@ module _ (link : Link) (waiting : Option Link) where
       (flush_leads link waiting held.peer.tag held [] choices.filling) past s
 
   pub reset_leads : (held : Held) (parameters : List ResetParameter) (choices : Choices)
-      → Leads link waiting held (reset_worked link.my held parameters choices).effects (reset_worked link.my held parameters choices).held
+      → Leads link waiting held (peer_part_handled link.my held parameters choices).effects (peer_part_handled link.my held parameters choices).held
   reset_leads held parameters choices =
-      let worked : WorkedParameters = work_chunk link.my choices.is_reached held parameters in
-      let after : Flushed = reset_sent worked.is_refused worked.held worked.answers choices in
-      leads-append link waiting held worked.held after.held worked.effects after.effects
+      let performed_request : HandledParameters = work_chunk link.my choices.is_reached held parameters in
+      let after : Flushed = reset_sent performed_request.is_refused performed_request.held performed_request.answers choices in
+      leads-append link waiting held performed_request.held after.held performed_request.effects after.effects
       (chunk_leads choices.is_reached held parameters)
-      (sent_lead worked.is_refused worked.held worked.answers choices)
+      (sent_lead performed_request.is_refused performed_request.held performed_request.answers choices)

@@ -10,7 +10,7 @@ use Rattle.dcsctp_spec_lemmas.specs.spec.Reconfiguration.{ResetParameter, Reques
 use Rattle.dcsctp_spec_lemmas.specs.spec.Packet.{Content, init, init_ack, cookie_echo, cookie_ack, re_config, abort, shutdown, shutdown_ack, shutdown_complete, plain}
 use Rattle.dcsctp_spec_lemmas.specs.spec.endpoint.Endpoint.{Core, closed, cookie_wait, cookie_echoed, open_in, OpenPhase, established, shutdown_pending, shutdown_sent, shutdown_received, shutdown_ack_sent}
 use Rattle.dcsctp_spec_lemmas.specs.spec.endpoint.Following.{Following, next_chunk}
-use Rattle.dcsctp_spec_lemmas.specs.spec.association.Effect.{Effect, Change, link_of}
+use Rattle.dcsctp_spec_lemmas.specs.spec.association.Effect.{Effect, Change, identity_of}
 use Rattle.dcsctp_spec_lemmas.specs.spec.association.Choices.{Choices}
 use Rattle.dcsctp_spec_lemmas.specs.spec.association.FlushChanges.{reset_request}
 use Rattle.dcsctp_spec_lemmas.specs.spec.association.ResetChanges.{re_config_change}
@@ -18,7 +18,7 @@ use Rattle.dcsctp_spec_lemmas.specs.spec.association.ShutdownChanges.{shutdown_s
 use Rattle.dcsctp_spec_lemmas.specs.spec.association.Acts.{Act, connect, t1_expires, shut_down, step_of_shutdown, shutdown_repeats, abort_with, hands_over, flushes, request_again, request_renewed, flush_change, hand_over_change, request_sent, request_again_change, request_renewed_change, act_change, then_changes, violation_change, plain_change, chunk_change}
 use Rattle.dcsctp_spec_lemmas.specs.spec.association.ResumeChanges.{resumed_held, resume_change}
 use Rattle.dcsctp_spec_runs.specs.World.{SideState, after_effects, after_change, after_changes, ControlTurn, acted, worked, resumed, ControlTurns, SideRun, side_after}
-use Rattle.dcsctp_theorem_association.specs.OneSide.{EffectsInPlace, Leaves, PastIsState}
+use Rattle.dcsctp_theorem_association.specs.OneSide.{EffectsInPlace, LeavesCore, PastIsState}
 use Rattle.dcsctp_theorem_association.proofs.OneSideLemmas.{Stands, after_effects-append, stands-connects, stands-resumed, sent_leads, renewed_leads}
 use Rattle.dcsctp_theorem_association.proofs.OneSideResets.{reset_leads}
 use Rattle.dcsctp_theorem_association.proofs.OneSideHandshake.{Good, Keeps, good_in_place, good-sends, good-emitted, good-emitted_alone, good-ends, good-ended_alone, stands_open, stands_echoed, connect_keeps, init_keeps, init_ack_keeps, cookie_ack_keeps, t1_again_keeps, t1_gives_up_keeps, echo_keeps}
@@ -27,14 +27,14 @@ use Rattle.dcsctp_theorem_association.proofs.OneSideHandshake.{Good, Keeps, good
 
 flush_keeps : (core : Core) (choices : Choices) → Keeps core (flush_change core choices)
 flush_keeps (cookie_echoed my held cookie) choices past good =
-    stands_echoed cookie (sent_leads (link_of my held) (Some (link_of my held)) held choices past good)
-flush_keeps (open_in phase my held) choices past good = stands_open phase (sent_leads (link_of my held) good.0 held choices past good.1)
+    stands_echoed cookie (sent_leads (identity_of my held) (Some (identity_of my held)) held choices past good)
+flush_keeps (open_in phase my held) choices past good = stands_open phase (sent_leads (identity_of my held) good.0 held choices past good.1)
 flush_keeps core choices past good = good
 
 re_config_keeps : (core : Core) (parameters : List ResetParameter) (choices : Choices) → Keeps core (re_config_change core parameters choices)
 re_config_keeps (cookie_echoed my held cookie) parameters choices past good =
-    stands_echoed cookie (reset_leads (link_of my held) (Some (link_of my held)) held parameters choices past good)
-re_config_keeps (open_in phase my held) parameters choices past good = stands_open phase (reset_leads (link_of my held) good.0 held parameters choices past good.1)
+    stands_echoed cookie (reset_leads (identity_of my held) (Some (identity_of my held)) held parameters choices past good)
+re_config_keeps (open_in phase my held) parameters choices past good = stands_open phase (reset_leads (identity_of my held) good.0 held parameters choices past good.1)
 re_config_keeps core parameters choices past good = good
 
 request_keeps : (core : Core) (held : Held) (request : Option ℕ) (reset : RequestedReset) (fits : Bool) (past : List Effect) → Good core past → Good core (after_effects (request_sent held request reset fits) past)
@@ -48,9 +48,9 @@ request_again_keeps core reset fits past good = good
 
 request_renewed_keeps : (core : Core) (reset : RequestedReset) (fits : Bool) → Keeps core (request_renewed_change core reset fits)
 request_renewed_keeps (cookie_echoed my held cookie) reset fits past good =
-    stands_echoed cookie (renewed_leads (link_of my held) (Some (link_of my held)) held held.own_outstanding reset fits refl past good)
+    stands_echoed cookie (renewed_leads (identity_of my held) (Some (identity_of my held)) held held.own_outstanding reset fits refl past good)
 request_renewed_keeps (open_in phase my held) reset fits past good =
-    stands_open phase (renewed_leads (link_of my held) good.0 held held.own_outstanding reset fits refl past good.1)
+    stands_open phase (renewed_leads (identity_of my held) good.0 held held.own_outstanding reset fits refl past good.1)
 request_renewed_keeps core reset fits past good = good
 
 -- ---- shutdown
@@ -66,7 +66,7 @@ step_keeps core tsn is_acknowledged past good = good
 
 call_keeps : (core : Core) (tsn : ℕ) (is_acknowledged : Bool) → Keeps core (shutdown_call_change core tsn is_acknowledged)
 call_keeps (cookie_wait my) tsn is_acknowledged past good = good-ends (cookie_wait my) past good
-call_keeps (cookie_echoed my held cookie) tsn is_acknowledged past good = step_keeps_open shutdown_pending my held tsn is_acknowledged past (Some (link_of my held), good)
+call_keeps (cookie_echoed my held cookie) tsn is_acknowledged past good = step_keeps_open shutdown_pending my held tsn is_acknowledged past (Some (identity_of my held), good)
 call_keeps (open_in established my held) tsn is_acknowledged past good = step_keeps_open shutdown_pending my held tsn is_acknowledged past good
 call_keeps core tsn is_acknowledged past good = good
 
@@ -178,13 +178,13 @@ effects_in_place options steps run = good_in_place (side_after options steps).co
 
 -- ---- what the past leaves
 
-good_leaves : (core : Core) (past : List Effect) → Good core past → Leaves past core
+good_leaves : (core : Core) (past : List Effect) → Good core past → LeavesCore past core
 good_leaves closed past good = good.none
 good_leaves (cookie_wait my) past good = good.none
 good_leaves (cookie_echoed my held cookie) past good =
     record { link = good.is_current; own_next = good.begins_next; own_outstanding = good.is_outstanding; peer_next = good.accepts_next }
 good_leaves (open_in phase my held) past good =
-    let stands : Stands (link_of my held) good.0 held past = good.1 in
+    let stands : Stands (identity_of my held) good.0 held past = good.1 in
     record { link = stands.is_current; own_next = stands.begins_next; own_outstanding = stands.is_outstanding; peer_next = stands.accepts_next }
 
 pub past_is_state : PastIsState

@@ -8,8 +8,8 @@ use Rattle.dcsctp_spec_lemmas.specs.types.declared.association.Held.{Held}
 use Rattle.dcsctp_spec_lemmas.specs.types.Offer.{Offer}
 use Rattle.dcsctp_spec_lemmas.specs.spec.association.Effect.{Effect, draws, completes, fails, accepts, performs}
 use Rattle.dcsctp_spec_lemmas.specs.spec.association.FlushChanges.{next_number}
-use Rattle.dcsctp_spec_lemmas.specs.spec.association.ResetChanges.{Place, again, next, astray, place_of, Answered, worked, repeated, outgoing_by, informed_by, informed_where}
-use Rattle.dcsctp_spec_runs.specs.Past.{Has}
+use Rattle.dcsctp_spec_lemmas.specs.spec.association.ResetChanges.{RequestPlace, again, next, astray, request_place, RequestOutcome, performed_request, repeated, outgoing_by, informed_by, informed_where}
+use Rattle.dcsctp_spec_runs.specs.Past.{HasEffect}
 use Rattle.dcsctp_spec_runs.specs.World.{after_effects}
 use Rattle.dcsctp_theorem_association.proofs.Facts.{number_before, TruePerformed, TrueNothing, TrueResult, TrueEffects, PeerFacts}
 use Rattle.dcsctp_theorem_association.proofs.Growth.{same, one_more, peer_grows}
@@ -27,7 +27,7 @@ pub record Working (my_offer their_offer : Offer) (mine theirs : List Effect) (m
 -- ---- a request of the peer
 
 -- and how it is answered
-pub record Answering (my_offer their_offer : Offer) (mine theirs : List Effect) (my : Pair) (held : Held) (number : ℕ) (answered : Answered) : Type 0 where
+pub record Answering (my_offer their_offer : Offer) (mine theirs : List Effect) (my : Pair) (held : Held) (number : ℕ) (answered : RequestOutcome) : Type 0 where
   pub working : Working my_offer their_offer mine theirs my held answered.held answered.effects
   pub result : TrueResult (after_effects answered.effects mine) theirs held.peer.tag number answered.result
 
@@ -39,7 +39,7 @@ kept_answer my_offer their_offer mine theirs my held number result h answer =
     record { working = record { true_effects = tt; free = tt; facts = h; pair = refl; tags = λ t. t }; result = answer }
 
 worked_answer : (my_offer their_offer : Offer) (mine theirs : List Effect) (my : Pair) (held : Held) (number : ℕ) (is_reached : Bool)
-    → PeerFacts my_offer their_offer mine theirs my held → Answering my_offer their_offer mine theirs my held number (worked held number is_reached)
+    → PeerFacts my_offer their_offer mine theirs my held → Answering my_offer their_offer mine theirs my held number (performed_request held number is_reached)
 worked_answer my_offer their_offer mine theirs my held number true h =
     record {
       working = record {
@@ -70,13 +70,13 @@ repeated_answer my_offer their_offer mine theirs my held number is_reached Succe
     kept_answer my_offer their_offer mine theirs my held number SuccessNothingToDo h (record { pair = held.peer; under = refl; drawn = h.peer_drawn; before = last ∙ h.nothing is })
 repeated_answer my_offer their_offer mine theirs my held number is_reached SuccessPerformed h is last =
     kept_answer my_offer their_offer mine theirs my held number SuccessPerformed h
-    (record { pair = held.peer; under = refl; drawn = h.peer_drawn; performed = subst (λ (n : ℕ). Has (performs held.peer n) mine) (sym last) (h.performed is) })
+    (record { pair = held.peer; under = refl; drawn = h.peer_drawn; performed = subst (λ (n : ℕ). HasEffect (performs held.peer n) mine) (sym last) (h.performed is) })
 repeated_answer my_offer their_offer mine theirs my held number is_reached Denied h is last = kept_answer my_offer their_offer mine theirs my held number Denied h tt
 repeated_answer my_offer their_offer mine theirs my held number is_reached ErrorWrongSSN h is last = kept_answer my_offer their_offer mine theirs my held number ErrorWrongSSN h tt
 repeated_answer my_offer their_offer mine theirs my held number is_reached ErrorRequestAlreadyInProgress h is last = kept_answer my_offer their_offer mine theirs my held number ErrorRequestAlreadyInProgress h tt
 repeated_answer my_offer their_offer mine theirs my held number is_reached ErrorBadSequenceNumber h is last = kept_answer my_offer their_offer mine theirs my held number ErrorBadSequenceNumber h tt
 repeated_answer my_offer their_offer mine theirs my held number is_reached InProgress h is last =
-    subst (λ (n : ℕ). Answering my_offer their_offer mine theirs my held n (worked held held.peer_last is_reached)) (sym last)
+    subst (λ (n : ℕ). Answering my_offer their_offer mine theirs my held n (performed_request held held.peer_last is_reached)) (sym last)
     (worked_answer my_offer their_offer mine theirs my held held.peer_last is_reached h)
 
 -- a request that is the last again has its number
@@ -85,17 +85,17 @@ again_where true is_next last number test is = grind (arith, nat_tests)
 again_where false true last number test is = absurd (cc)
 again_where false false last number test is = absurd (cc)
 
-pub again_is_last : (last number : ℕ) → place_of last number ≡ again → number ≡ last
+pub again_is_last : (last number : ℕ) → request_place last number ≡ again → number ≡ last
 again_is_last last number is = again_where (number == last) (number == next_number last) last number refl is
 
-pub outgoing_answer : (my_offer their_offer : Offer) (mine theirs : List Effect) (my : Pair) (held : Held) (number : ℕ) (is_reached : Bool) (place : Place)
+pub outgoing_answer : (my_offer their_offer : Offer) (mine theirs : List Effect) (my : Pair) (held : Held) (number : ℕ) (is_reached : Bool) (place : RequestPlace)
     → PeerFacts my_offer their_offer mine theirs my held → (place ≡ again → number ≡ held.peer_last)
     → Answering my_offer their_offer mine theirs my held number (outgoing_by held number is_reached place)
 outgoing_answer my_offer their_offer mine theirs my held number is_reached again h last =
     repeated_answer my_offer their_offer mine theirs my held number is_reached held.peer_result h refl (last refl)
 outgoing_answer my_offer their_offer mine theirs my held number is_reached next h last =
     let grown : PeerFacts my_offer their_offer (accepts number ∷ mine) theirs my held = peer_grows my_offer their_offer mine theirs (accepts number ∷ mine) theirs my held (one_more (accepts number) mine) (same theirs) h in
-    let answer : Answering my_offer their_offer (accepts number ∷ mine) theirs my held number (worked held number is_reached) =
+    let answer : Answering my_offer their_offer (accepts number ∷ mine) theirs my held number (performed_request held number is_reached) =
     worked_answer my_offer their_offer (accepts number ∷ mine) theirs my held number is_reached grown in
     record {
       working = record { true_effects = (tt, answer.working.true_effects); free = (tt, answer.working.free); facts = answer.working.facts; pair = answer.working.pair; tags = λ t. answer.working.tags (tags_after (accepts number) mine (λ pair e. cc) t) };
@@ -106,11 +106,11 @@ outgoing_answer my_offer their_offer mine theirs my held number is_reached astra
 -- ---- an answer of the peer
 
 -- the own request of this number is done, or could never have been sent
-done : (mine theirs : List Effect) (my : Pair) (number : ℕ) → SameTag mine → Has (draws my) mine → TruePerformed theirs mine my.tag number → Has (performs my number) theirs
+done : (mine theirs : List Effect) (my : Pair) (number : ℕ) → SameTag mine → HasEffect (draws my) mine → TruePerformed theirs mine my.tag number → HasEffect (performs my number) theirs
 done mine theirs my number tags drawn answer =
-    subst (λ (p : Pair). Has (performs p number) theirs) (tags answer.pair my answer.drawn drawn (sym answer.under)) answer.performed
+    subst (λ (p : Pair). HasEffect (performs p number) theirs) (tags answer.pair my answer.drawn drawn (sym answer.under)) answer.performed
 
-nothing_done : (mine theirs : List Effect) (my : Pair) (number : ℕ) → SameTag mine → Has (draws my) mine → TrueNothing mine my.tag number → number ≡ number_before my
+nothing_done : (mine theirs : List Effect) (my : Pair) (number : ℕ) → SameTag mine → HasEffect (draws my) mine → TrueNothing mine my.tag number → number ≡ number_before my
 nothing_done mine theirs my number tags drawn answer = answer.before ∙ ap number_before (tags answer.pair my answer.drawn drawn (sym answer.under))
 
 -- an own request that ended

@@ -9,7 +9,7 @@ use Rattle.dcsctp_spec_lemmas.specs.spec.endpoint.Endpoint.{Core, closed, cookie
 use Rattle.dcsctp_spec_lemmas.specs.spec.association.Effect.{Effect}
 use Rattle.dcsctp_spec_lemmas.specs.spec.association.Choices.{Choices}
 use Rattle.dcsctp_spec_lemmas.specs.spec.association.FlushChanges.{Flushed, flush}
-use Rattle.dcsctp_spec_lemmas.specs.spec.association.ResetChanges.{place_of, Answered, outgoing_by, Informed, informed_where, is_outstanding, WorkedParameters, after_request, after_answer, work_parameters, work_chunk, answers_emitted, reset_sent, reset_worked, re_config_change}
+use Rattle.dcsctp_spec_lemmas.specs.spec.association.ResetChanges.{request_place, RequestOutcome, outgoing_by, Informed, informed_where, is_outstanding, HandledParameters, after_request, after_answer, work_parameters, work_chunk, answers_emitted, reset_sent, peer_part_handled, re_config_change}
 use Rattle.dcsctp_spec_runs.specs.World.{after_effects}
 use Rattle.dcsctp_theorem_association.proofs.Facts.{TrueParameters, TrueEffects, PeerFacts, TrueCore}
 use Rattle.dcsctp_theorem_association.proofs.Growth.{after_effects-append, after_within, effects-append, parameters_grow, peer_grows, same, then_true}
@@ -20,7 +20,7 @@ use Rattle.dcsctp_theorem_association.proofs.ResetAnswers.{Working, Answering, o
 
 -- ---- the parameters after one another
 
-pub record WorkedKept (my_offer their_offer : Offer) (mine theirs : List Effect) (my : Pair) (held : Held) (worked : WorkedParameters) : Type 0 where
+pub record WorkedKept (my_offer their_offer : Offer) (mine theirs : List Effect) (my : Pair) (held : Held) (worked : HandledParameters) : Type 0 where
   pub working : Working my_offer their_offer mine theirs my held worked.held worked.effects
   pub answers : TrueParameters (after_effects worked.effects mine) theirs held.peer.tag worked.answers
 
@@ -37,7 +37,7 @@ then_working my_offer their_offer mine theirs my held middle after first rest h 
       tags = λ t. subst SameTag (sym (after_effects-append first rest mine)) (k.tags (h.tags t));
     }
 
-then_request : (my_offer their_offer : Offer) (mine theirs : List Effect) (my : Pair) (held : Held) (number : ℕ) (first : Answered) (rest : WorkedParameters)
+then_request : (my_offer their_offer : Offer) (mine theirs : List Effect) (my : Pair) (held : Held) (number : ℕ) (first : RequestOutcome) (rest : HandledParameters)
     → Answering my_offer their_offer mine theirs my held number first → WorkedKept my_offer their_offer (after_effects first.effects mine) theirs my first.held rest
     → WorkedKept my_offer their_offer mine theirs my held (after_request number first rest)
 then_request my_offer their_offer mine theirs my held number first rest h k =
@@ -50,7 +50,7 @@ then_request my_offer their_offer mine theirs my held number first rest h k =
       answers = subst (λ (past : List Effect). TrueParameters past theirs held.peer.tag (reconfiguration_response number first.result ∷ rest.answers)) (sym (after_effects-append first.effects rest.effects mine)) (result.0, answers);
     }
 
-then_answer : (my_offer their_offer : Offer) (mine theirs : List Effect) (my : Pair) (held : Held) (first : Informed) (rest : WorkedParameters)
+then_answer : (my_offer their_offer : Offer) (mine theirs : List Effect) (my : Pair) (held : Held) (first : Informed) (rest : HandledParameters)
     → Working my_offer their_offer mine theirs my held first.held first.effects → WorkedKept my_offer their_offer (after_effects first.effects mine) theirs my first.held rest
     → WorkedKept my_offer their_offer mine theirs my held (after_answer first rest)
 then_answer my_offer their_offer mine theirs my held first rest h k =
@@ -72,8 +72,8 @@ parameters_kept my_offer their_offer mine theirs my is_reached false held [] tag
 parameters_kept my_offer their_offer mine theirs my is_reached true held (outgoing_reset_request number answered reset ∷ parameters) tags h are =
     nothing_worked my_offer their_offer mine theirs my held true h
 parameters_kept my_offer their_offer mine theirs my is_reached false held (outgoing_reset_request number answered reset ∷ parameters) tags h are =
-    let first : Answered = outgoing_by held number is_reached (place_of held.peer_last number) in
-    let one : Answering my_offer their_offer mine theirs my held number first = outgoing_answer my_offer their_offer mine theirs my held number is_reached (place_of held.peer_last number) h (again_is_last held.peer_last number) in
+    let first : RequestOutcome = outgoing_by held number is_reached (request_place held.peer_last number) in
+    let one : Answering my_offer their_offer mine theirs my held number first = outgoing_answer my_offer their_offer mine theirs my held number is_reached (request_place held.peer_last number) h (again_is_last held.peer_last number) in
     then_request my_offer their_offer mine theirs my held number first (work_parameters my is_reached true first.held parameters) one
     (parameters_kept my_offer their_offer (after_effects first.effects mine) theirs my is_reached true first.held parameters (one.working.tags tags) one.working.facts
     (parameters_grow theirs mine theirs (after_effects first.effects mine) my.tag parameters (same theirs) (after_within first.effects mine) are.1))
@@ -143,9 +143,9 @@ pub record ResetKept (my_offer their_offer : Offer) (mine theirs : List Effect) 
 
 reset_kept : (my_offer their_offer : Offer) (mine theirs : List Effect) (my : Pair) (held : Held) (parameters : List ResetParameter) (choices : Choices)
     → SameTag mine → PeerFacts my_offer their_offer mine theirs my held → TrueParameters theirs mine my.tag parameters
-    → ResetKept my_offer their_offer mine theirs my held (reset_worked my held parameters choices)
+    → ResetKept my_offer their_offer mine theirs my held (peer_part_handled my held parameters choices)
 reset_kept my_offer their_offer mine theirs my held parameters choices tags h are =
-    let worked : WorkedParameters = work_chunk my choices.is_reached held parameters in
+    let worked : HandledParameters = work_chunk my choices.is_reached held parameters in
     let past : List Effect = after_effects worked.effects mine in
     let k : WorkedKept my_offer their_offer mine theirs my held worked = chunk_kept my_offer their_offer mine theirs my choices.is_reached held parameters tags h are in
     let answers : TrueParameters past theirs worked.held.peer.tag worked.answers = subst (λ (p : Pair). TrueParameters past theirs p.tag worked.answers) (sym k.working.pair) k.answers in
@@ -166,17 +166,17 @@ pub re_config_kept : (my_offer their_offer : Offer) (mine theirs : List Effect) 
 re_config_kept my_offer their_offer mine theirs closed parameters choices tag tags h are is = unchanged_kept my_offer their_offer mine theirs closed h
 re_config_kept my_offer their_offer mine theirs (cookie_wait my) parameters choices tag tags h are is = unchanged_kept my_offer their_offer mine theirs (cookie_wait my) h
 re_config_kept my_offer their_offer mine theirs (cookie_echoed my held bytes) parameters choices tag tags h are is =
-    let k : ResetKept my_offer their_offer mine theirs my held (reset_worked my held parameters choices) =
+    let k : ResetKept my_offer their_offer mine theirs my held (peer_part_handled my held parameters choices) =
     reset_kept my_offer their_offer mine theirs my held parameters choices tags h.0 (subst (λ (t : ℕ). TrueParameters theirs mine t parameters) is are) in
     record {
       effects = k.true_effects;
       core = (
         k.facts,
-        one_echo_after my.tag bytes (reset_worked my held parameters choices).effects mine (free_is_only bytes (reset_worked my held parameters choices).effects k.free) h.1,
+        one_echo_after my.tag bytes (peer_part_handled my held parameters choices).effects mine (free_is_only bytes (peer_part_handled my held parameters choices).effects k.free) h.1,
         record { cookie = h.2.cookie; reads = h.2.reads; maker = h.2.maker ∙ sym k.pair; addressee = h.2.addressee; offer = h.2.offer },
       );
     }
 re_config_kept my_offer their_offer mine theirs (open_in phase my held) parameters choices tag tags h are is =
-    let k : ResetKept my_offer their_offer mine theirs my held (reset_worked my held parameters choices) =
+    let k : ResetKept my_offer their_offer mine theirs my held (peer_part_handled my held parameters choices) =
     reset_kept my_offer their_offer mine theirs my held parameters choices tags h (subst (λ (t : ℕ). TrueParameters theirs mine t parameters) is are) in
     record { effects = k.true_effects; core = k.facts }

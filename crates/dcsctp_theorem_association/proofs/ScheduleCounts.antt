@@ -2,9 +2,9 @@
 use Rattle.std.proofs.Common.{◌≡◌, ◌≢◌, ℕ, List, [], ◌∷◌, ◌++◌, ◌⊎◌, inl, inr, ◌∙◌}
 use Rattle.dcsctp_spec_lemmas.specs.types.declared.association.Pair.{Pair}
 use Rattle.dcsctp_spec_lemmas.specs.types.declared.options.Options.{Options}
-use Rattle.dcsctp_spec_lemmas.specs.spec.association.Effect.{Link, Effect, draws, sends, holds, connects, begins, completes, accepts, performs, Change}
-use Rattle.dcsctp_spec_runs.specs.Past.{Has, HasFreshTags}
-use Rattle.dcsctp_spec_runs.specs.World.{Step}
+use Rattle.dcsctp_spec_lemmas.specs.spec.association.Effect.{AssociationIdentity, Effect, draws, sends, holds, connects, begins, completes, accepts, performs, Change}
+use Rattle.dcsctp_spec_runs.specs.Past.{HasEffect, HasFreshTags}
+use Rattle.dcsctp_spec_runs.specs.World.{WorldStep}
 use Rattle.dcsctp_theorem_association.proofs.Schedules.{Doing, configured, steps}
 
 -- ---- what is counted
@@ -20,7 +20,7 @@ tags_of_changes [] = []
 tags_of_changes (change ∷ changes) = tags_of_effects change.effects ++ tags_of_changes changes
 
 -- of all steps, in order
-abbrev pub tags_in_order : List Step → List ℕ
+abbrev pub tags_in_order : List WorldStep → List ℕ
 tags_in_order [] = []
 tags_in_order (step ∷ earlier) = tags_in_order earlier ++ tags_of_changes step.changes
 
@@ -29,26 +29,26 @@ abbrev pub tags_of : Options → Options → List Doing → List ℕ
 tags_of a b doings = tags_in_order (steps (configured a) (configured b) doings)
 
 -- the associations that were held, and those that connected, newest first
-abbrev pub holdings : List Effect → List Link
+abbrev pub holdings : List Effect → List AssociationIdentity
 holdings [] = []
 holdings (holds held ∷ effects) = held ∷ holdings effects
 holdings (effect ∷ effects) = holdings effects
 
-abbrev pub connections : List Effect → List Link
+abbrev pub connections : List Effect → List AssociationIdentity
 connections [] = []
 connections (connects held ∷ effects) = held ∷ connections effects
 connections (effect ∷ effects) = connections effects
 
 -- it is one of these
-abbrev pub Among : Link → List Link → Type 0
+abbrev pub Among : AssociationIdentity → List AssociationIdentity → Type 0
 Among it [] = ⊥
 Among it (held ∷ others) = (it ≡ held) ⊎ Among it others
 
-held_first : (it held : Link) → holds it ≡ holds held → it ≡ held
+held_first : (it held : AssociationIdentity) → holds it ≡ holds held → it ≡ held
 held_first it held is = cc
 
 -- What was held is among those.
-pub held_among : (past : List Effect) (it : Link) → Has (holds it) past → Among it (holdings past)
+pub held_among : (past : List Effect) (it : AssociationIdentity) → HasEffect (holds it) past → Among it (holdings past)
 held_among [] it h = absurd h
 held_among (holds held ∷ earlier) it (inl is) = inl (held_first it held is)
 held_among (holds held ∷ earlier) it (inr h) = inr (held_among earlier it h)
@@ -95,7 +95,7 @@ Differ (tag ∷ others) = NotAmong tag others × Differ others
 drawn_tag : (one other : Pair) → draws one ≡ draws other → one.tag ≡ other.tag
 drawn_tag one other is = cc
 
-not_drawn : (past : List Effect) (tag : ℕ) → NotAmong tag (drawn_tags past) → (other : Pair) → Has (draws other) past → tag ≢ other.tag
+not_drawn : (past : List Effect) (tag : ℕ) → NotAmong tag (drawn_tags past) → (other : Pair) → HasEffect (draws other) past → tag ≢ other.tag
 not_drawn [] tag h other drawn = absurd drawn
 not_drawn (draws pair ∷ earlier) tag h other (inl is) = λ same. h.0 (same ∙ drawn_tag other pair is)
 not_drawn (draws pair ∷ earlier) tag h other (inr drawn) = not_drawn earlier tag h.1 other drawn

@@ -11,11 +11,11 @@ use Rattle.dcsctp_spec_lemmas.specs.spec.Cookie.{Cookie, cookie_bytes}
 use Rattle.dcsctp_spec_lemmas.specs.spec.Reconfiguration.{RequestedReset}
 use Rattle.dcsctp_spec_lemmas.specs.spec.Packet.{Introduction, Content, Packet}
 use Rattle.dcsctp_spec_lemmas.specs.spec.endpoint.Endpoint.{Core}
-use Rattle.dcsctp_spec_lemmas.specs.spec.association.Effect.{Link, Effect, sends}
+use Rattle.dcsctp_spec_lemmas.specs.spec.association.Effect.{AssociationIdentity, Effect, sends}
 use Rattle.dcsctp_spec_lemmas.specs.spec.association.Choices.{Choices, nothing_to_send, idle_choices}
 use Rattle.dcsctp_spec_lemmas.specs.spec.association.Acts.{Act, act_change, chunk_change, MakesCookie}
-use Rattle.dcsctp_spec_runs.specs.Past.{Has}
-use Rattle.dcsctp_spec_runs.specs.World.{SideState, MayBeWorked, does, receives, World, Which, at_a, at_b, Step, world_after, Run, worked_whole}
+use Rattle.dcsctp_spec_runs.specs.Past.{HasEffect}
+use Rattle.dcsctp_spec_runs.specs.World.{SideState, MayBeHandled, does, receives, World, Which, at_a, at_b, WorldStep, world_after, WorldRun, worked_whole}
 
 -- ---- values
 
@@ -44,7 +44,7 @@ capabilities =
 abbrev pub introduction : Pair → Introduction
 introduction mine = record { pair = mine; offer = offer; window = 5242880 }
 
-abbrev pub link : Pair → Pair → Link
+abbrev pub link : Pair → Pair → AssociationIdentity
 link my peer = record { my = my; peer = peer; capabilities = capabilities }
 
 -- the peer, the own next number, the own outstanding one, the peer's last number and its result
@@ -105,16 +105,16 @@ abbrev pub other_side_of : World → Which → SideState
 other_side_of world at_a = world.b
 other_side_of world at_b = world.a
 
-abbrev pub step_of : World → Doing → Step
+abbrev pub step_of : World → Doing → WorldStep
 step_of world (acts which act choices) =
     record { side = which; move = does act; changes = act_change (side_of world which).options (side_of world which).core act choices ∷ [] }
 step_of world (gets which tag content choices) =
     record { side = which; move = receives (packet tag content); changes = chunk_change (side_of world which).options (side_of world which).core tag content choices ∷ [] }
 
-abbrev pub then_step : Options → Options → Doing → List Step → List Step
+abbrev pub then_step : Options → Options → Doing → List WorldStep → List WorldStep
 then_step options_a options_b doing before = step_of (world_after options_a options_b before) doing ∷ before
 
-abbrev pub steps : Options → Options → List Doing → List Step
+abbrev pub steps : Options → Options → List Doing → List WorldStep
 steps options_a options_b [] = []
 steps options_a options_b (doing ∷ earlier) = then_step options_a options_b doing (steps options_a options_b earlier)
 
@@ -122,7 +122,7 @@ steps options_a options_b (doing ∷ earlier) = then_step options_a options_b do
 abbrev pub Needs : World → Doing → Type 0
 Needs world (acts which act choices) = Unit {0}
 Needs world (gets which tag content choices) =
-    Has (sends (packet tag content)) (other_side_of world which).past × MayBeWorked (side_of world which).core (packet tag content) × MakesCookie (side_of world which).core content choices
+    HasEffect (sends (packet tag content)) (other_side_of world which).past × MayBeHandled (side_of world which).core (packet tag content) × MakesCookie (side_of world which).core content choices
 
 abbrev pub Goes : Options → Options → List Doing → Type 0
 Goes options_a options_b [] = Unit {0}
@@ -134,7 +134,7 @@ abbrev pub ◌after◌ : {Newest Earlier : Type 0} → Newest → Earlier → Ne
 newest after earlier = (newest, earlier)
 
 -- So the steps are a run.
-pub is_run : (options_a options_b : Options) (doings : List Doing) → Goes options_a options_b doings → Run options_a options_b (steps options_a options_b doings)
+pub is_run : (options_a options_b : Options) (doings : List Doing) → Goes options_a options_b doings → WorldRun options_a options_b (steps options_a options_b doings)
 is_run options_a options_b [] h = tt
 is_run options_a options_b (acts at_a act choices ∷ earlier) h = ((choices, refl), is_run options_a options_b earlier h.1)
 is_run options_a options_b (acts at_b act choices ∷ earlier) h = ((choices, refl), is_run options_a options_b earlier h.1)
@@ -147,7 +147,7 @@ abbrev pub GoesOn : Options → Options → List Doing → Type 0
 GoesOn a b doings = Goes (configured a) (configured b) doings
 
 abbrev pub IsRun : Options → Options → List Doing → Type 0
-IsRun a b doings = Run (configured a) (configured b) (steps (configured a) (configured b) doings)
+IsRun a b doings = WorldRun (configured a) (configured b) (steps (configured a) (configured b) doings)
 
 abbrev pub end_of : Options → Options → List Doing → World
 end_of a b doings = world_after (configured a) (configured b) (steps (configured a) (configured b) doings)

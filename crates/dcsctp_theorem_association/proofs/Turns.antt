@@ -5,9 +5,9 @@ use Rattle.dcsctp_spec_lemmas.specs.types.declared.association.Held.{Held}
 use Rattle.dcsctp_spec_lemmas.specs.types.Offer.{Offer}
 use Rattle.dcsctp_spec_lemmas.specs.spec.endpoint.Endpoint.{Core, open_in, OpenPhase}
 use Rattle.dcsctp_spec_lemmas.specs.spec.endpoint.Following.{Following}
-use Rattle.dcsctp_spec_lemmas.specs.spec.association.Effect.{Effect, draws, ends, Change, unchanged, dropped, ended}
+use Rattle.dcsctp_spec_lemmas.specs.spec.association.Effect.{Effect, draws, ends, Change, unchanged, rest_dropped, ended}
 use Rattle.dcsctp_spec_lemmas.specs.spec.association.Acts.{then_changes}
-use Rattle.dcsctp_spec_runs.specs.Past.{Has, FreshDraw, HasFreshTags}
+use Rattle.dcsctp_spec_runs.specs.Past.{HasEffect, FreshDraw, HasFreshTags}
 use Rattle.dcsctp_spec_runs.specs.World.{after_effects}
 use Rattle.dcsctp_theorem_association.proofs.Facts.{TrueEffects, PeerFacts, TrueCore}
 use Rattle.dcsctp_theorem_association.proofs.Growth.{after_effects-append, after_within, effects-append, peer_grows, same, then_true}
@@ -29,7 +29,7 @@ pub unchanged_kept : (my_offer their_offer : Offer) (mine theirs : List Effect) 
 unchanged_kept my_offer their_offer mine theirs core h = record { effects = tt; core = h }
 
 pub dropped_kept : (my_offer their_offer : Offer) (mine theirs : List Effect) (core : Core)
-    → TrueCore my_offer their_offer mine theirs core → Kept my_offer their_offer mine theirs (dropped core)
+    → TrueCore my_offer their_offer mine theirs core → Kept my_offer their_offer mine theirs (rest_dropped core)
 dropped_kept my_offer their_offer mine theirs core h = record { effects = tt; core = h }
 
 pub ended_kept : (my_offer their_offer : Offer) (mine theirs : List Effect) (before : List Effect)
@@ -58,12 +58,12 @@ then_kept my_offer their_offer mine theirs first second following h k =
 
 -- Tags name pairs.
 abbrev pub SameTag : List Effect → Type 0
-SameTag past = (one other : Pair) → Has (draws one) past → Has (draws other) past → one.tag ≡ other.tag → one ≡ other
+SameTag past = (one other : Pair) → HasEffect (draws one) past → HasEffect (draws other) past → one.tag ≡ other.tag → one ≡ other
 
 draws_same : (one other : Pair) (newest : Effect) → draws one ≡ newest → draws other ≡ newest → one ≡ other
 draws_same one other newest e f = cc
 
-never_again : (pair other : Pair) (newest : Effect) (earlier : List Effect) → draws pair ≡ newest → FreshDraw newest earlier → Has (draws other) earlier → pair.tag ≢ other.tag
+never_again : (pair other : Pair) (newest : Effect) (earlier : List Effect) → draws pair ≡ newest → FreshDraw newest earlier → HasEffect (draws other) earlier → pair.tag ≢ other.tag
 never_again pair other newest earlier e fresh h = (subst (λ x. FreshDraw x earlier) (sym e) fresh) other h
 
 pub same_tag : (past : List Effect) → HasFreshTags past → SameTag past

@@ -9,7 +9,7 @@ use Rattle.dcsctp_spec_lemmas.specs.spec.association.Effect.{Effect, sends, conn
 use Rattle.dcsctp_spec_lemmas.specs.spec.association.Choices.{Choices, idle_choices}
 use Rattle.dcsctp_spec_lemmas.specs.spec.association.HandshakeChanges.{introduction_of, new_held, IsCookieOf}
 use Rattle.dcsctp_spec_lemmas.specs.spec.association.Acts.{connect, act_change, chunk_change}
-use Rattle.dcsctp_spec_runs.specs.World.{does, receives, Which, at_a, at_b, Step, World, world_after, Run}
+use Rattle.dcsctp_spec_runs.specs.World.{does, receives, Which, at_a, at_b, WorldStep, World, world_after, WorldRun}
 
 -- what is free in the handshake: each side's pair, the bytes of the cookie, and the tie tags that are drawn
 pub record Handshake : Type 0 where
@@ -44,54 +44,54 @@ works options core packet choices = works_first options core packet.tag packet.c
 abbrev pub connecting : Options → Options → Handshake → Change
 connecting options_a options_b handshake = act_change options_a closed connect (choices_for handshake handshake.a)
 
-abbrev pub init_worked : Options → Options → Handshake → Change
-init_worked options_a options_b handshake =
+abbrev pub init_handled : Options → Options → Handshake → Change
+init_handled options_a options_b handshake =
     works options_b closed (sent_first (connecting options_a options_b handshake).effects) (choices_for handshake handshake.b)
 
-abbrev pub init_ack_worked : Options → Options → Handshake → Change
-init_ack_worked options_a options_b handshake =
-    works options_a (connecting options_a options_b handshake).core (sent_first (init_worked options_a options_b handshake).effects)
+abbrev pub init_ack_handled : Options → Options → Handshake → Change
+init_ack_handled options_a options_b handshake =
+    works options_a (connecting options_a options_b handshake).core (sent_first (init_handled options_a options_b handshake).effects)
     (choices_for handshake handshake.a)
 
-abbrev pub cookie_echo_worked : Options → Options → Handshake → Change
-cookie_echo_worked options_a options_b handshake =
-    works options_b (init_worked options_a options_b handshake).core (sent_first (init_ack_worked options_a options_b handshake).effects)
+abbrev pub cookie_echo_handled : Options → Options → Handshake → Change
+cookie_echo_handled options_a options_b handshake =
+    works options_b (init_handled options_a options_b handshake).core (sent_first (init_ack_handled options_a options_b handshake).effects)
     (choices_for handshake handshake.b)
 
-abbrev pub cookie_ack_worked : Options → Options → Handshake → Change
-cookie_ack_worked options_a options_b handshake =
-    works options_a (init_ack_worked options_a options_b handshake).core (sent_first (cookie_echo_worked options_a options_b handshake).effects)
+abbrev pub cookie_ack_handled : Options → Options → Handshake → Change
+cookie_ack_handled options_a options_b handshake =
+    works options_a (init_ack_handled options_a options_b handshake).core (sent_first (cookie_echo_handled options_a options_b handshake).effects)
     (choices_for handshake handshake.a)
 
-abbrev pub delivered : Which → Change → Change → Step
-delivered side sent change = record { side = side; move = receives (sent_first sent.effects); changes = change ∷ [] }
+abbrev pub delivery_in_turn : Which → Change → Change → WorldStep
+delivery_in_turn side sent change = record { side = side; move = receives (sent_first sent.effects); changes = change ∷ [] }
 
 -- the steps, newest first
-abbrev pub handshake_steps : Options → Options → Handshake → List Step
+abbrev pub handshake_steps : Options → Options → Handshake → List WorldStep
 handshake_steps options_a options_b handshake =
-    delivered at_a (cookie_echo_worked options_a options_b handshake) (cookie_ack_worked options_a options_b handshake)
-    ∷ delivered at_b (init_ack_worked options_a options_b handshake) (cookie_echo_worked options_a options_b handshake)
-    ∷ delivered at_a (init_worked options_a options_b handshake) (init_ack_worked options_a options_b handshake)
-    ∷ delivered at_b (connecting options_a options_b handshake) (init_worked options_a options_b handshake)
+    delivery_in_turn at_a (cookie_echo_handled options_a options_b handshake) (cookie_ack_handled options_a options_b handshake)
+    ∷ delivery_in_turn at_b (init_ack_handled options_a options_b handshake) (cookie_echo_handled options_a options_b handshake)
+    ∷ delivery_in_turn at_a (init_handled options_a options_b handshake) (init_ack_handled options_a options_b handshake)
+    ∷ delivery_in_turn at_b (connecting options_a options_b handshake) (init_handled options_a options_b handshake)
     ∷ record { side = at_a; move = does connect; changes = connecting options_a options_b handshake ∷ [] }
     ∷ []
 
 -- how often a side connected
-abbrev pub connections : List Effect → ℕ
-connections [] = 0
-connections (connects link ∷ earlier) = connections earlier + 1
-connections (effect ∷ earlier) = connections earlier
+abbrev pub connections_of_effects : List Effect → ℕ
+connections_of_effects [] = 0
+connections_of_effects (connects link ∷ earlier) = connections_of_effects earlier + 1
+connections_of_effects (effect ∷ earlier) = connections_of_effects earlier
 
 -- Both are Established and crossed, and each has connected once.
-pub record Connected (options_a options_b : Options) (handshake : Handshake) (world : World) : Type 0 where
+pub record AreConnectedOnce (options_a options_b : Options) (handshake : Handshake) (world : World) : Type 0 where
   pub a : world.a.core ≡ open_in established handshake.a (new_held handshake.a handshake.b (negotiated (offer_of options_a) (offer_of options_b)))
   pub b : world.b.core ≡ open_in established handshake.b (new_held handshake.b handshake.a (negotiated (offer_of options_b) (offer_of options_a)))
-  pub a_once : connections world.a.past ≡ 1
-  pub b_once : connections world.b.past ≡ 1
+  pub a_once : connections_of_effects world.a.past ≡ 1
+  pub b_once : connections_of_effects world.b.past ≡ 1
 
 pub record HandshakeRuns (options_a options_b : Options) (handshake : Handshake) : Type 0 where
-  pub run : Run options_a options_b (handshake_steps options_a options_b handshake)
-  pub connected : Connected options_a options_b handshake (world_after options_a options_b (handshake_steps options_a options_b handshake))
+  pub run : WorldRun options_a options_b (handshake_steps options_a options_b handshake)
+  pub connected : AreConnectedOnce options_a options_b handshake (world_after options_a options_b (handshake_steps options_a options_b handshake))
 
 abbrev pub HandshakeConnects : Type 0
 HandshakeConnects = (options_a options_b : Options) (handshake : Handshake) → CookieReads options_a handshake → HandshakeRuns options_a options_b handshake

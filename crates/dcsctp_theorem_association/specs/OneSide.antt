@@ -4,7 +4,7 @@ use Rattle.dcsctp_spec_lemmas.specs.types.declared.options.Options.{Options}
 use Rattle.dcsctp_spec_lemmas.specs.types.declared.association.Pair.{Pair}
 use Rattle.dcsctp_spec_lemmas.specs.types.declared.association.Held.{Held}
 use Rattle.dcsctp_spec_lemmas.specs.spec.endpoint.Endpoint.{Core, closed, cookie_wait, cookie_echoed, open_in, established}
-use Rattle.dcsctp_spec_lemmas.specs.spec.association.Effect.{Link, Effect, draws, holds, connects, ends, begins, completes, fails, performs, resumes, Change, link_of, link_in}
+use Rattle.dcsctp_spec_lemmas.specs.spec.association.Effect.{AssociationIdentity, Effect, draws, holds, connects, ends, begins, completes, fails, performs, resumes, Change, identity_of, identity_in}
 use Rattle.dcsctp_spec_lemmas.specs.wire.declared.reconfiguration.ReconfigurationResponseResult.{ReconfigurationResponseResult}
 use Rattle.dcsctp_spec_lemmas.specs.wire.declared.reconfiguration.ReconfigurationResponseResult.TheVariants.{SuccessNothingToDo, SuccessPerformed, Denied, ErrorWrongSSN, ErrorRequestAlreadyInProgress, ErrorBadSequenceNumber}
 use Rattle.dcsctp_spec_lemmas.specs.spec.Reconfiguration.{ResetParameter, reconfiguration_response}
@@ -12,7 +12,7 @@ use Rattle.dcsctp_spec_lemmas.specs.spec.Packet.{Content, re_config}
 use Rattle.dcsctp_spec_lemmas.specs.spec.association.Choices.{Choices}
 use Rattle.dcsctp_spec_lemmas.specs.spec.association.FlushChanges.{next_number}
 use Rattle.dcsctp_spec_lemmas.specs.spec.association.Acts.{Act, act_change, chunk_change}
-use Rattle.dcsctp_spec_runs.specs.Past.{Has, Each, current, number_to_begin, outstanding, number_to_accept, InPlace}
+use Rattle.dcsctp_spec_runs.specs.Past.{HasEffect, Each, current, number_to_begin, outstanding, number_to_accept, InPlace}
 use Rattle.dcsctp_spec_runs.specs.World.{ControlTurn, SideRun, side_after}
 
 -- Each effect of each run is in its order.
@@ -36,10 +36,10 @@ EndsOnce = (options : Options) (core : Core) (change : Change) → ControlTurn o
 -- ---- what the effects say of the association after the turn
 
 -- It is Established, with this peer.
-pub record IsEstablished (core : Core) (link : Link) : Type 0 where
+pub record IsEstablished (core : Core) (link : AssociationIdentity) : Type 0 where
   pub held : Held
   pub phase : core ≡ open_in established link.my held
-  pub linked : link_of link.my held ≡ link
+  pub linked : identity_of link.my held ≡ link
 
 -- the number of its own request that has no final answer
 abbrev pub outstanding_in : Core → Option ℕ
@@ -56,25 +56,25 @@ MayDraw (cookie_echoed my held cookie) = ⊥
 MayDraw (open_in phase my held) = Unit {0}
 
 -- From here on this is the association: a handshake made it, or it was restored.
-abbrev pub IsShown : Link → List Effect → Type 0
-IsShown link effects = Has (holds link) effects ⊎ ((own : ℕ) × (last : ℕ) × Has (resumes link own last) effects)
+abbrev pub IsShown : AssociationIdentity → List Effect → Type 0
+IsShown link effects = HasEffect (holds link) effects ⊎ ((own : ℕ) × (last : ℕ) × HasEffect (resumes link own last) effects)
 
 pub record Means (core : Core) (change : Change) : Type 0 where
   -- A shown association exists then, and a new one is shown.
-  pub held : (link : Link) → Has (holds link) change.effects → link_in change.core ≡ Some link
-  pub restored : (link : Link) (own last : ℕ) → Has (resumes link own last) change.effects → link_in change.core ≡ Some link
-  pub newly_held : (link : Link) → link_in change.core ≡ Some link → (link_in core ≡ Some link) ⊎ IsShown link change.effects
+  pub held : (link : AssociationIdentity) → HasEffect (holds link) change.effects → identity_in change.core ≡ Some link
+  pub restored : (link : AssociationIdentity) (own last : ℕ) → HasEffect (resumes link own last) change.effects → identity_in change.core ≡ Some link
+  pub newly_held : (link : AssociationIdentity) → identity_in change.core ≡ Some link → (identity_in core ≡ Some link) ⊎ IsShown link change.effects
   -- OnConnected finds Established.
-  pub connected : (link : Link) → Has (connects link) change.effects → IsEstablished change.core link
-  pub ended : Has ends change.effects → change.core ≡ closed
+  pub connected : (link : AssociationIdentity) → HasEffect (connects link) change.effects → IsEstablished change.core link
+  pub ended : HasEffect ends change.effects → change.core ≡ closed
   -- A pair is drawn by a closed side, and in answer to an INIT while an association is open.
-  pub drawn : (pair : Pair) → Has (draws pair) change.effects → MayDraw core
+  pub drawn : (pair : Pair) → HasEffect (draws pair) change.effects → MayDraw core
   -- Its own request that was begun is outstanding.
-  pub begun : (number : ℕ) → Has (begins number) change.effects → outstanding_in change.core ≡ Some number
+  pub begun : (number : ℕ) → HasEffect (begins number) change.effects → outstanding_in change.core ≡ Some number
   -- Resets are performed and completed in the existing association.
-  pub completed : (my : Pair) (number : ℕ) → Has (completes my number) change.effects
-      → (link : Link) × (link_in change.core ≡ Some link) × (link.my ≡ my)
-  pub performed : (peer : Pair) (number : ℕ) → Has (performs peer number) change.effects → (link : Link) × (link_in change.core ≡ Some link)
+  pub completed : (my : Pair) (number : ℕ) → HasEffect (completes my number) change.effects
+      → (link : AssociationIdentity) × (identity_in change.core ≡ Some link) × (link.my ≡ my)
+  pub performed : (peer : Pair) (number : ℕ) → HasEffect (performs peer number) change.effects → (link : AssociationIdentity) × (identity_in change.core ≡ Some link)
       × (link.peer ≡ peer)
 
 abbrev pub EffectsMean : Type 0
@@ -83,21 +83,21 @@ EffectsMean = (options : Options) (core : Core) (change : Change) → ControlTur
 -- ---- the association is what the past leaves
 
 pub record LeavesHeld (past : List Effect) (my : Pair) (held : Held) : Type 0 where
-  pub link : current past ≡ Some (link_of my held)
+  pub link : current past ≡ Some (identity_of my held)
   pub own_next : number_to_begin past ≡ Some held.own_next
   pub own_outstanding : outstanding past ≡ held.own_outstanding
   pub peer_next : number_to_accept past ≡ Some (next_number held.peer_last)
 
-abbrev pub Leaves : List Effect → Core → Type 0
-Leaves past closed = current past ≡ None
-Leaves past (cookie_wait my) = current past ≡ None
-Leaves past (cookie_echoed my held cookie) = LeavesHeld past my held
-Leaves past (open_in phase my held) = LeavesHeld past my held
+abbrev pub LeavesCore : List Effect → Core → Type 0
+LeavesCore past closed = current past ≡ None
+LeavesCore past (cookie_wait my) = current past ≡ None
+LeavesCore past (cookie_echoed my held cookie) = LeavesHeld past my held
+LeavesCore past (open_in phase my held) = LeavesHeld past my held
 
 -- So the association is the one that the effects say, and no other.
 abbrev pub PastIsState : Type 0
 PastIsState = (options : Options) (steps : List (List Change)) → SideRun options steps
-    → Leaves (side_after options steps).past (side_after options steps).core
+    → LeavesCore (side_after options steps).past (side_after options steps).core
 
 -- ---- its own requests end by answers
 
@@ -130,10 +130,10 @@ parameters_in content = []
 -- 5.2.7).
 pub record AnswersEndRequests : Type 0 where
   pub completed : (options : Options) (core : Core) (header : ℕ) (content : Content) (choices : Choices) (my : Pair) (number : ℕ)
-      → Has (completes my number) (chunk_change options core header content choices).effects → HasResponse IsSuccess number (parameters_in content)
+      → HasEffect (completes my number) (chunk_change options core header content choices).effects → HasResponse IsSuccess number (parameters_in content)
   pub failed : (options : Options) (core : Core) (header : ℕ) (content : Content) (choices : Choices) (number : ℕ)
-      → Has (fails number) (chunk_change options core header content choices).effects → HasResponse IsRefusal number (parameters_in content)
+      → HasEffect (fails number) (chunk_change options core header content choices).effects → HasResponse IsRefusal number (parameters_in content)
   pub none_completed : (options : Options) (core : Core) (act : Act) (choices : Choices) (my : Pair) (number : ℕ)
-      → Has (completes my number) (act_change options core act choices).effects → ⊥
+      → HasEffect (completes my number) (act_change options core act choices).effects → ⊥
   pub none_failed : (options : Options) (core : Core) (act : Act) (choices : Choices) (number : ℕ)
-      → Has (fails number) (act_change options core act choices).effects → ⊥
+      → HasEffect (fails number) (act_change options core act choices).effects → ⊥

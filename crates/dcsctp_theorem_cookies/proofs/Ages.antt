@@ -15,15 +15,15 @@ use Rattle.dcsctp_spec_lemmas.specs.spec.endpoint.Endpoint.{Endpoint, Core, cook
 use Rattle.dcsctp_spec_lemmas.specs.spec.endpoint.Endpoint as machine
 use Rattle.dcsctp_spec_lemmas.specs.spec.endpoint.Outcome.{Outcome}
 use Rattle.dcsctp_spec_lemmas.specs.spec.endpoint.Turn.{Input, chunk_input, Turn}
-use Rattle.dcsctp_spec_lemmas.specs.spec.endpoint.CallTurns.{Turned, IsTurn, AlongTurns, events_of}
+use Rattle.dcsctp_spec_lemmas.specs.spec.endpoint.CallTurns.{Transition, IsTurn, AlongTurns, events_of}
 use Rattle.dcsctp_spec_lemmas.specs.spec.association.Choices.{Choices}
 use Rattle.dcsctp_spec_lemmas.specs.spec.association.CookieEchoChanges.{Resolution, establish_new, restart, simultaneous_init, discard, maintain_existing, invalid_tag, stale, aged, resolve, maintain_change}
-use Rattle.dcsctp_spec_lemmas.specs.spec.association.Effect.{Link, Effect, draws, sends, holds, connects, ends, begins, gives_up, completes, fails, accepts, performs, resumes, noted}
+use Rattle.dcsctp_spec_lemmas.specs.spec.association.Effect.{AssociationIdentity, Effect, draws, sends, holds, connects, ends, begins, gives_up, completes, fails, accepts, performs, resumes, noted}
 use Rattle.dcsctp_spec_lemmas.specs.spec.association.Controlled.{IsControlled}
 use Rattle.dcsctp_spec_laws.specs.TurnLaws.{ChunksAreControlled, ActsAreControlled}
-use Rattle.dcsctp_spec_runs.specs.Past.{Has}
+use Rattle.dcsctp_spec_runs.specs.Past.{HasEffect}
 use Rattle.dcsctp_spec_runs.specs.Fitting.{AllSent}
-use Rattle.dcsctp_spec_runs.specs.Sockets.{Worked, Both, of_side, turns_after, endpoint_after, SocketRun}
+use Rattle.dcsctp_spec_runs.specs.Sockets.{PerformedAct, Both, of_side, turns_after, endpoint_after, SocketRun}
 use Rattle.dcsctp_spec_lemmas.specs.spec.endpoint.FlushOutcomes.{Answer, flush_answered}
 use Rattle.dcsctp_spec_lemmas.specs.spec.endpoint.HandshakeOutcomes.{cookie_for}
 use Rattle.dcsctp_spec_lemmas.specs.spec.endpoint.CookieEchoOutcomes.{resolved_by, resolved_now, cookie_echo_by, ResolvedAnswers, EchoedAnswers, CookieEchoTurn, maintain_by}
@@ -79,10 +79,10 @@ any_input now (chunk_input tag content) = any_taken now content
 any_input now input = tt
 
 -- Each cookie that a turn gives away bears its moment.
-abbrev BearsMoment : Endpoint → Turned → Type 0
+abbrev BearsMoment : Endpoint → Transition → Type 0
 BearsMoment e turn = AllSent (EmissionKeeps (bearing e.moment)) turn.outcome.events
 
-bears : ChunksAreControlled → ActsAreControlled → (e : Endpoint) (input : Input) (t : Turned) → IsTurn e input t → BearsMoment e t
+bears : ChunksAreControlled → ActsAreControlled → (e : Endpoint) (input : Input) (t : Transition) → IsTurn e input t → BearsMoment e t
 bears chunks acts e input t turn =
     (input_keeps (bearing e.moment) chunks acts e (λ theirs mine tie. moment_written (cookie_for e.moment theirs mine tie) (cut_fits e.moment)) input t turn
     (any_core e.moment e.core) (any_input e.moment input)).sent
@@ -135,7 +135,7 @@ moment_read bytes cookie found =
 
 -- ---- one that makes an association
 
-not_noted : (effects : List Effect) (link : Link) → HoldsNone effects → Has (holds link) (noted effects) → ⊥
+not_noted : (effects : List Effect) (link : AssociationIdentity) → HoldsNone effects → HasEffect (holds link) (noted effects) → ⊥
 not_noted [] link none has = has
 not_noted (holds other ∷ effects) link none has = none.0
 not_noted (sends packet ∷ effects) link none has = not_noted effects link none.1 has
@@ -161,19 +161,19 @@ not_noted (resumes other own last ∷ effects) link none (inl is) = absurd (cc)
 not_noted (resumes other own last ∷ effects) link none (inr has) = not_noted effects link none.1 has
 
 -- the existing association is no new one
-kept_is_none : (e : Endpoint) (cookie : Cookie) (header word : ℕ) (answers : List Answer) (link : Link) → resolved_now e e.core header cookie ≡ maintain_existing
-    → ResolvedAnswers e cookie e.core word maintain_existing answers → Has (holds link) (maintain_by (flush_answered answers) e cookie e.core).effects → ⊥
+kept_is_none : (e : Endpoint) (cookie : Cookie) (header word : ℕ) (answers : List Answer) (link : AssociationIdentity) → resolved_now e e.core header cookie ≡ maintain_existing
+    → ResolvedAnswers e cookie e.core word maintain_existing answers → HasEffect (holds link) (maintain_by (flush_answered answers) e cookie e.core).effects → ⊥
 kept_is_none e cookie header word answers link case h has =
     let choices : Choices = judging e cookie answers in
     let controlled : IsControlled e (maintain_by (flush_answered answers) e cookie e.core) (maintain_change e.core cookie choices) = maintain_at e cookie e.core header answers refl case h in
-    not_noted (maintain_change e.core cookie choices).effects link (maintain_none e.core cookie choices) (subst (Has (holds link)) controlled.effects has)
+    not_noted (maintain_change e.core cookie choices).effects link (maintain_none e.core cookie choices) (subst (HasEffect (holds link)) controlled.effects has)
 
 -- where its case isn't that of a stale one
 abbrev IsFresh : Bool → Resolution → Type 0
 IsFresh old resolution = (old ≡ false) × (aged old resolution ≡ resolution)
 
-made_fresh : (e : Endpoint) (cookie : Cookie) (header word : ℕ) (answers : List Answer) (link : Link) (old : Bool) (resolution : Resolution) → resolved_now e e.core header cookie ≡ aged old resolution
-    → ResolvedAnswers e cookie e.core word (aged old resolution) answers → Has (holds link) (resolved_by (flush_answered answers) e cookie e.core word (aged old resolution)).effects → old ≡ false
+made_fresh : (e : Endpoint) (cookie : Cookie) (header word : ℕ) (answers : List Answer) (link : AssociationIdentity) (old : Bool) (resolution : Resolution) → resolved_now e e.core header cookie ≡ aged old resolution
+    → ResolvedAnswers e cookie e.core word (aged old resolution) answers → HasEffect (holds link) (resolved_by (flush_answered answers) e cookie e.core word (aged old resolution)).effects → old ≡ false
 made_fresh e cookie header word answers link false resolution case h has = refl
 made_fresh e cookie header word answers link true establish_new case h has = absurd has
 made_fresh e cookie header word answers link true restart case h has = absurd has
@@ -187,8 +187,8 @@ in_lifetime : (lifetime now moment : ℕ) → not (nat_le (cut now - moment) lif
 in_lifetime lifetime now moment is = grind (arith, nat_tests)
 
 -- It isn't older than its lifetime.
-young_at : (e : Endpoint) (header : ℕ) (bytes : List ℕ) (found : Result Cookie (List ℕ)) (word : ℕ) (answers : List Answer) (link : Link) → cookie_at bytes ≡ found
-    → EchoedAnswers e e.core header found word answers → Has (holds link) (cookie_echo_by (flush_answered answers) e e.core header found word).effects
+young_at : (e : Endpoint) (header : ℕ) (bytes : List ℕ) (found : Result Cookie (List ℕ)) (word : ℕ) (answers : List Answer) (link : AssociationIdentity) → cookie_at bytes ≡ found
+    → EchoedAnswers e e.core header found word answers → HasEffect (holds link) (cookie_echo_by (flush_answered answers) e e.core header found word).effects
     → cut e.moment ≤ u64_at 48 bytes + as_nanos e.options.cookie_lifetime
 young_at e header bytes (Err text) word answers link reads h has = absurd has
 young_at e header bytes (Ok cookie) word answers link reads h has =
@@ -196,21 +196,21 @@ young_at e header bytes (Ok cookie) word answers link reads h has =
     made_fresh e cookie header word answers link (is_stale (as_nanos e.options.cookie_lifetime) e.moment cookie) (resolve e.core e.tie header cookie) refl h has in
     subst (λ (moment : ℕ). cut e.moment ≤ moment + as_nanos e.options.cookie_lifetime) (sym (moment_read bytes cookie reads)) (in_lifetime (as_nanos e.options.cookie_lifetime) e.moment cookie.moment fresh)
 
-abbrev Young : Endpoint → Turned → Type 0
+abbrev Young : Endpoint → Transition → Type 0
 Young e turn =
-    (tag : ℕ) (bytes : List ℕ) (link : Link) → turn.input ≡ chunk_input tag (cookie_echo bytes) → Has (holds link) turn.outcome.effects → cut e.moment ≤ u64_at 48 bytes + as_nanos e.options.cookie_lifetime
+    (tag : ℕ) (bytes : List ℕ) (link : AssociationIdentity) → turn.input ≡ chunk_input tag (cookie_echo bytes) → HasEffect (holds link) turn.outcome.effects → cut e.moment ≤ u64_at 48 bytes + as_nanos e.options.cookie_lifetime
 
-young : (e : Endpoint) (input : Input) (t : Turned) → IsTurn e input t → Young e t
+young : (e : Endpoint) (input : Input) (t : Transition) → IsTurn e input t → Young e t
 young e input t turn tag bytes link is has =
     let comes : CookieEchoTurn e tag bytes t.outcome = subst (λ (i : Input). Turn e i t.outcome) (sym turn.is ∙ is) turn.comes in
-    young_at e tag bytes (cookie_at bytes) comes.0 comes.1 link refl comes.2 (subst (λ (o : Outcome). Has (holds link) o.effects) comes.3 has)
+    young_at e tag bytes (cookie_at bytes) comes.0 comes.1 link refl comes.2 (subst (λ (o : Outcome). HasEffect (holds link) o.effects) comes.3 has)
 
 -- ---- its lifetime is that of the socket's options
 
-abbrev KeepsOptions : Endpoint → Turned → Type 0
+abbrev KeepsOptions : Endpoint → Transition → Type 0
 KeepsOptions e turn = SameOptions e.options turn.outcome.after.options
 
-keeps_options : (e : Endpoint) (t : Turned) → Moves e t.outcome → KeepsOptions e t
+keeps_options : (e : Endpoint) (t : Transition) → Moves e t.outcome → KeepsOptions e t
 keeps_options e t (it_rests core options effects told) = options
 keeps_options e t (it_moves change turn is) = is.options
 
@@ -226,7 +226,7 @@ given_parts bytes (sent emission ∷ events) more (inr h) = elim (given_parts by
 ]
 given_parts bytes (event ∷ events) more h = given_parts bytes events more h
 
-gave_in_time : (lifetime now : ℕ) (bytes : List ℕ) (e : Endpoint) (turns : List Turned) → AlongTurns BearsMoment e turns → cut now ≤ u64_at 48 bytes + lifetime → GaveCookie (events_of turns) bytes
+gave_in_time : (lifetime now : ℕ) (bytes : List ℕ) (e : Endpoint) (turns : List Transition) → AlongTurns BearsMoment e turns → cut now ≤ u64_at 48 bytes + lifetime → GaveCookie (events_of turns) bytes
     → GaveInTime lifetime now bytes e turns
 gave_in_time lifetime now bytes e [] along h given = absurd given
 gave_in_time lifetime now bytes e (t ∷ turns) along h given = elim (given_parts bytes t.outcome.events (events_of turns) given) [
@@ -238,13 +238,13 @@ gave_in_time lifetime now bytes e (t ∷ turns) along h given = elim (given_part
 echoed_given : (events : List (Event Emission)) (input : Input) (tag : ℕ) (bytes : List ℕ) → input ≡ chunk_input tag (cookie_echo bytes) → EchoesGiven events input → GaveCookie events bytes
 echoed_given events input tag bytes is h = subst (EchoesGiven events) is h
 
-all_in_time : (options : Options) (before turns : List Turned) → SameOptions options (endpoint_after options before).options → AlongTurns BearsMoment (fresh_endpoint options) before
+all_in_time : (options : Options) (before turns : List Transition) → SameOptions options (endpoint_after options before).options → AlongTurns BearsMoment (fresh_endpoint options) before
     → AlongTurns BearsMoment (endpoint_after options before) turns → AlongTurns Young (endpoint_after options before) turns → AlongTurns KeepsOptions (endpoint_after options before) turns
     → AllEchoGiven (events_of before) turns → AllInTime options before turns
 all_in_time options before [] own bore bearing_on young_on keeping given = tt
 all_in_time options before (t ∷ turns) own bore bearing_on young_on keeping given =
     let e : Endpoint = endpoint_after options before in
-    let next : List Turned = before ++ t ∷ [] in
+    let next : List Transition = before ++ t ∷ [] in
     let last : endpoint_after options next ≡ t.outcome.after = after_last (fresh_endpoint options) before t in
     let behind : events_of before ++ t.outcome.events ≡ events_of next =
     ap (λ (es : List (Event Emission)). events_of before ++ es) (sym (append-nil t.outcome.events)) ∙ sym (events_of-append before (t ∷ [])) in (
@@ -258,7 +258,7 @@ all_in_time options before (t ∷ turns) own bore bearing_on young_on keeping gi
           (subst (λ (es : List (Event Emission)). AllEchoGiven es turns) behind given.1),
     )
 
-throughout : MoveLaws → ChunksAreControlled → (options : Both Options) (run : List Worked) → AreUsable options → SocketRun options run → GivenThroughout run → AgeThroughout options run
+throughout : MoveLaws → ChunksAreControlled → (options : Both Options) (run : List PerformedAct) → AreUsable options → SocketRun options run → GivenThroughout run → AgeThroughout options run
 throughout law chunks options [] are runs given = tt
 throughout law chunks options (worked ∷ earlier) are runs given = (
   (λ honest side. all_in_time (of_side side options) [] (of_side side (turns_after (worked ∷ earlier))) refl tt

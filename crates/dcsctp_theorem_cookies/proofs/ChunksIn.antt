@@ -13,7 +13,7 @@ use Rattle.dcsctp_spec_lemmas.specs.spec.endpoint.HeartbeatOutcomes.{is_exhauste
 use Rattle.dcsctp_spec_lemmas.specs.spec.endpoint.MessageOutcomes.{sending_of}
 use Rattle.dcsctp_spec_lemmas.specs.spec.endpoint.Turn.{Input, refusal, packet_begins, chunk_input, packet_ends, act_input, user_sets, user_sends, user_resets, user_takes, time_passes}
 use Rattle.dcsctp_spec_lemmas.specs.spec.endpoint.TimeTurns.{Timer, t1_timer, own_timer, t2_timer, timers_in, deadline, has_come, has_restart, t2_input, expiry_input, inputs_behind, after_expiries, ExpiryThen, ExpiryTurns, MomentTurns, TimeTurns}
-use Rattle.dcsctp_spec_lemmas.specs.spec.endpoint.CallTurns.{Turned, IsTurn, Turns, AfterChunk, ChunkTurns, WholeTurns, AdmittedTurns}
+use Rattle.dcsctp_spec_lemmas.specs.spec.endpoint.CallTurns.{Transition, IsTurn, Turns, AfterChunk, ChunkTurns, WholeTurns, AdmittedTurns}
 use Rattle.dcsctp_spec_lemmas.specs.spec.Handover.{readiness_of}
 use Rattle.dcsctp_spec_lemmas.specs.spec.HandoverInputs.{inputs_of_handover}
 use Rattle.dcsctp_spec_lemmas.specs.spec.endpoint.UserTurns.{UserTurns}
@@ -26,17 +26,17 @@ OfChunk Good input = Unit {0}
 abbrev Inputs : (Content → Type 0) → List Input → Type 0
 Inputs Good inputs = AllByRecursion (OfChunk Good) inputs
 
-abbrev pub OfChunks : (Content → Type 0) → List Turned → Type 0
+abbrev pub OfChunks : (Content → Type 0) → List Transition → Type 0
 OfChunks Good turns = AllByRecursion (λ turn. OfChunk Good turn.input) turns
 
 module _ (Good : Content → Type 0) where
-  none_of : (turns : List Turned) → turns ≡ [] → OfChunks Good turns
+  none_of : (turns : List Transition) → turns ≡ [] → OfChunks Good turns
   none_of turns none = subst (OfChunks Good) (sym none) tt
 
-  of_input : (e : Endpoint) (input : Input) (turn : Turned) → IsTurn e input turn → OfChunk Good input → OfChunk Good turn.input
+  of_input : (e : Endpoint) (input : Input) (turn : Transition) → IsTurn e input turn → OfChunk Good input → OfChunk Good turn.input
   of_input e input turn is h = subst (OfChunk Good) (sym is.is) h
 
-  pub of_turns : (e : Endpoint) (inputs : List Input) (turns : List Turned) → Inputs Good inputs → Turns e inputs turns → OfChunks Good turns
+  pub of_turns : (e : Endpoint) (inputs : List Input) (turns : List Transition) → Inputs Good inputs → Turns e inputs turns → OfChunks Good turns
   of_turns e [] [] h taken = tt
   of_turns e [] (t ∷ turns) h taken = absurd taken
   of_turns e (input ∷ inputs) [] h taken = absurd taken
@@ -67,22 +67,22 @@ module _ (Good : Content → Type 0) where
   of_after e false = tt
   of_after e true = of_behind e e.core
 
-  of_expiry_then : (due : Bool) (Rest : Bool → Endpoint → List Turned → Type 0) → ((has_expired : Bool) (e : Endpoint) (turns : List Turned) → Rest has_expired e turns → OfChunks Good turns)
-      → (e : Endpoint) (has_expired : Bool) (timer : Timer) (turns : List Turned) → ExpiryThen due Rest e has_expired timer turns → OfChunks Good turns
+  of_expiry_then : (due : Bool) (Rest : Bool → Endpoint → List Transition → Type 0) → ((has_expired : Bool) (e : Endpoint) (turns : List Transition) → Rest has_expired e turns → OfChunks Good turns)
+      → (e : Endpoint) (has_expired : Bool) (timer : Timer) (turns : List Transition) → ExpiryThen due Rest e has_expired timer turns → OfChunks Good turns
   of_expiry_then true Rest rest e has_expired timer [] taken = absurd taken
   of_expiry_then true Rest rest e has_expired timer (t ∷ turns) taken = (of_input e (expiry_input e timer) t taken.0 (of_expiry e timer), rest true t.outcome.after turns taken.1)
   of_expiry_then false Rest rest e has_expired timer turns taken = rest has_expired e turns taken
 
-  of_expiries : (timers : List Timer) (has_expired : Bool) (e : Endpoint) (turns : List Turned) → ExpiryTurns timers has_expired e turns → OfChunks Good turns
+  of_expiries : (timers : List Timer) (has_expired : Bool) (e : Endpoint) (turns : List Transition) → ExpiryTurns timers has_expired e turns → OfChunks Good turns
   of_expiries [] has_expired e turns taken = of_turns e (after_expiries e has_expired) turns (of_after e has_expired) taken
   of_expiries (timer ∷ timers) has_expired e turns taken =
       of_expiry_then (has_come e.moment (deadline e timer)) (ExpiryTurns timers) (of_expiries timers) e has_expired timer turns taken
 
-  of_moment : (e : Endpoint) (moment : ℕ) (turns : List Turned) → MomentTurns e moment turns → OfChunks Good turns
+  of_moment : (e : Endpoint) (moment : ℕ) (turns : List Transition) → MomentTurns e moment turns → OfChunks Good turns
   of_moment e moment [] taken = absurd taken
   of_moment e moment (t ∷ turns) taken = (of_input e (time_passes moment) t taken.0 tt, of_expiries (timers_in t.outcome.after.core) false t.outcome.after turns taken.1)
 
-  of_time : (later : Bool) (e : Endpoint) (moment : ℕ) (turns : List Turned) → TimeTurns later e moment turns → OfChunks Good turns
+  of_time : (later : Bool) (e : Endpoint) (moment : ℕ) (turns : List Transition) → TimeTurns later e moment turns → OfChunks Good turns
   of_time true e moment turns taken = of_moment e moment turns taken
   of_time false e moment turns none = none_of turns none
 
@@ -92,7 +92,7 @@ module _ (Good : Content → Type 0) where
   of_handover zero = (tt, tt)
   of_handover (suc reasons) = tt
 
-  pub of_call : (e : Endpoint) (call : CallContent) (turns : List Turned) → UserTurns e call turns → OfChunks Good turns
+  pub of_call : (e : Endpoint) (call : CallContent) (turns : List Transition) → UserTurns e call turns → OfChunks Good turns
   of_call e connect_call turns taken = of_turns e (act_input connect ∷ []) turns (tt, tt) taken
   of_call e close_call turns taken = of_turns e (act_input (abort_with CloseCalled) ∷ []) turns (tt, tt) taken
   of_call e shutdown_call turns taken = of_turns e (act_input shut_down ∷ []) turns (tt, tt) taken
@@ -111,13 +111,13 @@ module _ (Good : Content → Type 0) where
   of_acks (shutdown_ack ∷ contents) each = (each.0, of_acks contents each.1)
   of_acks (content ∷ contents) each = of_acks contents each.1
 
-  of_rest : (following : Following) (e : Endpoint) (ends : List Input) (turns : List Turned) (More : Type 0) → Inputs Good ends → (More → OfChunks Good turns)
+  of_rest : (following : Following) (e : Endpoint) (ends : List Input) (turns : List Transition) (More : Type 0) → Inputs Good ends → (More → OfChunks Good turns)
       → AfterChunk following More (Turns e ends turns) (turns ≡ []) → OfChunks Good turns
   of_rest next_chunk e ends turns More h more rest = more rest
   of_rest packet_end e ends turns More h more rest = of_turns e ends turns h rest
   of_rest dropped_rest e ends turns More h more rest = none_of turns rest
 
-  of_contents : (e : Endpoint) (tag : ℕ) (contents : List Content) (ends : List Input) (turns : List Turned) → AllByRecursion Good contents → Inputs Good ends
+  of_contents : (e : Endpoint) (tag : ℕ) (contents : List Content) (ends : List Input) (turns : List Transition) → AllByRecursion Good contents → Inputs Good ends
       → ChunkTurns e tag contents ends turns → OfChunks Good turns
   of_contents e tag [] ends turns each h taken = of_turns e ends turns h taken
   of_contents e tag (content ∷ contents) ends [] each h taken = absurd taken
@@ -127,12 +127,12 @@ module _ (Good : Content → Type 0) where
         (λ (rest : ChunkTurns t.outcome.after tag contents ends turns). of_contents t.outcome.after tag contents ends turns each.1 h rest) taken.1,
   )
 
-  of_whole : (e : Endpoint) (packet : Packet) (turns : List Turned) → AllByRecursion Good packet.contents → WholeTurns e packet turns → OfChunks Good turns
+  of_whole : (e : Endpoint) (packet : Packet) (turns : List Transition) → AllByRecursion Good packet.contents → WholeTurns e packet turns → OfChunks Good turns
   of_whole e packet [] each taken = absurd taken
   of_whole e packet (t ∷ turns) each taken =
       (of_input e (packet_begins packet.contents) t taken.0 tt, of_contents t.outcome.after packet.tag packet.contents (packet_ends ∷ []) turns each (tt, tt) taken.1)
 
-  pub of_admitted : (e : Endpoint) (packet : Packet) (admission : Admission) (turns : List Turned) → AllByRecursion Good packet.contents → AdmittedTurns e packet admission turns
+  pub of_admitted : (e : Endpoint) (packet : Packet) (admission : Admission) (turns : List Transition) → AllByRecursion Good packet.contents → AdmittedTurns e packet admission turns
       → OfChunks Good turns
   of_admitted e packet all_chunks turns each taken = of_whole e packet turns each taken
   of_admitted e packet shutdown_acks_alone turns each taken = of_contents e packet.tag (shutdown_acks_in packet.contents) [] turns (of_acks packet.contents each) tt taken

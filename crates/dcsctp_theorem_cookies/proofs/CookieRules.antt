@@ -9,7 +9,7 @@ use Rattle.dcsctp_spec_lemmas.specs.spec.endpoint.Endpoint.{Core, cookie_echoed}
 use Rattle.dcsctp_spec_lemmas.specs.spec.association.Effect.{Effect, sends, emitted, emitted_alone, Change, unchanged}
 use Rattle.dcsctp_spec_lemmas.specs.spec.association.Choices.{plain_contents, Filling, Choices}
 use Rattle.dcsctp_spec_lemmas.specs.spec.association.FlushChanges.{reset_request, reset_to_begin, chunks_behind, further_packets, flush_packets, flushed_with, flush_where, flush}
-use Rattle.dcsctp_spec_lemmas.specs.spec.association.Acts.{sent_by}
+use Rattle.dcsctp_spec_lemmas.specs.spec.association.Acts.{sent_then_flushed}
 
 -- ---- rules
 
@@ -115,7 +115,7 @@ module _ (rules : Rules) where
   pub flush_keeps : (tag : ℕ) (held : Held) (front : List Content) (filling : Filling) → ContentsKeep rules front → EffectsKeep rules (flush tag held front filling).effects
   flush_keeps tag held front filling h = flush_keeps_where filling.is_allowed tag held front filling h
 
-  pub sent_keeps : (held : Held) (choices : Choices) → EffectsKeep rules (sent_by held choices).effects
+  pub sent_keeps : (held : Held) (choices : Choices) → EffectsKeep rules (sent_then_flushed held choices).effects
   sent_keeps held choices =
       effects_append (further_packets held.peer.tag choices.plain) (flush held.peer.tag held [] choices.filling).effects
       (further_keeps held.peer.tag choices.plain) (flush_keeps held.peer.tag held [] choices.filling tt)

@@ -5,7 +5,7 @@ use Rattle.std.specs.List.{AllByRecursion}
 use Rattle.dcsctp_spec_lemmas.specs.spec.endpoint.Event.{Event, sent}
 use Rattle.dcsctp_spec_lemmas.specs.spec.Packet.{Content, init_ack, cookie_echo, Emission}
 use Rattle.dcsctp_spec_lemmas.specs.spec.endpoint.Endpoint.{Core, cookie_echoed}
-use Rattle.dcsctp_spec_lemmas.specs.spec.endpoint.CallTurns.{Turned, events_of}
+use Rattle.dcsctp_spec_lemmas.specs.spec.endpoint.CallTurns.{Transition, events_of}
 use Rattle.dcsctp_spec_runs.specs.Fitting.{OfSent, AllSent}
 use Rattle.dcsctp_theorem_sockets.proofs.Sent.{all_sent_map}
 use Rattle.dcsctp_theorem_cookies.specs.Cookies.{BearCookie, GaveCookie, AllEchoGiven}
@@ -75,7 +75,7 @@ given_front (event ∷ events) more bytes h = given_front events more bytes h
 
 -- ---- turns
 
-pub all_echo-append : (before : List (Event Emission)) (turns more : List Turned) → AllEchoGiven before turns → AllEchoGiven (before ++ events_of turns) more → AllEchoGiven before (turns ++ more)
+pub all_echo-append : (before : List (Event Emission)) (turns more : List Transition) → AllEchoGiven before turns → AllEchoGiven (before ++ events_of turns) more → AllEchoGiven before (turns ++ more)
 all_echo-append before [] more h k = subst (λ (events : List (Event Emission)). AllEchoGiven events more) (append-nil before) k
 all_echo-append before (t ∷ turns) more h k = (
   h.0,

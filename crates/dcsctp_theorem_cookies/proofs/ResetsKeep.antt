@@ -9,14 +9,14 @@ use Rattle.dcsctp_spec_lemmas.specs.spec.Packet.{re_config}
 use Rattle.dcsctp_spec_lemmas.specs.spec.endpoint.Endpoint.{Core, cookie_echoed, open_in}
 use Rattle.dcsctp_spec_lemmas.specs.spec.association.Choices.{Choices}
 use Rattle.dcsctp_spec_lemmas.specs.spec.association.FlushChanges.{reset_request, flush}
-use Rattle.dcsctp_spec_lemmas.specs.spec.association.ResetChanges.{Place, again, next, astray, place_of, Answered, worked, repeated, outgoing_by, incoming_by, Informed, informed_where, is_outstanding, WorkedParameters, work_parameters, work_chunk, answers_emitted, reset_sent, reset_worked, re_config_change}
+use Rattle.dcsctp_spec_lemmas.specs.spec.association.ResetChanges.{RequestPlace, again, next, astray, request_place, RequestOutcome, performed_request, repeated, outgoing_by, incoming_by, Informed, informed_where, is_outstanding, HandledParameters, work_parameters, work_chunk, answers_emitted, reset_sent, peer_part_handled, re_config_change}
 use Rattle.dcsctp_spec_lemmas.specs.spec.association.Acts.{request_sent, request_again_change, renewed_by, request_renewed_change}
 use Rattle.dcsctp_theorem_cookies.proofs.CookieRules.{Rules, EffectsKeep, CoreKeeps, ChangeKeeps, unchanged_keeps, effects_append, alone_keeps, flush_keeps}
 
 module _ (rules : Rules) where
   -- ---- what a request and an answer bring
 
-  worked_keeps : (held : Held) (number : ℕ) (is_reached : Bool) → EffectsKeep rules (worked held number is_reached).effects
+  worked_keeps : (held : Held) (number : ℕ) (is_reached : Bool) → EffectsKeep rules (performed_request held number is_reached).effects
   worked_keeps held number true = (tt, tt)
   worked_keeps held number false = tt
 
@@ -24,12 +24,12 @@ module _ (rules : Rules) where
   repeated_keeps held InProgress is_reached = worked_keeps held held.peer_last is_reached
   repeated_keeps held result is_reached = tt
 
-  outgoing_keeps : (held : Held) (number : ℕ) (is_reached : Bool) (place : Place) → EffectsKeep rules (outgoing_by held number is_reached place).effects
+  outgoing_keeps : (held : Held) (number : ℕ) (is_reached : Bool) (place : RequestPlace) → EffectsKeep rules (outgoing_by held number is_reached place).effects
   outgoing_keeps held number is_reached again = repeated_keeps held held.peer_result is_reached
   outgoing_keeps held number is_reached next = (tt, worked_keeps held number is_reached)
   outgoing_keeps held number is_reached astray = tt
 
-  incoming_keeps : (held : Held) (number : ℕ) (place : Place) → EffectsKeep rules (incoming_by held number place).effects
+  incoming_keeps : (held : Held) (number : ℕ) (place : RequestPlace) → EffectsKeep rules (incoming_by held number place).effects
   incoming_keeps held number next = (tt, tt)
   incoming_keeps held number place = tt
 
@@ -43,13 +43,13 @@ module _ (rules : Rules) where
   parameters_keep my is_reached has_worked held [] = tt
   parameters_keep my is_reached true held (outgoing_reset_request number answered reset ∷ parameters) = tt
   parameters_keep my is_reached false held (outgoing_reset_request number answered reset ∷ parameters) =
-      let first : Answered = outgoing_by held number is_reached (place_of held.peer_last number) in
+      let first : RequestOutcome = outgoing_by held number is_reached (request_place held.peer_last number) in
       effects_append rules first.effects (work_parameters my is_reached true first.held parameters).effects
-      (outgoing_keeps held number is_reached (place_of held.peer_last number)) (parameters_keep my is_reached true first.held parameters)
+      (outgoing_keeps held number is_reached (request_place held.peer_last number)) (parameters_keep my is_reached true first.held parameters)
   parameters_keep my is_reached has_worked held (incoming_reset_request number streams ∷ parameters) =
-      let first : Answered = incoming_by held number (place_of held.peer_last number) in
+      let first : RequestOutcome = incoming_by held number (request_place held.peer_last number) in
       effects_append rules first.effects (work_parameters my is_reached has_worked first.held parameters).effects
-      (incoming_keeps held number (place_of held.peer_last number)) (parameters_keep my is_reached has_worked first.held parameters)
+      (incoming_keeps held number (request_place held.peer_last number)) (parameters_keep my is_reached has_worked first.held parameters)
   parameters_keep my is_reached has_worked held (reconfiguration_response number result ∷ parameters) =
       let first : Informed = informed_where my held number result (is_outstanding number held.own_outstanding) in
       effects_append rules first.effects (work_parameters my is_reached has_worked first.held parameters).effects
@@ -70,9 +70,9 @@ module _ (rules : Rules) where
       effects_append rules (answers_emitted choices.fits held.peer.tag answers) (flush held.peer.tag held [] choices.filling).effects
       (answers_keep choices.fits held.peer.tag answers) (flush_keeps rules held.peer.tag held [] choices.filling tt)
 
-  reset_keeps : (my : Pair) (held : Held) (parameters : List ResetParameter) (choices : Choices) → EffectsKeep rules (reset_worked my held parameters choices).effects
+  reset_keeps : (my : Pair) (held : Held) (parameters : List ResetParameter) (choices : Choices) → EffectsKeep rules (peer_part_handled my held parameters choices).effects
   reset_keeps my held parameters choices =
-      let first : WorkedParameters = work_chunk my choices.is_reached held parameters in
+      let first : HandledParameters = work_chunk my choices.is_reached held parameters in
       effects_append rules first.effects (reset_sent first.is_refused first.held first.answers choices).effects
       (chunk_keeps_in my choices.is_reached held parameters) (reset_sent_keeps first.is_refused first.held first.answers choices)
 

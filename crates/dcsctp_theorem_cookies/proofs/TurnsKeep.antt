@@ -10,14 +10,14 @@ use Rattle.dcsctp_spec_lemmas.specs.spec.endpoint.Endpoint.{Endpoint, Core, clos
 use Rattle.dcsctp_spec_lemmas.specs.spec.endpoint.Outcome.{Outcome, still, quiet, sends as sends_packet, fits, to_peer, emits}
 use Rattle.dcsctp_spec_lemmas.specs.spec.endpoint.HandshakeOutcomes.{pair_from, renewed_pair, cookie_for, init_ack_emission, init_outcome}
 use Rattle.dcsctp_spec_lemmas.specs.spec.endpoint.OwnTimers.{timer_act}
-use Rattle.dcsctp_spec_lemmas.specs.spec.endpoint.Turn.{Input, arrival, refusal, packet_begins, chunk_input, packet_ends, act_input, user_sets, user_sends, user_resets, user_takes, timer_expires, time_passes, restores, has_data}
+use Rattle.dcsctp_spec_lemmas.specs.spec.endpoint.Turn.{Input, arrival, refusal, packet_begins, chunk_input, packet_ends, act_input, user_sets, user_sends, user_resets, user_takes, timer_expires, time_passes, restores, has_data_chunk}
 use Rattle.dcsctp_spec_lemmas.specs.spec.association.Effect.{Effect, sends, Change}
 use Rattle.dcsctp_spec_lemmas.specs.spec.association.Choices.{Choices}
 use Rattle.dcsctp_spec_lemmas.specs.spec.association.Acts.{Act, act_change, shutdown_repeats, flushes}
 use Rattle.dcsctp_spec_lemmas.specs.spec.association.Controlled.{IsControlled, ControlledChunk, ControlledAct}
-use Rattle.dcsctp_spec_lemmas.specs.spec.endpoint.CallTurns.{Turned, IsTurn, AlongTurns, after_all, events_of}
+use Rattle.dcsctp_spec_lemmas.specs.spec.endpoint.CallTurns.{Transition, IsTurn, AlongTurns, after_all, events_of}
 use Rattle.dcsctp_spec_laws.specs.TurnLaws.{ChunksAreControlled, ActsAreControlled}
-use Rattle.dcsctp_spec_runs.specs.Past.{Has}
+use Rattle.dcsctp_spec_runs.specs.Past.{HasEffect}
 use Rattle.dcsctp_spec_runs.specs.Fitting.{AllSent}
 use Rattle.dcsctp_spec_laws.proofs.ControlLemmas.{begin_stands}
 use Rattle.dcsctp_spec_laws.proofs.ControlRestores.{restore_stands, resumed_by}
@@ -40,21 +40,21 @@ pub record OutcomeKeeps (rules : Rules) (o : Outcome) : Type 0 where
   pub core : CoreKeeps rules o.after.core
 
 -- a turn that keeps the rules if the association before it and the input do
-abbrev pub TurnKeeps : Rules → Endpoint → Turned → Type 0
+abbrev pub TurnKeeps : Rules → Endpoint → Transition → Type 0
 TurnKeeps rules e t = CoreKeeps rules e.core → InputKeeps rules t.input → OutcomeKeeps rules t.outcome
 
 -- each cookie that this endpoint may give away
 abbrev pub MakesGood : Rules → Endpoint → Type 0
 MakesGood rules e = (theirs : Introduction) (mine : Pair) (tie : ℕ) → rules.given (cookie_bytes (cookie_for e.moment theirs mine tie))
 
-pub record TurnsKeep (rules : Rules) (e : Endpoint) (turns : List Turned) : Type 0 where
+pub record TurnsKeep (rules : Rules) (e : Endpoint) (turns : List Transition) : Type 0 where
   pub sent : AllSent (EmissionKeeps rules) (events_of turns)
   pub core : CoreKeeps rules (after_all e turns).core
 
 module _ (rules : Rules) where
   -- ---- a turn that is one of the association
 
-  effect_of : (effects : List Effect) (effect : Effect) → EffectsKeep rules effects → Has effect effects → EffectKeeps rules effect
+  effect_of : (effects : List Effect) (effect : Effect) → EffectsKeep rules effects → HasEffect effect effects → EffectKeeps rules effect
   effect_of [] effect h has = absurd has
   effect_of (first ∷ effects) effect h (inl is) = subst (EffectKeeps rules) (sym is) h.0
   effect_of (first ∷ effects) effect h (inr has) = effect_of effects effect h.1 has
@@ -62,7 +62,7 @@ module _ (rules : Rules) where
   by_change : (e : Endpoint) (o : Outcome) (change : Change) → IsControlled e o change → ChangeKeeps rules change → OutcomeKeeps rules o
   by_change e o change is h =
       record {
-        sent = all_sent_map (λ emission was. effect_of change.effects (sends emission.packet) h.effects was) o.events (packets_are_effects o.events change.effects is.signs);
+        sent = all_sent_map (λ emission was. effect_of change.effects (sends emission.packet) h.effects was) o.events (packets_are_effects o.events change.effects is.observations);
         core = subst (CoreKeeps rules) (sym is.core) h.core;
       }
 
@@ -101,28 +101,28 @@ module _ (rules : Rules) where
 
   -- ---- each turn
 
-  chunk_turn_keeps : ChunksAreControlled → (e : Endpoint) → MakesGood rules e → (tag : ℕ) (content : Content) (t : Turned) → IsTurn e (chunk_input tag content) t
+  chunk_turn_keeps : ChunksAreControlled → (e : Endpoint) → MakesGood rules e → (tag : ℕ) (content : Content) (t : Transition) → IsTurn e (chunk_input tag content) t
       → CoreKeeps rules e.core → TakenKeeps rules content → OutcomeKeeps rules t.outcome
   chunk_turn_keeps law e made tag (init theirs) t turn h k =
       same_as t.outcome (init_outcome e theirs e.core turn.comes.0 turn.comes.1) turn.comes.2 (init_keeps e theirs e.core turn.comes.0 turn.comes.1 h made)
   chunk_turn_keeps law e made tag content t turn h k = by_chunk e tag content t.outcome (law e tag content t.outcome turn.comes tt) h k (λ choices. tt)
 
-  pub input_keeps : ChunksAreControlled → ActsAreControlled → (e : Endpoint) → MakesGood rules e → (input : Input) (t : Turned) → IsTurn e input t
+  pub input_keeps : ChunksAreControlled → ActsAreControlled → (e : Endpoint) → MakesGood rules e → (input : Input) (t : Transition) → IsTurn e input t
       → CoreKeeps rules e.core → InputKeeps rules input → OutcomeKeeps rules t.outcome
   input_keeps chunks acts e made arrival t turn h k = same_as t.outcome _ turn.comes (record { sent = tt; core = h })
   input_keeps chunks acts e made (refusal text) t turn h k = same_as t.outcome _ turn.comes (record { sent = (tt, tt); core = h })
   input_keeps chunks acts e made (packet_begins contents) t turn h k =
-      elim (begin_stands e e.core (has_data contents) t.outcome refl turn.comes) [
+      elim (begin_stands e e.core (has_data_chunk contents) t.outcome refl turn.comes) [
         | inl rests ↦ same_as t.outcome (still e) rests (record { sent = tt; core = h })
         | inr begun ↦ by_act e shutdown_repeats t.outcome begun h
       ]
   input_keeps chunks acts e made (chunk_input tag content) t turn h k = chunk_turn_keeps chunks e made tag content t turn h k
-  input_keeps chunks acts e made packet_ends t turn h k = by_act e flushes t.outcome (flushed_act e t.outcome (end_at e e.below.transfer t.outcome turn.comes)) h
+  input_keeps chunks acts e made packet_ends t turn h k = by_act e flushes t.outcome (flushed_act e t.outcome (end_at e e.queues.transfer t.outcome turn.comes)) h
   input_keeps chunks acts e made (act_input act) t turn h k = by_act e act t.outcome (acts e act t.outcome turn.comes) h
   input_keeps chunks acts e made (user_sets setting) t turn h k = same_as t.outcome _ turn.comes (record { sent = tt; core = h })
   input_keeps chunks acts e made (user_sends messages) t turn h k = by_act e flushes t.outcome (flushed_act e t.outcome (send_at e messages t.outcome turn.comes)) h
   input_keeps chunks acts e made (user_resets ids) t turn h k = by_act e flushes t.outcome (flushed_act e t.outcome (resets_at e ids t.outcome turn.comes)) h
-  input_keeps chunks acts e made user_takes t turn h k = by_act e flushes t.outcome (flushed_act e t.outcome (take_at e e.below.transfer t.outcome turn.comes)) h
+  input_keeps chunks acts e made user_takes t turn h k = by_act e flushes t.outcome (flushed_act e t.outcome (take_at e e.queues.transfer t.outcome turn.comes)) h
   input_keeps chunks acts e made (timer_expires timer) t turn h k = by_act e (timer_act e timer) t.outcome (timer_controlled e timer t.outcome turn.comes) h
   input_keeps chunks acts e made (time_passes moment) t turn h k = same_as t.outcome _ turn.comes (record { sent = tt; core = h })
   input_keeps chunks acts e made (restores state) t turn h k =
@@ -131,12 +131,12 @@ module _ (rules : Rules) where
         | inr restored ↦ by_change e t.outcome (resumed_by e state) restored.controlled (record { effects = (tt, (tt, tt)); core = tt })
       ]
 
-  pub turn_keeps : ChunksAreControlled → ActsAreControlled → ((e : Endpoint) → MakesGood rules e) → (e : Endpoint) (input : Input) (t : Turned) → IsTurn e input t → TurnKeeps rules e t
+  pub turn_keeps : ChunksAreControlled → ActsAreControlled → ((e : Endpoint) → MakesGood rules e) → (e : Endpoint) (input : Input) (t : Transition) → IsTurn e input t → TurnKeeps rules e t
   turn_keeps chunks acts made e input t turn h k = input_keeps chunks acts e (made e) input t turn h (subst (InputKeeps rules) turn.is k)
 
   -- ---- several turns
 
-  pub turns_keep : (e : Endpoint) (turns : List Turned) → AlongTurns (TurnKeeps rules) e turns → CoreKeeps rules e.core → AllByRecursion (λ turn. InputKeeps rules turn.input) turns
+  pub turns_keep : (e : Endpoint) (turns : List Transition) → AlongTurns (TurnKeeps rules) e turns → CoreKeeps rules e.core → AllByRecursion (λ turn. InputKeeps rules turn.input) turns
       → TurnsKeep rules e turns
   turns_keep e [] along h inputs = record { sent = tt; core = h }
   turns_keep e (t ∷ turns) along h inputs =

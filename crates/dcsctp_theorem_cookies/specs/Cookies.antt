@@ -7,8 +7,8 @@ use Rattle.dcsctp_spec_lemmas.specs.types.Schedule.{AreHonest}
 use Rattle.dcsctp_spec_lemmas.specs.spec.endpoint.Event.{Event, sent}
 use Rattle.dcsctp_spec_lemmas.specs.spec.Packet.{Content, init_ack, cookie_echo, Emission}
 use Rattle.dcsctp_spec_lemmas.specs.spec.endpoint.Turn.{Input, chunk_input}
-use Rattle.dcsctp_spec_lemmas.specs.spec.endpoint.CallTurns.{Turned}
-use Rattle.dcsctp_spec_runs.specs.Sockets.{Worked, Both, of_side, turns_after, SocketRun, acts_of}
+use Rattle.dcsctp_spec_lemmas.specs.spec.endpoint.CallTurns.{Transition}
+use Rattle.dcsctp_spec_runs.specs.Sockets.{PerformedAct, Both, of_side, turns_after, SocketRun, acts_of}
 use Rattle.dcsctp_theorem_sockets.specs.Agreement.{AreUsable}
 
 -- Among these chunks is an INIT ACK with this cookie.
@@ -29,17 +29,17 @@ EchoesGiven events (chunk_input tag (cookie_echo bytes)) = GaveCookie events byt
 EchoesGiven events input = Unit {0}
 
 -- So it is at each of these turns, by the events before it: these first, and then those of the turns before it.
-abbrev pub AllEchoGiven : List (Event Emission) → List Turned → Type 0
+abbrev pub AllEchoGiven : List (Event Emission) → List Transition → Type 0
 AllEchoGiven before [] = Unit {0}
 AllEchoGiven before (turn ∷ turns) = EchoesGiven before turn.input × AllEchoGiven (before ++ turn.outcome.events) turns
 
 -- It holds of each side at the end of each first part of the run that is honest, whatever comes later. Before its first turn a side
 -- has sent nothing.
-abbrev pub GivenThroughout : List Worked → Type 0
+abbrev pub GivenThroughout : List PerformedAct → Type 0
 GivenThroughout [] = Unit {0}
 GivenThroughout (worked ∷ earlier) =
     (AreHonest (acts_of (worked ∷ earlier)) → (side : Side) → AllEchoGiven [] (of_side side (turns_after (worked ∷ earlier))))
     × GivenThroughout earlier
 
 abbrev pub CookiesWereGiven : Type 0
-CookiesWereGiven = (options : Both Options) (run : List Worked) → AreUsable options → SocketRun options run → GivenThroughout run
+CookiesWereGiven = (options : Both Options) (run : List PerformedAct) → AreUsable options → SocketRun options run → GivenThroughout run

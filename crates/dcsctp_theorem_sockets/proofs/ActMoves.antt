@@ -4,7 +4,7 @@ use Rattle.std.proofs.Common.{◌≡◌, List, [], ◌∷◌, ◌++◌, refl, sy
 use Rattle.dcsctp_spec_lemmas.specs.types.declared.options.Options.{Options}
 use Rattle.dcsctp_spec_lemmas.specs.spec.endpoint.Endpoint.{Endpoint, Core}
 use Rattle.dcsctp_spec_lemmas.specs.spec.endpoint.Outcome.{Outcome}
-use Rattle.dcsctp_spec_lemmas.specs.spec.endpoint.CallTurns.{Turned}
+use Rattle.dcsctp_spec_lemmas.specs.spec.endpoint.CallTurns.{Transition}
 use Rattle.dcsctp_spec_lemmas.specs.spec.association.Controlled.{IsControlled, ControlledAct}
 use Rattle.dcsctp_spec_lemmas.specs.spec.association.Choices.{Choices}
 use Rattle.dcsctp_spec_lemmas.specs.spec.association.Effect.{Change}
@@ -23,11 +23,11 @@ controlled_at : Endpoint → Outcome → Act → Options → Choices → Core �
 controlled_at e o act options choices core = IsControlled e o (act_change options core act choices)
 
 -- The turn is one of the side's, by these choices.
-pub record ActFollows (options : Options) (turns : List Turned) (side : SideState) (act : Act) (t : Turned) : Type 0 where
+pub record ActFollows (options : Options) (turns : List Transition) (side : SideState) (act : Act) (t : Transition) : Type 0 where
   pub choices : Choices
   pub follows : Followed options (turns ++ t ∷ []) (after_changes side (act_change side.options side.core act choices ∷ []))
 
-pub act_follows : EffectsMean → (options : Options) (turns : List Turned) (side : SideState) (act : Act) (t : Turned) → TakesNoOptions act → Followed options turns side
+pub act_follows : EffectsMean → (options : Options) (turns : List Transition) (side : SideState) (act : Act) (t : Transition) → TakesNoOptions act → Followed options turns side
     → ControlledAct (endpoint_after options turns) act t.outcome → TurnFits t.outcome → ActFollows options turns side act t
 unfolding controlled_at
 act_follows means options turns side act t any h controlled fits =

@@ -9,7 +9,7 @@ use Rattle.dcsctp_spec_lemmas.specs.wire.Spelling.{chunk_bytes}
 use Rattle.dcsctp_spec_lemmas.proofs.wire_lemmas.Lengths.{length-chunk_bytes}
 use Rattle.dcsctp_spec_lemmas.specs.types.declared.association.Held.{Held}
 use Rattle.dcsctp_spec_lemmas.specs.spec.Packet.{Content, re_config, chunk_out}
-use Rattle.dcsctp_spec_lemmas.specs.spec.Reconfiguration.{outgoing_reset_request, streams_in}
+use Rattle.dcsctp_spec_lemmas.specs.spec.Reconfiguration.{outgoing_reset_request, reset_streams_in}
 use Rattle.dcsctp_spec_lemmas.specs.spec.queues.OwnResets.{ready_streams}
 use Rattle.dcsctp_spec_lemmas.specs.spec.queues.SendQueue.{SendQueueState}
 use Rattle.dcsctp_spec_runs.specs.Deadlines.{T1Runs}
@@ -25,7 +25,7 @@ use Rattle.dcsctp_theorem_sockets.proofs.Bytes.{both, in_two}
 
 -- ---- its packet
 
-streams_read : (streams : List ℕ) → streams_in (flat_map (to_be_bytes w16) (map stream_field streams)) ≡ map stream_field streams
+streams_read : (streams : List ℕ) → reset_streams_in (flat_map (to_be_bytes w16) (map stream_field streams)) ≡ map stream_field streams
 streams_read [] = refl
 streams_read (stream ∷ streams) =
     ap (λ (rest : List ℕ). from_be_bytes w16 (to_be_bytes w16 (stream_field stream)) ∷ rest) (streams_read streams)

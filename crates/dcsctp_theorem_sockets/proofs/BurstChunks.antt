@@ -16,13 +16,13 @@ use Rattle.dcsctp_spec_lemmas.specs.spec.endpoint.Endpoint.{Endpoint, Core, clos
 use Rattle.dcsctp_spec_lemmas.specs.spec.endpoint.Outcome.{Outcome, still, fits, to_peer}
 use Rattle.dcsctp_spec_lemmas.specs.spec.association.Effect.{Effect}
 use Rattle.dcsctp_spec_lemmas.specs.spec.association.FlushChanges.{reset_request}
-use Rattle.dcsctp_spec_lemmas.specs.spec.association.ResetChanges.{WorkedParameters}
+use Rattle.dcsctp_spec_lemmas.specs.spec.association.ResetChanges.{HandledParameters}
 use Rattle.dcsctp_spec_lemmas.specs.spec.endpoint.FlushOutcomes.{Answer, draft_to, flush_of}
 use Rattle.dcsctp_spec_lemmas.specs.spec.endpoint.HeartbeatOutcomes.{heartbeat_outcome, info_in, counter_of, answered, heartbeat_ack_outcome, interval_expired, beating, heartbeat_emission, beat, interval_outcome, is_exhausted}
 use Rattle.dcsctp_spec_lemmas.specs.spec.endpoint.OwnTimers.{OwnTimer, acknowledgement_delay, retransmission, heartbeat_interval, heartbeat_timeout, reconfiguration, TimerTurn}
-use Rattle.dcsctp_spec_lemmas.specs.spec.endpoint.PlainOutcomes.{PlainTurn, PlainTurnBy, violation_by, violation_at, is_reported, after_unknown, unknown_bytes, unknown_told, error_outcome}
-use Rattle.dcsctp_spec_lemmas.specs.spec.endpoint.ReconfigurationOutcomes.{reset_again, request_emitted, renewed_where, request_renewed, request_unless, is_renewed, request_errors, request_expired, reconfiguration_outcome}
-use Rattle.dcsctp_spec_lemmas.specs.spec.endpoint.ResetOutcomes.{requested_in, is_reached, worked_in, OwnAnswer, answered_in, reset_events, told_of, reset_refusal_text, resets_worked, responses_outcome, core_with, responses_by, ResponseAnswers, WorksResets, ResetTurn}
+use Rattle.dcsctp_spec_lemmas.specs.spec.endpoint.PlainOutcomes.{PlainTurn, PlainTurnBy, violation_by, violation_at, is_reported, after_unknown, unknown_bytes, unknown_chunk_outcome, error_outcome}
+use Rattle.dcsctp_spec_lemmas.specs.spec.endpoint.ReconfigurationOutcomes.{reset_again, request_emitted, renewed_request_where, request_renewed, request_unless, is_renewed, request_errors, request_expired, reconfiguration_outcome}
+use Rattle.dcsctp_spec_lemmas.specs.spec.endpoint.ResetOutcomes.{requested_in, is_request_reached, parameters_handled_in, OwnAnswer, answered_in, reset_events, reset_events_of, reset_refusal_text, resets_handled, responses_outcome, core_with, responses_by, ResponseAnswers, WorksResets, ResetTurn}
 use Rattle.dcsctp_spec_laws.proofs.ResetLemmas.{AreResets, nothing, acceptance, performance, completion, failure, chunk_brings}
 use Rattle.dcsctp_theorem_sockets.specs.Bursts.{packets_of_plain, packets_of_timer}
 use Rattle.dcsctp_theorem_sockets.proofs.Bursts.{count, append_few, none_in_front, Few, none, one, emits_core, emits_few, HasPeer, allowed_after, flush_is_burst}
@@ -32,7 +32,7 @@ use Rattle.dcsctp_theorem_sockets.proofs.BurstHandshake.{aborting_few}
 -- ---- an unknown chunk, and an ERROR
 
 unknown_few : (e : Endpoint) (core : Core) (type : ℕ) (chunk : List ℕ) (reported : Bool)
-    → Few 1 (record (cond reported (unknown_told e core type chunk) (still e)) { following = after_unknown type })
+    → Few 1 (record (cond reported (unknown_chunk_outcome e core type chunk) (still e)) { following = after_unknown type })
 unknown_few e core type chunk false = none 1
 unknown_few e closed type chunk true = none 1
 unknown_few e (cookie_wait my) type chunk true = none 1
@@ -76,7 +76,7 @@ request_few : (e : Endpoint) (held : Held) (number : Option ℕ) (reset : Reques
 request_few e held None reset = none 1
 request_few e held (Some number) reset = emits_few e [] (to_peer held (reset_request number reset))
 
-renewed_few : (b : Bool) (e : Endpoint) (held : Held) (number : ℕ) (request : Content) → Few 1 (renewed_where b e held number request)
+renewed_few : (b : Bool) (e : Endpoint) (held : Held) (number : ℕ) (request : Content) → Few 1 (renewed_request_where b e held number request)
 renewed_few true e held number request = one 0
 renewed_few false e held number request = none 1
 
@@ -98,8 +98,8 @@ reconfiguration_few e (Some held) (Some request) =
 -- ---- each timer
 
 pub timer_few : (e : Endpoint) (timer : OwnTimer) (o : Outcome) → TimerTurn e timer o → Few (packets_of_timer timer) o
-timer_few e acknowledgement_delay o turn = subst (Few 0) (sym turn) (delay_few e e.below.transfer)
-timer_few e retransmission o turn = loss_few e e.below.transfer o turn
+timer_few e acknowledgement_delay o turn = subst (Few 0) (sym turn) (delay_few e e.queues.transfer)
+timer_few e retransmission o turn = loss_few e e.queues.transfer o turn
 timer_few e heartbeat_interval o turn = subst (Few 1) (sym turn) (interval_few e e.core)
 timer_few e heartbeat_timeout o turn = subst (Few 0) (sym turn) (none 0)
 timer_few e reconfiguration o turn = subst (Few 1) (sym turn) (reconfiguration_few e (held_in e.core) e.outstanding)
@@ -143,11 +143,11 @@ with_peer (open_in phase my own) held peer = tt
 
 works_behind : (e : Endpoint) (my : Pair) (held : Held) (parameters : List ResetParameter) (o : Outcome) → HasPeer e.core → WorksResets e my held parameters o → IsBehind 1 o
 works_behind e my held parameters o peer turn =
-    let w : WorkedParameters = worked_in e my held parameters in
-    let brought = chunk_brings my (is_reached e.below.transfer (requested_in parameters)) held parameters in
+    let w : HandledParameters = parameters_handled_in e my held parameters in
+    let brought = chunk_brings my (is_request_reached e.queues.transfer (requested_in parameters)) held parameters in
     let answer : OwnAnswer = answered_in held w parameters in
     subst (IsBehind 1) (sym turn.is)
-    (sent_behind w.is_refused (resets_worked e answer w.held turn.left) (told_of e parameters w.effects) w.held parameters w.answers turn.answers (with_peer e.core w.held peer) turn.allowed
+    (sent_behind w.is_refused (resets_handled e answer w.held turn.left) (reset_events_of e parameters w.effects) w.held parameters w.answers turn.answers (with_peer e.core w.held peer) turn.allowed
     (told_few _ _ w.effects brought.are))
 
 pub reset_behind : (e : Endpoint) (core : Core) (parameters : List ResetParameter) (o : Outcome) → e.core ≡ core → ResetTurn e core parameters o → IsBehind 1 o
@@ -185,9 +185,9 @@ plain_by e (heartbeat parameters) None o is turn = subst (Few 1) (sym turn) (hea
 plain_by e (heartbeat_ack parameters) None o is turn = subst (Few 0) (sym turn) (heartbeat_ack_few e (counter_of (info_in parameters)))
 plain_by e (unworked (data_chunk chunk)) None o is turn = data_few e (data_arrival chunk) o turn
 plain_by e (unworked (i_data_chunk chunk)) None o is turn = data_few e (i_data_arrival chunk) o turn
-plain_by e (unworked (sack_chunk chunk)) None o is turn = sack_behind e e.below.transfer chunk o turn
-plain_by e (unworked (forward_tsn_chunk tsn streams)) None o is turn = forward_few e e.below.transfer tsn (skipped_in streams) o turn
-plain_by e (unworked (i_forward_tsn_chunk tsn streams)) None o is turn = forward_few e e.below.transfer tsn (messages_skipped_in streams) o turn
+plain_by e (unworked (sack_chunk chunk)) None o is turn = sack_behind e e.queues.transfer chunk o turn
+plain_by e (unworked (forward_tsn_chunk tsn streams)) None o is turn = forward_few e e.queues.transfer tsn (skipped_in streams) o turn
+plain_by e (unworked (i_forward_tsn_chunk tsn streams)) None o is turn = forward_few e e.queues.transfer tsn (messages_skipped_in streams) o turn
 plain_by e (unworked (error_chunk causes)) None o is turn = subst (Few 0) (sym turn) (error_few e e.core causes)
 plain_by e (unworked chunk) None o is turn = subst (Few 0) (sym turn) (none 0)
 

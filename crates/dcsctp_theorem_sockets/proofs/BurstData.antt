@@ -11,20 +11,20 @@ use Rattle.dcsctp_spec_lemmas.specs.spec.Packet.{plain, error_of, Content, Emiss
 use Rattle.dcsctp_spec_lemmas.specs.spec.endpoint.Endpoint.{Endpoint, Core, held_in}
 use Rattle.dcsctp_spec_lemmas.specs.spec.endpoint.Outcome.{Outcome, to_peer}
 use Rattle.dcsctp_spec_lemmas.specs.spec.association.Choices.{plain_contents}
-use Rattle.dcsctp_spec_lemmas.specs.spec.queues.Acknowledging.{is_sack_valid, ends_delivery, told_by, delivered, delivered_by}
+use Rattle.dcsctp_spec_lemmas.specs.spec.queues.Acknowledging.{is_sack_valid, ends_delivery, lifecycle_events_by, delivered_events, delivered_by}
 use Rattle.dcsctp_spec_lemmas.specs.spec.queues.Arrivals.{Arrival}
-use Rattle.dcsctp_spec_lemmas.specs.spec.queues.Items.{Item, counted, marked_count, unacknowledged_count, marked_items, unacknowledged_items}
+use Rattle.dcsctp_spec_lemmas.specs.spec.queues.Items.{Item, number_where, marked_count, unacknowledged_count, marked_items, unacknowledged_items}
 use Rattle.dcsctp_spec_lemmas.specs.types.queues.Progress.{is_marked, is_unacknowledged}
 use Rattle.dcsctp_spec_lemmas.specs.types.queues.Messages.{MessageContent}
-use Rattle.dcsctp_spec_lemmas.specs.spec.queues.Outstanding.{acknowledged_by}
+use Rattle.dcsctp_spec_lemmas.specs.spec.queues.Outstanding.{acknowledged_count}
 use Rattle.dcsctp_spec_lemmas.specs.spec.queues.OwnResets.{prepared_all, prepare_all_events}
 use Rattle.dcsctp_spec_lemmas.specs.spec.queues.Retransmission.{has_fast_retransmit}
 use Rattle.dcsctp_spec_lemmas.specs.spec.queues.Tracker.{TrackerState, after_packet_end, is_acknowledgement_due}
 use Rattle.dcsctp_spec_lemmas.specs.spec.queues.Transfer.{Transfer}
 use Rattle.dcsctp_spec_lemmas.specs.spec.endpoint.DataOutcomes.{DataWhere, with_transfer, flush_by, AnswersTo, FlushTurn, no_user_data_outcome, ReceiveTurn, DataTurn, ForwardTurn, FastRetransmits, sack_taken, AcknowledgesBy, SackWhere, SackBy, SackTurn, EndWhere, EndsBy, TakeWhere, TakeLeft, TakeTurn, delay_outcome, LossTurn}
-use Rattle.dcsctp_spec_lemmas.specs.spec.endpoint.FlushOutcomes.{Answer, told_event, goes_out, draft_to, flush_of}
-use Rattle.dcsctp_spec_lemmas.specs.spec.endpoint.MessageOutcomes.{MessageRefusal, refusal_events, Sending, sending_refusal, name_of, queue_by, queue_one, queue_all, takes_any, SendAnswers, send_by, SendTurn}
-use Rattle.dcsctp_spec_lemmas.specs.spec.endpoint.PreparedResets.{ResetRefusal, reset_refusal, with_queue, OwnResetsWhere, OwnResetsTurn}
+use Rattle.dcsctp_spec_lemmas.specs.spec.endpoint.FlushOutcomes.{Answer, filling_event, goes_out, draft_to, flush_of}
+use Rattle.dcsctp_spec_lemmas.specs.spec.endpoint.MessageOutcomes.{MessageRefusal, refusal_events, Sending, sending_refusal, lifecycle_name, queue_by, queue_one, queue_all, takes_any, SendAnswers, send_by, SendTurn}
+use Rattle.dcsctp_spec_lemmas.specs.spec.endpoint.PreparedResets.{ResetRefusal, reset_refusal, endpoint_with_queue, OwnResetsWhere, OwnResetsTurn}
 use Rattle.dcsctp_spec_lemmas.specs.spec.endpoint.ShutdownOutcomes.{is_all_acknowledged, step_outcome}
 use Rattle.dcsctp_spec_lemmas.proofs.SendEventLemmas.{told_prepared}
 use Rattle.dcsctp_theorem_sockets.proofs.Bursts.{count, append_few, none_in_front, Few, none, one, emits_few, told_none, HasPeer, held_is_peer, allowed_after, IsBurst, flush_is_burst}
@@ -51,7 +51,7 @@ receive_few e (Some transfer) arrived o turn = subst (Few 1) (sym turn.2) (none 
 
 data_where_few : (e : Endpoint) (arrived : Arrival) (payload : List ℕ) (o : Outcome) → DataWhere e arrived payload o → Few 1 o
 data_where_few e arrived [] o turn = subst (Few 1) (sym turn) (no_data_few e (held_in e.core) arrived.tsn)
-data_where_few e arrived (byte ∷ bytes) o turn = receive_few e e.below.transfer arrived o turn
+data_where_few e arrived (byte ∷ bytes) o turn = receive_few e e.queues.transfer arrived o turn
 
 pub data_few : (e : Endpoint) (arrived : Arrival) (o : Outcome) → DataTurn e arrived o → Few 1 o
 data_few e arrived o turn = data_where_few e arrived arrived.chunk.payload o turn
@@ -66,15 +66,15 @@ forward_few e (Some transfer) tsn entries o turn = subst (Few 1) (sym turn.2) (n
 abbrev pub IsBehind : ℕ → Outcome → Type 0
 IsBehind n o = count o.events ≤ n + allowed_after o
 
-told_by_few : (name : Option ℕ) (ends : Bool) → count (told_by name ends) ≤ 0
+told_by_few : (name : Option ℕ) (ends : Bool) → count (lifecycle_events_by name ends) ≤ 0
 told_by_few None ends = none 0
 told_by_few (Some id) true = none 0
 told_by_few (Some id) false = none 0
 
-delivered_few : (items : List Item) → count (delivered items) ≤ 0
+delivered_few : (items : List Item) → count (delivered_events items) ≤ 0
 delivered_few [] = none 0
 delivered_few (item ∷ items) =
-    none_in_front 0 (told_by item.fragment.lifecycle (ends_delivery item)) (delivered items) (told_by_few item.fragment.lifecycle (ends_delivery item)) (delivered_few items)
+    none_in_front 0 (lifecycle_events_by item.fragment.lifecycle (ends_delivery item)) (delivered_events items) (told_by_few item.fragment.lifecycle (ends_delivery item)) (delivered_few items)
 
 out_few : (e : Endpoint) (with_checksum : Bool) (tag : ℕ) (contents : List Content) → Few 1 (goes_out e [] with_checksum tag contents)
 out_few e with_checksum tag [] = none 1
@@ -86,7 +86,7 @@ fast_few true e held transfer o turn =
     subst (Few 1) (sym turn.is) (out_few (with_transfer e (record transfer { retransmission = turn.left })) (draft_to held).with_checksum held.peer.tag (plain_contents turn.chunks))
 
 -- An item that is to be sent at once isn't acknowledged. Then no step of a shutdown is made.
-item_below : (m n : ℕ) (state : ItemState) → m ≤ n → m + counted (is_marked state) 1 ≤ n + counted (is_unacknowledged state) 1
+item_below : (m n : ℕ) (state : ItemState) → m ≤ n → m + number_where (is_marked state) 1 ≤ n + number_where (is_unacknowledged state) 1
 item_below m n InFlight h = omega (arith, h)
 item_below m n Marked h = omega (arith, h)
 item_below m n Acknowledged h = omega (arith, h)
@@ -113,10 +113,10 @@ fast_peer true e held transfer o turn peer =
     subst (λ (x : Outcome). HasPeer x.after.core) (sym turn.is)
     (out_peer (with_transfer e (record transfer { retransmission = turn.left })) (draft_to held).with_checksum held.peer.tag (plain_contents turn.chunks) peer)
 
-stepped_few : (b : Bool) (e : Endpoint) (core : Core) (held : Held) (left : Transfer) (stepped fast : Outcome) → has_fast_retransmit left.retransmission ≡ b → e.below.transfer ≡ Some left
+stepped_few : (b : Bool) (e : Endpoint) (core : Core) (held : Held) (left : Transfer) (stepped fast : Outcome) → has_fast_retransmit left.retransmission ≡ b → e.queues.transfer ≡ Some left
     → stepped ≡ step_outcome e core → FastRetransmits b stepped.after held left fast → count (stepped.events ++ fast.events) ≤ 1
 stepped_few true e core held left stepped fast due is steps resends =
-    let waits : is_all_acknowledged e.below.transfer ≡ false = subst (λ (t : Option Transfer). is_all_acknowledged t ≡ false) (sym is) (not_all left due) in
+    let waits : is_all_acknowledged e.queues.transfer ≡ false = subst (λ (t : Option Transfer). is_all_acknowledged t ≡ false) (sym is) (not_all left due) in
     none_in_front 1 stepped.events fast.events (subst (Few 0) (sym steps) (step_waits e core waits)) (fast_few true stepped.after held left fast resends)
 stepped_few false e core held left stepped fast due is steps resends =
     append_few 1 0 stepped.events fast.events (subst (Few 1) (sym steps) (step_few e core)) (subst (Few 0) (sym resends) (none 0))
@@ -130,7 +130,7 @@ acknowledges_behind e held transfer sack o peer turn =
     subst (IsBehind 1) (sym turn.is)
     (append_few 1 (allowed_after flushed) (told ++ (turn.stepped.events ++ turn.fast.events)) flushed.events
     (none_in_front 1 told (turn.stepped.events ++ turn.fast.events)
-    (delivered_few (take (acknowledged_by transfer.retransmission.outstanding sack.cumulative_tsn_ack) transfer.retransmission.outstanding.items))
+    (delivered_few (take (acknowledged_count transfer.retransmission.outstanding sack.cumulative_tsn_ack) transfer.retransmission.outstanding.items))
     (stepped_few (has_fast_retransmit turn.left.retransmission) (sack_taken e transfer turn.left) e.core held turn.left turn.stepped turn.fast refl refl turn.steps turn.resends))
     (flush_is_burst turn.fast.after (draft_to held) turn.answers here turn.allowed))
 
@@ -180,7 +180,7 @@ refusal_few why (Some id) = none 0
 
 one_few : (e : Endpoint) (message : Sending) (why : Option MessageRefusal) → Few 0 (queue_by e message why)
 one_few e message None = none 0
-one_few e message (Some why) = refusal_few why (name_of message)
+one_few e message (Some why) = refusal_few why (lifecycle_name message)
 
 queue_few : (e : Endpoint) (messages : List Sending) → Few 0 (queue_all e messages)
 queue_few e [] = none 0
@@ -203,12 +203,12 @@ send_is_burst e messages o turn =
 
 resets_where_is_burst : (why : Option ResetRefusal) (e : Endpoint) (ids : List ℕ) (o : Outcome) → OwnResetsWhere why e ids o → IsBurst o
 resets_where_is_burst None e ids o turn =
-    let told = told_prepared ids e.below.queue in
-    let is : count (prepare_all_events ids e.below.queue) ≡ 0 =
-    ap count told.is ∙ ap count (sym (append-nil (map told_event told.told))) ∙ ap length (told_none told.told []) in
+    let told = told_prepared ids e.queues.queue in
+    let is : count (prepare_all_events ids e.queues.queue) ≡ 0 =
+    ap count told.is ∙ ap count (sym (append-nil (map filling_event told.told))) ∙ ap length (told_none told.told []) in
     subst IsBurst (sym turn.is)
-    (none_in_front (allowed_after turn.flushed) (prepare_all_events ids e.below.queue) turn.flushed.events (omega (arith, is))
-    (flush_turn_is_burst (with_queue e (prepared_all ids e.below.queue)) turn.flushed turn.flushes))
+    (none_in_front (allowed_after turn.flushed) (prepare_all_events ids e.queues.queue) turn.flushed.events (omega (arith, is))
+    (flush_turn_is_burst (endpoint_with_queue e (prepared_all ids e.queues.queue)) turn.flushed turn.flushes))
 resets_where_is_burst (Some why) e ids o turn = subst IsBurst (sym turn) (omega arith)
 
 pub resets_is_burst : (e : Endpoint) (ids : List ℕ) (o : Outcome) → OwnResetsTurn e ids o → IsBurst o

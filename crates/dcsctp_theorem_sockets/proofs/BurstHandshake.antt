@@ -16,7 +16,7 @@ use Rattle.dcsctp_spec_lemmas.specs.spec.endpoint.FlushOutcomes.{Answer, draft_t
 use Rattle.dcsctp_spec_lemmas.specs.spec.endpoint.EndOutcomes.{abort_outcome, abort_to, end_of, aborting_outcome}
 use Rattle.dcsctp_spec_lemmas.specs.spec.endpoint.HandshakeOutcomes.{pair_from, renewed_pair, init_ack_emission, init_outcome, init_emission, awaits_init_ack, connect_outcome, no_cookie_text, abort_emission, awaits_cookie_ack, InitAckAnswers, init_ack_by, connected_after, CookieAckAnswers, cookie_ack_by}
 use Rattle.dcsctp_spec_lemmas.specs.spec.endpoint.TimerOutcomes.{AgainAnswers, again_by, t1_gives_up_outcome}
-use Rattle.dcsctp_spec_lemmas.specs.spec.endpoint.CookieEchoOutcomes.{resolved_now, established_by, acknowledgement, EstablishAnswers, queue_kept, queue_begun, RestartAnswers, restart_by_where, MaintainAnswers, maintain_by, ResolvedAnswers, resolved_by, EchoedAnswers, cookie_echo_by}
+use Rattle.dcsctp_spec_lemmas.specs.spec.endpoint.CookieEchoOutcomes.{resolved_now, established_by, cookie_ack_emission, EstablishAnswers, queue_kept, queue_begun, RestartAnswers, restart_by_where, MaintainAnswers, maintain_by, ResolvedAnswers, resolved_by, EchoedAnswers, cookie_echo_by}
 use Rattle.dcsctp_spec_lemmas.specs.spec.association.CookieEchoChanges.{held_by_cookie, Resolution, establish_new, restart, simultaneous_init, discard, maintain_existing, invalid_tag, stale}
 use Rattle.dcsctp_theorem_sockets.specs.Bursts.{packets_of_chunk, packets_of_t1}
 use Rattle.dcsctp_theorem_sockets.proofs.Bursts.{count, append_few, Few, none, emits_few, HasPeer, allowed_after, IsBurst, flush_is_burst, echo_is_burst}
@@ -75,9 +75,9 @@ nothing_of : (n : ℕ) → 0 ≤ max 1 n
 nothing_of n = omega arith
 
 established_echoed : (e : Endpoint) (cookie : Cookie) (queue : SendQueueState) (tie : ℕ) (answers : List Answer) → EstablishAnswers e cookie queue tie answers
-    → IsEchoed (flush_of (established_by e cookie queue tie) (acknowledgement (held_by_cookie e.options cookie) cookie) answers)
+    → IsEchoed (flush_of (established_by e cookie queue tie) (cookie_ack_emission (held_by_cookie e.options cookie) cookie) answers)
 established_echoed e cookie queue tie answers allowed =
-    burst_of _ _ (flush_is_burst (established_by e cookie queue tie) (acknowledgement (held_by_cookie e.options cookie) cookie) answers tt allowed)
+    burst_of _ _ (flush_is_burst (established_by e cookie queue tie) (cookie_ack_emission (held_by_cookie e.options cookie) cookie) answers tt allowed)
 
 restarted_echoed : (e : Endpoint) (cookie : Cookie) (tie : ℕ) (core : Core) (answers : List Answer) → RestartAnswers e cookie tie core answers
     → IsEchoed (restart_by_where (flush_answered answers) e cookie tie core)
@@ -93,8 +93,8 @@ restarted_echoed e cookie tie (open_in shutdown_ack_sent my held) answers allowe
 maintained_echoed : (e : Endpoint) (cookie : Cookie) (core : Core) (answers : List Answer) → e.core ≡ core → MaintainAnswers e cookie core answers → IsEchoed (maintain_by (flush_answered answers) e cookie core)
 maintained_echoed e cookie closed answers is allowed = nothing_of _
 maintained_echoed e cookie (cookie_wait my) answers is allowed = nothing_of _
-maintained_echoed e cookie (cookie_echoed my held echoed) answers is allowed = burst_of _ _ (flush_is_burst (connected_after e my held) (acknowledgement held cookie) answers tt allowed)
-maintained_echoed e cookie (open_in phase my held) answers is allowed = burst_of _ _ (flush_is_burst e (acknowledgement held cookie) answers (subst HasPeer (sym is) tt) allowed)
+maintained_echoed e cookie (cookie_echoed my held echoed) answers is allowed = burst_of _ _ (flush_is_burst (connected_after e my held) (cookie_ack_emission held cookie) answers tt allowed)
+maintained_echoed e cookie (open_in phase my held) answers is allowed = burst_of _ _ (flush_is_burst e (cookie_ack_emission held cookie) answers (subst HasPeer (sym is) tt) allowed)
 
 resolved_echoed : (e : Endpoint) (cookie : Cookie) (core : Core) (word : ℕ) (resolution : Resolution) (answers : List Answer) → e.core ≡ core → ResolvedAnswers e cookie core word resolution answers
     → IsEchoed (resolved_by (flush_answered answers) e cookie core word resolution)

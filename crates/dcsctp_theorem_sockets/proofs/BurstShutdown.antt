@@ -5,7 +5,7 @@ use Rattle.dcsctp_spec_lemmas.specs.types.declared.association.Held.{Held}
 use Rattle.dcsctp_spec_lemmas.specs.spec.endpoint.Endpoint.{Endpoint, Core, closed, cookie_wait, cookie_echoed, open_in, OpenPhase, established, shutdown_pending, shutdown_sent, shutdown_received, shutdown_ack_sent}
 use Rattle.dcsctp_spec_lemmas.specs.spec.endpoint.Outcome.{Outcome}
 use Rattle.dcsctp_spec_lemmas.specs.spec.endpoint.Turn.{BeginTurn}
-use Rattle.dcsctp_spec_lemmas.specs.spec.endpoint.ShutdownOutcomes.{phase_at, is_all_acknowledged, waits_for_queue, may_go_on, step_by, step_outcome, t1_stopped, shut_down_outcome, shutdown_outcome, shutdown_ack_outcome, shutdown_complete_outcome, t2_goes_on, sent_again, t2_again_outcome}
+use Rattle.dcsctp_spec_lemmas.specs.spec.endpoint.ShutdownOutcomes.{phase_at, is_all_acknowledged, waits_for_queue, may_go_on, step_by, step_outcome, t1_stopped, shut_down_outcome, shutdown_outcome, shutdown_ack_outcome, shutdown_complete_outcome, t2_goes_on, shutdown_sent_again, t2_again_outcome}
 use Rattle.dcsctp_theorem_sockets.proofs.Bursts.{Few, none, one, HasPeer}
 
 -- ---- a step of it
@@ -29,7 +29,7 @@ waits_by : (b : Bool) (e : Endpoint) (phase : OpenPhase) (my : Pair) (held : Hel
 waits_by false e phase my held is = none 0
 waits_by true e phase my held is = absurd (cc)
 
-pub step_waits : (e : Endpoint) (core : Core) → is_all_acknowledged e.below.transfer ≡ false → Few 0 (step_outcome e core)
+pub step_waits : (e : Endpoint) (core : Core) → is_all_acknowledged e.queues.transfer ≡ false → Few 0 (step_outcome e core)
 step_waits e closed is = none 0
 step_waits e (cookie_wait my) is = none 0
 step_waits e (cookie_echoed my held cookie) is = none 0
@@ -100,7 +100,7 @@ shutdown_complete_few e (open_in shutdown_ack_sent my held) = none 0
 
 -- ---- T2, and data while a SHUTDOWN waits for its answer
 
-again_few : (e : Endpoint) (core : Core) → Few 1 (sent_again e core)
+again_few : (e : Endpoint) (core : Core) → Few 1 (shutdown_sent_again e core)
 again_few e closed = none 1
 again_few e (cookie_wait my) = none 1
 again_few e (cookie_echoed my held cookie) = none 1

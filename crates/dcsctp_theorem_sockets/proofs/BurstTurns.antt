@@ -11,9 +11,9 @@ use Rattle.dcsctp_spec_lemmas.specs.spec.Reconfiguration.{RequestedReset}
 use Rattle.dcsctp_spec_lemmas.specs.spec.endpoint.Endpoint.{Endpoint, Core, cookie_wait, cookie_echoed, open_in}
 use Rattle.dcsctp_spec_lemmas.specs.spec.endpoint.Endpoint as machine
 use Rattle.dcsctp_spec_lemmas.specs.spec.endpoint.Outcome.{Outcome}
-use Rattle.dcsctp_spec_lemmas.specs.spec.association.Controlled.{signs_of_events, signs_of_effects}
-use Rattle.dcsctp_spec_lemmas.specs.spec.endpoint.CallTurns.{Turned, IsTurn}
-use Rattle.dcsctp_spec_lemmas.specs.spec.endpoint.Turn.{Input, arrival, refusal, packet_begins, chunk_input, packet_ends, act_input, user_sets, user_sends, user_resets, user_takes, timer_expires, time_passes, restores, has_data, ContentTurn, ActTurn}
+use Rattle.dcsctp_spec_lemmas.specs.spec.association.Controlled.{observations_of_events, observations_of_effects}
+use Rattle.dcsctp_spec_lemmas.specs.spec.endpoint.CallTurns.{Transition, IsTurn}
+use Rattle.dcsctp_spec_lemmas.specs.spec.endpoint.Turn.{Input, arrival, refusal, packet_begins, chunk_input, packet_ends, act_input, user_sets, user_sends, user_resets, user_takes, timer_expires, time_passes, restores, has_data_chunk, ContentTurn, ActTurn}
 use Rattle.dcsctp_spec_lemmas.specs.spec.association.Acts.{Act, connect, t1_expires, shut_down, step_of_shutdown, shutdown_repeats, abort_with, hands_over, flushes, request_again, request_renewed, request_sent, request_again_change, renewed_by, request_renewed_change}
 use Rattle.dcsctp_spec_lemmas.specs.spec.endpoint.TimerOutcomes.{t1_goes_on}
 use Rattle.dcsctp_spec_runs.proofs.RunsAlong.{run_along}
@@ -51,7 +51,7 @@ chunk_counts e tag (plain chunk) o turn = plain_counts e chunk o turn
 -- ---- a request again
 
 -- A packet is a sign of its turn.
-are_signs : (events : List (Event Emission)) → count events ≤ length (signs_of_events events)
+are_signs : (events : List (Event Emission)) → count events ≤ length (observations_of_events events)
 are_signs [] = none 0
 are_signs (sent emission ∷ events) = let few = are_signs events in omega (arith, few)
 are_signs (connected ∷ events) = let few = are_signs events in omega (arith, few)
@@ -70,12 +70,12 @@ are_signs (lifecycle_message_expired id ∷ events) = are_signs events
 are_signs (lifecycle_message_delivered id ∷ events) = are_signs events
 are_signs (lifecycle_end id ∷ events) = are_signs events
 
-request_signs : (held : Held) (number : Option ℕ) (reset : RequestedReset) (fits : Bool) → length (signs_of_effects (request_sent held number reset fits)) ≤ 1
+request_signs : (held : Held) (number : Option ℕ) (reset : RequestedReset) (fits : Bool) → length (observations_of_effects (request_sent held number reset fits)) ≤ 1
 request_signs held None reset fits = none 1
 request_signs held (Some number) reset true = one 0
 request_signs held (Some number) reset false = none 1
 
-again_signs : (core : Core) (reset : RequestedReset) (fits : Bool) → length (signs_of_effects (request_again_change core reset fits).effects) ≤ 1
+again_signs : (core : Core) (reset : RequestedReset) (fits : Bool) → length (observations_of_effects (request_again_change core reset fits).effects) ≤ 1
 again_signs machine.closed reset fits = none 1
 again_signs (cookie_wait my) reset fits = none 1
 again_signs (cookie_echoed my held cookie) reset fits = request_signs held held.own_outstanding reset fits
@@ -83,17 +83,17 @@ again_signs (open_in phase my held) reset fits = request_signs held held.own_out
 
 again_few : (e : Endpoint) (reset : RequestedReset) (o : Outcome) → ActTurn e (request_again reset) o → Few 1 o
 again_few e reset o turn =
-    let signs = are_signs o.events in
-    let same = ap length turn.1.signs in
+    let observations = are_signs o.events in
+    let same = ap length turn.1.observations in
     let few = again_signs e.core reset turn.0.fits in
-    omega (arith, signs, same, few)
+    omega (arith, observations, same, few)
 
-renewed_signs : (held : Held) (number : Option ℕ) (reset : RequestedReset) (fits : Bool) → length (signs_of_effects (renewed_by held number reset fits).effects) ≤ 1
+renewed_signs : (held : Held) (number : Option ℕ) (reset : RequestedReset) (fits : Bool) → length (observations_of_effects (renewed_by held number reset fits).effects) ≤ 1
 renewed_signs held None reset fits = none 1
 renewed_signs held (Some number) reset true = one 0
 renewed_signs held (Some number) reset false = none 1
 
-anew_signs : (core : Core) (reset : RequestedReset) (fits : Bool) → length (signs_of_effects (request_renewed_change core reset fits).effects) ≤ 1
+anew_signs : (core : Core) (reset : RequestedReset) (fits : Bool) → length (observations_of_effects (request_renewed_change core reset fits).effects) ≤ 1
 anew_signs machine.closed reset fits = none 1
 anew_signs (cookie_wait my) reset fits = none 1
 anew_signs (cookie_echoed my held cookie) reset fits = renewed_signs held held.own_outstanding reset fits
@@ -101,10 +101,10 @@ anew_signs (open_in phase my held) reset fits = renewed_signs held held.own_outs
 
 anew_few : (e : Endpoint) (reset : RequestedReset) (o : Outcome) → ActTurn e (request_renewed reset) o → Few 1 o
 anew_few e reset o turn =
-    let signs = are_signs o.events in
-    let same = ap length turn.1.signs in
+    let observations = are_signs o.events in
+    let same = ap length turn.1.observations in
     let few = anew_signs e.core reset turn.0.fits in
-    omega (arith, signs, same, few)
+    omega (arith, observations, same, few)
 
 -- ---- an act
 
@@ -130,26 +130,26 @@ keeps_from e input o same few =
     let burst : o.after.options.max_burst ≡ e.options.max_burst = ap (λ (p : Options). p.max_burst) same in
     subst (λ (b : ℤ). count o.events ≤ packets_of e.options e.core input (flush_limit b o.after.core)) burst few
 
-turn_counts : (e : Endpoint) (input : Input) (t : Turned) → IsTurn e input t → KeepsBurst e input t.outcome
+turn_counts : (e : Endpoint) (input : Input) (t : Transition) → IsTurn e input t → KeepsBurst e input t.outcome
 turn_counts e arrival t turn = subst (Few 0) (sym turn.comes) (none 0)
 turn_counts e (refusal text) t turn = subst (Few 0) (sym turn.comes) (none 0)
-turn_counts e (packet_begins contents) t turn = begin_few e e.core (has_data contents) t.outcome turn.comes
+turn_counts e (packet_begins contents) t turn = begin_few e e.core (has_data_chunk contents) t.outcome turn.comes
 turn_counts e (chunk_input tag content) t turn =
     keeps_from e (chunk_input tag content) t.outcome (content_keeps_options e tag content t.outcome turn.comes) (chunk_counts e tag content t.outcome turn.comes)
 turn_counts e packet_ends t turn =
-    keeps_from e packet_ends t.outcome (flushed_act e t.outcome (end_at e e.below.transfer t.outcome turn.comes)).1.options (end_is_burst e e.below.transfer t.outcome turn.comes)
+    keeps_from e packet_ends t.outcome (flushed_act e t.outcome (end_at e e.queues.transfer t.outcome turn.comes)).1.options (end_is_burst e e.queues.transfer t.outcome turn.comes)
 turn_counts e (act_input act) t turn = keeps_from e (act_input act) t.outcome (acts_are_controlled e act t.outcome turn.comes).1.options (act_counts e act t.outcome turn.comes)
 turn_counts e (user_sets setting) t turn = subst (Few 0) (sym turn.comes) (none 0)
 turn_counts e (user_sends messages) t turn =
     keeps_from e (user_sends messages) t.outcome (flushed_act e t.outcome (send_at e messages t.outcome turn.comes)).1.options (send_is_burst e messages t.outcome turn.comes)
 turn_counts e (user_resets ids) t turn =
     keeps_from e (user_resets ids) t.outcome (flushed_act e t.outcome (resets_at e ids t.outcome turn.comes)).1.options (resets_is_burst e ids t.outcome turn.comes)
-turn_counts e user_takes t turn = take_few e e.below.transfer t.outcome turn.comes
+turn_counts e user_takes t turn = take_few e e.queues.transfer t.outcome turn.comes
 turn_counts e (timer_expires timer) t turn = timer_few e timer t.outcome turn.comes
 turn_counts e (time_passes moment) t turn = subst (Few 0) (sym turn.comes) (none 0)
 turn_counts e (restores state) t turn = restore_few e state t.outcome turn.comes
 
-each_counts : (e : Endpoint) (input : Input) (t : Turned) → IsTurn e input t → TurnKeepsBurst e t
+each_counts : (e : Endpoint) (input : Input) (t : Transition) → IsTurn e input t → TurnKeepsBurst e t
 each_counts e input t turn = subst (λ (i : Input). KeepsBurst e i t.outcome) (sym turn.is) (turn_counts e input t turn)
 
 pub sockets_keep_bursts : SocketsKeepBursts

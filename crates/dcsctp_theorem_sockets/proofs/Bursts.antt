@@ -8,7 +8,7 @@ use Rattle.dcsctp_spec_lemmas.specs.spec.Packet.{Content, cookie_echo, Emission}
 use Rattle.dcsctp_spec_lemmas.specs.spec.endpoint.Endpoint.{Endpoint, Core, closed, cookie_wait, cookie_echoed, open_in, held_in}
 use Rattle.dcsctp_spec_lemmas.specs.spec.endpoint.Outcome.{Outcome, fits, sends, quiet, emits}
 use Rattle.dcsctp_spec_lemmas.specs.spec.endpoint.BegunResets.{BegunReset, core_asking, after_begun}
-use Rattle.dcsctp_spec_lemmas.specs.spec.endpoint.FlushOutcomes.{Told, amount_is_low, total_amount_is_low, message_is_sent, message_may_have_expired, message_has_expired, message_ends, told_event, Answer, Ask, first_ask, Answers, at_limit, at_empty, after_packet, answer_contents, filled, goes_out, asked, next_draft, flush_of, packets_allowed, FlushAnswers, flush_answered}
+use Rattle.dcsctp_spec_lemmas.specs.spec.endpoint.FlushOutcomes.{FillingEvent, amount_is_low, total_amount_is_low, message_is_sent, message_may_have_expired, message_has_expired, message_ends, filling_event, Answer, Ask, first_ask, AreFlushAnswers, at_limit, at_empty, after_packet, answer_contents, filled, goes_out, asked, next_draft, flush_of, packets_allowed, FlushAnswers, flush_answered}
 use Rattle.dcsctp_spec_lemmas.specs.spec.endpoint.HandshakeOutcomes.{echo_emission, EchoAnswers}
 use Rattle.dcsctp_spec_lemmas.proofs.FlushKeeps.{begun_by, flush_keeps}
 use Rattle.dcsctp_theorem_sockets.specs.Bursts.{flush_limit}
@@ -62,7 +62,7 @@ emits_few e words emission = emits_by (fits e emission) e words emission
 -- ---- a flush
 
 -- what is told is no packet
-pub told_none : (told : List Told) (rest : List (Event Emission)) → packets_in (map told_event told ++ rest) ≡ packets_in rest
+pub told_none : (told : List FillingEvent) (rest : List (Event Emission)) → packets_in (map filling_event told ++ rest) ≡ packets_in rest
 told_none [] rest = refl
 told_none (amount_is_low stream ∷ told) rest = told_none told rest
 told_none (total_amount_is_low ∷ told) rest = told_none told rest
@@ -71,17 +71,17 @@ told_none (message_may_have_expired id ∷ told) rest = told_none told rest
 told_none (message_has_expired id ∷ told) rest = told_none told rest
 told_none (message_ends id ∷ told) rest = told_none told rest
 
-one_at_most : (e : Endpoint) (told : List Told) (with_checksum : Bool) (tag : ℕ) (contents : List Content) (rest : List (Event Emission)) (n : ℕ) → count rest ≤ n
-    → count ((goes_out e (map told_event told) with_checksum tag contents).events ++ rest) ≤ suc n
+one_at_most : (e : Endpoint) (told : List FillingEvent) (with_checksum : Bool) (tag : ℕ) (contents : List Content) (rest : List (Event Emission)) (n : ℕ) → count rest ≤ n
+    → count ((goes_out e (map filling_event told) with_checksum tag contents).events ++ rest) ≤ suc n
 one_at_most e told with_checksum tag [] rest n few =
-    let same : count (map told_event told ++ rest) ≡ count rest = ap length (told_none told rest) in omega (arith, same, few)
+    let same : count (map filling_event told ++ rest) ≡ count rest = ap length (told_none told rest) in omega (arith, same, few)
 one_at_most e told with_checksum tag (content ∷ contents) rest n few =
     let emission : Emission = record { with_checksum = with_checksum; packet = record { tag = tag; contents = content ∷ contents } } in
-    let same : count ((map told_event told ++ sent emission ∷ []) ++ rest) ≡ suc (count rest) =
-    ap count (append_assoc (map told_event told) (sent emission ∷ []) rest) ∙ ap length (told_none told (sent emission ∷ rest)) in
+    let same : count ((map filling_event told ++ sent emission ∷ []) ++ rest) ≡ suc (count rest) =
+    ap count (append_assoc (map filling_event told) (sent emission ∷ []) rest) ∙ ap length (told_none told (sent emission ∷ rest)) in
     omega (arith, same, few)
 
-flush_counts : (ask : Ask) (n : ℕ) (e : Endpoint) (draft : Emission) (answers : List Answer) → Answers ask n e draft answers → count (flush_of e draft answers).events ≤ n
+flush_counts : (ask : Ask) (n : ℕ) (e : Endpoint) (draft : Emission) (answers : List Answer) → AreFlushAnswers ask n e draft answers → count (flush_of e draft answers).events ≤ n
 flush_counts _ _ _ _ _ (at_limit ask e draft) = omega arith
 flush_counts _ _ _ _ _ (at_empty ask more e draft answer is empty) =
     one_at_most answer.after answer.told draft.with_checksum draft.packet.tag (filled draft (answer_contents answer)).packet.contents [] more (omega arith)

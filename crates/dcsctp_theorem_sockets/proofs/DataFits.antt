@@ -7,23 +7,23 @@ use Rattle.dcsctp_spec_lemmas.specs.types.declared.kinds.ErrorKind.TheVariants.{
 use Rattle.dcsctp_spec_lemmas.specs.spec.endpoint.Event.{error}
 use Rattle.dcsctp_spec_lemmas.specs.spec.Packet.{Plain, plain, error_of, Content}
 use Rattle.dcsctp_spec_lemmas.specs.spec.queues.Tracker.{TrackerState, after_packet_end, is_acknowledgement_due, sacked, delay_over}
-use Rattle.dcsctp_spec_lemmas.specs.spec.queues.Transfer.{Below, Transfer}
+use Rattle.dcsctp_spec_lemmas.specs.spec.queues.Transfer.{EndpointQueues, Transfer}
 use Rattle.dcsctp_spec_lemmas.specs.types.queues.Messages.{MessageContent}
 use Rattle.dcsctp_spec_lemmas.specs.spec.endpoint.Endpoint.{Endpoint, held_in}
 use Rattle.dcsctp_spec_lemmas.specs.spec.endpoint.Outcome.{Outcome, still, quiet, sends, behind, then_outcome, to_peer, fits as fits_mtu}
 use Rattle.dcsctp_spec_lemmas.specs.spec.association.Choices.{plain_contents}
 use Rattle.dcsctp_spec_lemmas.specs.spec.endpoint.FlushOutcomes.{own_sack, Answer, goes_out, draft_to, flush_of, room_in}
-use Rattle.dcsctp_spec_lemmas.specs.spec.queues.Acknowledging.{ends_delivery, told_by, delivered}
+use Rattle.dcsctp_spec_lemmas.specs.spec.queues.Acknowledging.{ends_delivery, lifecycle_events_by, delivered_events}
 use Rattle.dcsctp_spec_lemmas.specs.spec.queues.Items.{Item}
-use Rattle.dcsctp_spec_lemmas.specs.spec.queues.Outstanding.{acknowledged_by}
+use Rattle.dcsctp_spec_lemmas.specs.spec.queues.Outstanding.{acknowledged_count}
 use Rattle.dcsctp_spec_lemmas.specs.spec.queues.Retransmission.{has_fast_retransmit}
 use Rattle.dcsctp_spec_lemmas.specs.spec.queues.OwnResets.{prepared_all, prepare_all_events}
 use Rattle.dcsctp_spec_lemmas.proofs.SendEventLemmas.{told_prepared}
-use Rattle.dcsctp_spec_lemmas.specs.spec.endpoint.MessageOutcomes.{MessageRefusal, sending_refusal, name_of, refusal_events, Sending, queue_by, queue_one, queue_all, takes_any, SendAnswers, send_by, SendTurn}
-use Rattle.dcsctp_spec_lemmas.specs.spec.endpoint.PreparedResets.{ResetRefusal, reset_refusal, with_queue, PreparesResets, OwnResetsWhere, OwnResetsTurn}
+use Rattle.dcsctp_spec_lemmas.specs.spec.endpoint.MessageOutcomes.{MessageRefusal, sending_refusal, lifecycle_name, refusal_events, Sending, queue_by, queue_one, queue_all, takes_any, SendAnswers, send_by, SendTurn}
+use Rattle.dcsctp_spec_lemmas.specs.spec.endpoint.PreparedResets.{ResetRefusal, reset_refusal, endpoint_with_queue, PreparesResets, OwnResetsWhere, OwnResetsTurn}
 use Rattle.dcsctp_spec_lemmas.specs.types.declared.arrivals.SkippedTo.{SkippedTo}
 use Rattle.dcsctp_spec_lemmas.specs.spec.queues.Arrivals.{Arrival}
-use Rattle.dcsctp_spec_lemmas.specs.spec.endpoint.DataOutcomes.{DataWhere, taken_to, TakeWhere, TakeLeft, TakeTurn, with_transfer, with_tracker, flush_by, AnswersTo, FlushTurn, no_user_data_text, no_user_data_outcome, ReceiveTurn, DataTurn, ForwardTurn, SendsLost, FastRetransmits, sack_taken, AcknowledgesBy, SackWhere, SackBy, SackTurn, acknowledging, AnswersPacket, EndWhere, EndsBy, delay_outcome, LossTurn}
+use Rattle.dcsctp_spec_lemmas.specs.spec.endpoint.DataOutcomes.{DataWhere, taken_to, TakeWhere, TakeLeft, TakeTurn, with_transfer, endpoint_with_tracker, flush_by, AnswersTo, FlushTurn, no_user_data_text, no_user_data_outcome, ReceiveTurn, DataTurn, ForwardTurn, SendsLost, FastRetransmits, sack_taken, AcknowledgesBy, SackWhere, SackBy, SackTurn, acknowledging, AnswersPacket, EndWhere, EndsBy, delay_outcome, LossTurn}
 use Rattle.dcsctp_spec_lemmas.specs.spec.queues.Acknowledging.{is_sack_valid}
 use Rattle.dcsctp_spec_runs.specs.Fitting.{AllSent, FitsHeld, FitsEndpoint, IsSendable, Sendable, TurnFits}
 use Rattle.dcsctp_spec_runs.proofs.KindLemmas.{chunks_are_data}
@@ -36,11 +36,11 @@ use Rattle.dcsctp_theorem_sockets.proofs.ShutdownFits.{step_fits}
 -- ---- turns that send nothing
 
 -- What lies below is no part of it.
-below_fits : (e : Endpoint) (below : Below) → FitsEndpoint e → FitsEndpoint (record e { below = below })
+below_fits : (e : Endpoint) (below : EndpointQueues) → FitsEndpoint e → FitsEndpoint (record e { queues = below })
 below_fits e below h = record { valid = h.valid; options = h.options; core = h.core; t1 = h.t1 }
 
 transfer_fits : (e : Endpoint) (transfer : Transfer) → FitsEndpoint e → FitsEndpoint (with_transfer e transfer)
-transfer_fits e transfer h = below_fits e (record e.below { transfer = Some transfer }) h
+transfer_fits e transfer h = below_fits e (record e.queues { transfer = Some transfer }) h
 
 moved_fits : (e : Endpoint) (transfer : Transfer) → FitsEndpoint e → TurnFits (still (with_transfer e transfer))
 moved_fits e transfer h = still_fits (with_transfer e transfer) (transfer_fits e transfer h)
@@ -79,7 +79,7 @@ receive_fits e (Some transfer) arrived o turn h = subst TurnFits (sym turn.2) (m
 
 data_where_fits : (e : Endpoint) (arrived : Arrival) (payload : List ℕ) (o : Outcome) → DataWhere e arrived payload o → FitsEndpoint e → arrived.tsn < 2 ^ 32 → TurnFits o
 data_where_fits e arrived [] o turn h number = subst TurnFits (sym turn) (no_data_fits e (held_in e.core) arrived.tsn h (peer_fits e.core h.core) number)
-data_where_fits e arrived (byte ∷ bytes) o turn h number = receive_fits e e.below.transfer arrived o turn h
+data_where_fits e arrived (byte ∷ bytes) o turn h number = receive_fits e e.queues.transfer arrived o turn h
 
 pub data_fits : (e : Endpoint) (arrived : Arrival) (o : Outcome) → DataTurn e arrived o → FitsEndpoint e → arrived.tsn < 2 ^ 32 → TurnFits o
 data_fits e arrived o turn h number = data_where_fits e arrived arrived.chunk.payload o turn h number
@@ -90,15 +90,15 @@ forward_fits e (Some transfer) tsn entries o turn h = subst TurnFits (sym turn.2
 
 -- ---- SACK
 
-told_send_nothing : (name : Option ℕ) (ends : Bool) → AllSent IsSendable (told_by name ends)
+told_send_nothing : (name : Option ℕ) (ends : Bool) → AllSent IsSendable (lifecycle_events_by name ends)
 told_send_nothing None ends = tt
 told_send_nothing (Some id) true = (tt, (tt, tt))
 told_send_nothing (Some id) false = tt
 
-delivered_send_nothing : (items : List Item) → AllSent IsSendable (delivered items)
+delivered_send_nothing : (items : List Item) → AllSent IsSendable (delivered_events items)
 delivered_send_nothing [] = tt
 delivered_send_nothing (item ∷ items) =
-    all_sent_append IsSendable (told_by item.fragment.lifecycle (ends_delivery item)) (delivered items) (told_send_nothing item.fragment.lifecycle (ends_delivery item)) (delivered_send_nothing items)
+    all_sent_append IsSendable (lifecycle_events_by item.fragment.lifecycle (ends_delivery item)) (delivered_events items) (told_send_nothing item.fragment.lifecycle (ends_delivery item)) (delivered_send_nothing items)
 
 -- The packet of lost items holds data alone.
 at_once_fits : (e : Endpoint) (held : Held) (transfer : Transfer) (o : Outcome) → SendsLost e held transfer o → FitsEndpoint e → FitsHeld held → TurnFits o
@@ -125,10 +125,10 @@ pub acknowledges_fits : (e : Endpoint) (held : Held) (transfer : Transfer) (sack
 acknowledges_fits e held transfer sack o turn h fits =
     let step : TurnFits turn.stepped = subst TurnFits (sym turn.steps) (step_fits (sack_taken e transfer turn.left) e.core (taken_fits e transfer turn.left h) h.core) in
     let fast : TurnFits turn.fast = fast_fits (has_fast_retransmit turn.left.retransmission) turn.stepped.after held turn.left turn.fast turn.resends step.after fits in
-    let acknowledged : List Item = take (acknowledged_by transfer.retransmission.outstanding sack.cumulative_tsn_ack) transfer.retransmission.outstanding.items in
+    let acknowledged : List Item = take (acknowledged_count transfer.retransmission.outstanding sack.cumulative_tsn_ack) transfer.retransmission.outstanding.items in
     subst TurnFits (sym turn.is)
-    (behind_fits [] (delivered acknowledged ++ (turn.stepped.events ++ turn.fast.events)) (flush_of turn.fast.after (draft_to held) turn.answers)
-    (all_sent_append IsSendable (delivered acknowledged) (turn.stepped.events ++ turn.fast.events) (delivered_send_nothing acknowledged)
+    (behind_fits [] (delivered_events acknowledged ++ (turn.stepped.events ++ turn.fast.events)) (flush_of turn.fast.after (draft_to held) turn.answers)
+    (all_sent_append IsSendable (delivered_events acknowledged) (turn.stepped.events ++ turn.fast.events) (delivered_send_nothing acknowledged)
     (all_sent_append IsSendable turn.stepped.events turn.fast.events step.sends fast.sends))
     (flush_fits turn.fast.after (draft_to held) turn.answers turn.allowed fast.after (draft_sendable held fits)))
 
@@ -150,7 +150,7 @@ answers_fit : (e : Endpoint) (held : Held) (transfer : Transfer) (tracker : Trac
 answers_fit e held transfer tracker o turn h fits =
     let sack : Plain = own_sack (record transfer { tracker = tracker }) in
     subst TurnFits (sym turn.is)
-    (flush_fits (with_tracker e transfer (sacked tracker)) (acknowledging e held sack) turn.answers turn.allowed
+    (flush_fits (endpoint_with_tracker e transfer (sacked tracker)) (acknowledging e held sack) turn.answers turn.allowed
     (transfer_fits e (record transfer { tracker = sacked tracker }) h)
     (record { tag = fits.peer.tag; contents = where_fits_sendable (room_in e (draft_to held)) sack (own_sack_sendable (record transfer { tracker = tracker })) }))
 
@@ -187,7 +187,7 @@ refused_sends_nothing refusal (Some id) = (tt, (tt, tt))
 
 queued_fits : (e : Endpoint) (message : Sending) (refusal : Option MessageRefusal) → FitsEndpoint e → TurnFits (queue_by e message refusal)
 queued_fits e message None h = record { after = record { valid = h.valid; options = h.options; core = h.core; t1 = h.t1 }; sends = tt }
-queued_fits e message (Some refusal) h = record { after = h; sends = refused_sends_nothing refusal (name_of message) }
+queued_fits e message (Some refusal) h = record { after = h; sends = refused_sends_nothing refusal (lifecycle_name message) }
 
 then_fits : (first second : Outcome) → TurnFits first → TurnFits second → TurnFits (then_outcome first second)
 then_fits first second h k = record { after = k.after; sends = all_sent_append IsSendable first.events second.events h.sends k.sends }
@@ -214,11 +214,11 @@ send_fits e messages o turn h =
 
 prepares_fits : (e : Endpoint) (ids : List ℕ) (o : Outcome) → PreparesResets e ids o → FitsEndpoint e → TurnFits o
 prepares_fits e ids o turn h =
-    let base : Endpoint = with_queue e (prepared_all ids e.below.queue) in
-    let told = told_prepared ids e.below.queue in
+    let base : Endpoint = endpoint_with_queue e (prepared_all ids e.queues.queue) in
+    let told = told_prepared ids e.queues.queue in
     subst TurnFits (sym turn.is)
-    (behind_fits [] (prepare_all_events ids e.below.queue) turn.flushed (subst (AllSent IsSendable) (sym told.is) (told_sends told.told))
-    (flush_turn_fits base turn.flushed turn.flushes (below_fits e base.below h)))
+    (behind_fits [] (prepare_all_events ids e.queues.queue) turn.flushed (subst (AllSent IsSendable) (sym told.is) (told_sends told.told))
+    (flush_turn_fits base turn.flushed turn.flushes (below_fits e base.queues h)))
 
 resets_where_fits : (refusal : Option ResetRefusal) (e : Endpoint) (ids : List ℕ) (o : Outcome) → OwnResetsWhere refusal e ids o → FitsEndpoint e → TurnFits o
 resets_where_fits None e ids o turn h = prepares_fits e ids o turn h

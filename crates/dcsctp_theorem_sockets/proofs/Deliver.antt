@@ -11,7 +11,7 @@ use Rattle.dcsctp_spec_lemmas.specs.spec.Packet.{Content, init, init_ack, cookie
 use Rattle.dcsctp_spec_lemmas.specs.spec.endpoint.Endpoint.{Endpoint, Core, closed, cookie_wait, cookie_echoed, open_in}
 use Rattle.dcsctp_spec_lemmas.specs.spec.endpoint.Following.{Following, next_chunk, packet_end, dropped_rest}
 use Rattle.dcsctp_spec_lemmas.specs.spec.endpoint.Turn.{Input, packet_ends}
-use Rattle.dcsctp_spec_lemmas.specs.spec.endpoint.CallTurns.{Turned, Turns, AfterChunk, ChunkTurns}
+use Rattle.dcsctp_spec_lemmas.specs.spec.endpoint.CallTurns.{Transition, Turns, AfterChunk, ChunkTurns}
 use Rattle.dcsctp_spec_lemmas.specs.spec.Admission.{shutdown_acks_in}
 use Rattle.dcsctp_spec_runs.specs.Laws.{OfferReadsBack, FitsTurns}
 use Rattle.dcsctp_spec_laws.specs.TurnLaws.{FitsOwn, FitsContent}
@@ -105,38 +105,38 @@ content_fits e (shutdown_complete reflected) h good = tt
 content_fits e (plain chunk) h good = tt
 
 -- it fits, whatever the turn is
-abbrev pub Fits : Turned → Type 0
+abbrev pub Fits : Transition → Type 0
 Fits turn = TurnFits turn.outcome
 
 -- The chunks fit at their turns, and so does what each turn leaves, to the end of the packet.
-pub record ChunksFit (e : Endpoint) (contents : List Content) (turns : List Turned) : Type 0 where
+pub record ChunksFit (e : Endpoint) (contents : List Content) (turns : List Transition) : Type 0 where
   pub contents_fit : FitsTurns e contents turns
   pub turns_fit : AllByRecursion Fits turns
 
 -- where no chunk is left, the packet's end
 abbrev pub EndFits : List Input → Type 0
-EndFits tail = (e : Endpoint) (turns : List Turned) → Turns e tail turns → FitsEndpoint e → AllByRecursion Fits turns
+EndFits tail = (e : Endpoint) (turns : List Transition) → Turns e tail turns → FitsEndpoint e → AllByRecursion Fits turns
 
-left : (e : Endpoint) (contents : List Content) (turns : List Turned) → AllByRecursion Fits turns → FitsTurns e contents turns → ChunksFit e contents turns
+left : (e : Endpoint) (contents : List Content) (turns : List Transition) → AllByRecursion Fits turns → FitsTurns e contents turns → ChunksFit e contents turns
 left e contents turns each fits = record { contents_fit = fits; turns_fit = each }
 
 -- Turns that aren't of the chunks say nothing of these.
-any_fit : (e : Endpoint) (contents : List Content) (turns : List Turned) → FitsEndpoint e → AllByRecursion Sendable contents → AllByRecursion Fits turns → FitsTurns e contents turns
+any_fit : (e : Endpoint) (contents : List Content) (turns : List Transition) → FitsEndpoint e → AllByRecursion Sendable contents → AllByRecursion Fits turns → FitsTurns e contents turns
 any_fit e [] turns h good each = tt
 any_fit e (content ∷ contents) [] h good each = tt
 any_fit e (content ∷ contents) (t ∷ ts) h good each = (content_fits e content h good.0, any_fit t.outcome.after contents ts each.0.after good.1 each.1)
 
-none_fit : (turns : List Turned) → turns ≡ [] → AllByRecursion Fits turns
-none_fit turns none = subst (λ (ts : List Turned). AllByRecursion Fits ts) (sym none) tt
+none_fit : (turns : List Transition) → turns ≡ [] → AllByRecursion Fits turns
+none_fit turns none = subst (λ (ts : List Transition). AllByRecursion Fits ts) (sym none) tt
 
-rest_fits : (following : Following) (e : Endpoint) (tag : ℕ) (contents : List Content) (tail : List Input) (turns : List Turned) → FitsEndpoint e → AllByRecursion Sendable contents → EndFits tail
+rest_fits : (following : Following) (e : Endpoint) (tag : ℕ) (contents : List Content) (tail : List Input) (turns : List Transition) → FitsEndpoint e → AllByRecursion Sendable contents → EndFits tail
     → AfterChunk following (ChunkTurns e tag contents tail turns) (Turns e tail turns) (turns ≡ [])
     → (ChunkTurns e tag contents tail turns → ChunksFit e contents turns) → ChunksFit e contents turns
 rest_fits next_chunk e tag contents tail turns h good end rest more = more rest
 rest_fits packet_end e tag contents tail turns h good end rest more = let each = end e turns rest h in left e contents turns each (any_fit e contents turns h good each)
 rest_fits dropped_rest e tag contents tail turns h good end rest more = let each = none_fit turns rest in left e contents turns each (any_fit e contents turns h good each)
 
-pub chunk_turns_fit : OfferReadsBack → (e : Endpoint) (tag : ℕ) (contents : List Content) (tail : List Input) (turns : List Turned) → ChunkTurns e tag contents tail turns → FitsEndpoint e
+pub chunk_turns_fit : OfferReadsBack → (e : Endpoint) (tag : ℕ) (contents : List Content) (tail : List Input) (turns : List Transition) → ChunkTurns e tag contents tail turns → FitsEndpoint e
     → tag < 2 ^ 32 → AllByRecursion Sendable contents → EndFits tail → ChunksFit e contents turns
 chunk_turns_fit law e tag [] tail turns taken h tagged good end = record { contents_fit = tt; turns_fit = end e turns taken h }
 chunk_turns_fit law e tag (content ∷ contents) tail [] taken h tagged good end = absurd taken
@@ -152,7 +152,7 @@ nothing_ends e (t ∷ ts) taken h = absurd taken
 
 pub packet_end_fits : EndFits (packet_ends ∷ [])
 packet_end_fits e [] taken h = absurd taken
-packet_end_fits e (t ∷ []) taken h = (end_fits e e.below.transfer t.outcome taken.0.comes h, tt)
+packet_end_fits e (t ∷ []) taken h = (end_fits e e.queues.transfer t.outcome taken.0.comes h, tt)
 packet_end_fits e (t ∷ u ∷ ts) taken h = absurd taken.1
 
 -- the SHUTDOWN ACK chunks of a packet are among its chunks

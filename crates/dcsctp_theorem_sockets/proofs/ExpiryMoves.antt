@@ -12,7 +12,7 @@ use Rattle.dcsctp_spec_lemmas.specs.spec.endpoint.Endpoint.{Endpoint, Core, clos
 use Rattle.dcsctp_spec_lemmas.specs.spec.endpoint.Outcome.{Outcome}
 use Rattle.dcsctp_spec_lemmas.specs.spec.endpoint.Turn.{Input, ActTurn, act_input, timer_expires}
 use Rattle.dcsctp_spec_lemmas.specs.spec.endpoint.TimeTurns.{Timer, t1_timer, own_timer, t2_timer, deadline, has_come, has_restart, t2_input, expiry_input, inputs_behind, after_expiries, ExpiryThen, ExpiryTurns}
-use Rattle.dcsctp_spec_lemmas.specs.spec.endpoint.CallTurns.{Turned, IsTurn, Turns}
+use Rattle.dcsctp_spec_lemmas.specs.spec.endpoint.CallTurns.{Transition, IsTurn, Turns}
 use Rattle.dcsctp_spec_lemmas.specs.spec.endpoint.HeartbeatOutcomes.{is_exhausted, interval_expired, beating, heartbeat_emission, interval_outcome}
 use Rattle.dcsctp_spec_lemmas.specs.spec.endpoint.OwnTimers.{OwnTimer, acknowledgement_delay, retransmission, heartbeat_interval, heartbeat_timeout, reconfiguration, TimerTurn, repeating_act, timer_act}
 use Rattle.dcsctp_spec_lemmas.specs.spec.endpoint.ReconfigurationOutcomes.{reset_again, is_renewed}
@@ -54,8 +54,8 @@ interval_fits e (cookie_echoed my held cookie) h own = beats_fit e held h own.1
 interval_fits e (open_in phase my held) h own = beats_fit e held h own.1
 
 timer_fits : (e : Endpoint) (timer : OwnTimer) (o : Outcome) → TimerTurn e timer o → FitsEndpoint e → TurnFits o
-timer_fits e acknowledgement_delay o turn h = subst TurnFits (sym turn) (delay_fits e e.below.transfer h)
-timer_fits e retransmission o turn h = loss_fits e e.below.transfer o turn h
+timer_fits e acknowledgement_delay o turn h = subst TurnFits (sym turn) (delay_fits e e.queues.transfer h)
+timer_fits e retransmission o turn h = loss_fits e e.queues.transfer o turn h
 timer_fits e heartbeat_interval o turn h = subst TurnFits (sym turn) (interval_fits e e.core h h.core)
 timer_fits e heartbeat_timeout o turn h = subst TurnFits (sym turn) (record { after = record { valid = h.valid; options = h.options; core = h.core; t1 = h.t1 }; sends = tt })
 timer_fits e reconfiguration o turn h = subst TurnFits (sym turn) (reconfiguration_fits e (held_in e.core) e.outstanding h (peer_fits e.core h.core))
@@ -74,17 +74,17 @@ no_options e heartbeat_timeout p q core choices = refl
 no_options e reconfiguration p q core choices = repeats_by_none (is_renewed e e.outstanding) (reset_again e.outstanding) p q core choices
 
 -- what may come behind so many turns, from wherever the side stands then
-abbrev MovesBehind : Options → List Turned → List Effect → List Turned → Type 0
+abbrev MovesBehind : Options → List Transition → List Effect → List Transition → Type 0
 MovesBehind options turns theirs more = (side : SideState) → Followed options turns side → SideMoves options turns side theirs more
 
-own_moves : Below → (options : Options) (turns : List Turned) (side : SideState) (theirs : List Effect) (timer : OwnTimer) (t : Turned) (more : List Turned) → Followed options turns side
+own_moves : Below → (options : Options) (turns : List Transition) (side : SideState) (theirs : List Effect) (timer : OwnTimer) (t : Transition) (more : List Transition) → Followed options turns side
     → IsTurn (endpoint_after options turns) (timer_expires timer) t → MovesBehind options (turns ++ t ∷ []) theirs more → SideMoves options turns side theirs (t ∷ more)
 own_moves law options turns side theirs timer t more h turn rest =
     let e : Endpoint = endpoint_after options turns in
     act_then law options turns side theirs (timer_act e timer) t more (no_options e timer) h (timer_controlled e timer t.outcome turn.comes) (timer_fits e timer t.outcome turn.comes h.fits)
     (λ choices follows. rest _ follows)
 
-t1_moves : Below → (options : Options) (turns : List Turned) (side : SideState) (theirs : List Effect) (again : Bool) (t : Turned) (more : List Turned) → Followed options turns side
+t1_moves : Below → (options : Options) (turns : List Transition) (side : SideState) (theirs : List Effect) (again : Bool) (t : Transition) (more : List Transition) → Followed options turns side
     → IsTurn (endpoint_after options turns) (act_input (t1_expires again)) t → MovesBehind options (turns ++ t ∷ []) theirs more → SideMoves options turns side theirs (t ∷ more)
 t1_moves law options turns side theirs again t more h turn rest =
     let followed : T1Follows options turns side again t = t1_follows law.effects_mean law.acts law.offers options turns side again t h turn.comes in
@@ -95,7 +95,7 @@ t1_moves law options turns side theirs again t more h turn rest =
 aborts_fit : (e : Endpoint) (o : Outcome) → FitsEndpoint e → ActTurn e (abort_with TooManyErrors) o → TurnFits o
 aborts_fit e o h turn = subst TurnFits (sym turn) (aborting_fits e e.core TooManyErrors h h.core)
 
-t2_moves : Below → (options : Options) (turns : List Turned) (side : SideState) (theirs : List Effect) (again : Bool) (t : Turned) (more : List Turned) → Followed options turns side
+t2_moves : Below → (options : Options) (turns : List Transition) (side : SideState) (theirs : List Effect) (again : Bool) (t : Transition) (more : List Transition) → Followed options turns side
     → IsTurn (endpoint_after options turns) (t2_input again) t → MovesBehind options (turns ++ t ∷ []) theirs more → SideMoves options turns side theirs (t ∷ more)
 t2_moves law options turns side theirs true t more h turn rest =
     let e : Endpoint = endpoint_after options turns in
@@ -106,7 +106,7 @@ t2_moves law options turns side theirs false t more h turn rest =
     act_then law options turns side theirs (abort_with TooManyErrors) t more (λ p q core choices. refl) h (law.acts e (abort_with TooManyErrors) t.outcome turn.comes) (aborts_fit e t.outcome h.fits turn.comes)
     (λ choices follows. rest _ follows)
 
-expiry_moves : Below → (options : Options) (turns : List Turned) (side : SideState) (theirs : List Effect) (timer : Timer) (t : Turned) (more : List Turned) → Followed options turns side
+expiry_moves : Below → (options : Options) (turns : List Transition) (side : SideState) (theirs : List Effect) (timer : Timer) (t : Transition) (more : List Transition) → Followed options turns side
     → IsTurn (endpoint_after options turns) (expiry_input (endpoint_after options turns) timer) t → MovesBehind options (turns ++ t ∷ []) theirs more → SideMoves options turns side theirs (t ∷ more)
 expiry_moves law options turns side theirs t1_timer t more h turn rest = t1_moves law options turns side theirs (has_restart (endpoint_after options turns).timers.t1) t more h turn rest
 expiry_moves law options turns side theirs (own_timer timer) t more h turn rest = own_moves law options turns side theirs timer t more h turn rest
@@ -115,14 +115,14 @@ expiry_moves law options turns side theirs t2_timer t more h turn rest = t2_move
 -- ---- all that are due
 
 -- These inputs, unless too many errors were counted: then the own end aborts.
-many_moves : Below → (options : Options) (turns : List Turned) (side : SideState) (theirs : List Effect) (many : Bool) (inputs : List Input) (more : List Turned)
+many_moves : Below → (options : Options) (turns : List Transition) (side : SideState) (theirs : List Effect) (many : Bool) (inputs : List Input) (more : List Transition)
     → Followed options turns side → (Turns (endpoint_after options turns) inputs more → SideMoves options turns side theirs more)
     → Turns (endpoint_after options turns) (if many then act_input (abort_with TooManyErrors) ∷ [] else inputs) more → SideMoves options turns side theirs more
 many_moves law options turns side theirs true inputs more h others taken =
     act_moves law options turns side theirs (abort_with TooManyErrors) more (λ p q core choices. refl) h (λ o turn. aborts_fit (endpoint_after options turns) o h.fits turn) taken
 many_moves law options turns side theirs false inputs more h others taken = others taken
 
-behind_moves : Below → (options : Options) (turns : List Turned) (side : SideState) (theirs : List Effect) (core : Core) (more : List Turned) → Followed options turns side
+behind_moves : Below → (options : Options) (turns : List Transition) (side : SideState) (theirs : List Effect) (core : Core) (more : List Transition) → Followed options turns side
     → Turns (endpoint_after options turns) (inputs_behind (endpoint_after options turns) core) more → SideMoves options turns side theirs more
 behind_moves law options turns side theirs closed more h taken = none_rests options turns side theirs more h taken
 behind_moves law options turns side theirs (cookie_wait my) more h taken = none_rests options turns side theirs more h taken
@@ -134,7 +134,7 @@ behind_moves law options turns side theirs (open_in phase my held) more h taken 
     many_moves law options turns side theirs (is_exhausted e.options.max_retransmissions e.error_count) (act_input flushes ∷ []) more h
     (act_moves law options turns side theirs flushes more (λ p q core choices. refl) h (λ o turn. flush_turn_fits e o turn h.fits)) taken
 
-after_moves_of : Below → (options : Options) (turns : List Turned) (side : SideState) (theirs : List Effect) (has_expired : Bool) (more : List Turned) → Followed options turns side
+after_moves_of : Below → (options : Options) (turns : List Transition) (side : SideState) (theirs : List Effect) (has_expired : Bool) (more : List Transition) → Followed options turns side
     → Turns (endpoint_after options turns) (after_expiries (endpoint_after options turns) has_expired) more → SideMoves options turns side theirs more
 after_moves_of law options turns side theirs false more h taken = none_rests options turns side theirs more h taken
 after_moves_of law options turns side theirs true more h taken = behind_moves law options turns side theirs (endpoint_after options turns).core more h taken
@@ -142,11 +142,11 @@ after_moves_of law options turns side theirs true more h taken = behind_moves la
 -- what comes of the timers that are left
 abbrev ExpiriesMove : Options → List Effect → List Timer → Type 0
 ExpiriesMove options theirs timers =
-    (turns : List Turned) (side : SideState) (has_expired : Bool) (more : List Turned) → Followed options turns side
+    (turns : List Transition) (side : SideState) (has_expired : Bool) (more : List Transition) → Followed options turns side
     → ExpiryTurns timers has_expired (endpoint_after options turns) more → SideMoves options turns side theirs more
 
 next_moves : Below → (options : Options) (theirs : List Effect) (timer : Timer) (timers : List Timer) → ExpiriesMove options theirs timers
-    → (due : Bool) (turns : List Turned) (side : SideState) (has_expired : Bool) (more : List Turned) → Followed options turns side
+    → (due : Bool) (turns : List Transition) (side : SideState) (has_expired : Bool) (more : List Transition) → Followed options turns side
     → ExpiryThen due (ExpiryTurns timers) (endpoint_after options turns) has_expired timer more → SideMoves options turns side theirs more
 next_moves law options theirs timer timers rest true turns side has_expired [] h taken = absurd taken
 next_moves law options theirs timer timers rest true turns side has_expired (t ∷ more) h taken =

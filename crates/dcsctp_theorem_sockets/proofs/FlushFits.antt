@@ -9,14 +9,14 @@ use Rattle.dcsctp_spec_lemmas.specs.types.declared.word.Word.{Word}
 use Rattle.dcsctp_spec_lemmas.specs.types.Settings.{IsValid, FitsOptions}
 use Rattle.dcsctp_spec_lemmas.specs.spec.endpoint.Event.{Event, sent}
 use Rattle.dcsctp_spec_lemmas.specs.spec.Packet.{Plain, unworked, plain, plain_out, Content, Emission, content_in}
-use Rattle.dcsctp_spec_lemmas.specs.spec.queues.Transfer.{Transfer, window_told, is_idle}
+use Rattle.dcsctp_spec_lemmas.specs.spec.queues.Transfer.{Transfer, advertised_window, is_idle}
 use Rattle.dcsctp_spec_lemmas.specs.spec.queues.Tracker.{TrackerState}
 use Rattle.dcsctp_spec_runs.proofs.TrackerLemmas.{sack_fits}
 use Rattle.dcsctp_spec_lemmas.specs.spec.endpoint.Endpoint.{Endpoint, Core, closed, cookie_wait, cookie_echoed, open_in, held_in}
 use Rattle.dcsctp_spec_lemmas.specs.spec.endpoint.Outcome.{Outcome, still, behind}
 use Rattle.dcsctp_spec_runs.specs.Deadlines.{T1Runs}
 use Rattle.dcsctp_spec_lemmas.specs.spec.association.Choices.{plain_contents}
-use Rattle.dcsctp_spec_lemmas.specs.spec.endpoint.FlushOutcomes.{may_forward, own_sack, Told, amount_is_low, total_amount_is_low, message_is_sent, message_may_have_expired, message_has_expired, message_ends, told_event, Answer, answer_contents, filled, goes_out, asked, draft_to, next_draft, flush_of, Ask, first_ask, later_ask, where_fits, wants_sack, room_in, Acknowledges, FitsPlain, nothing_waits, Gives, GivesWhere, AnsweredBelow, Answered, Answers, at_limit, at_empty, after_packet, packets_allowed, FlushAnswers, flush_answered}
+use Rattle.dcsctp_spec_lemmas.specs.spec.endpoint.FlushOutcomes.{may_forward, own_sack, FillingEvent, amount_is_low, total_amount_is_low, message_is_sent, message_may_have_expired, message_has_expired, message_ends, filling_event, Answer, answer_contents, filled, goes_out, asked, draft_to, next_draft, flush_of, Ask, first_ask, later_ask, where_fits, wants_sack, room_in, Acknowledges, FitsPlain, nothing_waits, Gives, GivesWhere, IsAnswerOfQueues, IsFlushAnswer, AreFlushAnswers, at_limit, at_empty, after_packet, packets_allowed, FlushAnswers, flush_answered}
 use Rattle.dcsctp_spec_runs.specs.Fitting.{AllSent, FitsHeld, FitsCore, FitsEndpoint, IsSendable, Sendable, SendablePacket, TurnFits}
 use Rattle.dcsctp_spec_runs.proofs.KindLemmas.{IsData, IsForward, chunks_are_data, forwards_are_forwards}
 use Rattle.dcsctp_spec_lemmas.proofs.FlushKeeps.{Keeps, asked_keeps, begun_by, flush_keeps}
@@ -79,7 +79,7 @@ pub where_fits_sendable : (room : ℕ) (chunk : Plain) → Sendable (plain chunk
 where_fits_sendable room chunk good = one_sendable (nat_le (length (chunk_bytes (plain_out chunk))) room) chunk good
 
 pub own_sack_sendable : (transfer : Transfer) → Sendable (plain (own_sack transfer))
-own_sack_sendable transfer = record { fits = sack_fits transfer.tracker (window_told transfer); reads = refl; said = tt }
+own_sack_sendable transfer = record { fits = sack_fits transfer.tracker (advertised_window transfer); reads = refl; said = tt }
 
 sacks_sendable : (wants : Bool) (room : ℕ) (transfer : Transfer) (after : TrackerState) (chunks : List Plain) → Acknowledges wants room transfer after chunks
     → AllByRecursion Sendable (plain_contents chunks)
@@ -100,7 +100,7 @@ AnswerSends answer = AllByRecursion Sendable (answer_contents answer)
 given_sends : (ask : Ask) (e : Endpoint) (draft : Emission) (transfer : Transfer) (answer : Answer) → FitsEndpoint e → Gives ask e draft transfer answer → AnswerSends answer
 given_sends ask e draft transfer answer own h =
     let sacks : AllByRecursion Sendable (plain_contents h.sacks) =
-    sacks_sendable (wants_sack ask e.below.queue transfer) (room_in e draft) transfer h.tracker h.sacks h.acknowledges in
+    sacks_sendable (wants_sack ask e.queues.queue transfer) (room_in e draft) transfer h.tracker h.sacks h.acknowledges in
     let forwards : AllByRecursion Sendable (plain_contents h.forwards) =
     forwards_sendable h.gave_up.queue.outstanding.is_interleaved h.forwards
     (forwards_are_forwards (may_forward ask e transfer.retransmission) e.moment transfer _ _ h.gave_up h.next h.forwards h.gives_up) h.forwards_fit in
@@ -121,13 +121,13 @@ where_sends : (idle : Bool) (ask : Ask) (e : Endpoint) (draft : Emission) (trans
 where_sends true ask e draft transfer answer own h = nothing_sends e answer h
 where_sends false ask e draft transfer answer own h = given_sends ask e draft transfer answer own h
 
-below_sends : (ask : Ask) (e : Endpoint) (draft : Emission) (answer : Answer) (transfer : Option Transfer) → FitsEndpoint e → AnsweredBelow ask e draft answer transfer → AnswerSends answer
+below_sends : (ask : Ask) (e : Endpoint) (draft : Emission) (answer : Answer) (transfer : Option Transfer) → FitsEndpoint e → IsAnswerOfQueues ask e draft answer transfer → AnswerSends answer
 below_sends ask e draft answer None own h = nothing_sends e answer h
-below_sends ask e draft answer (Some transfer) own h = where_sends (is_idle e.below.queue transfer) ask e draft transfer answer own h
+below_sends ask e draft answer (Some transfer) own h = where_sends (is_idle e.queues.queue transfer) ask e draft transfer answer own h
 
 -- ---- its packets
 
-pub told_sends : (told : List Told) → AllSent IsSendable (map told_event told)
+pub told_sends : (told : List FillingEvent) → AllSent IsSendable (map filling_event told)
 told_sends [] = tt
 told_sends (amount_is_low stream ∷ told) = (tt, told_sends told)
 told_sends (total_amount_is_low ∷ told) = (tt, told_sends told)
@@ -143,10 +143,10 @@ goes_out_sends e told with_checksum tag (content ∷ contents) before tag_fits e
     all_sent_append IsSendable told (sent (record { with_checksum = with_checksum; packet = record { tag = tag; contents = content ∷ contents } }) ∷ []) before
     (record { tag = tag_fits; contents = each }, tt)
 
-asked_sends : (ask : Ask) (e : Endpoint) (draft : Emission) (answer : Answer) → FitsEndpoint e → Answered ask e draft answer → IsSendable draft → AllSent IsSendable (asked e draft answer).events
+asked_sends : (ask : Ask) (e : Endpoint) (draft : Emission) (answer : Answer) → FitsEndpoint e → IsFlushAnswer ask e draft answer → IsSendable draft → AllSent IsSendable (asked e draft answer).events
 asked_sends ask e draft answer own h good =
-    goes_out_sends answer.after (map told_event answer.told) draft.with_checksum draft.packet.tag (filled draft (answer_contents answer)).packet.contents (told_sends answer.told) good.tag
-    (both_sendable draft.packet.contents (answer_contents answer) good.contents (below_sends ask e draft answer e.below.transfer own h.by_transfer))
+    goes_out_sends answer.after (map filling_event answer.told) draft.with_checksum draft.packet.tag (filled draft (answer_contents answer)).packet.contents (told_sends answer.told) good.tag
+    (both_sendable draft.packet.contents (answer_contents answer) good.contents (below_sends ask e draft answer e.queues.transfer own h.by_transfer))
 
 pub draft_sendable : (held : Held) → FitsHeld held → IsSendable (draft_to held)
 draft_sendable held fits = record { tag = fits.peer.tag; contents = tt }
@@ -157,7 +157,7 @@ next_sendable (cookie_wait my) draft own good = record { tag = good.tag; content
 next_sendable (cookie_echoed my held cookie) draft own good = draft_sendable held own.1
 next_sendable (open_in phase my held) draft own good = draft_sendable held own.1
 
-flush_sends : (ask : Ask) (n : ℕ) (e : Endpoint) (draft : Emission) (answers : List Answer) → Answers ask n e draft answers → FitsEndpoint e → IsSendable draft
+flush_sends : (ask : Ask) (n : ℕ) (e : Endpoint) (draft : Emission) (answers : List Answer) → AreFlushAnswers ask n e draft answers → FitsEndpoint e → IsSendable draft
     → AllSent IsSendable (flush_of e draft answers).events
 flush_sends _ _ _ _ _ (at_limit ask e draft) h good = tt
 flush_sends _ _ _ _ _ (at_empty ask more e draft answer is empty) h good = all_sent_append IsSendable (asked e draft answer).events [] (asked_sends ask e draft answer h is good) tt

@@ -9,11 +9,11 @@ use Rattle.dcsctp_spec_lemmas.specs.spec.Packet.{Emission}
 use Rattle.dcsctp_spec_lemmas.specs.spec.endpoint.Endpoint.{Endpoint, Core}
 use Rattle.dcsctp_spec_lemmas.specs.spec.endpoint.Outcome.{Outcome}
 use Rattle.dcsctp_spec_lemmas.specs.types.Settings.{SameOptions}
-use Rattle.dcsctp_spec_lemmas.specs.spec.endpoint.CallTurns.{Turned, after_all, effects_of, events_of, pairs_of}
+use Rattle.dcsctp_spec_lemmas.specs.spec.endpoint.CallTurns.{Transition, after_all, effects_of, events_of, pairs_of}
 use Rattle.dcsctp_spec_lemmas.specs.spec.association.Controlled.{IsControlled}
-use Rattle.dcsctp_spec_lemmas.specs.spec.association.Effect.{Link, Effect, draws, sends, holds, connects, ends, begins, gives_up, completes, fails, accepts, performs, resumes, drawn_in, noted, Change, unchanged, link_in}
+use Rattle.dcsctp_spec_lemmas.specs.spec.association.Effect.{AssociationIdentity, Effect, draws, sends, holds, connects, ends, begins, gives_up, completes, fails, accepts, performs, resumes, drawn_in, noted, Change, unchanged, identity_in}
 use Rattle.dcsctp_spec_runs.specs.Laws.{AllControlled}
-use Rattle.dcsctp_spec_runs.specs.Past.{Has, HasFreshTags}
+use Rattle.dcsctp_spec_runs.specs.Past.{HasEffect, HasFreshTags}
 use Rattle.dcsctp_spec_runs.specs.World.{SideState, after_effects, after_change, after_changes, ControlTurn, ControlTurns}
 use Rattle.dcsctp_spec_runs.specs.Sockets.{endpoint_after}
 use Rattle.dcsctp_spec_laws.proofs.TurnLemmas.{same_after}
@@ -21,7 +21,7 @@ use Rattle.dcsctp_spec_lemmas.proofs.TurnLists.{after_all-append, effects_of-app
 use Rattle.dcsctp_spec_runs.specs.Fitting.{AllSent, FitsEndpoint, IsSendable, OfSent, SendablePacket, TurnFits}
 use Rattle.dcsctp_theorem_association.specs.OneSide.{IsEstablished, Means, EffectsMean}
 use Rattle.dcsctp_theorem_association.proofs.Growth.{after_within}
-use Rattle.dcsctp_theorem_sockets.specs.Agreement.{noted_past, HasDistinctTags, WasHeld, HasConnected, Holds, EachConnected}
+use Rattle.dcsctp_theorem_sockets.specs.Agreement.{noted_past, HasDistinctTags, WasHeld, HasConnected, HoldsAssociation, EachConnected}
 use Rattle.dcsctp_theorem_sockets.proofs.Deliver.{Fits}
 use Rattle.dcsctp_theorem_sockets.proofs.Fresh.{IsPair, in_front, at_end, drawn_pair, distinct_front, stays_fresh}
 use Rattle.dcsctp_theorem_sockets.proofs.Sent.{all_sent_append, all_sent_map}
@@ -32,42 +32,42 @@ pub record Went (past : List Effect) (emission : Emission) : Type 0 where
   pub sendable : SendablePacket emission.packet
   pub was_sent : WasSent past emission
 
-abbrev pub ConnectsIn : List Effect → Link → Type 0
-ConnectsIn past link = Has (connects link) past
+abbrev pub ConnectsIn : List Effect → AssociationIdentity → Type 0
+ConnectsIn past link = HasEffect (connects link) past
 
 -- The side has the socket's association, and did what the socket did.
-pub record Followed (options : Options) (turns : List Turned) (side : SideState) : Type 0 where
+pub record Followed (options : Options) (turns : List Transition) (side : SideState) : Type 0 where
   pub fits : FitsEndpoint (endpoint_after options turns)
   pub own_options : SameOptions options (endpoint_after options turns).options
   pub side_options : side.options ≡ options
   pub core : side.core ≡ (endpoint_after options turns).core
   pub past : noted side.past ≡ noted_past turns
   pub went : AllSent (Went side.past) (events_of turns)
-  pub held : (link : Link) → Has (holds link) side.past → WasHeld link turns
+  pub held : (link : AssociationIdentity) → HasEffect (holds link) side.past → WasHeld link turns
   pub connected : EachConnected (ConnectsIn side.past) turns
-  pub drawn : (pair : Pair) → Has (draws pair) side.past → IsPair pair (pairs_of turns)
+  pub drawn : (pair : Pair) → HasEffect (draws pair) side.past → IsPair pair (pairs_of turns)
   pub fresh : HasDistinctTags (pairs_of turns) → HasFreshTags side.past
 
 -- ---- lists of turns
 
-pub after_last : (e : Endpoint) (turns : List Turned) (t : Turned) → after_all e (turns ++ t ∷ []) ≡ t.outcome.after
+pub after_last : (e : Endpoint) (turns : List Transition) (t : Transition) → after_all e (turns ++ t ∷ []) ≡ t.outcome.after
 after_last e turns t = after_all-append e turns (t ∷ [])
 
-held_before : (link : Link) (turns more : List Turned) → WasHeld link turns → WasHeld link (turns ++ more)
+held_before : (link : AssociationIdentity) (turns more : List Transition) → WasHeld link turns → WasHeld link (turns ++ more)
 held_before link [] more h = absurd h
 held_before link (turn ∷ turns) more (inl is) = inl is
 held_before link (turn ∷ turns) more (inr h) = inr (held_before link turns more h)
 
-held_last : (link : Link) (turns : List Turned) (t : Turned) → link_in t.outcome.after.core ≡ Some link → WasHeld link (turns ++ t ∷ [])
+held_last : (link : AssociationIdentity) (turns : List Transition) (t : Transition) → identity_in t.outcome.after.core ≡ Some link → WasHeld link (turns ++ t ∷ [])
 held_last link [] t is = inl is
 held_last link (turn ∷ turns) t is = inr (held_last link turns t is)
 
-pub each_connected_map : {Kind Other : Link → Type 0} → ((link : Link) → Kind link → Other link) → (turns : List Turned) → EachConnected Kind turns → EachConnected Other turns
+pub each_connected_map : {Kind Other : AssociationIdentity → Type 0} → ((link : AssociationIdentity) → Kind link → Other link) → (turns : List Transition) → EachConnected Kind turns → EachConnected Other turns
 each_connected_map f [] each = tt
 each_connected_map f (turn ∷ turns) each =
     ((λ has. let h = each.0 has in record { link = h.link; held = h.held; kind = f h.link h.kind }), each_connected_map f turns each.1)
 
-each_connected_more : (Kind : Link → Type 0) (turns : List Turned) (t : Turned) → EachConnected Kind turns → (HasConnected t.outcome.events → Holds Kind t) → EachConnected Kind (turns ++ t ∷ [])
+each_connected_more : (Kind : AssociationIdentity → Type 0) (turns : List Transition) (t : Transition) → EachConnected Kind turns → (HasConnected t.outcome.events → HoldsAssociation Kind t) → EachConnected Kind (turns ++ t ∷ [])
 each_connected_more Kind [] t each last = (last, tt)
 each_connected_more Kind (turn ∷ turns) t each last = (each.0, each_connected_more Kind turns t each.1 last)
 
@@ -108,7 +108,7 @@ pub after_both : (xs ys past : List Effect) → after_effects (xs ++ ys) past �
 after_both [] ys past = refl
 after_both (x ∷ xs) ys past = after_both xs ys (x ∷ past)
 
-past_more : (turns : List Turned) (t : Turned) → noted_past (turns ++ t ∷ []) ≡ after_effects t.outcome.effects (noted_past turns)
+past_more : (turns : List Transition) (t : Transition) → noted_past (turns ++ t ∷ []) ≡ after_effects t.outcome.effects (noted_past turns)
 past_more turns t =
     ap (λ (es : List Effect). after_effects es []) (effects_of-append turns (t ∷ []) ∙ ap (λ (es : List Effect). effects_of turns ++ es) (append-nil t.outcome.effects))
     ∙ after_both (effects_of turns) t.outcome.effects []
@@ -117,15 +117,15 @@ past_more turns t =
 
 -- what the effects of a change say of the association that it leaves
 pub record Says (change : Change) : Type 0 where
-  pub held : (link : Link) → Has (holds link) change.effects → link_in change.core ≡ Some link
-  pub connected : (link : Link) → Has (connects link) change.effects → IsEstablished change.core link
+  pub held : (link : AssociationIdentity) → HasEffect (holds link) change.effects → identity_in change.core ≡ Some link
+  pub connected : (link : AssociationIdentity) → HasEffect (connects link) change.effects → IsEstablished change.core link
 
 pub turn_says : EffectsMean → (options : Options) (core : Core) (change : Change) → ControlTurn options core change → Says change
 turn_says law options core change turn = let means : Means core change = law options core change turn in record { held = means.held; connected = means.connected }
 
 -- an association that is established is held
-established_is_held : (core : Core) (link : Link) → IsEstablished core link → link_in core ≡ Some link
-established_is_held core link h = ap link_in h.phase ∙ ap (λ (l : Link). Some l) h.linked
+established_is_held : (core : Core) (link : AssociationIdentity) → IsEstablished core link → identity_in core ≡ Some link
+established_is_held core link h = ap identity_in h.phase ∙ ap (λ (l : AssociationIdentity). Some l) h.linked
 
 went_more : (past : List Effect) (effects : List Effect) (events : List (Event Emission)) → AllSent (Went past) events → AllSent (Went (after_effects effects past)) events
 went_more past effects events each =
@@ -153,7 +153,7 @@ went_now : (past effects : List Effect) (events : List (Event Emission)) → All
 went_now past effects [] sendable was_sent = tt
 went_now past effects (event ∷ events) sendable was_sent = (went_of past effects event sendable.0 was_sent.0, went_now past effects events sendable.1 was_sent.1)
 
-pub follow_turn : (options : Options) (turns : List Turned) (side : SideState) (t : Turned) (change : Change) → Followed options turns side → Says change
+pub follow_turn : (options : Options) (turns : List Transition) (side : SideState) (t : Transition) (change : Change) → Followed options turns side → Says change
     → IsControlled (endpoint_after options turns) t.outcome change → TurnFits t.outcome → Followed options (turns ++ t ∷ []) (after_change side change)
 follow_turn options turns side t change h says controlled fits =
     let o : Outcome = t.outcome in
@@ -170,11 +170,11 @@ follow_turn options turns side t change h says controlled fits =
           ∙ ap (λ (es : List Effect). after_effects es (noted_past turns)) (sym controlled.effects) ∙ sym (past_more turns t);
       went = subst (AllSent (Went past)) (sym (events_of-append turns (t ∷ [])))
           (all_sent_append (Went past) (events_of turns) (o.events ++ []) (went_more side.past change.effects (events_of turns) h.went)
-          (subst (AllSent (Went past)) (sym (append-nil o.events)) (went_now side.past change.effects o.events fits.sends (packets_are_effects o.events change.effects controlled.signs))));
-      held = λ link has. elim (in_after (holds link) change.effects side.past has) [ inl now ↦ held_last link turns t (ap link_in controlled.core ∙ says.held link now) | inr before ↦ held_before link turns (t ∷ []) (h.held link before) ];
+          (subst (AllSent (Went past)) (sym (append-nil o.events)) (went_now side.past change.effects o.events fits.sends (packets_are_effects o.events change.effects controlled.observations))));
+      held = λ link has. elim (in_after (holds link) change.effects side.past has) [ inl now ↦ held_last link turns t (ap identity_in controlled.core ∙ says.held link now) | inr before ↦ held_before link turns (t ∷ []) (h.held link before) ];
       connected = each_connected_more (ConnectsIn past) turns t (each_connected_map (λ link has. after_within change.effects side.past _ has) turns h.connected)
-          (λ has. let c = connected_connects o.events change.effects controlled.signs has in
-          record { link = c.0; held = ap link_in controlled.core ∙ established_is_held change.core c.0 (says.connected c.0 c.1); kind = among_after (connects c.0) change.effects side.past c.1 });
+          (λ has. let c = connected_connects o.events change.effects controlled.observations has in
+          record { link = c.0; held = ap identity_in controlled.core ∙ established_is_held change.core c.0 (says.connected c.0 c.1); kind = among_after (connects c.0) change.effects side.past c.1 });
       drawn = λ pair has. subst (IsPair pair) (sym pairs)
           (elim (in_after (draws pair) change.effects side.past has) [ inl now ↦ at_end pair (pairs_of turns) (drawn_in change.effects) (drawn_pair pair change.effects now) | inr before ↦ in_front pair (pairs_of turns) (drawn_in change.effects) (h.drawn pair before) ]);
       fresh = λ distinct.
@@ -184,20 +184,20 @@ follow_turn options turns side t change h says controlled fits =
 
 -- ---- several turns
 
-pub follow_turns : EffectsMean → (options : Options) (turns : List Turned) (side : SideState) (more : List Turned) (changes : List Change) → Followed options turns side
+pub follow_turns : EffectsMean → (options : Options) (turns : List Transition) (side : SideState) (more : List Transition) (changes : List Change) → Followed options turns side
     → ControlTurns side.options side.core changes → AllControlled (endpoint_after options turns) more changes → AllByRecursion Fits more
     → Followed options (turns ++ more) (after_changes side changes)
-follow_turns law options turns side [] [] h moved controlled fits = subst (λ (ts : List Turned). Followed options ts side) (sym (append-nil turns)) h
+follow_turns law options turns side [] [] h moved controlled fits = subst (λ (ts : List Transition). Followed options ts side) (sym (append-nil turns)) h
 follow_turns law options turns side [] (change ∷ changes) h moved controlled fits = absurd controlled
 follow_turns law options turns side (t ∷ more) [] h moved controlled fits = absurd controlled
 follow_turns law options turns side (t ∷ more) (change ∷ changes) h moved controlled fits =
     let first : Followed options (turns ++ t ∷ []) (after_change side change) = follow_turn options turns side t change h (turn_says law side.options side.core change moved.0) controlled.0 fits.0 in
-    subst (λ (ts : List Turned). Followed options ts (after_changes (after_change side change) changes)) (append_assoc turns (t ∷ []) more)
+    subst (λ (ts : List Transition). Followed options ts (after_changes (after_change side change) changes)) (append_assoc turns (t ∷ []) more)
     (follow_turns law options (turns ++ t ∷ []) (after_change side change) more changes first moved.1
     (subst (λ (e : Endpoint). AllControlled e more changes) (sym (after_last _ turns t)) controlled.1) fits.1)
 
 -- a turn that the association has no part in
-pub follow_idle : (options : Options) (turns : List Turned) (side : SideState) (t : Turned) → Followed options turns side
+pub follow_idle : (options : Options) (turns : List Transition) (side : SideState) (t : Transition) → Followed options turns side
     → IsControlled (endpoint_after options turns) t.outcome (unchanged (endpoint_after options turns).core) → TurnFits t.outcome → Followed options (turns ++ t ∷ []) side
 follow_idle options turns side t h controlled fits =
     follow_turn options turns side t (unchanged side.core) h (record { held = λ link none. absurd none; connected = λ link none. absurd none })

@@ -3,7 +3,7 @@ use Rattle.std.proofs.Common.{◌≡◌, ◌≢◌, List, [], ◌∷◌, ◌++�
 use Rattle.std.specs.List.{AllByRecursion}
 use Rattle.dcsctp_spec_lemmas.specs.types.declared.association.Pair.{Pair}
 use Rattle.dcsctp_spec_lemmas.specs.spec.association.Effect.{drawn_in, Effect, draws, sends, holds, connects, ends, begins, gives_up, completes, fails, accepts, performs, resumes}
-use Rattle.dcsctp_spec_runs.specs.Past.{Has, HasFreshTags}
+use Rattle.dcsctp_spec_runs.specs.Past.{HasEffect, HasFreshTags}
 use Rattle.dcsctp_spec_runs.specs.World.{after_effects}
 use Rattle.dcsctp_theorem_sockets.specs.Agreement.{HasDistinctTags}
 
@@ -21,7 +21,7 @@ at_end pair [] more h = h
 at_end pair (first ∷ pairs) more h = inr (at_end pair pairs more h)
 
 -- what is drawn by effects
-pub drawn_pair : (pair : Pair) (effects : List Effect) → Has (draws pair) effects → IsPair pair (drawn_in effects)
+pub drawn_pair : (pair : Pair) (effects : List Effect) → HasEffect (draws pair) effects → IsPair pair (drawn_in effects)
 drawn_pair pair [] h = absurd h
 drawn_pair pair (draws first ∷ effects) (inl is) = inl (cc)
 drawn_pair pair (draws first ∷ effects) (inr h) = inr (drawn_pair pair effects h)
@@ -72,7 +72,7 @@ tag_is_new other pair (first ∷ known) more distinct (inr h) = tag_is_new other
 
 -- The past's pairs are these, or among them.
 abbrev pub Knows : List Pair → List Effect → Type 0
-Knows known past = (pair : Pair) → Has (draws pair) past → IsPair pair known
+Knows known past = (pair : Pair) → HasEffect (draws pair) past → IsPair pair known
 
 knows_more : (known : List Pair) (pair : Pair) (past : List Effect) → Knows known past → Knows (known ++ pair ∷ []) (draws pair ∷ past)
 knows_more known pair past knows other (inl is) = at_end other known (pair ∷ []) (inl (cc))

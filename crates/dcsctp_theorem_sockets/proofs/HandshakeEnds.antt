@@ -12,7 +12,7 @@ use Rattle.dcsctp_spec_lemmas.specs.spec.Cookie.{Cookie, cookie_bytes, cookie_at
 use Rattle.dcsctp_spec_lemmas.specs.spec.endpoint.Event.{connected}
 use Rattle.dcsctp_spec_lemmas.specs.spec.Packet.{init, init_ack, cookie_echo, cookie_ack, Packet, Emission, emission_bytes}
 use Rattle.dcsctp_spec_lemmas.specs.spec.endpoint.Endpoint.{Endpoint, Core, closed, cookie_echoed, open_in, established, fresh_endpoint, own_tag}
-use Rattle.dcsctp_spec_lemmas.specs.spec.endpoint.Outcome.{Outcome, noting, quiet, sends, counted}
+use Rattle.dcsctp_spec_lemmas.specs.spec.endpoint.Outcome.{Outcome, noting, quiet, sends, packet_counted}
 use Rattle.dcsctp_spec_lemmas.specs.spec.endpoint.Turn.{act_input}
 use Rattle.dcsctp_spec_lemmas.specs.spec.endpoint.HandshakeOutcomes.{pair_from, echo_emission, connected_after}
 use Rattle.dcsctp_spec_lemmas.specs.spec.endpoint.CookieEchoOutcomes.{established_by, interleaves, queue_where, queue_kept, EstablishAnswers, ResolvedAnswers, EchoedAnswers, resolved_by, cookie_echo_by, establish_outcome}
@@ -21,11 +21,11 @@ use Rattle.dcsctp_spec_lemmas.specs.spec.queues.SendQueue.{SendQueueState}
 use Rattle.dcsctp_spec_lemmas.specs.spec.association.CookieEchoChanges.{Resolution, held_by_cookie}
 use Rattle.dcsctp_spec_lemmas.specs.spec.association.HandshakeChanges.{introduction_of, new_held, held_by_init_ack}
 use Rattle.dcsctp_spec_lemmas.specs.spec.association.Acts.{connect}
-use Rattle.dcsctp_spec_lemmas.specs.spec.association.Effect.{Effect, holds, connects, link_of}
-use Rattle.dcsctp_spec_lemmas.specs.spec.endpoint.CallTurns.{Turned, turned, Turns, HandleInput}
+use Rattle.dcsctp_spec_lemmas.specs.spec.association.Effect.{Effect, holds, connects, identity_of}
+use Rattle.dcsctp_spec_lemmas.specs.spec.endpoint.CallTurns.{Transition, transition, Turns, HandleInput}
 use Rattle.dcsctp_spec_lemmas.specs.spec.Admission.{all_chunks, admits, admitted_where, admits_by, wrong_tag_text}
 use Rattle.dcsctp_spec_lemmas.specs.spec.CookieFits.{FitsPair}
-use Rattle.dcsctp_spec_runs.specs.Sockets.{endpoint_after, packets_shown, numbered, DeliveryTurns}
+use Rattle.dcsctp_spec_runs.specs.Sockets.{endpoint_after, packets_shown, packet_at_number, DeliveryTurns}
 use Rattle.dcsctp_spec_runs.proofs.FlushLemmas.{establish_now, cookie_ack_turn_now}
 use Rattle.dcsctp_theorem_sockets.specs.Handshake.{IsConnected}
 use Rattle.dcsctp_theorem_sockets.proofs.Bytes.{length_of_cookie, in_cookie}
@@ -38,7 +38,7 @@ use Rattle.dcsctp_theorem_sockets.proofs.TurnsFit.{drawn_fits}
 
 -- the socket that answered, once its INIT ACK went out, and once the COOKIE ECHO was counted
 abbrev pub answered : Options → Endpoint
-answered b = counted (asked b)
+answered b = packet_counted (asked b)
 
 abbrev pub echoed : Options → Endpoint
 echoed b = counted_at (answered b)
@@ -50,11 +50,11 @@ acknowledgement a b p q =
 abbrev pub established_effects : Options → Options → Pair → Pair → List Effect
 established_effects a b p q =
     let held : Held = held_by_cookie b (made_cookie a p q) in
-    holds (link_of q held) ∷ connects (link_of q held) ∷ []
+    holds (identity_of q held) ∷ connects (identity_of q held) ∷ []
 
 -- the send queue, in which nothing waits
 abbrev queue_there : Options → Options → Pair → Pair → SendQueueState
-queue_there a b p q = record (echoed b).below.queue { is_interleaved = interleaves (echoed b) (made_cookie a p q) }
+queue_there a b p q = record (echoed b).queues.queue { is_interleaved = interleaves (echoed b) (made_cookie a p q) }
 
 abbrev pub establishing : Options → Options → Pair → Pair → ℕ → Outcome
 establishing a b p q tie =
@@ -62,7 +62,7 @@ establishing a b p q tie =
     (sends (established_by (echoed b) (made_cookie a p q) (queue_there a b p q) tie) (U64 tie ∷ []) (connected ∷ []) (acknowledgement a b p q))
 
 -- The socket is established, and answers COOKIE ACK.
-pub record Establishes (a b : Options) (p q : Pair) (turns : List Turned) : Type 0 where
+pub record Establishes (a b : Options) (p q : Pair) (turns : List Transition) : Type 0 where
   pub tie : ℕ
   pub only : turns ≡ delivered (answered b) q.tag (cookie_echo (cookie_bytes (made_cookie a p q))) (establishing a b p q tie)
 
@@ -99,7 +99,7 @@ established_sends a b p q tie good =
     ap (λ (queue : SendQueueState). establish_outcome (echoed b) (made_cookie a p q) queue tie (connected ∷ [])) (queue_is a b p q)
     ∙ ap (λ (x : Bool). noting (established_effects a b p q) (cond x (sends after (U64 tie ∷ []) (connected ∷ []) (acknowledgement a b p q)) (quiet after (U64 tie ∷ []) (connected ∷ [])))) good.allow.burst
 
-establishes_by : HandshakeLaws → (a b : Options) (p q : Pair) (turns : List Turned) → Good a → Good b → FitsPair p → FitsPair q
+establishes_by : HandshakeLaws → (a b : Options) (p q : Pair) (turns : List Transition) → Good a → Good b → FitsPair p → FitsPair q
     → Taken (answered b) q.tag (cookie_echo (cookie_bytes (made_cookie a p q))) turns → Establishes a b p q turns
 establishes_by law a b p q turns good_a good_b mine own h =
     let e : Endpoint = echoed b in
@@ -128,7 +128,7 @@ echo_is_taken a b p q good own port =
       checked = inl refl;
     }
 
-pub establishes : HandshakeLaws → (a b : Options) (p q : Pair) (turns : List Turned) → Good a → Good b → FitsPair p → FitsPair q → a.remote_port ≡ b.local_port
+pub establishes : HandshakeLaws → (a b : Options) (p q : Pair) (turns : List Transition) → Good a → Good b → FitsPair p → FitsPair q → a.remote_port ≡ b.local_port
     → HandleInput (answered b) (emission_bytes (ports_of a) (echo_emission q.tag (cookie_bytes (made_cookie a p q)))) turns → Establishes a b p q turns
 establishes law a b p q turns good_a good_b mine own port input =
     establishes_by law a b p q turns good_a good_b mine own
@@ -138,14 +138,14 @@ establishes law a b p q turns good_a good_b mine own port input =
 
 -- the socket that connects, once its COOKIE ECHO went out
 abbrev pub awaited : Options → Options → Pair → Pair → ℕ → Endpoint
-awaited a b p q tie = counted (awaiting a b p q tie)
+awaited a b p q tie = packet_counted (awaiting a b p q tie)
 
 abbrev pub held_here : Options → Options → Pair → Pair → Held
 held_here a b p q = held_by_init_ack a p (answer_to a b p q)
 
 abbrev pub connecting_last : Options → Options → Pair → Pair → ℕ → Outcome
 connecting_last a b p q tie =
-    noting (connects (link_of p (held_here a b p q)) ∷ []) (quiet (connected_after (counted_at (awaited a b p q tie)) p (held_here a b p q)) [] (connected ∷ []))
+    noting (connects (identity_of p (held_here a b p q)) ∷ []) (quiet (connected_after (counted_at (awaited a b p q tie)) p (held_here a b p q)) [] (connected ∷ []))
 
 pub ack_admitted : (core : Core) (tag : ℕ) → own_tag core ≡ tag → 1 ≤ tag → admits core (record { tag = tag; contents = cookie_ack ∷ [] }) ≡ all_chunks
 ack_admitted core tag own some =
@@ -163,7 +163,7 @@ ack_is_taken a b p q good mine port =
       checked = method_checked b.zero_checksum_alternate_error_detection_method.0 a.zero_checksum_alternate_error_detection_method.0;
     }
 
-pub connects_last : HandshakeLaws → (a b : Options) (p q : Pair) (tie : ℕ) (turns : List Turned) → Good b → FitsPair p → b.remote_port ≡ a.local_port
+pub connects_last : HandshakeLaws → (a b : Options) (p q : Pair) (tie : ℕ) (turns : List Transition) → Good b → FitsPair p → b.remote_port ≡ a.local_port
     → HandleInput (awaited a b p q tie) (emission_bytes (ports_of b) (acknowledgement a b p q)) turns
     → turns ≡ delivered (awaited a b p q tie) p.tag cookie_ack (connecting_last a b p q tie)
 connects_last law a b p q tie turns good mine port input =
@@ -176,23 +176,23 @@ connects_last law a b p q tie turns good mine port input =
 -- ---- in turn
 
 -- the turns of each call
-abbrev pub begun_by : Options → ℕ → ℕ → List Turned
-begun_by a word next = turned (act_input connect) (connecting a word next) ∷ []
+abbrev pub begun_by : Options → ℕ → ℕ → List Transition
+begun_by a word next = transition (act_input connect) (connecting a word next) ∷ []
 
-abbrev pub answered_by : Options → Options → Pair → ℕ → ℕ → List Turned
+abbrev pub answered_by : Options → Options → Pair → ℕ → ℕ → List Transition
 answered_by a b p word next = delivered (fresh_endpoint b) 0 (init (introduction_of a p)) (answering a b p word next)
 
-abbrev pub echoed_by : Options → Options → Pair → Pair → ℕ → List Turned
+abbrev pub echoed_by : Options → Options → Pair → Pair → ℕ → List Transition
 echoed_by a b p q tie = delivered (waiting a p) p.tag (init_ack (answer_to a b p q) (Some (cookie_bytes (made_cookie a p q)))) (echoing a b p q tie)
 
-abbrev pub acknowledged_by : Options → Options → Pair → Pair → ℕ → List Turned
+abbrev pub acknowledged_by : Options → Options → Pair → Pair → ℕ → List Transition
 acknowledged_by a b p q tie = delivered (answered b) q.tag (cookie_echo (cookie_bytes (made_cookie a p q))) (establishing a b p q tie)
 
-abbrev pub connected_by : Options → Options → Pair → Pair → ℕ → List Turned
+abbrev pub connected_by : Options → Options → Pair → Pair → ℕ → List Transition
 connected_by a b p q tie = delivered (awaited a b p q tie) p.tag cookie_ack (connecting_last a b p q tie)
 
 -- The five calls end with both connected.
-pub record Ended (a b : Options) (here there : List Turned) : Type 0 where
+pub record Ended (a b : Options) (here there : List Transition) : Type 0 where
   pub p : Pair
   pub q : Pair
   pub mine : IsConnected a b here p q
@@ -217,83 +217,83 @@ ended_so law a b word next word' next' tie tie' =
 
 -- ---- each call, where the calls before it are known
 
-fifth : HandshakeLaws → (a b : Options) (word next word' next' tie tie' : ℕ) (o5 : List Turned) → Good b → b.remote_port ≡ a.local_port →
+fifth : HandshakeLaws → (a b : Options) (word next word' next' tie tie' : ℕ) (o5 : List Transition) → Good b → b.remote_port ≡ a.local_port →
     let p = pair_from word next in
     let q = pair_from word' next' in
     let here = begun_by a word next ++ echoed_by a b p q tie in
     let there = answered_by a b p word' next' ++ acknowledged_by a b p q tie' in
-    DeliveryTurns (endpoint_after a here) (numbered 2 (packets_shown b there)) o5 → Ended a b (here ++ o5) there
+    DeliveryTurns (endpoint_after a here) (packet_at_number 2 (packets_shown b there)) o5 → Ended a b (here ++ o5) there
 fifth law a b word next word' next' tie tie' o5 good port input =
     let p : Pair = pair_from word next in
     let q : Pair = pair_from word' next' in
-    let here : List Turned = begun_by a word next ++ echoed_by a b p q tie in
-    let there : List Turned = answered_by a b p word' next' ++ acknowledged_by a b p q tie' in
-    subst (λ (os : List Turned). Ended a b (here ++ os) there) (sym (connects_last law a b p q tie o5 good (drawn_fits word next) port input)) (ended_so law a b word next word' next' tie tie')
+    let here : List Transition = begun_by a word next ++ echoed_by a b p q tie in
+    let there : List Transition = answered_by a b p word' next' ++ acknowledged_by a b p q tie' in
+    subst (λ (os : List Transition). Ended a b (here ++ os) there) (sym (connects_last law a b p q tie o5 good (drawn_fits word next) port input)) (ended_so law a b word next word' next' tie tie')
 
-fourth : HandshakeLaws → (a b : Options) (word next word' next' tie : ℕ) (o4 o5 : List Turned) → Good a → Good b → a.remote_port ≡ b.local_port → b.remote_port ≡ a.local_port →
+fourth : HandshakeLaws → (a b : Options) (word next word' next' tie : ℕ) (o4 o5 : List Transition) → Good a → Good b → a.remote_port ≡ b.local_port → b.remote_port ≡ a.local_port →
     let p = pair_from word next in
     let q = pair_from word' next' in
     let here = begun_by a word next ++ echoed_by a b p q tie in
     let there = answered_by a b p word' next' in
-    DeliveryTurns (endpoint_after b there) (numbered 2 (packets_shown a here)) o4 → DeliveryTurns (endpoint_after a here) (numbered 2 (packets_shown b (there ++ o4))) o5
+    DeliveryTurns (endpoint_after b there) (packet_at_number 2 (packets_shown a here)) o4 → DeliveryTurns (endpoint_after a here) (packet_at_number 2 (packets_shown b (there ++ o4))) o5
     → Ended a b (here ++ o5) (there ++ o4)
 fourth law a b word next word' next' tie o4 o5 good_a good_b to_b to_a input last =
     let p : Pair = pair_from word next in
     let q : Pair = pair_from word' next' in
-    let here : List Turned = begun_by a word next ++ echoed_by a b p q tie in
-    let there : List Turned = answered_by a b p word' next' in
+    let here : List Transition = begun_by a word next ++ echoed_by a b p q tie in
+    let there : List Transition = answered_by a b p word' next' in
     let h : Establishes a b p q o4 = establishes law a b p q o4 good_a good_b (drawn_fits word next) (drawn_fits word' next') to_b input in
-    subst (λ (os : List Turned). Ended a b (here ++ o5) (there ++ os)) (sym h.only)
-    (fifth law a b word next word' next' tie h.tie o5 good_b to_a (subst (λ (os : List Turned). DeliveryTurns (endpoint_after a here) (numbered 2 (packets_shown b (there ++ os))) o5) h.only last))
+    subst (λ (os : List Transition). Ended a b (here ++ o5) (there ++ os)) (sym h.only)
+    (fifth law a b word next word' next' tie h.tie o5 good_b to_a (subst (λ (os : List Transition). DeliveryTurns (endpoint_after a here) (packet_at_number 2 (packets_shown b (there ++ os))) o5) h.only last))
 
-third : HandshakeLaws → (a b : Options) (word next word' next' : ℕ) (o3 o4 o5 : List Turned) → Good a → Good b → a.remote_port ≡ b.local_port → b.remote_port ≡ a.local_port →
+third : HandshakeLaws → (a b : Options) (word next word' next' : ℕ) (o3 o4 o5 : List Transition) → Good a → Good b → a.remote_port ≡ b.local_port → b.remote_port ≡ a.local_port →
     let p = pair_from word next in
     let here = begun_by a word next in
     let there = answered_by a b p word' next' in
-    DeliveryTurns (endpoint_after a here) (numbered 1 (packets_shown b there)) o3
-    → DeliveryTurns (endpoint_after b there) (numbered 2 (packets_shown a (here ++ o3))) o4
-    → DeliveryTurns (endpoint_after a (here ++ o3)) (numbered 2 (packets_shown b (there ++ o4))) o5
+    DeliveryTurns (endpoint_after a here) (packet_at_number 1 (packets_shown b there)) o3
+    → DeliveryTurns (endpoint_after b there) (packet_at_number 2 (packets_shown a (here ++ o3))) o4
+    → DeliveryTurns (endpoint_after a (here ++ o3)) (packet_at_number 2 (packets_shown b (there ++ o4))) o5
     → Ended a b ((here ++ o3) ++ o5) (there ++ o4)
 third law a b word next word' next' o3 o4 o5 good_a good_b to_b to_a input later last =
     let p : Pair = pair_from word next in
     let q : Pair = pair_from word' next' in
-    let here : List Turned = begun_by a word next in
-    let there : List Turned = answered_by a b p word' next' in
+    let here : List Transition = begun_by a word next in
+    let there : List Transition = answered_by a b p word' next' in
     let h : Echoes a b p q o3 = echoes law a b p q o3 good_a good_b (drawn_fits word next) (drawn_fits word' next') to_a input in
-    subst (λ (os : List Turned). Ended a b ((here ++ os) ++ o5) (there ++ o4)) (sym h.only)
+    subst (λ (os : List Transition). Ended a b ((here ++ os) ++ o5) (there ++ o4)) (sym h.only)
     (fourth law a b word next word' next' h.tie o4 o5 good_a good_b to_b to_a
-    (subst (λ (os : List Turned). DeliveryTurns (endpoint_after b there) (numbered 2 (packets_shown a (here ++ os))) o4) h.only later)
-    (subst (λ (os : List Turned). DeliveryTurns (endpoint_after a (here ++ os)) (numbered 2 (packets_shown b (there ++ o4))) o5) h.only last))
+    (subst (λ (os : List Transition). DeliveryTurns (endpoint_after b there) (packet_at_number 2 (packets_shown a (here ++ os))) o4) h.only later)
+    (subst (λ (os : List Transition). DeliveryTurns (endpoint_after a (here ++ os)) (packet_at_number 2 (packets_shown b (there ++ o4))) o5) h.only last))
 
-second : HandshakeLaws → (a b : Options) (word next : ℕ) (o2 o3 o4 o5 : List Turned) → Good a → Good b → a.remote_port ≡ b.local_port → b.remote_port ≡ a.local_port →
+second : HandshakeLaws → (a b : Options) (word next : ℕ) (o2 o3 o4 o5 : List Transition) → Good a → Good b → a.remote_port ≡ b.local_port → b.remote_port ≡ a.local_port →
     let here = begun_by a word next in
-    DeliveryTurns (fresh_endpoint b) (numbered 1 (packets_shown a here)) o2
-    → DeliveryTurns (endpoint_after a here) (numbered 1 (packets_shown b o2)) o3
-    → DeliveryTurns (endpoint_after b o2) (numbered 2 (packets_shown a (here ++ o3))) o4
-    → DeliveryTurns (endpoint_after a (here ++ o3)) (numbered 2 (packets_shown b (o2 ++ o4))) o5
+    DeliveryTurns (fresh_endpoint b) (packet_at_number 1 (packets_shown a here)) o2
+    → DeliveryTurns (endpoint_after a here) (packet_at_number 1 (packets_shown b o2)) o3
+    → DeliveryTurns (endpoint_after b o2) (packet_at_number 2 (packets_shown a (here ++ o3))) o4
+    → DeliveryTurns (endpoint_after a (here ++ o3)) (packet_at_number 2 (packets_shown b (o2 ++ o4))) o5
     → Ended a b ((here ++ o3) ++ o5) (o2 ++ o4)
 second law a b word next o2 o3 o4 o5 good_a good_b to_b to_a input answer later last =
     let p : Pair = pair_from word next in
-    let here : List Turned = begun_by a word next in
+    let here : List Transition = begun_by a word next in
     let h : Answers a b p o2 = answers law a b p o2 good_a good_b (drawn_fits word next) to_b input in
-    subst (λ (os : List Turned). Ended a b ((here ++ o3) ++ o5) (os ++ o4)) (sym h.only)
+    subst (λ (os : List Transition). Ended a b ((here ++ o3) ++ o5) (os ++ o4)) (sym h.only)
     (third law a b word next h.word h.next o3 o4 o5 good_a good_b to_b to_a
-    (subst (λ (os : List Turned). DeliveryTurns (endpoint_after a here) (numbered 1 (packets_shown b os)) o3) h.only answer)
-    (subst (λ (os : List Turned). DeliveryTurns (endpoint_after b os) (numbered 2 (packets_shown a (here ++ o3))) o4) h.only later)
-    (subst (λ (os : List Turned). DeliveryTurns (endpoint_after a (here ++ o3)) (numbered 2 (packets_shown b (os ++ o4))) o5) h.only last))
+    (subst (λ (os : List Transition). DeliveryTurns (endpoint_after a here) (packet_at_number 1 (packets_shown b os)) o3) h.only answer)
+    (subst (λ (os : List Transition). DeliveryTurns (endpoint_after b os) (packet_at_number 2 (packets_shown a (here ++ o3))) o4) h.only later)
+    (subst (λ (os : List Transition). DeliveryTurns (endpoint_after a (here ++ o3)) (packet_at_number 2 (packets_shown b (os ++ o4))) o5) h.only last))
 
-pub in_turn : HandshakeLaws → (a b : Options) (o1 o2 o3 o4 o5 : List Turned) → Good a → Good b → a.remote_port ≡ b.local_port → b.remote_port ≡ a.local_port
+pub in_turn : HandshakeLaws → (a b : Options) (o1 o2 o3 o4 o5 : List Transition) → Good a → Good b → a.remote_port ≡ b.local_port → b.remote_port ≡ a.local_port
     → Turns (fresh_endpoint a) (act_input connect ∷ []) o1
-    → DeliveryTurns (fresh_endpoint b) (numbered 1 (packets_shown a o1)) o2
-    → DeliveryTurns (endpoint_after a o1) (numbered 1 (packets_shown b o2)) o3
-    → DeliveryTurns (endpoint_after b o2) (numbered 2 (packets_shown a (o1 ++ o3))) o4
-    → DeliveryTurns (endpoint_after a (o1 ++ o3)) (numbered 2 (packets_shown b (o2 ++ o4))) o5
+    → DeliveryTurns (fresh_endpoint b) (packet_at_number 1 (packets_shown a o1)) o2
+    → DeliveryTurns (endpoint_after a o1) (packet_at_number 1 (packets_shown b o2)) o3
+    → DeliveryTurns (endpoint_after b o2) (packet_at_number 2 (packets_shown a (o1 ++ o3))) o4
+    → DeliveryTurns (endpoint_after a (o1 ++ o3)) (packet_at_number 2 (packets_shown b (o2 ++ o4))) o5
     → Ended a b ((o1 ++ o3) ++ o5) (o2 ++ o4)
 in_turn law a b o1 o2 o3 o4 o5 good_a good_b to_b to_a first input answer later last =
     let h : Begins a o1 = begins a o1 good_a first in
-    subst (λ (os : List Turned). Ended a b ((os ++ o3) ++ o5) (o2 ++ o4)) (sym h.only)
+    subst (λ (os : List Transition). Ended a b ((os ++ o3) ++ o5) (o2 ++ o4)) (sym h.only)
     (second law a b h.word h.next o2 o3 o4 o5 good_a good_b to_b to_a
-    (subst (λ (os : List Turned). DeliveryTurns (fresh_endpoint b) (numbered 1 (packets_shown a os)) o2) h.only input)
-    (subst (λ (os : List Turned). DeliveryTurns (endpoint_after a os) (numbered 1 (packets_shown b o2)) o3) h.only answer)
-    (subst (λ (os : List Turned). DeliveryTurns (endpoint_after b o2) (numbered 2 (packets_shown a (os ++ o3))) o4) h.only later)
-    (subst (λ (os : List Turned). DeliveryTurns (endpoint_after a (os ++ o3)) (numbered 2 (packets_shown b (o2 ++ o4))) o5) h.only last))
+    (subst (λ (os : List Transition). DeliveryTurns (fresh_endpoint b) (packet_at_number 1 (packets_shown a os)) o2) h.only input)
+    (subst (λ (os : List Transition). DeliveryTurns (endpoint_after a os) (packet_at_number 1 (packets_shown b o2)) o3) h.only answer)
+    (subst (λ (os : List Transition). DeliveryTurns (endpoint_after b o2) (packet_at_number 2 (packets_shown a (os ++ o3))) o4) h.only later)
+    (subst (λ (os : List Transition). DeliveryTurns (endpoint_after a (os ++ o3)) (packet_at_number 2 (packets_shown b (o2 ++ o4))) o5) h.only last))

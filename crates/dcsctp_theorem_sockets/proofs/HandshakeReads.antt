@@ -8,8 +8,8 @@ use Rattle.dcsctp_spec_lemmas.specs.spec.Packet.{Content, Packet, Emission, chun
 use Rattle.dcsctp_spec_lemmas.specs.spec.endpoint.Endpoint.{Endpoint, Core}
 use Rattle.dcsctp_spec_lemmas.specs.spec.endpoint.Outcome.{Outcome, still}
 use Rattle.dcsctp_spec_lemmas.specs.spec.endpoint.Following.{Following, next_chunk}
-use Rattle.dcsctp_spec_lemmas.specs.spec.endpoint.Turn.{Input, arrival, packet_begins, chunk_input, packet_ends, has_data, BeginTurn, ContentTurn, arrival_outcome}
-use Rattle.dcsctp_spec_lemmas.specs.spec.endpoint.CallTurns.{Turned, turned, Turns, AfterChunk, ChunkTurns, WholeTurns, AdmittedTurns, HandleInput, unreadable, readable}
+use Rattle.dcsctp_spec_lemmas.specs.spec.endpoint.Turn.{Input, arrival, packet_begins, chunk_input, packet_ends, has_data_chunk, BeginTurn, ContentTurn, arrival_outcome}
+use Rattle.dcsctp_spec_lemmas.specs.spec.endpoint.CallTurns.{Transition, transition, Turns, AfterChunk, ChunkTurns, WholeTurns, AdmittedTurns, HandleInput, unreadable, readable}
 use Rattle.dcsctp_spec_lemmas.specs.spec.Admission.{Admission, all_chunks, admits}
 use Rattle.dcsctp_spec_runs.specs.Fitting.{SendablePacket}
 use Rattle.dcsctp_theorem_sockets.proofs.Deliver.{built, fields_fit, reads_as_sent}
@@ -40,81 +40,81 @@ is_read law mine theirs with_checksum tag content h =
     (record { to_this_port = h.to_this_port; checked = h.checked })
 
 -- a turn, by its input and its outcome
-pub turned_as : (turn : Turned) (input : Input) (outcome : Outcome) → turn.input ≡ input → turn.outcome ≡ outcome → turn ≡ turned input outcome
-turned_as turn input outcome is comes = ap (λ (i : Input). turned i turn.outcome) is ∙ ap (turned input) comes
+pub turned_as : (turn : Transition) (input : Input) (outcome : Outcome) → turn.input ≡ input → turn.outcome ≡ outcome → turn ≡ transition input outcome
+turned_as turn input outcome is comes = ap (λ (i : Input). transition i turn.outcome) is ∙ ap (transition input) comes
 
 abbrev pub counted_at : Endpoint → Endpoint
 counted_at e = (arrival_outcome e).after
 
 -- the turns of a packet of one chunk, with this outcome: it is counted, the chunk has its turn, and the packet ends
-abbrev pub delivered : Endpoint → ℕ → Content → Outcome → List Turned
+abbrev pub delivered : Endpoint → ℕ → Content → Outcome → List Transition
 delivered e tag content o =
-    turned arrival (arrival_outcome e)
-    ∷ turned (packet_begins (content ∷ [])) (still (counted_at e))
-    ∷ turned (chunk_input tag content) o
-    ∷ turned packet_ends (still o.after)
+    transition arrival (arrival_outcome e)
+    ∷ transition (packet_begins (content ∷ [])) (still (counted_at e))
+    ∷ transition (chunk_input tag content) o
+    ∷ transition packet_ends (still o.after)
     ∷ []
 
 -- What comes of the packet: the chunk's turn among them, with the others as they have to be, where its rest isn't dropped and
 -- nothing is to be acknowledged.
-pub record Taken (e : Endpoint) (tag : ℕ) (content : Content) (turns : List Turned) : Type 0 where
+pub record Taken (e : Endpoint) (tag : ℕ) (content : Content) (turns : List Transition) : Type 0 where
   pub outcome : Outcome
   pub comes : ContentTurn (counted_at e) tag content outcome
-  pub only : outcome.following ≡ next_chunk → OwesNothing outcome.after.below.transfer → turns ≡ delivered e tag content outcome
+  pub only : outcome.following ≡ next_chunk → OwesNothing outcome.after.queues.transfer → turns ≡ delivered e tag content outcome
 
-ended_as : (e : Endpoint) (turns : List Turned) → OwesNothing e.below.transfer → Turns e (packet_ends ∷ []) turns → turns ≡ turned packet_ends (still e) ∷ []
+ended_as : (e : Endpoint) (turns : List Transition) → OwesNothing e.queues.transfer → Turns e (packet_ends ∷ []) turns → turns ≡ transition packet_ends (still e) ∷ []
 ended_as e [] owes turns = absurd turns
-ended_as e (t ∷ []) owes turns = ap (λ (x : Turned). x ∷ []) (turned_as t packet_ends (still e) turns.0.is (ends_still e t.outcome owes turns.0.comes))
+ended_as e (t ∷ []) owes turns = ap (λ (x : Transition). x ∷ []) (turned_as t packet_ends (still e) turns.0.is (ends_still e t.outcome owes turns.0.comes))
 ended_as e (t ∷ u ∷ ts) owes turns = absurd turns.1
 
 -- the end of the packet behind the one chunk
-behind_chunk : (t : Turned) (tag : ℕ) (turns : List Turned) → t.outcome.following ≡ next_chunk → OwesNothing t.outcome.after.below.transfer
+behind_chunk : (t : Transition) (tag : ℕ) (turns : List Transition) → t.outcome.following ≡ next_chunk → OwesNothing t.outcome.after.queues.transfer
     → AfterChunk t.outcome.following (ChunkTurns t.outcome.after tag [] (packet_ends ∷ []) turns) (Turns t.outcome.after (packet_ends ∷ []) turns) (turns ≡ [])
-    → turns ≡ turned packet_ends (still t.outcome.after) ∷ []
+    → turns ≡ transition packet_ends (still t.outcome.after) ∷ []
 behind_chunk t tag turns goes_on owes rest =
     ended_as t.outcome.after turns owes
     (subst (λ (f : Following). AfterChunk f (ChunkTurns t.outcome.after tag [] (packet_ends ∷ []) turns) (Turns t.outcome.after (packet_ends ∷ []) turns) (turns ≡ [])) goes_on rest)
 
 -- one chunk, and the end
-pub record OneChunk (e : Endpoint) (tag : ℕ) (content : Content) (turns : List Turned) : Type 0 where
+pub record OneChunk (e : Endpoint) (tag : ℕ) (content : Content) (turns : List Transition) : Type 0 where
   pub outcome : Outcome
   pub comes : ContentTurn e tag content outcome
-  pub only : outcome.following ≡ next_chunk → OwesNothing outcome.after.below.transfer → turns ≡ turned (chunk_input tag content) outcome ∷ turned packet_ends (still outcome.after) ∷ []
+  pub only : outcome.following ≡ next_chunk → OwesNothing outcome.after.queues.transfer → turns ≡ transition (chunk_input tag content) outcome ∷ transition packet_ends (still outcome.after) ∷ []
 
-one_chunk : (e : Endpoint) (tag : ℕ) (content : Content) (turns : List Turned) → ChunkTurns e tag (content ∷ []) (packet_ends ∷ []) turns → OneChunk e tag content turns
+one_chunk : (e : Endpoint) (tag : ℕ) (content : Content) (turns : List Transition) → ChunkTurns e tag (content ∷ []) (packet_ends ∷ []) turns → OneChunk e tag content turns
 one_chunk e tag content [] turns = absurd turns
 one_chunk e tag content (t ∷ ts) turns =
     record {
       outcome = t.outcome;
       comes = turns.0.comes;
-      only = λ goes_on owes. ap (λ (x : Turned). x ∷ ts) (turned_as t (chunk_input tag content) t.outcome turns.0.is refl)
-          ∙ ap (λ (xs : List Turned). turned (chunk_input tag content) t.outcome ∷ xs) (behind_chunk t tag ts goes_on owes turns.1);
+      only = λ goes_on owes. ap (λ (x : Transition). x ∷ ts) (turned_as t (chunk_input tag content) t.outcome turns.0.is refl)
+          ∙ ap (λ (xs : List Transition). transition (chunk_input tag content) t.outcome ∷ xs) (behind_chunk t tag ts goes_on owes turns.1);
     }
 
 -- nothing stands before the chunk
-behind_begin : (e : Endpoint) (tag : ℕ) (content : Content) (begun : Turned) (turns : List Turned) → begun ≡ turned (packet_begins (content ∷ [])) (still e)
+behind_begin : (e : Endpoint) (tag : ℕ) (content : Content) (begun : Transition) (turns : List Transition) → begun ≡ transition (packet_begins (content ∷ [])) (still e)
     → OneChunk begun.outcome.after tag content turns → OneChunk e tag content turns
-behind_begin e tag content begun turns is h = subst (λ (t : Turned). OneChunk t.outcome.after tag content turns) is h
+behind_begin e tag content begun turns is h = subst (λ (t : Transition). OneChunk t.outcome.after tag content turns) is h
 
-worked_alone : (e : Endpoint) (tag : ℕ) (content : Content) (counted : Turned) (turns : List Turned) → counted ≡ turned arrival (arrival_outcome e)
-    → ((o : Outcome) → BeginTurn counted.outcome.after counted.outcome.after.core (has_data (content ∷ [])) o → o ≡ still counted.outcome.after)
+worked_alone : (e : Endpoint) (tag : ℕ) (content : Content) (counted : Transition) (turns : List Transition) → counted ≡ transition arrival (arrival_outcome e)
+    → ((o : Outcome) → BeginTurn counted.outcome.after counted.outcome.after.core (has_data_chunk (content ∷ [])) o → o ≡ still counted.outcome.after)
     → WholeTurns counted.outcome.after (record { tag = tag; contents = content ∷ [] }) turns → Taken e tag content (counted ∷ turns)
 worked_alone e tag content counted [] is rests turns = absurd turns
 worked_alone e tag content counted (begun ∷ ts) is rests turns =
-    let first : begun ≡ turned (packet_begins (content ∷ [])) (still counted.outcome.after) = turned_as begun (packet_begins (content ∷ [])) _ turns.0.is (rests begun.outcome turns.0.comes) in
+    let first : begun ≡ transition (packet_begins (content ∷ [])) (still counted.outcome.after) = turned_as begun (packet_begins (content ∷ [])) _ turns.0.is (rests begun.outcome turns.0.comes) in
     let h : OneChunk counted.outcome.after tag content ts = behind_begin counted.outcome.after tag content begun ts first (one_chunk begun.outcome.after tag content ts turns.1) in
     record {
       outcome = h.outcome;
-      comes = subst (λ (t : Turned). ContentTurn t.outcome.after tag content h.outcome) is h.comes;
+      comes = subst (λ (t : Transition). ContentTurn t.outcome.after tag content h.outcome) is h.comes;
       only = λ goes_on owes.
-          ap (λ (xs : List Turned). counted ∷ begun ∷ xs) (h.only goes_on owes)
-          ∙ ap (λ (t : Turned). counted ∷ t ∷ turned (chunk_input tag content) h.outcome ∷ turned packet_ends (still h.outcome.after) ∷ []) first
-          ∙ ap (λ (t : Turned). t ∷ turned (packet_begins (content ∷ [])) (still t.outcome.after) ∷ turned (chunk_input tag content) h.outcome ∷ turned packet_ends (still h.outcome.after) ∷ []) is;
+          ap (λ (xs : List Transition). counted ∷ begun ∷ xs) (h.only goes_on owes)
+          ∙ ap (λ (t : Transition). counted ∷ t ∷ transition (chunk_input tag content) h.outcome ∷ transition packet_ends (still h.outcome.after) ∷ []) first
+          ∙ ap (λ (t : Transition). t ∷ transition (packet_begins (content ∷ [])) (still t.outcome.after) ∷ transition (chunk_input tag content) h.outcome ∷ transition packet_ends (still h.outcome.after) ∷ []) is;
     }
 
-pub taken : Wire → (e : Endpoint) (theirs : Options) (with_checksum : Bool) (tag : ℕ) (content : Content) (turns : List Turned)
+pub taken : Wire → (e : Endpoint) (theirs : Options) (with_checksum : Bool) (tag : ℕ) (content : Content) (turns : List Transition)
     → IsTaken e.options theirs with_checksum tag content → admits e.core (record { tag = tag; contents = content ∷ [] }) ≡ all_chunks
-    → ((counted : Endpoint) (o : Outcome) → BeginTurn counted e.core (has_data (content ∷ [])) o → o ≡ still counted)
+    → ((counted : Endpoint) (o : Outcome) → BeginTurn counted e.core (has_data_chunk (content ∷ [])) o → o ≡ still counted)
     → HandleInput e (emission_bytes (ports_of theirs) (alone with_checksum tag content)) turns → Taken e tag content turns
 taken law e theirs with_checksum tag content turns h admitted rests (unreadable ts none reads) = absurd (none _ (is_read law e.options theirs with_checksum tag content h))
 taken law e theirs with_checksum tag content turns h admitted rests (readable packet counted ts is_packet counting reads) =
@@ -122,7 +122,7 @@ taken law e theirs with_checksum tag content turns h admitted rests (readable pa
     let is : packet_in packet ≡ sent_packet = reads_as_sent law.as_itself e.options theirs (alone with_checksum tag content) packet h.fits h.sendable is_packet in
     let here : AdmittedTurns counted.outcome.after sent_packet (admits e.core sent_packet) ts = subst (λ (p : Packet). AdmittedTurns counted.outcome.after p (admits e.core p) ts) is reads in
     let worked : WholeTurns counted.outcome.after sent_packet ts = subst (λ (a : Admission). AdmittedTurns counted.outcome.after sent_packet a ts) admitted here in
-    let counts : counted ≡ turned arrival (arrival_outcome e) = turned_as counted arrival (arrival_outcome e) counting.is counting.comes in
-    let same_core : counted.outcome.after.core ≡ e.core = ap (λ (t : Turned). t.outcome.after.core) counts in
+    let counts : counted ≡ transition arrival (arrival_outcome e) = turned_as counted arrival (arrival_outcome e) counting.is counting.comes in
+    let same_core : counted.outcome.after.core ≡ e.core = ap (λ (t : Transition). t.outcome.after.core) counts in
     worked_alone e tag content counted ts counts
-    (λ o begin. rests counted.outcome.after o (subst (λ (c : Core). BeginTurn counted.outcome.after c (has_data (content ∷ [])) o) same_core begin)) worked
+    (λ o begin. rests counted.outcome.after o (subst (λ (c : Core). BeginTurn counted.outcome.after c (has_data_chunk (content ∷ [])) o) same_core begin)) worked

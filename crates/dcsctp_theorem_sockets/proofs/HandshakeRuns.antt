@@ -5,15 +5,15 @@ use Rattle.dcsctp_spec_lemmas.specs.types.declared.options.Options.{Options}
 use Rattle.dcsctp_spec_lemmas.specs.types.declared.schedule.Side.{Side}
 use Rattle.dcsctp_spec_lemmas.specs.types.declared.schedule.Side.TheVariants as sides
 use Rattle.dcsctp_spec_lemmas.specs.types.Schedule.{connect_call, call_step, delivery_step, ActContent, step_act}
-use Rattle.dcsctp_spec_lemmas.specs.spec.endpoint.CallTurns.{Turned}
-use Rattle.dcsctp_spec_runs.specs.Sockets.{Worked, Both, turns_after, SocketRun, acts_of}
+use Rattle.dcsctp_spec_lemmas.specs.spec.endpoint.CallTurns.{Transition}
+use Rattle.dcsctp_spec_runs.specs.Sockets.{PerformedAct, Both, turns_after, SocketRun, acts_of}
 use Rattle.dcsctp_theorem_sockets.specs.Handshake.{other_side, handshake_acts, AreFitting, AreConnected, FittingSocketsConnect}
 use Rattle.dcsctp_theorem_sockets.specs.Agreement.{AreUsable}
 use Rattle.dcsctp_theorem_sockets.proofs.HandshakeTurns.{HandshakeLaws, Good}
 use Rattle.dcsctp_theorem_sockets.proofs.HandshakeEnds.{Ended, in_turn}
 
 -- the run of a handshake with these turns
-abbrev pub run_of : Side → List Turned → List Turned → List Turned → List Turned → List Turned → List Worked
+abbrev pub run_of : Side → List Transition → List Transition → List Transition → List Transition → List Transition → List PerformedAct
 run_of side o1 o2 o3 o4 o5 =
     record { act = step_act (delivery_step side 2); turns = o5 }
     ∷ record { act = step_act (delivery_step (other_side side) 2); turns = o4 }
@@ -23,12 +23,12 @@ run_of side o1 o2 o3 o4 o5 =
     ∷ []
 
 -- A run of these acts is one.
-pub record IsHandshake (side : Side) (run : List Worked) : Type 0 where
-  pub o1 : List Turned
-  pub o2 : List Turned
-  pub o3 : List Turned
-  pub o4 : List Turned
-  pub o5 : List Turned
+pub record IsHandshake (side : Side) (run : List PerformedAct) : Type 0 where
+  pub o1 : List Transition
+  pub o2 : List Transition
+  pub o3 : List Transition
+  pub o4 : List Transition
+  pub o5 : List Transition
   pub is : run ≡ run_of side o1 o2 o3 o4 o5
 
 first_is : (x y : ActContent) (xs ys : List ActContent) → x ∷ xs ≡ y ∷ ys → x ≡ y
@@ -38,11 +38,11 @@ rest_is : (x y : ActContent) (xs ys : List ActContent) → x ∷ xs ≡ y ∷ ys
 rest_is x y xs ys same = cc
 
 -- an act with its turns behind others
-with_act : (worked : Worked) (act : ActContent) (earlier others : List Worked) → worked.act ≡ act → earlier ≡ others → worked ∷ earlier ≡ record { act = act; turns = worked.turns } ∷ others
+with_act : (worked : PerformedAct) (act : ActContent) (earlier others : List PerformedAct) → worked.act ≡ act → earlier ≡ others → worked ∷ earlier ≡ record { act = act; turns = worked.turns } ∷ others
 with_act worked act earlier others is same =
-    ap (λ (a : ActContent). record { act = a; turns = worked.turns } ∷ earlier) is ∙ ap (λ (ws : List Worked). record { act = act; turns = worked.turns } ∷ ws) same
+    ap (λ (a : ActContent). record { act = a; turns = worked.turns } ∷ earlier) is ∙ ap (λ (ws : List PerformedAct). record { act = act; turns = worked.turns } ∷ ws) same
 
-is_handshake : (side : Side) (run : List Worked) → acts_of run ≡ reverse (handshake_acts side) → IsHandshake side run
+is_handshake : (side : Side) (run : List PerformedAct) → acts_of run ≡ reverse (handshake_acts side) → IsHandshake side run
 is_handshake side [] same = absurd (cc)
 is_handshake side (w5 ∷ []) same = absurd (cc)
 is_handshake side (w5 ∷ w4 ∷ []) same = absurd (cc)
@@ -67,7 +67,7 @@ is_handshake side (w5 ∷ w4 ∷ w3 ∷ w2 ∷ w1 ∷ []) same =
           (with_act w1 (step_act (call_step side connect_call)) [] [] (first_is _ _ _ _ one) refl))));
     }
 
-connected_at : HandshakeLaws → (options : Both Options) (side : Side) (o1 o2 o3 o4 o5 : List Turned) → Good options.a → Good options.b → AreFitting options
+connected_at : HandshakeLaws → (options : Both Options) (side : Side) (o1 o2 o3 o4 o5 : List Transition) → Good options.a → Good options.b → AreFitting options
     → SocketRun options (run_of side o1 o2 o3 o4 o5) → AreConnected options (turns_after (run_of side o1 o2 o3 o4 o5))
 connected_at law options sides.A o1 o2 o3 o4 o5 good_a good_b fit runs =
     let h : Ended options.a options.b ((o1 ++ o3) ++ o5) (o2 ++ o4) =
@@ -78,11 +78,11 @@ connected_at law options sides.B o1 o2 o3 o4 o5 good_a good_b fit runs =
     in_turn law options.b options.a o1 o2 o3 o4 o5 good_b good_a fit.to_a fit.to_b runs.1.1.1.1.0 runs.1.1.1.0 runs.1.1.0 runs.1.0 runs.0 in
     record { a_pair = h.q; b_pair = h.p; a = h.theirs; b = h.mine }
 
-connects_now : HandshakeLaws → (options : Both Options) (side : Side) (run : List Worked) → AreUsable options → AreFitting options → SocketRun options run
+connects_now : HandshakeLaws → (options : Both Options) (side : Side) (run : List PerformedAct) → AreUsable options → AreFitting options → SocketRun options run
     → acts_of run ≡ reverse (handshake_acts side) → AreConnected options (turns_after run)
 connects_now law options side run are fit runs schedule =
     let h : IsHandshake side run = is_handshake side run schedule in
-    subst (λ (ws : List Worked). AreConnected options (turns_after ws)) (sym h.is)
+    subst (λ (ws : List PerformedAct). AreConnected options (turns_after ws)) (sym h.is)
     (connected_at law options side h.o1 h.o2 h.o3 h.o4 h.o5
     (record { valid = (are sides.A).valid; fits = (are sides.A).fits; allow = fit.a }) (record { valid = (are sides.B).valid; fits = (are sides.B).fits; allow = fit.b })
     fit (subst (SocketRun options) h.is runs))

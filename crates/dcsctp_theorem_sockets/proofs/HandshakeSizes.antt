@@ -6,7 +6,7 @@ use Rattle.std.proofs.lemmas.List.{append-nil}
 use Rattle.std.proofs.lemmas.Bool.Decides.{nat_tests}
 use Rattle.dcsctp_spec_lemmas.specs.wire.Content.{state_cookie, InitContent}
 use Rattle.dcsctp_spec_lemmas.specs.wire.Numbers.{init_type, init_ack_type}
-use Rattle.dcsctp_spec_lemmas.specs.wire.Spelling.{parameter_bytes, init_fields, list_bytes, other_bytes}
+use Rattle.dcsctp_spec_lemmas.specs.wire.Spelling.{parameter_bytes, init_fields, parameter_chunk_bytes, other_bytes}
 use Rattle.dcsctp_spec_lemmas.specs.types.declared.association.Pair.{Pair}
 use Rattle.dcsctp_spec_lemmas.specs.types.declared.options.Options.{Options}
 use Rattle.dcsctp_spec_lemmas.specs.types.Settings.{packet_size_limit}
@@ -28,8 +28,8 @@ small_fits : (len size : ℕ) → len ≤ 112 → 112 ≤ size → nat_le len si
 small_fits len size small large = grind (arith, nat_tests)
 
 -- the length of INIT or INIT ACK with these parameters in bytes
-chunk_len : (chunk_type : ℕ) (chunk : InitContent) (more : ℕ) → length (flat_map parameter_bytes chunk.parameters) ≤ more → length (list_bytes chunk_type 0 (init_fields chunk) chunk.parameters ++ []) ≤ 20 + more
-unfolding list_bytes init_fields
+chunk_len : (chunk_type : ℕ) (chunk : InitContent) (more : ℕ) → length (flat_map parameter_bytes chunk.parameters) ≤ more → length (parameter_chunk_bytes chunk_type 0 (init_fields chunk) chunk.parameters ++ []) ≤ 20 + more
+unfolding parameter_chunk_bytes init_fields
 chunk_len chunk_type chunk more h = omega (arith, h, ap length (append-nil (flat_map parameter_bytes chunk.parameters)))
 
 len_without : (partial interleaving no_method : Bool) (method : ℕ) → length (flat_map parameter_bytes (parameters_by partial interleaving no_method method ++ [])) ≤ 20

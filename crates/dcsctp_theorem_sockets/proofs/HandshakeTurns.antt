@@ -13,7 +13,7 @@ use Rattle.dcsctp_spec_lemmas.specs.types.Offer.{offer_of, agreed_method}
 use Rattle.dcsctp_spec_lemmas.specs.spec.Cookie.{Cookie, cookie_bytes, is_stale}
 use Rattle.dcsctp_spec_lemmas.specs.spec.Packet.{Introduction, Content, init, init_ack, Packet, Emission, emission_bytes}
 use Rattle.dcsctp_spec_lemmas.specs.spec.endpoint.Endpoint.{Endpoint, Core, closed, cookie_wait, fresh_endpoint, own_tag}
-use Rattle.dcsctp_spec_lemmas.specs.spec.endpoint.Outcome.{Outcome, noting, quiet, sends, counted, drawing}
+use Rattle.dcsctp_spec_lemmas.specs.spec.endpoint.Outcome.{Outcome, noting, quiet, sends, packet_counted, drawing}
 use Rattle.dcsctp_spec_lemmas.specs.spec.endpoint.Turn.{act_input}
 use Rattle.dcsctp_spec_lemmas.specs.spec.endpoint.FlushOutcomes.{allows_packet}
 use Rattle.dcsctp_spec_lemmas.specs.spec.association.CookieEchoChanges.{establish_new, aged, case_without_peer}
@@ -22,8 +22,8 @@ use Rattle.dcsctp_spec_lemmas.specs.spec.endpoint.HandshakeOutcomes.{pair_from, 
 use Rattle.dcsctp_spec_lemmas.specs.spec.association.HandshakeChanges.{introduction_of, answering_introduction, held_by_init_ack}
 use Rattle.dcsctp_spec_lemmas.specs.spec.association.Acts.{connect}
 use Rattle.dcsctp_spec_lemmas.specs.spec.endpoint.Following.{next_chunk}
-use Rattle.dcsctp_spec_lemmas.specs.spec.association.Effect.{Effect, holds, link_of}
-use Rattle.dcsctp_spec_lemmas.specs.spec.endpoint.CallTurns.{Turned, turned, Turns, HandleInput}
+use Rattle.dcsctp_spec_lemmas.specs.spec.association.Effect.{Effect, holds, identity_of}
+use Rattle.dcsctp_spec_lemmas.specs.spec.endpoint.CallTurns.{Transition, transition, Turns, HandleInput}
 use Rattle.dcsctp_spec_lemmas.specs.spec.Admission.{all_chunks, admits, admitted_where, admits_by, wrong_tag_text}
 use Rattle.dcsctp_spec_lemmas.specs.spec.CookieFits.{FitsPair, CookieReadsBack}
 use Rattle.dcsctp_spec_runs.specs.Laws.{AnswerKeepsAgreement, OfferReadsBack}
@@ -74,10 +74,10 @@ connecting a word next =
     (sends (awaits_init_ack (fresh_endpoint a) (pair_from word next)) (U32 word ∷ U32 next ∷ []) [] (init_emission (fresh_endpoint a) (pair_from word next)))
 
 -- The socket connects with a pair.
-pub record Begins (a : Options) (turns : List Turned) : Type 0 where
+pub record Begins (a : Options) (turns : List Transition) : Type 0 where
   pub word : ℕ
   pub next : ℕ
-  pub only : turns ≡ turned (act_input connect) (connecting a word next) ∷ []
+  pub only : turns ≡ transition (act_input connect) (connecting a word next) ∷ []
 
 pub connect_sends : (a : Options) (word next : ℕ) → 112 ≤ a.mtu → connect_outcome (fresh_endpoint a) closed word next ≡ connecting a word next
 connect_sends a word next large =
@@ -86,13 +86,13 @@ connect_sends a word next large =
     let words : List Word = U32 word ∷ U32 next ∷ [] in
     ap (λ (b : Bool). drawing (pair_from word next) (cond b (sends e words [] emission) (quiet e words []))) (init_fits e (pair_from word next) large)
 
-pub begins : (a : Options) (turns : List Turned) → Good a → Turns (fresh_endpoint a) (act_input connect ∷ []) turns → Begins a turns
+pub begins : (a : Options) (turns : List Transition) → Good a → Turns (fresh_endpoint a) (act_input connect ∷ []) turns → Begins a turns
 begins a [] good turns = absurd turns
 begins a (t ∷ []) good turns =
     record {
       word = turns.0.comes.0;
       next = turns.0.comes.1;
-      only = ap (λ (x : Turned). x ∷ []) (turned_as t (act_input connect) _ turns.0.is (turns.0.comes.2 ∙ connect_sends a turns.0.comes.0 turns.0.comes.1 good.allow.mtu));
+      only = ap (λ (x : Transition). x ∷ []) (turned_as t (act_input connect) _ turns.0.is (turns.0.comes.2 ∙ connect_sends a turns.0.comes.0 turns.0.comes.1 good.allow.mtu));
     }
 begins a (t ∷ other ∷ ts) good turns = absurd turns.1
 
@@ -108,7 +108,7 @@ answering a b p word next =
     (sends (asked b) (U32 word ∷ U32 next ∷ []) [] (init_ack_emission (asked b) (introduction_of a p) (pair_from word next) 0))
 
 -- The socket answers the INIT of this pair with a pair of its own.
-pub record Answers (a b : Options) (p : Pair) (turns : List Turned) : Type 0 where
+pub record Answers (a b : Options) (p : Pair) (turns : List Transition) : Type 0 where
   pub word : ℕ
   pub next : ℕ
   pub only : turns ≡ delivered (fresh_endpoint b) 0 (init (introduction_of a p)) (answering a b p word next)
@@ -120,12 +120,12 @@ answer_sends a b p word next large =
     ap (λ (x : Bool). drawing (pair_from word next) (cond x (sends (asked b) words [] emission) (quiet (asked b) words []))) (init_ack_fits (asked b) (introduction_of a p) (pair_from word next) 0 large)
 
 -- where the chunk's outcome is known
-pub taken_as : (e : Endpoint) (tag : ℕ) (content : Content) (turns : List Turned) (h : Taken e tag content turns) (o : Outcome) → h.outcome ≡ o → o.following ≡ next_chunk
-    → OwesNothing o.after.below.transfer → turns ≡ delivered e tag content o
+pub taken_as : (e : Endpoint) (tag : ℕ) (content : Content) (turns : List Transition) (h : Taken e tag content turns) (o : Outcome) → h.outcome ≡ o → o.following ≡ next_chunk
+    → OwesNothing o.after.queues.transfer → turns ≡ delivered e tag content o
 taken_as e tag content turns h o is goes_on owes =
-    h.only (ap (λ (x : Outcome). x.following) is ∙ goes_on) (subst (λ (x : Outcome). OwesNothing x.after.below.transfer) (sym is) owes) ∙ ap (λ (x : Outcome). delivered e tag content x) is
+    h.only (ap (λ (x : Outcome). x.following) is ∙ goes_on) (subst (λ (x : Outcome). OwesNothing x.after.queues.transfer) (sym is) owes) ∙ ap (λ (x : Outcome). delivered e tag content x) is
 
-answers_by : (a b : Options) (p : Pair) (turns : List Turned) → Good b → Taken (fresh_endpoint b) 0 (init (introduction_of a p)) turns → Answers a b p turns
+answers_by : (a b : Options) (p : Pair) (turns : List Transition) → Good b → Taken (fresh_endpoint b) 0 (init (introduction_of a p)) turns → Answers a b p turns
 answers_by a b p turns good h =
     record {
       word = h.comes.0;
@@ -143,7 +143,7 @@ init_is_taken law a b p good own port =
       checked = inl refl;
     }
 
-pub answers : HandshakeLaws → (a b : Options) (p : Pair) (turns : List Turned) → Good a → Good b → FitsPair p → a.remote_port ≡ b.local_port
+pub answers : HandshakeLaws → (a b : Options) (p : Pair) (turns : List Transition) → Good a → Good b → FitsPair p → a.remote_port ≡ b.local_port
     → HandleInput (fresh_endpoint b) (emission_bytes (ports_of a) (init_emission (fresh_endpoint a) p)) turns → Answers a b p turns
 answers law a b p turns good_a good_b own port input =
     answers_by a b p turns good_b (taken law.wire (fresh_endpoint b) a true 0 (init (introduction_of a p)) turns (init_is_taken law a b p good_a own port) refl (λ e o rests. rests) input)
@@ -152,7 +152,7 @@ answers law a b p turns good_a good_b own port input =
 
 -- the socket that connects, once its INIT went out, and once the INIT ACK was counted
 abbrev pub waiting : Options → Pair → Endpoint
-waiting a p = counted (awaits_init_ack (fresh_endpoint a) p)
+waiting a p = packet_counted (awaits_init_ack (fresh_endpoint a) p)
 
 abbrev pub made_cookie : Options → Pair → Pair → Cookie
 made_cookie a p q = cookie_for 0 (introduction_of a p) q 0
@@ -176,11 +176,11 @@ awaiting a b p q tie = awaits_cookie_ack (counted_at (waiting a p)) p (answer_to
 
 abbrev pub echoing : Options → Options → Pair → Pair → ℕ → Outcome
 echoing a b p q tie =
-    noting (holds (link_of p (held_by_init_ack a p (answer_to a b p q))) ∷ [])
+    noting (holds (identity_of p (held_by_init_ack a p (answer_to a b p q))) ∷ [])
     (sends (awaiting a b p q tie) (U64 tie ∷ []) [] (echo_emission q.tag (cookie_bytes (made_cookie a p q))))
 
 -- The socket echoes the cookie.
-pub record Echoes (a b : Options) (p q : Pair) (turns : List Turned) : Type 0 where
+pub record Echoes (a b : Options) (p q : Pair) (turns : List Transition) : Type 0 where
   pub tie : ℕ
   pub only : turns ≡ delivered (waiting a p) p.tag (init_ack (answer_to a b p q) (Some (cookie_bytes (made_cookie a p q)))) (echoing a b p q tie)
 
@@ -190,11 +190,11 @@ echo_sends a b p q tie good =
     let e : Endpoint = awaiting a b p q tie in
     let emission : Emission = echo_emission q.tag (cookie_bytes (made_cookie a p q)) in
     let words : List Word = U64 tie ∷ [] in
-    let holding : List Effect = holds (link_of p (held_by_init_ack a p (answer_to a b p q))) ∷ [] in
+    let holding : List Effect = holds (identity_of p (held_by_init_ack a p (answer_to a b p q))) ∷ [] in
     ap (λ (x : Bool). noting holding (cond x (cond (allows_packet a.max_burst) (sends e words [] emission) (quiet e words [])) (quiet e words []))) (echo_fits e q.tag (made_cookie a p q) good.allow.mtu)
     ∙ ap (λ (x : Bool). noting holding (cond x (sends e words [] emission) (quiet e words []))) good.allow.burst
 
-echoes_by : (a b : Options) (p q : Pair) (turns : List Turned) → Good a
+echoes_by : (a b : Options) (p q : Pair) (turns : List Transition) → Good a
     → Taken (waiting a p) p.tag (init_ack (answer_to a b p q) (Some (cookie_bytes (made_cookie a p q)))) turns → Echoes a b p q turns
 echoes_by a b p q turns good h =
     let e : Endpoint = counted_at (waiting a p) in
@@ -222,7 +222,7 @@ ack_admitted core theirs cookie tag own some =
     ap (λ (zero_tag : Bool). admits_by core packet None None false false zero_tag) (not_zero tag some)
     ∙ ap (λ (is_own : Bool). admitted_where is_own (wrong_tag_text tag (own_tag core))) (ap (eqb tag) own ∙ same_tag tag)
 
-pub echoes : HandshakeLaws → (a b : Options) (p q : Pair) (turns : List Turned) → Good a → Good b → FitsPair p → FitsPair q → b.remote_port ≡ a.local_port
+pub echoes : HandshakeLaws → (a b : Options) (p q : Pair) (turns : List Transition) → Good a → Good b → FitsPair p → FitsPair q → b.remote_port ≡ a.local_port
     → HandleInput (waiting a p) (emission_bytes (ports_of b) (init_ack_emission (asked b) (introduction_of a p) q 0)) turns → Echoes a b p q turns
 echoes law a b p q turns good_a good_b mine own port input =
     let content : Content = init_ack (answer_to a b p q) (Some (cookie_bytes (made_cookie a p q))) in

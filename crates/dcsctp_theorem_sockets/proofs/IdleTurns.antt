@@ -8,12 +8,12 @@ use Rattle.dcsctp_spec_lemmas.specs.spec.endpoint.Event.{connected}
 use Rattle.dcsctp_spec_lemmas.specs.spec.Packet.{Introduction}
 use Rattle.dcsctp_spec_lemmas.specs.spec.endpoint.Endpoint.{Endpoint, Core, closed, cookie_wait, cookie_echoed}
 use Rattle.dcsctp_spec_lemmas.specs.spec.endpoint.Outcome.{Outcome, noting, fits}
-use Rattle.dcsctp_spec_lemmas.specs.spec.association.Effect.{connects, holds, link_of}
+use Rattle.dcsctp_spec_lemmas.specs.spec.association.Effect.{connects, holds, identity_of}
 use Rattle.dcsctp_spec_lemmas.specs.spec.association.HandshakeChanges.{held_by_init_ack}
 use Rattle.dcsctp_spec_lemmas.specs.spec.association.CookieEchoChanges.{Resolution, establish_new, held_by_cookie}
 use Rattle.dcsctp_spec_lemmas.specs.spec.endpoint.FlushOutcomes.{Answer, draft_to, FlushAnswers, flush_answered, IsIdle}
 use Rattle.dcsctp_spec_lemmas.specs.spec.endpoint.HandshakeOutcomes.{awaits_cookie_ack, echo_emission, EchoAnswers, init_ack_by, InitAckAnswers, init_ack_outcome, InitAckTurn, connected_after, cookie_ack_by, CookieAckAnswers, cookie_ack_outcome, CookieAckTurn}
-use Rattle.dcsctp_spec_lemmas.specs.spec.endpoint.CookieEchoOutcomes.{resolved_now, established_by, acknowledgement, queue_kept, resolved_by, cookie_echo_by, ResolvedAnswers, EchoedAnswers, CookieEchoTurn, establish_outcome}
+use Rattle.dcsctp_spec_lemmas.specs.spec.endpoint.CookieEchoOutcomes.{resolved_now, established_by, cookie_ack_emission, queue_kept, resolved_by, cookie_echo_by, ResolvedAnswers, EchoedAnswers, CookieEchoTurn, establish_outcome}
 use Rattle.dcsctp_spec_runs.proofs.FlushLemmas.{flush_is_now, echo_now, establish_now}
 use Rattle.dcsctp_theorem_sockets.proofs.Idle.{idle_answers}
 
@@ -31,7 +31,7 @@ init_ack_turn_of e theirs cookie mine word o is idle comes =
       h.0,
       subst (λ (core : Core). InitAckAnswers e theirs (Some cookie) core word h.0) (sym is) h.1,
       comes
-          ∙ ap (noting (holds (link_of mine (held_by_init_ack e.options mine theirs)) ∷ [])) (sym (echo_now b after (U64 word ∷ []) theirs.pair.tag cookie h.0 idle h.1))
+          ∙ ap (noting (holds (identity_of mine (held_by_init_ack e.options mine theirs)) ∷ [])) (sym (echo_now b after (U64 word ∷ []) theirs.pair.tag cookie h.0 idle h.1))
           ∙ ap (λ (core : Core). init_ack_by (flush_answered h.0) e theirs (Some cookie) core word) (sym is),
     )
 
@@ -43,7 +43,7 @@ cookie_ack_turn_of e mine held cookie o is idle comes =
       h.0,
       subst (λ (core : Core). CookieAckAnswers e core h.0) (sym is) h.1,
       comes
-          ∙ ap (noting (connects (link_of mine held) ∷ [])) (sym (flush_is_now after [] (connected ∷ []) (draft_to held).with_checksum held.peer.tag [] h.0 idle h.1))
+          ∙ ap (noting (connects (identity_of mine held) ∷ [])) (sym (flush_is_now after [] (connected ∷ []) (draft_to held).with_checksum held.peer.tag [] h.0 idle h.1))
           ∙ ap (λ (core : Core). cookie_ack_by (flush_answered h.0) e core) (sym is),
     )
 
@@ -53,7 +53,7 @@ pub cookie_echo_turn_of : (e : Endpoint) (header : ℕ) (bytes : List ℕ) (cook
     → o ≡ establish_outcome e cookie (queue_kept e cookie) word (connected ∷ []) → CookieEchoTurn e header bytes o
 cookie_echo_turn_of e header bytes cookie word o is reads resolves idle comes =
     let after : Endpoint = established_by e cookie (queue_kept e cookie) word in
-    let draft = acknowledgement (held_by_cookie e.options cookie) cookie in
+    let draft = cookie_ack_emission (held_by_cookie e.options cookie) cookie in
     let h : (answers : List Answer) × FlushAnswers after draft answers = idle_answers after draft idle in
     let resolved : ResolvedAnswers e cookie closed word (resolved_now e closed header cookie) h.0 =
     subst (λ (case : Resolution). ResolvedAnswers e cookie closed word case h.0) (sym resolves) h.1 in (

@@ -8,12 +8,12 @@ use Rattle.dcsctp_spec_lemmas.specs.spec.endpoint.Endpoint.{Endpoint, Core}
 use Rattle.dcsctp_spec_lemmas.specs.spec.endpoint.Outcome.{Outcome}
 use Rattle.dcsctp_spec_lemmas.specs.spec.endpoint.Turn.{ActTurn, act_input}
 use Rattle.dcsctp_spec_lemmas.specs.spec.endpoint.HandshakeOutcomes.{ConnectTurn}
-use Rattle.dcsctp_spec_lemmas.specs.spec.endpoint.CallTurns.{Turned, Turns}
+use Rattle.dcsctp_spec_lemmas.specs.spec.endpoint.CallTurns.{Transition, Turns}
 use Rattle.dcsctp_spec_lemmas.specs.spec.association.Controlled.{IsControlled, ControlledAct}
 use Rattle.dcsctp_spec_lemmas.specs.spec.association.Effect.{Effect, Change}
 use Rattle.dcsctp_spec_lemmas.specs.spec.association.Choices.{Choices}
 use Rattle.dcsctp_spec_lemmas.specs.spec.association.Acts.{Act, connect, act_change, flushes}
-use Rattle.dcsctp_spec_runs.specs.Laws.{OfferReadsBack, PacketsAreControlled, AdmittedPacketsMayBeWorked}
+use Rattle.dcsctp_spec_runs.specs.Laws.{OfferReadsBack, PacketsAreControlled, AdmittedPacketsMayBeHandled}
 use Rattle.dcsctp_spec_laws.specs.TurnLaws.{ActsAreControlled}
 use Rattle.dcsctp_spec_runs.specs.World.{SideState, after_changes, acted, Move, does, MoveChanges, Moved, MovesMade, after_moves}
 use Rattle.dcsctp_spec_runs.specs.Sockets.{endpoint_after}
@@ -29,50 +29,50 @@ pub record Below : Type 0 where
   pub effects_mean : EffectsMean
   pub acts : ActsAreControlled
   pub packets : PacketsAreControlled
-  pub admitted : AdmittedPacketsMayBeWorked
+  pub admitted : AdmittedPacketsMayBeHandled
   pub offers : OfferReadsBack
   pub built : BuiltPacketReadsAsItself
 
 -- A socket's turns are moves of its side, where the other side's past is this.
-pub record SideMoves (options : Options) (turns : List Turned) (side : SideState) (theirs : List Effect) (more : List Turned) : Type 0 where
+pub record SideMoves (options : Options) (turns : List Transition) (side : SideState) (theirs : List Effect) (more : List Transition) : Type 0 where
   pub moves : List Moved
   pub made : MovesMade side theirs moves
   pub follows : Followed options (turns ++ more) (after_moves side moves)
 
-pub rests : (options : Options) (turns : List Turned) (side : SideState) (theirs : List Effect) (more : List Turned) → Followed options (turns ++ more) side → SideMoves options turns side theirs more
+pub rests : (options : Options) (turns : List Transition) (side : SideState) (theirs : List Effect) (more : List Transition) → Followed options (turns ++ more) side → SideMoves options turns side theirs more
 rests options turns side theirs more follows = record { moves = []; made = tt; follows = follows }
 
-pub moves_once : (options : Options) (turns : List Turned) (side : SideState) (theirs : List Effect) (more : List Turned) (move : Move) (changes : List Change) → MoveChanges side theirs move changes
+pub moves_once : (options : Options) (turns : List Transition) (side : SideState) (theirs : List Effect) (more : List Transition) (move : Move) (changes : List Change) → MoveChanges side theirs move changes
     → Followed options (turns ++ more) (after_changes side changes) → SideMoves options turns side theirs more
 moves_once options turns side theirs more move changes made follows = record { moves = record { move = move; changes = changes } ∷ []; made = (made, tt); follows = follows }
 
-pub nothing_happens : (options : Options) (turns : List Turned) (side : SideState) (theirs : List Effect) (more : List Turned) → Followed options turns side → more ≡ []
+pub nothing_happens : (options : Options) (turns : List Transition) (side : SideState) (theirs : List Effect) (more : List Transition) → Followed options turns side → more ≡ []
     → SideMoves options turns side theirs more
 nothing_happens options turns side theirs more h none =
     rests options turns side theirs more
-    (subst (λ (ts : List Turned). Followed options (turns ++ ts) side) (sym none) (subst (λ (ts : List Turned). Followed options ts side) (sym (append-nil turns)) h))
+    (subst (λ (ts : List Transition). Followed options (turns ++ ts) side) (sym none) (subst (λ (ts : List Transition). Followed options ts side) (sym (append-nil turns)) h))
 
 -- turns that the side has no part in, and others behind them
-pub rests_then : (options : Options) (turns : List Turned) (side : SideState) (theirs : List Effect) (xs ys : List Turned) → SideMoves options (turns ++ xs) side theirs ys
+pub rests_then : (options : Options) (turns : List Transition) (side : SideState) (theirs : List Effect) (xs ys : List Transition) → SideMoves options (turns ++ xs) side theirs ys
     → SideMoves options turns side theirs (xs ++ ys)
 rests_then options turns side theirs xs ys second =
     record {
       moves = second.moves;
       made = second.made;
-      follows = subst (λ (ts : List Turned). Followed options ts (after_moves side second.moves)) (append_assoc turns xs ys) second.follows;
+      follows = subst (λ (ts : List Transition). Followed options ts (after_moves side second.moves)) (append_assoc turns xs ys) second.follows;
     }
 
 -- turns that are a move of it, and others behind them
-pub moves_then : (options : Options) (turns : List Turned) (side : SideState) (theirs : List Effect) (xs ys : List Turned) (move : Move) (changes : List Change) → MoveChanges side theirs move changes
+pub moves_then : (options : Options) (turns : List Transition) (side : SideState) (theirs : List Effect) (xs ys : List Transition) (move : Move) (changes : List Change) → MoveChanges side theirs move changes
     → SideMoves options (turns ++ xs) (after_changes side changes) theirs ys → SideMoves options turns side theirs (xs ++ ys)
 moves_then options turns side theirs xs ys move changes made second =
     record {
       moves = record { move = move; changes = changes } ∷ second.moves;
       made = (made, second.made);
-      follows = subst (λ (ts : List Turned). Followed options ts (after_moves (after_changes side changes) second.moves)) (append_assoc turns xs ys) second.follows;
+      follows = subst (λ (ts : List Transition). Followed options ts (after_moves (after_changes side changes) second.moves)) (append_assoc turns xs ys) second.follows;
     }
 
-pub none_rests : (options : Options) (turns : List Turned) (side : SideState) (theirs : List Effect) (more : List Turned) → Followed options turns side
+pub none_rests : (options : Options) (turns : List Transition) (side : SideState) (theirs : List Effect) (more : List Transition) → Followed options turns side
     → Turns (endpoint_after options turns) [] more → SideMoves options turns side theirs more
 none_rests options turns side theirs [] h taken = nothing_happens options turns side theirs [] h refl
 none_rests options turns side theirs (t ∷ more) h taken = absurd taken
@@ -85,7 +85,7 @@ act_at e options core o choices = IsControlled e o (act_change options core conn
 connected_same : (p q : Options) (core : Core) (choices : Choices) → SameOptions p q → act_change q core connect choices ≡ act_change p core connect choices
 connected_same p q core choices same = ap (λ (x : Options). act_change x core connect choices) same ∙ longest_connects p q.max_message_size core choices
 
-connected_by : Below → (options : Options) (turns : List Turned) (side : SideState) (theirs : List Effect) (t : Turned) → Followed options turns side
+connected_by : Below → (options : Options) (turns : List Transition) (side : SideState) (theirs : List Effect) (t : Transition) → Followed options turns side
     → ConnectTurn (endpoint_after options turns) t.outcome → SideMoves options turns side theirs (t ∷ [])
 connected_by law options turns side theirs t h turn =
     let e : Endpoint = endpoint_after options turns in
@@ -99,7 +99,7 @@ connected_by law options turns side theirs t h turn =
     moves_once options turns side theirs (t ∷ []) (does connect) (change ∷ []) (choices, refl)
     (follow_turns law.effects_mean options turns side (t ∷ []) (change ∷ []) h (acted connect choices refl, tt) (same, tt) (fits, tt))
 
-pub connect_moves : Below → (options : Options) (turns : List Turned) (side : SideState) (theirs : List Effect) (more : List Turned) → Followed options turns side
+pub connect_moves : Below → (options : Options) (turns : List Transition) (side : SideState) (theirs : List Effect) (more : List Transition) → Followed options turns side
     → Turns (endpoint_after options turns) (act_input connect ∷ []) more → SideMoves options turns side theirs more
 connect_moves law options turns side theirs [] h turn = absurd turn
 connect_moves law options turns side theirs (t ∷ []) h turn = connected_by law options turns side theirs t h turn.0.comes
@@ -108,7 +108,7 @@ connect_moves law options turns side theirs (t ∷ next ∷ more) h turn = absur
 -- ---- an act in which the options have no part
 
 -- its turn, and whatever comes behind it
-pub act_then : Below → (options : Options) (turns : List Turned) (side : SideState) (theirs : List Effect) (act : Act) (t : Turned) (more : List Turned) → TakesNoOptions act
+pub act_then : Below → (options : Options) (turns : List Transition) (side : SideState) (theirs : List Effect) (act : Act) (t : Transition) (more : List Transition) → TakesNoOptions act
     → Followed options turns side → ControlledAct (endpoint_after options turns) act t.outcome → TurnFits t.outcome
     → ((choices : Choices) → let after : SideState = after_changes side (act_change side.options side.core act choices ∷ []) in
     Followed options (turns ++ t ∷ []) after → SideMoves options (turns ++ t ∷ []) after theirs more)
@@ -117,14 +117,14 @@ act_then law options turns side theirs act t more any h controlled fits rest =
     let followed : ActFollows options turns side act t = act_follows law.effects_mean options turns side act t any h controlled fits in
     moves_then options turns side theirs (t ∷ []) more (does act) (act_change side.options side.core act followed.choices ∷ []) (followed.choices, refl) (rest followed.choices followed.follows)
 
-pub act_once : Below → (options : Options) (turns : List Turned) (side : SideState) (theirs : List Effect) (act : Act) (t : Turned) → TakesNoOptions act
+pub act_once : Below → (options : Options) (turns : List Transition) (side : SideState) (theirs : List Effect) (act : Act) (t : Transition) → TakesNoOptions act
     → Followed options turns side → ControlledAct (endpoint_after options turns) act t.outcome → TurnFits t.outcome → SideMoves options turns side theirs (t ∷ [])
 act_once law options turns side theirs act t any h controlled fits =
     let followed : ActFollows options turns side act t = act_follows law.effects_mean options turns side act t any h controlled fits in
     moves_once options turns side theirs (t ∷ []) (does act) (act_change side.options side.core act followed.choices ∷ []) (followed.choices, refl) followed.follows
 
 -- what a call or a timer brings
-pub act_moves : Below → (options : Options) (turns : List Turned) (side : SideState) (theirs : List Effect) (act : Act) (more : List Turned) → TakesNoOptions act
+pub act_moves : Below → (options : Options) (turns : List Transition) (side : SideState) (theirs : List Effect) (act : Act) (more : List Transition) → TakesNoOptions act
     → Followed options turns side → ((o : Outcome) → ActTurn (endpoint_after options turns) act o → TurnFits o)
     → Turns (endpoint_after options turns) (act_input act ∷ []) more → SideMoves options turns side theirs more
 act_moves law options turns side theirs act [] any h fits turn = absurd turn
@@ -133,6 +133,6 @@ act_moves law options turns side theirs act (t ∷ []) any h fits turn =
 act_moves law options turns side theirs act (t ∷ next ∷ more) any h fits turn = absurd turn.1
 
 -- a turn that is a flush of the association
-pub flush_moves : Below → (options : Options) (turns : List Turned) (side : SideState) (theirs : List Effect) (t : Turned) → Followed options turns side
+pub flush_moves : Below → (options : Options) (turns : List Transition) (side : SideState) (theirs : List Effect) (t : Transition) → Followed options turns side
     → ControlledAct (endpoint_after options turns) flushes t.outcome → TurnFits t.outcome → SideMoves options turns side theirs (t ∷ [])
 flush_moves law options turns side theirs t h controlled fits = act_once law options turns side theirs flushes t (λ p q core choices. refl) h controlled fits

@@ -7,21 +7,21 @@ use Rattle.dcsctp_spec_lemmas.specs.types.declared.options.Options.{Options}
 use Rattle.dcsctp_spec_lemmas.specs.spec.Cookie.{Cookie, cookie_at}
 use Rattle.dcsctp_spec_lemmas.specs.spec.Packet.{Introduction, Content, init, init_ack, cookie_echo, cookie_ack, re_config, abort, shutdown, shutdown_ack, shutdown_complete, plain}
 use Rattle.dcsctp_spec_lemmas.specs.spec.endpoint.Endpoint.{Core, closed, cookie_wait, cookie_echoed, open_in, OpenPhase, shutdown_ack_sent}
-use Rattle.dcsctp_spec_lemmas.specs.spec.association.Effect.{Link, Effect, holds, ends, Change, emitted, link_of, link_in}
+use Rattle.dcsctp_spec_lemmas.specs.spec.association.Effect.{AssociationIdentity, Effect, holds, ends, Change, emitted, identity_of, identity_in}
 use Rattle.dcsctp_spec_lemmas.specs.spec.association.Choices.{Choices}
 use Rattle.dcsctp_spec_lemmas.specs.spec.association.FlushChanges.{flush}
 use Rattle.dcsctp_spec_lemmas.specs.spec.association.HandshakeChanges.{init_change, held_by_init_ack, init_ack_change, cookie_ack_change}
 use Rattle.dcsctp_spec_lemmas.specs.spec.association.CookieEchoChanges.{Resolution, establish_new, restart, simultaneous_init, discard, maintain_existing, invalid_tag, stale, aged, resolve, case_by, case_without_peer, held_by_cookie, new_association_change, shutting_down_error, restart_change, maintain_change, resolved_change, read_echo_change}
 use Rattle.dcsctp_spec_lemmas.specs.spec.association.ResumeChanges.{resumed_held, resume_change}
 use Rattle.dcsctp_spec_lemmas.specs.spec.association.Acts.{chunk_change}
-use Rattle.dcsctp_spec_runs.specs.Past.{Has}
+use Rattle.dcsctp_spec_runs.specs.Past.{HasEffect}
 use Rattle.dcsctp_spec_runs.specs.World.{ControlTurn, acted, worked, resumed}
 use Rattle.dcsctp_theorem_sockets.proofs.NoHolding.{IsNoHolding, HoldsNone, none-alone, none-flush, none-sent, none-reset}
 use Rattle.dcsctp_theorem_sockets.proofs.NoHoldingTurns.{ended_none, again_echo_none, init_none, heard_none, shutdown_ack_none, complete_none, plain_none, closed_plain_none, waiting_plain_none, echoed_plain_none, act_none}
 
 -- An association that is there from here on isn't the one that was there.
 abbrev pub Anew : Core → List Effect → Type 0
-Anew core effects = (link : Link) → Has (holds link) effects → link_in core ≢ Some link
+Anew core effects = (link : AssociationIdentity) → HasEffect (holds link) effects → identity_in core ≢ Some link
 
 -- At most the first of these effects is that an association is there.
 abbrev pub FirstAlone : List Effect → Type 0
@@ -33,7 +33,7 @@ pub record New (core : Core) (effects : List Effect) : Type 0 where
   pub anew : Anew core effects
   pub first : FirstAlone effects
 
-not_among : (link : Link) (effects : List Effect) → HoldsNone effects → Has (holds link) effects → ⊥
+not_among : (link : AssociationIdentity) (effects : List Effect) → HoldsNone effects → HasEffect (holds link) effects → ⊥
 not_among link [] none has = has
 not_among link (effect ∷ effects) none (inl is) = subst IsNoHolding (sym is) none.0
 not_among link (effect ∷ effects) none (inr has) = not_among link effects none.1 has
@@ -46,18 +46,18 @@ none_anew : (core : Core) (effects : List Effect) → HoldsNone effects → New 
 none_anew core effects none = record { anew = λ link has same. not_among link effects none has; first = first_of effects none }
 
 -- There was none.
-first_anew : (core : Core) (effects : List Effect) → link_in core ≡ None → FirstAlone effects → New core effects
+first_anew : (core : Core) (effects : List Effect) → identity_in core ≡ None → FirstAlone effects → New core effects
 first_anew core effects none first = record { anew = λ link has same. absurd (cc); first = first }
 
 -- ---- COOKIE ECHO
 
 -- of another peer than the one that was there
-another_anew : (options : Options) (core : Core) (my : Pair) (held : Held) (cookie : Cookie) (choices : Choices) → link_in core ≡ Some (link_of my held)
+another_anew : (options : Options) (core : Core) (my : Pair) (held : Held) (cookie : Cookie) (choices : Choices) → identity_in core ≡ Some (identity_of my held)
     → (cookie.addressee.tag == held.peer.tag) ≡ false → Anew core (new_association_change options cookie choices).effects
 another_anew options core my held cookie choices is other link (inl new) same =
-    let was : link_of my held ≡ link = cc in
-    let made : link ≡ link_of cookie.maker (held_by_cookie options cookie) = cc in
-    let tags : held.peer.tag ≡ cookie.addressee.tag = ap (λ (l : Link). l.peer.tag) (was ∙ made) in
+    let was : identity_of my held ≡ link = cc in
+    let made : link ≡ identity_of cookie.maker (held_by_cookie options cookie) = cc in
+    let tags : held.peer.tag ≡ cookie.addressee.tag = ap (λ (l : AssociationIdentity). l.peer.tag) (was ∙ made) in
     absurd (grind (arith, nat_tests, tags, other))
 another_anew options core my held cookie choices is other link (inr (inl connects)) same = absurd (cc)
 another_anew options core my held cookie choices is other link (inr (inr has)) same =
@@ -68,12 +68,12 @@ another_anew options core my held cookie choices is other link (inr (inr has)) s
 new_first : (options : Options) (cookie : Cookie) (choices : Choices) → FirstAlone (new_association_change options cookie choices).effects
 new_first options cookie choices = (tt, none-flush cookie.addressee.tag (held_by_cookie options cookie) (cookie_ack ∷ []) choices.filling)
 
-new_anew : (options : Options) (core : Core) (my : Pair) (held : Held) (cookie : Cookie) (choices : Choices) → link_in core ≡ Some (link_of my held)
+new_anew : (options : Options) (core : Core) (my : Pair) (held : Held) (cookie : Cookie) (choices : Choices) → identity_in core ≡ Some (identity_of my held)
     → (cookie.addressee.tag == held.peer.tag) ≡ false → New core (new_association_change options cookie choices).effects
 new_anew options core my held cookie choices is other =
     record { anew = another_anew options core my held cookie choices is other; first = new_first options cookie choices }
 
-restart_anew : (options : Options) (core : Core) (my : Pair) (held : Held) (cookie : Cookie) (choices : Choices) → link_in core ≡ Some (link_of my held)
+restart_anew : (options : Options) (core : Core) (my : Pair) (held : Held) (cookie : Cookie) (choices : Choices) → identity_in core ≡ Some (identity_of my held)
     → (cookie.addressee.tag == held.peer.tag) ≡ false → New core (restart_change options core cookie choices).effects
 restart_anew options (open_in shutdown_ack_sent mine has) my held cookie choices is other = none_anew (open_in shutdown_ack_sent mine has) (emitted has.peer.tag (shutdown_ack ∷ shutting_down_error ∷ [])) (tt, tt)
 restart_anew options core my held cookie choices is other = new_anew options core my held cookie choices is other
@@ -85,7 +85,7 @@ maintain_none core cookie choices = tt
 
 -- the table of RFC 9260, section 5.2.4
 case_anew : (options : Options) (core : Core) (my : Pair) (held : Held) (cookie : Cookie) (choices : Choices) (is_own is_peer is_tie is_zero : Bool)
-    → link_in core ≡ Some (link_of my held) → (cookie.addressee.tag == held.peer.tag) ≡ is_peer
+    → identity_in core ≡ Some (identity_of my held) → (cookie.addressee.tag == held.peer.tag) ≡ is_peer
     → New core (resolved_change options core cookie choices (case_by is_own is_peer is_tie is_zero)).effects
 case_anew options core my held cookie choices false false true is_zero is peer = restart_anew options core my held cookie choices is peer
 case_anew options core my held cookie choices false false false is_zero is peer = none_anew core [] tt

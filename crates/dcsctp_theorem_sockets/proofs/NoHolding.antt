@@ -10,8 +10,8 @@ use Rattle.dcsctp_spec_lemmas.specs.spec.Packet.{Plain, Content, re_config}
 use Rattle.dcsctp_spec_lemmas.specs.spec.association.Effect.{Effect, holds, emitted, emitted_alone}
 use Rattle.dcsctp_spec_lemmas.specs.spec.association.Choices.{plain_contents, Filling, Choices}
 use Rattle.dcsctp_spec_lemmas.specs.spec.association.FlushChanges.{Flushed, reset_request, reset_to_begin, further_packets, chunks_behind, flushed_with, flush_where, flush}
-use Rattle.dcsctp_spec_lemmas.specs.spec.association.ResetChanges.{Place, again, next, astray, place_of, Answered, worked, repeated, outgoing_by, incoming_by, Informed, informed_where, is_outstanding, WorkedParameters, work_parameters, work_chunk, answers_emitted, reset_sent, reset_worked}
-use Rattle.dcsctp_spec_lemmas.specs.spec.association.Acts.{sent_by, request_sent, renewed_by}
+use Rattle.dcsctp_spec_lemmas.specs.spec.association.ResetChanges.{RequestPlace, again, next, astray, request_place, RequestOutcome, performed_request, repeated, outgoing_by, incoming_by, Informed, informed_where, is_outstanding, HandledParameters, work_parameters, work_chunk, answers_emitted, reset_sent, peer_part_handled}
+use Rattle.dcsctp_spec_lemmas.specs.spec.association.Acts.{sent_then_flushed, request_sent, renewed_by}
 
 -- It isn't that an association is there from here on.
 abbrev pub IsNoHolding : Effect → Type 0
@@ -54,7 +54,7 @@ none-flush_where true tag held front filling = none-flushed tag held front filli
 pub none-flush : (tag : ℕ) (held : Held) (front : List Content) (filling : Filling) → HoldsNone (flush tag held front filling).effects
 none-flush tag held front filling = none-flush_where filling.is_allowed tag held front filling
 
-pub none-sent : (held : Held) (choices : Choices) → HoldsNone (sent_by held choices).effects
+pub none-sent : (held : Held) (choices : Choices) → HoldsNone (sent_then_flushed held choices).effects
 none-sent held choices =
     none-append (further_packets held.peer.tag choices.plain) (flush held.peer.tag held [] choices.filling).effects
     (none-further held.peer.tag choices.plain) (none-flush held.peer.tag held [] choices.filling)
@@ -70,7 +70,7 @@ none-renewed held (Some number) reset true = (tt, (tt, (tt, tt)))
 
 -- ---- RE-CONFIG
 
-none-worked : (held : Held) (number : ℕ) (is_reached : Bool) → HoldsNone (worked held number is_reached).effects
+none-worked : (held : Held) (number : ℕ) (is_reached : Bool) → HoldsNone (performed_request held number is_reached).effects
 none-worked held number true = (tt, tt)
 none-worked held number false = tt
 
@@ -78,12 +78,12 @@ none-repeated : (held : Held) (result : ReconfigurationResponseResult) (is_reach
 none-repeated held InProgress is_reached = none-worked held held.peer_last is_reached
 none-repeated held result is_reached = tt
 
-none-outgoing : (held : Held) (number : ℕ) (is_reached : Bool) (place : Place) → HoldsNone (outgoing_by held number is_reached place).effects
+none-outgoing : (held : Held) (number : ℕ) (is_reached : Bool) (place : RequestPlace) → HoldsNone (outgoing_by held number is_reached place).effects
 none-outgoing held number is_reached again = none-repeated held held.peer_result is_reached
 none-outgoing held number is_reached next = (tt, none-worked held number is_reached)
 none-outgoing held number is_reached astray = tt
 
-none-incoming : (held : Held) (number : ℕ) (place : Place) → HoldsNone (incoming_by held number place).effects
+none-incoming : (held : Held) (number : ℕ) (place : RequestPlace) → HoldsNone (incoming_by held number place).effects
 none-incoming held number again = tt
 none-incoming held number next = (tt, tt)
 none-incoming held number astray = tt
@@ -97,13 +97,13 @@ none-parameters : (my : Pair) (is_reached has_worked : Bool) (held : Held) (para
 none-parameters my is_reached has_worked held [] = tt
 none-parameters my is_reached true held (outgoing_reset_request number answered reset ∷ parameters) = tt
 none-parameters my is_reached false held (outgoing_reset_request number answered reset ∷ parameters) =
-    let first : Answered = outgoing_by held number is_reached (place_of held.peer_last number) in
+    let first : RequestOutcome = outgoing_by held number is_reached (request_place held.peer_last number) in
     none-append first.effects (work_parameters my is_reached true first.held parameters).effects
-    (none-outgoing held number is_reached (place_of held.peer_last number)) (none-parameters my is_reached true first.held parameters)
+    (none-outgoing held number is_reached (request_place held.peer_last number)) (none-parameters my is_reached true first.held parameters)
 none-parameters my is_reached has_worked held (incoming_reset_request number streams ∷ parameters) =
-    let first : Answered = incoming_by held number (place_of held.peer_last number) in
+    let first : RequestOutcome = incoming_by held number (request_place held.peer_last number) in
     none-append first.effects (work_parameters my is_reached has_worked first.held parameters).effects
-    (none-incoming held number (place_of held.peer_last number)) (none-parameters my is_reached has_worked first.held parameters)
+    (none-incoming held number (request_place held.peer_last number)) (none-parameters my is_reached has_worked first.held parameters)
 none-parameters my is_reached has_worked held (reconfiguration_response number result ∷ parameters) =
     let first : Informed = informed_where my held number result (is_outstanding number held.own_outstanding) in
     none-append first.effects (work_parameters my is_reached has_worked first.held parameters).effects
@@ -124,8 +124,8 @@ none-reset_sent false held answers choices =
     none-append (answers_emitted choices.fits held.peer.tag answers) (flush held.peer.tag held [] choices.filling).effects
     (none-answers choices.fits held.peer.tag answers) (none-flush held.peer.tag held [] choices.filling)
 
-pub none-reset : (my : Pair) (held : Held) (parameters : List ResetParameter) (choices : Choices) → HoldsNone (reset_worked my held parameters choices).effects
+pub none-reset : (my : Pair) (held : Held) (parameters : List ResetParameter) (choices : Choices) → HoldsNone (peer_part_handled my held parameters choices).effects
 none-reset my held parameters choices =
-    let first : WorkedParameters = work_chunk my choices.is_reached held parameters in
+    let first : HandledParameters = work_chunk my choices.is_reached held parameters in
     let after : Flushed = reset_sent first.is_refused first.held first.answers choices in
     none-append first.effects after.effects (none-chunk my choices.is_reached held parameters) (none-reset_sent first.is_refused first.held first.answers choices)

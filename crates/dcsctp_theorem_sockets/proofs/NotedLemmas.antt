@@ -2,7 +2,7 @@
 use Rattle.std.proofs.Common.{◌≡◌, ℕ, ◌+◌, ◌-◌, ◌^◌, ◌≤◌, List, [], ◌∷◌, inl, inr, refl, subst, ap, ◌∙◌}
 use Rattle.dcsctp_spec_lemmas.specs.types.declared.association.Pair.{Pair}
 use Rattle.dcsctp_spec_lemmas.specs.spec.association.Effect.{Effect, draws, sends, holds, connects, ends, begins, gives_up, completes, fails, accepts, performs, resumes, noted}
-use Rattle.dcsctp_spec_runs.specs.Past.{Has, Each, InPlace, current, unconnected, number_to_begin, outstanding, requests_begun, number_to_accept, number_to_perform, my_of, peer_of}
+use Rattle.dcsctp_spec_runs.specs.Past.{HasEffect, Each, InPlace, current, unconnected, number_to_begin, outstanding, requests_begun, number_to_accept, number_to_perform, my_of, peer_of}
 use Rattle.dcsctp_theorem_association.specs.Agreement.{FindsPerformed}
 
 -- ---- each thing that the past leaves
@@ -131,7 +131,7 @@ in_place-noted (resumes link own last ∷ past) each = (current-noted past ∙ e
 
 -- ---- performed requests
 
-performs_noted : (my : Pair) (number : ℕ) (past : List Effect) → Has (performs my number) past → Has (performs my number) (noted past)
+performs_noted : (my : Pair) (number : ℕ) (past : List Effect) → HasEffect (performs my number) past → HasEffect (performs my number) (noted past)
 performs_noted my number [] has = absurd has
 performs_noted my number (draws pair ∷ past) (inl is) = inl is
 performs_noted my number (draws pair ∷ past) (inr has) = inr (performs_noted my number past has)

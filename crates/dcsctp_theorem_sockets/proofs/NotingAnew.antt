@@ -2,12 +2,12 @@
 use Rattle.std.proofs.Common.{◌≡◌, List, [], ◌∷◌, inl, refl, sym, subst, ◌∙◌}
 use Rattle.dcsctp_spec_lemmas.specs.types.declared.options.Options.{Options}
 use Rattle.dcsctp_spec_lemmas.specs.spec.endpoint.Endpoint.{Endpoint, Core, closed, cookie_wait, cookie_echoed, open_in, fresh_endpoint}
-use Rattle.dcsctp_spec_lemmas.specs.spec.association.Effect.{Effect, draws, sends, holds, connects, ends, begins, gives_up, completes, fails, accepts, performs, resumes, noted, Change, link_in}
-use Rattle.dcsctp_spec_lemmas.specs.spec.endpoint.CallTurns.{Turned}
-use Rattle.dcsctp_spec_runs.specs.Past.{Has, Each, current}
+use Rattle.dcsctp_spec_lemmas.specs.spec.association.Effect.{Effect, draws, sends, holds, connects, ends, begins, gives_up, completes, fails, accepts, performs, resumes, noted, Change, identity_in}
+use Rattle.dcsctp_spec_lemmas.specs.spec.endpoint.CallTurns.{Transition}
+use Rattle.dcsctp_spec_runs.specs.Past.{HasEffect, Each, current}
 use Rattle.dcsctp_spec_runs.specs.World.{SideState, after_effects, after_changes, ControlTurns, SideRun, side_after}
 use Rattle.dcsctp_spec_runs.specs.Sockets.{of_side, turns_after}
-use Rattle.dcsctp_theorem_association.specs.OneSide.{Leaves, PastIsState}
+use Rattle.dcsctp_theorem_association.specs.OneSide.{LeavesCore, PastIsState}
 use Rattle.dcsctp_theorem_sockets.specs.Telling.{NotesAnew, IsAnew, SocketsNoteAnew}
 use Rattle.dcsctp_theorem_sockets.proofs.NewAssociations.{New, change_anew}
 use Rattle.dcsctp_theorem_sockets.proofs.NoHolding.{HoldsNone}
@@ -17,10 +17,10 @@ use Rattle.dcsctp_theorem_sockets.proofs.SocketsAlone.{Moves, it_rests, it_moves
 
 -- ---- a turn
 
-notes_anew : (e : Endpoint) (t : Turned) → Moves e t.outcome → NotesAnew e t
-notes_anew e t (it_rests core options effects told) link has = absurd (subst (Has (holds link)) effects has)
+notes_anew : (e : Endpoint) (t : Transition) → Moves e t.outcome → NotesAnew e t
+notes_anew e t (it_rests core options effects told) link has = absurd (subst (HasEffect (holds link)) effects has)
 notes_anew e t (it_moves change turn is) link has =
-    (change_anew e.options e.core change turn).anew link (noted_happened (holds link) change.effects (subst (Has (holds link)) is.effects has))
+    (change_anew e.options e.core change turn).anew link (noted_happened (holds link) change.effects (subst (HasEffect (holds link)) is.effects has))
 
 -- ---- what one side did
 
@@ -41,17 +41,17 @@ none_is_anew (performs peer number ∷ effects) past none each = none_is_anew ef
 none_is_anew (resumes link own last ∷ effects) past none each = none_is_anew effects (resumes link own last ∷ past) none.1 (tt, each)
 
 -- the association that the past leaves is the one that is there
-current_is : (past : List Effect) (core : Core) → Leaves past core → current past ≡ link_in core
+current_is : (past : List Effect) (core : Core) → LeavesCore past core → current past ≡ identity_in core
 current_is past closed h = h
 current_is past (cookie_wait my) h = h
 current_is past (cookie_echoed my held cookie) h = h.link
 current_is past (open_in phase my held) h = h.link
 
-first_is_anew : (core : Core) (effect : Effect) (effects past : List Effect) → current past ≡ link_in core → New core (effect ∷ effects) → Each IsAnew past → Each IsAnew (effect ∷ past)
+first_is_anew : (core : Core) (effect : Effect) (effects past : List Effect) → current past ≡ identity_in core → New core (effect ∷ effects) → Each IsAnew past → Each IsAnew (effect ∷ past)
 first_is_anew core (holds link) effects past is new each = (λ same. new.anew link (inl refl) (sym is ∙ same), each)
 first_is_anew core effect effects past is new each = (tt, each)
 
-effects_are_anew : (core : Core) (effects past : List Effect) → current past ≡ link_in core → New core effects → Each IsAnew past → Each IsAnew (after_effects effects past)
+effects_are_anew : (core : Core) (effects past : List Effect) → current past ≡ identity_in core → New core effects → Each IsAnew past → Each IsAnew (after_effects effects past)
 effects_are_anew core [] past is new each = each
 effects_are_anew core (effect ∷ effects) past is new each = none_is_anew effects (effect ∷ past) new.first (first_is_anew core effect effects past is new each)
 

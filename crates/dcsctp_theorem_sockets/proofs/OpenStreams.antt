@@ -8,11 +8,11 @@ use Rattle.dcsctp_spec_lemmas.specs.spec.endpoint.Event.{Event}
 use Rattle.dcsctp_spec_lemmas.specs.types.Snapshot.{SendPart}
 use Rattle.dcsctp_spec_lemmas.specs.types.SnapshotItems.{QueuedPart}
 use Rattle.dcsctp_spec_lemmas.specs.spec.queues.Abandoning.{GivesUpFirst}
-use Rattle.dcsctp_spec_lemmas.specs.spec.queues.Filling.{Stage, Closes, GivesUpAt, Steps, none, more}
+use Rattle.dcsctp_spec_lemmas.specs.spec.queues.Filling.{Stage, ClosesMessage, GivesUpAt, StageSteps, none, more}
 use Rattle.dcsctp_spec_lemmas.specs.spec.queues.Items.{Item}
 use Rattle.dcsctp_spec_lemmas.specs.spec.queues.OwnResets.{is_ready, ready_streams, with_used}
-use Rattle.dcsctp_spec_lemmas.specs.spec.queues.QueuedParts.{emptied, queue_emptied, stream_restored, streams_restored, waiting_again, goes_on, progress_again, with_rest, with_message_rest, message_restored, messages_restored, queue_restored}
-use Rattle.dcsctp_spec_lemmas.specs.spec.queues.SendQueue.{SendQueueState, changed, with_stream, is_used, used}
+use Rattle.dcsctp_spec_lemmas.specs.spec.queues.QueuedParts.{emptied, queue_emptied, stream_restored, streams_restored, waiting_again, is_part_continued, progress_again, with_rest, with_message_rest, message_restored, messages_restored, queue_restored}
+use Rattle.dcsctp_spec_lemmas.specs.spec.queues.SendQueue.{SendQueueState, stream_changed, with_stream, is_used, used}
 use Rattle.dcsctp_spec_lemmas.specs.spec.queues.Sending.{without_rest, DiscardsNamed}
 use Rattle.dcsctp_spec_lemmas.specs.types.queues.SendStreams.{Waiting, Stream, stream_at, unused}
 
@@ -38,7 +38,7 @@ either : (b : Bool) (stream other : Stream) → IsOpen stream → IsOpen other �
 either true stream other is was = is
 either false stream other is was = was
 
-changed_open : (id : ℕ) (f : Stream → Stream) (streams : List Stream) → ((stream : Stream) → IsOpen stream → IsOpen (f stream)) → AreOpen streams → AreOpen (changed id f streams)
+changed_open : (id : ℕ) (f : Stream → Stream) (streams : List Stream) → ((stream : Stream) → IsOpen stream → IsOpen (f stream)) → AreOpen streams → AreOpen (stream_changed id f streams)
 changed_open id f [] keeps are = tt
 changed_open id f (stream ∷ streams) keeps are = (either (stream.id == id) (f stream) stream (keeps stream are.0) are.0, changed_open id f streams keeps are.1)
 
@@ -80,7 +80,7 @@ emptied_open (stream ∷ streams) = (refl, emptied_open streams)
 streams_open : (named : List HandoverOutgoingStream) (queue : SendQueueState) → AreOpen queue.streams → AreOpen (streams_restored named queue).streams
 streams_open [] queue are = are
 streams_open (named ∷ rest) queue are =
-    streams_open rest (record (with_used named.id queue) { streams = changed named.id (stream_restored named) (used queue named.id) })
+    streams_open rest (record (with_used named.id queue) { streams = stream_changed named.id (stream_restored named) (used queue named.id) })
     (changed_open named.id (stream_restored named) (used queue named.id) (λ stream is. is) (used_open queue named.id are))
 
 with_rest_open : (now : ℕ) (part : QueuedPart) (rest : ℕ) (queue : SendQueueState) → AreOpen queue.streams → AreOpen (with_message_rest now part rest queue).streams
@@ -93,7 +93,7 @@ either_queue false queue other are were = were
 
 message_open : (now : ℕ) (part : QueuedPart) (queue : SendQueueState) → AreOpen queue.streams → AreOpen (message_restored now part queue).streams
 message_open now part queue are =
-    either_queue (goes_on part queue) (record (with_message_rest now part (length part.payload - part.remaining_offset) queue) { under_way = Some (progress_again part) })
+    either_queue (is_part_continued part queue) (record (with_message_rest now part (length part.payload - part.remaining_offset) queue) { under_way = Some (progress_again part) })
     (with_message_rest now part (length part.payload) queue) (with_rest_open now part _ queue are) (with_rest_open now part _ queue are)
 
 messages_open : (now : ℕ) (parts : List QueuedPart) (queue : SendQueueState) → AreOpen queue.streams → AreOpen (messages_restored now parts queue).streams
@@ -122,7 +122,7 @@ discarded_open old new stream message_id before after false h are = subst (λ (q
 abbrev pub IsStageOpen : Stage → Type 0
 IsStageOpen stage = AreOpen stage.waiting.streams
 
-closed_open : (now : ℕ) (last : Item) (old new : Stage) (is_end : Bool) → Closes now last old new is_end → IsStageOpen old → IsStageOpen new
+closed_open : (now : ℕ) (last : Item) (old new : Stage) (is_end : Bool) → ClosesMessage now last old new is_end → IsStageOpen old → IsStageOpen new
 closed_open now last old new true h are = subst IsStageOpen (sym h) are
 closed_open now last old new false (inl h) are =
     discarded_open old.waiting new.waiting last.fragment.stream last.fragment.message_id old.told new.told h.1.drops.is_dropped h.1.drops.drops are
@@ -132,6 +132,6 @@ given_up_open : (now place : ℕ) (old new : Stage) → GivesUpAt now place old 
 given_up_open now place old new h are =
     subst IsStageOpen (sym h.is) (closed_open now h.last old h.closed h.last.fragment.is_end h.closes are)
 
-pub steps_open : (now : ℕ) (old new : Stage) → Steps (GivesUpFirst now) old new → IsStageOpen old → IsStageOpen new
+pub steps_open : (now : ℕ) (old new : Stage) → StageSteps (GivesUpFirst now) old new → IsStageOpen old → IsStageOpen new
 steps_open now old _ none are = are
 steps_open now old _ (more between new before step) are = given_up_open now step.place between new step.gives_up (steps_open now old between before are)

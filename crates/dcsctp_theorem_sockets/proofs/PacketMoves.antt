@@ -7,14 +7,14 @@ use Rattle.dcsctp_spec_lemmas.specs.types.Settings.{SameOptions, FitsOptions, wi
 use Rattle.dcsctp_spec_lemmas.specs.spec.Packet.{Content, Packet, packet_in, emission_bytes}
 use Rattle.dcsctp_spec_lemmas.specs.spec.endpoint.Endpoint.{Endpoint, Core, fresh_endpoint}
 use Rattle.dcsctp_spec_lemmas.specs.spec.endpoint.Outcome.{Outcome, still}
-use Rattle.dcsctp_spec_lemmas.specs.spec.endpoint.Turn.{Input, arrival, refusal, packet_ends, has_data, unreadable_text, arrival_outcome, refusal_outcome}
-use Rattle.dcsctp_spec_lemmas.specs.spec.endpoint.CallTurns.{Turned, Turns, ChunkTurns, WholeTurns, AdmittedTurns, HandleInput, unreadable, readable, events_of}
+use Rattle.dcsctp_spec_lemmas.specs.spec.endpoint.Turn.{Input, arrival, refusal, packet_ends, has_data_chunk, unreadable_text, arrival_outcome, refusal_outcome}
+use Rattle.dcsctp_spec_lemmas.specs.spec.endpoint.CallTurns.{Transition, Turns, ChunkTurns, WholeTurns, AdmittedTurns, HandleInput, unreadable, readable, events_of}
 use Rattle.dcsctp_spec_lemmas.specs.spec.Admission.{Admission, all_chunks, shutdown_acks_alone, refused, admits, shutdown_acks_in}
 use Rattle.dcsctp_spec_lemmas.specs.spec.association.Controlled.{IsControlled, ControlledAct}
 use Rattle.dcsctp_spec_lemmas.specs.spec.association.Effect.{Effect, sends, Change, unchanged}
 use Rattle.dcsctp_spec_lemmas.specs.spec.association.Acts.{shutdown_repeats, act_change}
-use Rattle.dcsctp_spec_runs.specs.Laws.{IsRest, dropped, ended, AreChunks}
-use Rattle.dcsctp_spec_runs.specs.Past.{Has}
+use Rattle.dcsctp_spec_runs.specs.Laws.{IsRest, dropped, ended, AreChunkTurns}
+use Rattle.dcsctp_spec_runs.specs.Past.{HasEffect}
 use Rattle.dcsctp_spec_runs.specs.World.{SideState, after_changes, ChunkChanges, PacketChanges, worked_whole, worked_acks, receives}
 use Rattle.dcsctp_spec_runs.specs.Sockets.{endpoint_after, packets_shown, DeliveryTurns}
 use Rattle.dcsctp_spec_runs.specs.Fitting.{Sendable, SendablePacket, TurnFits}
@@ -32,61 +32,61 @@ use Rattle.dcsctp_theorem_sockets.proofs.Moves.{Below, SideMoves, rests, nothing
 -- ---- a packet that is counted, and one that is refused
 
 -- a turn that leaves the association, and sends nothing
-follow_still : (options : Options) (turns : List Turned) (side : SideState) (t : Turned) (o : Outcome) → Followed options turns side → t.outcome ≡ o
+follow_still : (options : Options) (turns : List Transition) (side : SideState) (t : Transition) (o : Outcome) → Followed options turns side → t.outcome ≡ o
     → IsControlled (endpoint_after options turns) o (unchanged (endpoint_after options turns).core) → TurnFits o → Followed options (turns ++ t ∷ []) side
 follow_still options turns side t o h is controlled fits =
     follow_idle options turns side t h
     (subst (λ (x : Outcome). IsControlled (endpoint_after options turns) x (unchanged (endpoint_after options turns).core)) (sym is) controlled) (subst TurnFits (sym is) fits)
 
-follow_counted : (options : Options) (turns : List Turned) (side : SideState) (t : Turned) → Followed options turns side → t.outcome ≡ arrival_outcome (endpoint_after options turns)
+follow_counted : (options : Options) (turns : List Transition) (side : SideState) (t : Transition) → Followed options turns side → t.outcome ≡ arrival_outcome (endpoint_after options turns)
     → Followed options (turns ++ t ∷ []) side
 follow_counted options turns side t h is =
-    follow_still options turns side t (arrival_outcome (endpoint_after options turns)) h is (record { core = refl; options = refl; signs = refl; effects = refl; following = refl })
+    follow_still options turns side t (arrival_outcome (endpoint_after options turns)) h is (record { core = refl; options = refl; observations = refl; effects = refl; following = refl })
     (record { after = record { valid = h.fits.valid; options = h.fits.options; core = h.fits.core; t1 = h.fits.t1 }; sends = tt })
 
-follow_refused : (options : Options) (turns : List Turned) (side : SideState) (t : Turned) (text : List ℕ) → Followed options turns side
+follow_refused : (options : Options) (turns : List Transition) (side : SideState) (t : Transition) (text : List ℕ) → Followed options turns side
     → t.outcome ≡ refusal_outcome (endpoint_after options turns) text → Followed options (turns ++ t ∷ []) side
 follow_refused options turns side t text h is =
-    follow_still options turns side t (refusal_outcome (endpoint_after options turns) text) h is (record { core = refl; options = refl; signs = refl; effects = refl; following = refl })
+    follow_still options turns side t (refusal_outcome (endpoint_after options turns) text) h is (record { core = refl; options = refl; observations = refl; effects = refl; following = refl })
     (record { after = h.fits; sends = (tt, tt) })
 
-follow_nothing : (options : Options) (turns : List Turned) (side : SideState) (t : Turned) → Followed options turns side
+follow_nothing : (options : Options) (turns : List Transition) (side : SideState) (t : Transition) → Followed options turns side
     → t.outcome ≡ still (endpoint_after options turns) → Followed options (turns ++ t ∷ []) side
 follow_nothing options turns side t h is =
-    follow_still options turns side t (still (endpoint_after options turns)) h is (record { core = refl; options = refl; signs = refl; effects = refl; following = refl })
+    follow_still options turns side t (still (endpoint_after options turns)) h is (record { core = refl; options = refl; observations = refl; effects = refl; following = refl })
     (record { after = h.fits; sends = tt })
 
-refused_rests : (options : Options) (turns : List Turned) (side : SideState) (more : List Turned) (text : List ℕ) → Followed options turns side
+refused_rests : (options : Options) (turns : List Transition) (side : SideState) (more : List Transition) (text : List ℕ) → Followed options turns side
     → Turns (endpoint_after options turns) (refusal text ∷ []) more → Followed options (turns ++ more) side
 refused_rests options turns side [] text h refusing = absurd refusing
 refused_rests options turns side (t ∷ []) text h refusing = follow_refused options turns side t text h refusing.0.comes
 refused_rests options turns side (t ∷ next ∷ more) text h refusing = absurd refusing.1
 
-unread_rests : (options : Options) (turns : List Turned) (side : SideState) (more : List Turned) → Followed options turns side
+unread_rests : (options : Options) (turns : List Transition) (side : SideState) (more : List Transition) → Followed options turns side
     → Turns (endpoint_after options turns) (arrival ∷ refusal unreadable_text ∷ []) more → Followed options (turns ++ more) side
 unread_rests options turns side [] h unreading = absurd unreading
 unread_rests options turns side (counted ∷ more) h unreading =
     let first : Followed options (turns ++ counted ∷ []) side = follow_counted options turns side counted h unreading.0.comes in
-    subst (λ (ts : List Turned). Followed options ts side) (append_assoc turns (counted ∷ []) more)
+    subst (λ (ts : List Transition). Followed options ts side) (append_assoc turns (counted ∷ []) more)
     (refused_rests options (turns ++ counted ∷ []) side more unreadable_text first
     (subst (λ (e : Endpoint). Turns e (refusal unreadable_text ∷ []) more) (sym (after_last _ turns counted)) unreading.1))
 
 -- ---- the end of a packet
 
 -- It is a flush of the association.
-end_moves : Below → (options : Options) (turns : List Turned) (side : SideState) (theirs : List Effect) (more : List Turned) → Followed options turns side
+end_moves : Below → (options : Options) (turns : List Transition) (side : SideState) (theirs : List Effect) (more : List Transition) → Followed options turns side
     → Turns (endpoint_after options turns) (packet_ends ∷ []) more → SideMoves options turns side theirs more
 end_moves law options turns side theirs [] h taken = absurd taken
 end_moves law options turns side theirs (t ∷ []) h taken =
     let e : Endpoint = endpoint_after options turns in
-    flush_moves law options turns side theirs t h (flushed_act e t.outcome (end_at e e.below.transfer t.outcome taken.0.comes)) (end_fits e e.below.transfer t.outcome taken.0.comes h.fits)
+    flush_moves law options turns side theirs t h (flushed_act e t.outcome (end_at e e.queues.transfer t.outcome taken.0.comes)) (end_fits e e.queues.transfer t.outcome taken.0.comes h.fits)
 end_moves law options turns side theirs (t ∷ next ∷ more) h taken = absurd taken.1
 
 abbrev EndMoves : List Input → Type 0
-EndMoves tail = (options : Options) (turns : List Turned) (side : SideState) (theirs : List Effect) (more : List Turned) → Followed options turns side
+EndMoves tail = (options : Options) (turns : List Transition) (side : SideState) (theirs : List Effect) (more : List Transition) → Followed options turns side
     → Turns (endpoint_after options turns) tail more → SideMoves options turns side theirs more
 
-rest_moves : (tail : List Input) (options : Options) (turns : List Turned) (side : SideState) (theirs : List Effect) (more : List Turned) → EndMoves tail → Followed options turns side
+rest_moves : (tail : List Input) (options : Options) (turns : List Transition) (side : SideState) (theirs : List Effect) (more : List Transition) → EndMoves tail → Followed options turns side
     → IsRest (endpoint_after options turns) tail more → SideMoves options turns side theirs more
 rest_moves tail options turns side theirs more end h (dropped none) = nothing_happens options turns side theirs more h none
 rest_moves tail options turns side theirs more end h (ended taken) = end options turns side theirs more h taken
@@ -94,7 +94,7 @@ rest_moves tail options turns side theirs more end h (ended taken) = end options
 -- ---- a packet whose chunks are worked
 
 -- the changes of chunks at an endpoint are changes at its side
-at_side : (options : Options) (turns : List Turned) (side : SideState) (tag : ℕ) (contents : List Content) (changes : List Change) → Followed options turns side
+at_side : (options : Options) (turns : List Transition) (side : SideState) (tag : ℕ) (contents : List Content) (changes : List Change) → Followed options turns side
     → ChunkChanges (endpoint_after options turns).options (endpoint_after options turns).core tag contents changes → ChunkChanges side.options side.core tag contents changes
 at_side options turns side tag contents changes h moves =
     same_options_move side.options (endpoint_after options turns).options side.core tag contents changes
@@ -102,30 +102,30 @@ at_side options turns side tag contents changes h moves =
     (subst (λ (core : Core). ChunkChanges (endpoint_after options turns).options core tag contents changes) (sym h.core) moves)
 
 -- the turns of the first of two lists fit, where all do
-front_fits : (xs ys : List Turned) → AllByRecursion Fits (xs ++ ys) → AllByRecursion Fits xs
+front_fits : (xs ys : List Transition) → AllByRecursion Fits (xs ++ ys) → AllByRecursion Fits xs
 front_fits [] ys each = tt
 front_fits (x ∷ xs) ys each = (each.0, front_fits xs ys each.1)
 
-chunks_move : Below → (options : Options) (turns : List Turned) (side : SideState) (theirs : List Effect) (packet : Packet) (contents : List Content) (tail : List Input) (more : List Turned)
-    → Followed options turns side → Has (sends packet) theirs → packet.tag < 2 ^ 32 → AllByRecursion Sendable contents → EndFits tail → EndMoves tail
+chunks_move : Below → (options : Options) (turns : List Transition) (side : SideState) (theirs : List Effect) (packet : Packet) (contents : List Content) (tail : List Input) (more : List Transition)
+    → Followed options turns side → HasEffect (sends packet) theirs → packet.tag < 2 ^ 32 → AllByRecursion Sendable contents → EndFits tail → EndMoves tail
     → ((changes : List Change) → ChunkChanges side.options side.core packet.tag contents changes → PacketChanges side.options side.core packet changes)
     → ChunkTurns (endpoint_after options turns) packet.tag contents tail more → SideMoves options turns side theirs more
 chunks_move law options turns side theirs packet contents tail more h was_sent tagged good end_fits end to_packet taken =
     let e : Endpoint = endpoint_after options turns in
     let fits : ChunksFit e contents more = chunk_turns_fit law.offers e packet.tag contents tail more taken h.fits tagged good end_fits in
-    let are : AreChunks e packet.tag contents tail more = law.packets e packet.tag contents tail more taken fits.contents_fit in
+    let are : AreChunkTurns e packet.tag contents tail more = law.packets e packet.tag contents tail more taken fits.contents_fit in
     let of_packet : PacketChanges side.options side.core packet are.changes = to_packet are.changes (at_side options turns side packet.tag contents are.changes h are.moves) in
     let worked : Followed options (turns ++ are.chunks) (after_changes side are.changes) =
     follow_turns law.effects_mean options turns side are.chunks are.changes h (packet_turns side.options side.core packet are.changes of_packet) are.controlled
-    (front_fits are.chunks are.rest (subst (λ (ts : List Turned). AllByRecursion Fits ts) are.parts fits.turns_fit)) in
+    (front_fits are.chunks are.rest (subst (λ (ts : List Transition). AllByRecursion Fits ts) are.parts fits.turns_fit)) in
     subst (SideMoves options turns side theirs) (sym are.parts)
     (moves_then options turns side theirs are.chunks are.rest (receives packet) are.changes (was_sent, of_packet)
     (rest_moves tail options (turns ++ are.chunks) (after_changes side are.changes) theirs are.rest end worked
     (subst (λ (x : Endpoint). IsRest x tail are.rest) (sym (after_all-append (fresh_endpoint options) turns are.chunks)) are.is_rest)))
 
 -- its chunks, behind what stands before them
-behind_begun : Below → (options : Options) (turns : List Turned) (side : SideState) (theirs : List Effect) (packet : Packet) (begun : Turned) (more : List Turned)
-    → admits side.core packet ≡ all_chunks → Followed options (turns ++ begun ∷ []) side → Has (sends packet) theirs → SendablePacket packet
+behind_begun : Below → (options : Options) (turns : List Transition) (side : SideState) (theirs : List Effect) (packet : Packet) (begun : Transition) (more : List Transition)
+    → admits side.core packet ≡ all_chunks → Followed options (turns ++ begun ∷ []) side → HasEffect (sends packet) theirs → SendablePacket packet
     → ChunkTurns begun.outcome.after packet.tag packet.contents (packet_ends ∷ []) more → SideMoves options (turns ++ begun ∷ []) side theirs more
 behind_begun law options turns side theirs packet begun more is first was_sent good taken =
     chunks_move law options (turns ++ begun ∷ []) side theirs packet packet.contents (packet_ends ∷ []) more first was_sent good.tag good.contents packet_end_fits (end_moves law)
@@ -133,8 +133,8 @@ behind_begun law options turns side theirs packet begun more is first was_sent g
     (subst (λ (x : Endpoint). ChunkTurns x packet.tag packet.contents (packet_ends ∷ []) more) (sym (after_last _ turns begun)) taken)
 
 -- A SHUTDOWN that goes out before them is a move of its own, and leaves the association.
-begun_by_act : Below → (options : Options) (turns : List Turned) (side : SideState) (theirs : List Effect) (packet : Packet) (begun : Turned) (more : List Turned)
-    → admits side.core packet ≡ all_chunks → Followed options turns side → Has (sends packet) theirs → SendablePacket packet
+begun_by_act : Below → (options : Options) (turns : List Transition) (side : SideState) (theirs : List Effect) (packet : Packet) (begun : Transition) (more : List Transition)
+    → admits side.core packet ≡ all_chunks → Followed options turns side → HasEffect (sends packet) theirs → SendablePacket packet
     → ControlledAct (endpoint_after options turns) shutdown_repeats begun.outcome → TurnFits begun.outcome
     → ChunkTurns begun.outcome.after packet.tag packet.contents (packet_ends ∷ []) more → SideMoves options turns side theirs (begun ∷ more)
 begun_by_act law options turns side theirs packet begun more is h was_sent good repeats fits taken =
@@ -142,21 +142,21 @@ begun_by_act law options turns side theirs packet begun more is h was_sent good 
     (λ choices follows. behind_begun law options turns (after_changes side (act_change side.options side.core shutdown_repeats choices ∷ [])) theirs packet begun more
     (subst (λ (core : Core). admits core packet ≡ all_chunks) (sym (repeated_keeps side.options side.core choices)) is) follows was_sent good taken)
 
-whole_moves : Below → (options : Options) (turns : List Turned) (side : SideState) (theirs : List Effect) (packet : Packet) (more : List Turned)
-    → admits side.core packet ≡ all_chunks → Followed options turns side → Has (sends packet) theirs → SendablePacket packet
+whole_moves : Below → (options : Options) (turns : List Transition) (side : SideState) (theirs : List Effect) (packet : Packet) (more : List Transition)
+    → admits side.core packet ≡ all_chunks → Followed options turns side → HasEffect (sends packet) theirs → SendablePacket packet
     → WholeTurns (endpoint_after options turns) packet more → SideMoves options turns side theirs more
 whole_moves law options turns side theirs packet [] is h was_sent good taken = absurd taken
 whole_moves law options turns side theirs packet (begun ∷ more) is h was_sent good taken =
     let e : Endpoint = endpoint_after options turns in
-    elim (begin_stands e e.core (has_data packet.contents) begun.outcome refl taken.0.comes) [
+    elim (begin_stands e e.core (has_data_chunk packet.contents) begun.outcome refl taken.0.comes) [
       | inl nothing ↦ rests_then options turns side theirs (begun ∷ []) more
           (behind_begun law options turns side theirs packet begun more is (follow_nothing options turns side begun h nothing) was_sent good taken.1)
       | inr repeats ↦ begun_by_act law options turns side theirs packet begun more is h was_sent good repeats
-          (begin_fits e e.core (has_data packet.contents) begun.outcome h.fits h.fits.core taken.0.comes) taken.1
+          (begin_fits e e.core (has_data_chunk packet.contents) begun.outcome h.fits h.fits.core taken.0.comes) taken.1
     ]
 
-admitted_moves : Below → (options : Options) (turns : List Turned) (side : SideState) (theirs : List Effect) (packet : Packet) (admission : Admission) (more : List Turned)
-    → admits side.core packet ≡ admission → Followed options turns side → Has (sends packet) theirs → SendablePacket packet
+admitted_moves : Below → (options : Options) (turns : List Transition) (side : SideState) (theirs : List Effect) (packet : Packet) (admission : Admission) (more : List Transition)
+    → admits side.core packet ≡ admission → Followed options turns side → HasEffect (sends packet) theirs → SendablePacket packet
     → AdmittedTurns (endpoint_after options turns) packet admission more → SideMoves options turns side theirs more
 admitted_moves law options turns side theirs packet all_chunks more is h was_sent good taken = whole_moves law options turns side theirs packet more is h was_sent good taken
 admitted_moves law options turns side theirs packet shutdown_acks_alone more is h was_sent good taken =
@@ -167,7 +167,7 @@ admitted_moves law options turns side theirs packet (refused text) more is h was
 
 -- ---- a delivery
 
-input_moves : Below → (options other : Options) (turns : List Turned) (side : SideState) (theirs : List Effect) (bytes : List ℕ) (more : List Turned) → Followed options turns side → FitsOptions other
+input_moves : Below → (options other : Options) (turns : List Transition) (side : SideState) (theirs : List Effect) (bytes : List ℕ) (more : List Transition) → Followed options turns side → FitsOptions other
     → IsSent (Went theirs) (emission_bytes (ports_of other)) bytes → HandleInput (endpoint_after options turns) bytes more → SideMoves options turns side theirs more
 input_moves law options other turns side theirs bytes more h fits out (unreadable ts none unreading) = rests options turns side theirs ts (unread_rests options turns side ts h unreading)
 input_moves law options other turns side theirs bytes more h fits out (readable packet counted ts is_packet counting admitted) =
@@ -184,7 +184,7 @@ input_moves law options other turns side theirs bytes more h fits out (readable 
     (admitted_moves law options (turns ++ counted ∷ []) side theirs sent_packet (admits e.core sent_packet) ts
     (ap (λ (core : Core). admits core sent_packet) h.core) first out.good.was_sent out.good.sendable at_end)
 
-pub delivery_moves : Below → (options other : Options) (turns others : List Turned) (side : SideState) (theirs : SideState) (index : ℕ) (found : Option (List ℕ)) (more : List Turned)
+pub delivery_moves : Below → (options other : Options) (turns others : List Transition) (side : SideState) (theirs : SideState) (index : ℕ) (found : Option (List ℕ)) (more : List Transition)
     → Followed options turns side → Followed other others theirs → FitsOptions other → slice_get (packets_shown other others) index ≡ found
     → DeliveryTurns (endpoint_after options turns) found more → SideMoves options turns side theirs.past more
 delivery_moves law options other turns others side theirs index None more h k fits is none = nothing_happens options turns side theirs.past more h none

@@ -19,7 +19,7 @@ use Rattle.dcsctp_spec_lemmas.specs.spec.endpoint.Outcome.{Outcome, still, quiet
 use Rattle.dcsctp_spec_lemmas.specs.spec.endpoint.Outcome.{fits as fits_mtu}
 use Rattle.dcsctp_spec_lemmas.specs.wire.Content.{ParameterContent, data_chunk, sack_chunk, error_chunk, i_data_chunk, forward_tsn_chunk, i_forward_tsn_chunk}
 use Rattle.dcsctp_spec_lemmas.specs.spec.endpoint.HeartbeatOutcomes.{heartbeat_outcome, info_in, counter_of, answered, heartbeat_ack_outcome}
-use Rattle.dcsctp_spec_lemmas.specs.spec.endpoint.PlainOutcomes.{PlainTurn, PlainTurnBy, violation_at, is_reported, after_unknown, unknown_text, unknown_bytes, unknown_error, unknown_report, unknown_told, error_outcome}
+use Rattle.dcsctp_spec_lemmas.specs.spec.endpoint.PlainOutcomes.{PlainTurn, PlainTurnBy, violation_at, is_reported, after_unknown, unknown_text, unknown_bytes, unknown_error, unknown_report, unknown_chunk_outcome, error_outcome}
 use Rattle.dcsctp_spec_runs.specs.Fitting.{FitsHeld, FitsCore, FitsEndpoint, Sendable, TurnFits}
 use Rattle.dcsctp_theorem_sockets.proofs.Aborting.{aborting_fits}
 use Rattle.dcsctp_theorem_sockets.proofs.Bytes.{both, in_two}
@@ -55,7 +55,7 @@ report_fits e held type chunk h fits each =
     }
 
 unknown_fits : (e : Endpoint) (core : Core) (type : ℕ) (chunk : List ℕ) (reported : Bool) → FitsEndpoint e → FitsCore core → AllByRecursion IsByte chunk
-    → TurnFits (record (cond reported (unknown_told e core type chunk) (still e)) { following = after_unknown type })
+    → TurnFits (record (cond reported (unknown_chunk_outcome e core type chunk) (still e)) { following = after_unknown type })
 unknown_fits e core type chunk false h own each = record { after = h; sends = tt }
 unknown_fits e closed type chunk true h own each = record { after = h; sends = (tt, tt) }
 unknown_fits e (cookie_wait my) type chunk true h own each = record { after = h; sends = (tt, tt) }
@@ -114,9 +114,9 @@ plain_by e (heartbeat parameters) None o turn h good = subst TurnFits (sym turn)
 plain_by e (heartbeat_ack parameters) None o turn h good = subst TurnFits (sym turn) (heartbeat_ack_fits e (counter_of (info_in parameters)) h)
 plain_by e (unworked (data_chunk chunk)) None o turn h good = data_fits e (data_arrival chunk) o turn h good.fits.tsn
 plain_by e (unworked (i_data_chunk chunk)) None o turn h good = data_fits e (i_data_arrival chunk) o turn h good.fits.tsn
-plain_by e (unworked (sack_chunk chunk)) None o turn h good = sack_fits e e.below.transfer chunk o turn h
-plain_by e (unworked (forward_tsn_chunk tsn streams)) None o turn h good = forward_fits e e.below.transfer tsn (skipped_in streams) o turn h
-plain_by e (unworked (i_forward_tsn_chunk tsn streams)) None o turn h good = forward_fits e e.below.transfer tsn (messages_skipped_in streams) o turn h
+plain_by e (unworked (sack_chunk chunk)) None o turn h good = sack_fits e e.queues.transfer chunk o turn h
+plain_by e (unworked (forward_tsn_chunk tsn streams)) None o turn h good = forward_fits e e.queues.transfer tsn (skipped_in streams) o turn h
+plain_by e (unworked (i_forward_tsn_chunk tsn streams)) None o turn h good = forward_fits e e.queues.transfer tsn (messages_skipped_in streams) o turn h
 plain_by e (unworked (error_chunk causes)) None o turn h good = subst TurnFits (sym turn) (error_fits e e.core causes h)
 plain_by e (unworked chunk) None o turn h good = subst TurnFits (sym turn) (still_fits e h)
 

@@ -2,18 +2,18 @@
 use Rattle.std.proofs.Common.{◌≡◌, ◌<◌, ℕ, Bool, true, false, List, [], ◌∷◌, refl, arith}
 use Rattle.std.specs.Prelude.{nat_le}
 use Rattle.std.proofs.lemmas.Bool.Decides.{nat_tests}
-use Rattle.dcsctp_spec_lemmas.specs.spec.endpoint.CallTurns.{Turned}
+use Rattle.dcsctp_spec_lemmas.specs.spec.endpoint.CallTurns.{Transition}
 use Rattle.dcsctp_spec_lemmas.specs.spec.endpoint.Endpoint.{Endpoint}
 use Rattle.dcsctp_spec_lemmas.specs.types.Schedule.{connect_call, close_call, shutdown_call, advance_call, set_call, send_call, send_many_call, reset_call, take_call, hand_over_call, call_step, delivery_step, ActContent, step_act, outside_act}
 use Rattle.dcsctp_spec_runs.specs.Sockets.{TurnsOfAct, of_other, of_side, side_of_act, turns_after, endpoint_after, packets_shown}
 use Rattle.dcsctp_spec_lemmas.specs.spec.endpoint.TimeTurns.{TimeTurns, TimePassesQuietly}
 use Rattle.dcsctp_theorem_sockets.specs.OneSocket.{IsQuiet, SocketsWaitQuietly}
 
-none_earlier : (is_later : Bool) (e : Endpoint) (moment : ℕ) (turns : List Turned) → nat_le e.moment moment ≡ is_later → TimeTurns is_later e moment turns → moment < e.moment → turns ≡ []
+none_earlier : (is_later : Bool) (e : Endpoint) (moment : ℕ) (turns : List Transition) → nat_le e.moment moment ≡ is_later → TimeTurns is_later e moment turns → moment < e.moment → turns ≡ []
 none_earlier true e moment turns is turned earlier = absurd (grind (arith, nat_tests))
 none_earlier false e moment turns is turned earlier = turned
 
-act_is_quiet : TimePassesQuietly → (e : Endpoint) (packets : List (List ℕ)) (act : ActContent) (turns : List Turned) → TurnsOfAct e packets act turns → IsQuiet e act turns
+act_is_quiet : TimePassesQuietly → (e : Endpoint) (packets : List (List ℕ)) (act : ActContent) (turns : List Transition) → TurnsOfAct e packets act turns → IsQuiet e act turns
 act_is_quiet law e packets (step_act (call_step side connect_call)) turns are = tt
 act_is_quiet law e packets (step_act (call_step side close_call)) turns are = tt
 act_is_quiet law e packets (step_act (call_step side shutdown_call)) turns are = tt

@@ -23,9 +23,9 @@ use Rattle.dcsctp_spec_lemmas.specs.spec.endpoint.Timers.{RunningTimer}
 use Rattle.dcsctp_spec_lemmas.specs.spec.endpoint.Outcome.{Outcome, quiet, sends, to_peer}
 use Rattle.dcsctp_spec_lemmas.specs.spec.endpoint.Outcome.{fits as fits_mtu}
 use Rattle.dcsctp_spec_lemmas.specs.spec.association.Effect.{Effect}
-use Rattle.dcsctp_spec_lemmas.specs.spec.association.ResetChanges.{Place, again, next, astray, place_of, repeated, outgoing_by, incoming_by, informed_by, is_outstanding, informed_where, WorkedParameters, work_parameters, work_chunk}
+use Rattle.dcsctp_spec_lemmas.specs.spec.association.ResetChanges.{RequestPlace, again, next, astray, request_place, repeated, outgoing_by, incoming_by, informed_by, is_outstanding, informed_where, HandledParameters, work_parameters, work_chunk}
 use Rattle.dcsctp_spec_lemmas.specs.spec.endpoint.FlushOutcomes.{Answer, draft_to, flush_of}
-use Rattle.dcsctp_spec_lemmas.specs.spec.endpoint.ResetOutcomes.{requested_in, is_reached, worked_in, OwnAnswer, answered_in, reset_events, told_of, core_with, resets_worked, responses_outcome, responses_by, ResponseAnswers, WorksResets, ResetTurn}
+use Rattle.dcsctp_spec_lemmas.specs.spec.endpoint.ResetOutcomes.{requested_in, is_request_reached, parameters_handled_in, OwnAnswer, answered_in, reset_events, reset_events_of, core_with, resets_handled, responses_outcome, responses_by, ResponseAnswers, WorksResets, ResetTurn}
 use Rattle.dcsctp_spec_lemmas.specs.spec.CookieFits.{FitsPair}
 use Rattle.dcsctp_spec_runs.specs.Fitting.{AllSent, FitsNumber, FitsHeld, FitsCore, FitsEndpoint, IsSendable, Sendable, TurnFits}
 use Rattle.dcsctp_spec_laws.proofs.ResetLemmas.{AreResets, nothing, acceptance, performance, completion, failure, KeepsPeer, chunk_brings, worked_keeps}
@@ -41,10 +41,10 @@ with_runs (cookie_wait my) held t1 h = h
 with_runs (cookie_echoed my old cookie) held t1 h = h
 with_runs (open_in phase my old) held t1 h = h
 
-worked_up : (e : Endpoint) (answer : OwnAnswer) (held : Held) (left : Option Transfer) → Up e → Up (resets_worked e answer held left)
+worked_up : (e : Endpoint) (answer : OwnAnswer) (held : Held) (left : Option Transfer) → Up e → Up (resets_handled e answer held left)
 worked_up e answer held left h =
     let kept = worked_keeps e answer held left in
-    subst (λ (core : Core). T1Runs core (resets_worked e answer held left).timers.t1) (sym kept.core)
+    subst (λ (core : Core). T1Runs core (resets_handled e answer held left).timers.t1) (sym kept.core)
     (subst (T1Runs (core_with e.core held)) (sym kept.t1) (with_runs e.core held e.timers.t1 h))
 
 emitted_up : (b : Bool) (e : Endpoint) (emission : Emission) → Up e → UpAfter (cond b (sends e [] [] emission) (quiet e [] []))
@@ -64,10 +64,10 @@ sent_up false e told held parameters responses answers allowed h =
 
 resets_up : (e : Endpoint) (my : Pair) (held : Held) (parameters : List ResetParameter) (o : Outcome) → WorksResets e my held parameters o → Up e → UpAfter o
 resets_up e my held parameters o turn h =
-    let w : WorkedParameters = worked_in e my held parameters in
-    let base : Endpoint = resets_worked e (answered_in held w parameters) w.held turn.left in
+    let w : HandledParameters = parameters_handled_in e my held parameters in
+    let base : Endpoint = resets_handled e (answered_in held w parameters) w.held turn.left in
     subst UpAfter (sym turn.is)
-    (sent_up w.is_refused base (told_of e parameters w.effects) w.held parameters w.answers turn.answers turn.allowed (worked_up e (answered_in held w parameters) w.held turn.left h))
+    (sent_up w.is_refused base (reset_events_of e parameters w.effects) w.held parameters w.answers turn.answers turn.allowed (worked_up e (answered_in held w parameters) w.held turn.left h))
 
 pub reset_up : (e : Endpoint) (core : Core) (parameters : List ResetParameter) (o : Outcome) → ResetTurn e core parameters o → Up e → UpAfter o
 reset_up e closed parameters o turn h = subst UpAfter (sym turn) h
@@ -82,7 +82,7 @@ abbrev FitsResponse : ResetParameter → Type 0
 FitsResponse (reconfiguration_response number result) = number < 2 ^ 32
 FitsResponse parameter = ⊥
 
-record FitsWorked (w : WorkedParameters) : Type 0 where
+record FitsWorked (w : HandledParameters) : Type 0 where
   last : w.held.peer_last < 2 ^ 32
   answers : AllByRecursion FitsResponse w.answers
 
@@ -96,13 +96,13 @@ repeated_last held ErrorBadSequenceNumber reached h = h
 repeated_last held InProgress true h = h
 repeated_last held InProgress false h = h
 
-outgoing_last : (held : Held) (number : ℕ) (reached : Bool) (place : Place) → held.peer_last < 2 ^ 32 → number < 2 ^ 32 → (outgoing_by held number reached place).held.peer_last < 2 ^ 32
+outgoing_last : (held : Held) (number : ℕ) (reached : Bool) (place : RequestPlace) → held.peer_last < 2 ^ 32 → number < 2 ^ 32 → (outgoing_by held number reached place).held.peer_last < 2 ^ 32
 outgoing_last held number reached again h fits = repeated_last held held.peer_result reached h
 outgoing_last held number true next h fits = fits
 outgoing_last held number false next h fits = fits
 outgoing_last held number reached astray h fits = h
 
-incoming_last : (held : Held) (number : ℕ) (place : Place) → held.peer_last < 2 ^ 32 → number < 2 ^ 32 → (incoming_by held number place).held.peer_last < 2 ^ 32
+incoming_last : (held : Held) (number : ℕ) (place : RequestPlace) → held.peer_last < 2 ^ 32 → number < 2 ^ 32 → (incoming_by held number place).held.peer_last < 2 ^ 32
 incoming_last held number again h fits = fits
 incoming_last held number next h fits = fits
 incoming_last held number astray h fits = h
@@ -129,12 +129,12 @@ parameters_fit : (my : Pair) (reached has_worked : Bool) (held : Held) (paramete
 parameters_fit my reached has_worked held [] h fit = record { last = h; answers = tt }
 parameters_fit my reached true held (outgoing_reset_request number answered reset ∷ parameters) h fit = record { last = h; answers = tt }
 parameters_fit my reached false held (outgoing_reset_request number answered reset ∷ parameters) h fit =
-    let rest = parameters_fit my reached true (outgoing_by held number reached (place_of held.peer_last number)).held parameters
-    (outgoing_last held number reached (place_of held.peer_last number) h fit.0.number_fits) fit.1 in
+    let rest = parameters_fit my reached true (outgoing_by held number reached (request_place held.peer_last number)).held parameters
+    (outgoing_last held number reached (request_place held.peer_last number) h fit.0.number_fits) fit.1 in
     record { last = rest.last; answers = (fit.0.number_fits, rest.answers) }
 parameters_fit my reached has_worked held (incoming_reset_request number streams ∷ parameters) h fit =
-    let rest = parameters_fit my reached has_worked (incoming_by held number (place_of held.peer_last number)).held parameters
-    (incoming_last held number (place_of held.peer_last number) h fit.0.0) fit.1 in
+    let rest = parameters_fit my reached has_worked (incoming_by held number (request_place held.peer_last number)).held parameters
+    (incoming_last held number (request_place held.peer_last number) h fit.0.0) fit.1 in
     record { last = rest.last; answers = (fit.0.0, rest.answers) }
 parameters_fit my reached has_worked held (reconfiguration_response number result ∷ parameters) h fit =
     let rest = parameters_fit my reached has_worked (informed_where my held number result (is_outstanding number held.own_outstanding)).held parameters
@@ -237,26 +237,26 @@ with_fits (cookie_wait my) held own fits = own
 with_fits (cookie_echoed my old cookie) held own fits = (own.0, fits, own.2)
 with_fits (open_in phase my old) held own fits = (own.0, fits)
 
-worked_fits : (e : Endpoint) (answer : OwnAnswer) (held : Held) (left : Option Transfer) → FitsEndpoint e → FitsHeld held → FitsEndpoint (resets_worked e answer held left)
+worked_fits : (e : Endpoint) (answer : OwnAnswer) (held : Held) (left : Option Transfer) → FitsEndpoint e → FitsHeld held → FitsEndpoint (resets_handled e answer held left)
 worked_fits e answer held left h fits =
     let kept = worked_keeps e answer held left in
     record {
       valid = subst IsValid (sym kept.options) h.valid;
       options = subst FitsOptions (sym kept.options) h.options;
       core = subst FitsCore (sym kept.core) (with_fits e.core held h.core fits);
-      t1 = subst (λ (core : Core). T1Runs core (resets_worked e answer held left).timers.t1) (sym kept.core)
+      t1 = subst (λ (core : Core). T1Runs core (resets_handled e answer held left).timers.t1) (sym kept.core)
           (subst (T1Runs (core_with e.core held)) (sym kept.t1) (with_runs e.core held e.timers.t1 h.t1));
     }
 
 resets_fit : (e : Endpoint) (my : Pair) (held : Held) (parameters : List ResetParameter) (o : Outcome) → WorksResets e my held parameters o → FitsEndpoint e → FitsHeld held → FitParameters parameters → TurnFits o
 resets_fit e my held parameters o turn h fits fit =
-    let reached : Bool = is_reached e.below.transfer (requested_in parameters) in
-    let w : WorkedParameters = worked_in e my held parameters in
+    let reached : Bool = is_request_reached e.queues.transfer (requested_in parameters) in
+    let w : HandledParameters = parameters_handled_in e my held parameters in
     let brought = chunk_brings my reached held parameters in
     let numbers : FitsWorked w = chunk_fits my reached held parameters fits.peer_last fit in
     let after : FitsHeld w.held = held_fits held w.held brought.keeps fits numbers.last in
-    let base : Endpoint = resets_worked e (answered_in held w parameters) w.held turn.left in
-    let sent = sent_fits w.is_refused base (told_of e parameters w.effects) w.held parameters w.answers turn.answers turn.allowed
+    let base : Endpoint = resets_handled e (answered_in held w parameters) w.held turn.left in
+    let sent = sent_fits w.is_refused base (reset_events_of e parameters w.effects) w.held parameters w.answers turn.answers turn.allowed
     (worked_fits e (answered_in held w parameters) w.held turn.left h after) after numbers.answers (told_sends _ _ w.effects brought.are) in
     subst TurnFits (sym turn.is) (record { after = sent.after; sends = sent.sends })
 

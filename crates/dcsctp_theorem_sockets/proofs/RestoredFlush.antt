@@ -12,7 +12,7 @@ use Rattle.dcsctp_spec_lemmas.specs.spec.queues.SendQueue.{SendQueueState, numbe
 use Rattle.dcsctp_spec_lemmas.specs.spec.queues.Transfer.{Transfer, is_idle}
 use Rattle.dcsctp_spec_lemmas.specs.spec.endpoint.BegunResets.{BegunReset, streams_within, last_assigned_tsn, stream_field, begun_where, begun_in, after_begun}
 use Rattle.dcsctp_spec_lemmas.specs.spec.endpoint.DataOutcomes.{AnswersTo, flush_by}
-use Rattle.dcsctp_spec_lemmas.specs.spec.endpoint.FlushOutcomes.{Answer, first_ask, GivesUpWhere, GivesWhere, AnsweredBelow, Answers, at_limit, at_empty, after_packet, may_forward, packets_allowed, draft_to, filled, room_in, stage_of}
+use Rattle.dcsctp_spec_lemmas.specs.spec.endpoint.FlushOutcomes.{Answer, first_ask, GivesUpWhere, GivesWhere, IsAnswerOfQueues, AreFlushAnswers, at_limit, at_empty, after_packet, may_forward, packets_allowed, draft_to, filled, room_in, stage_of}
 use Rattle.dcsctp_spec_lemmas.specs.spec.endpoint.RestoreOutcomes.{RestoreTurn}
 use Rattle.dcsctp_spec_lemmas.proofs.FlushKeeps.{begun_by, flush_keeps}
 use Rattle.dcsctp_theorem_sockets.specs.Restores.{RestoredSocketsBeginNothing}
@@ -40,26 +40,26 @@ gave_up_open : (b : Bool) (now : ℕ) (transfer : Transfer) (room : ℕ) (old ne
 gave_up_open false now transfer room old new next chunks h are = subst IsStageOpen (sym h.0) are
 gave_up_open true now transfer room old new next chunks h are = steps_open now old new h.0.steps are
 
-first_where : (b : Bool) (e : Endpoint) (draft : Emission) (transfer : Transfer) (answer : Answer) → GivesWhere b first_ask e draft transfer answer → AreOpen e.below.queue.streams
+first_where : (b : Bool) (e : Endpoint) (draft : Emission) (transfer : Transfer) (answer : Answer) → GivesWhere b first_ask e draft transfer answer → AreOpen e.queues.queue.streams
     → answer.begun ≡ None
 first_where true e draft transfer answer h are = ap (λ (a : Answer). a.begun) h
 first_where false e draft transfer answer h are =
     h.begins
     ∙ begins_nothing (held_in e.core) (room_in e (filled draft (plain_contents answer.acknowledgements))) (last_assigned_tsn h.gave_up.queue) h.gave_up.waiting
     (gave_up_open (may_forward first_ask e transfer.retransmission) e.moment transfer (room_in e (filled draft (plain_contents h.sacks)))
-    (stage_of e.below.queue transfer.retransmission [] 0) h.gave_up h.next h.forwards h.gives_up are)
+    (stage_of e.queues.queue transfer.retransmission [] 0) h.gave_up h.next h.forwards h.gives_up are)
 
-first_below : (e : Endpoint) (draft : Emission) (transfer : Option Transfer) (answer : Answer) → AnsweredBelow first_ask e draft answer transfer → AreOpen e.below.queue.streams
+first_below : (e : Endpoint) (draft : Emission) (transfer : Option Transfer) (answer : Answer) → IsAnswerOfQueues first_ask e draft answer transfer → AreOpen e.queues.queue.streams
     → answer.begun ≡ None
 first_below e draft None answer h are = ap (λ (a : Answer). a.begun) h
-first_below e draft (Some transfer) answer h are = first_where (is_idle e.below.queue transfer) e draft transfer answer h are
+first_below e draft (Some transfer) answer h are = first_where (is_idle e.queues.queue transfer) e draft transfer answer h are
 
-all_begin : (n : ℕ) (e : Endpoint) (draft : Emission) (answers : List Answer) → Answers first_ask n e draft answers → AreOpen e.below.queue.streams → begun_by answers ≡ None
+all_begin : (n : ℕ) (e : Endpoint) (draft : Emission) (answers : List Answer) → AreFlushAnswers first_ask n e draft answers → AreOpen e.queues.queue.streams → begun_by answers ≡ None
 all_begin _ _ _ _ (at_limit _ e draft) are = refl
-all_begin _ _ _ _ (at_empty _ more e draft answer h empty) are = first_below e draft e.below.transfer answer h.by_transfer are
-all_begin _ _ _ _ (after_packet _ more e draft answer answers h some rest) are = first_below e draft e.below.transfer answer h.by_transfer are
+all_begin _ _ _ _ (at_empty _ more e draft answer h empty) are = first_below e draft e.queues.transfer answer h.by_transfer are
+all_begin _ _ _ _ (after_packet _ more e draft answer answers h some rest) are = first_below e draft e.queues.transfer answer h.by_transfer are
 
-flushed_by : (e : Endpoint) (o : Outcome) (peer : Option Held) (answers : List Answer) → AnswersTo e peer answers → o ≡ flush_by e peer answers → AreOpen e.below.queue.streams
+flushed_by : (e : Endpoint) (o : Outcome) (peer : Option Held) (answers : List Answer) → AnswersTo e peer answers → o ≡ flush_by e peer answers → AreOpen e.queues.queue.streams
     → o.after.core ≡ e.core
 flushed_by e o None answers allowed is are = ap (λ (x : Outcome). x.after.core) is
 flushed_by e o (Some held) answers allowed is are =
@@ -70,10 +70,10 @@ flushed_by e o (Some held) answers allowed is are =
 
 -- ---- behind a restore
 
-restored_at : (e : Endpoint) (core : Core) (state : Snapshot) (o : Outcome) → core ≡ closed → RestoreTurn e core state o → AreOpen o.after.below.queue.streams
+restored_at : (e : Endpoint) (core : Core) (state : Snapshot) (o : Outcome) → core ≡ closed → RestoreTurn e core state o → AreOpen o.after.queues.queue.streams
 restored_at e closed state o is turn =
-    subst (λ (x : Outcome). AreOpen x.after.below.queue.streams) (sym turn.2)
-    (restored_open e.moment state.tx (numbered_for state.capabilities.message_interleaving e.below.queue))
+    subst (λ (x : Outcome). AreOpen x.after.queues.queue.streams) (sym turn.2)
+    (restored_open e.moment state.tx (numbered_for state.capabilities.message_interleaving e.queues.queue))
 restored_at e (cookie_wait my) state o is turn = absurd (cc)
 restored_at e (cookie_echoed my held cookie) state o is turn = absurd (cc)
 restored_at e (open_in phase my held) state o is turn = absurd (cc)

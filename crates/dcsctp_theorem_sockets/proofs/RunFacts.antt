@@ -17,13 +17,13 @@ use Rattle.dcsctp_spec_lemmas.specs.spec.endpoint.HandshakeOutcomes.{pair_from}
 use Rattle.dcsctp_spec_lemmas.specs.spec.association.HandshakeChanges.{introduction_of}
 use Rattle.dcsctp_spec_lemmas.specs.spec.endpoint.Outcome.{Outcome, still}
 use Rattle.dcsctp_spec_lemmas.specs.spec.endpoint.Following.{Following, next_chunk}
-use Rattle.dcsctp_spec_lemmas.specs.spec.endpoint.Turn.{Input, arrival, packet_begins, chunk_input, packet_ends, act_input, has_data, BeginTurn, ContentTurn, arrival_outcome}
-use Rattle.dcsctp_spec_lemmas.specs.spec.endpoint.CallTurns.{Turned, turned, Turns, AfterChunk, ChunkTurns, WholeTurns, AdmittedTurns, HandleInput, readable}
-use Rattle.dcsctp_spec_lemmas.specs.spec.association.Effect.{Link, link_of, Effect, draws, holds, connects, begins, gives_up, completes, accepts, performs}
+use Rattle.dcsctp_spec_lemmas.specs.spec.endpoint.Turn.{Input, arrival, packet_begins, chunk_input, packet_ends, act_input, has_data_chunk, BeginTurn, ContentTurn, arrival_outcome}
+use Rattle.dcsctp_spec_lemmas.specs.spec.endpoint.CallTurns.{Transition, transition, Turns, AfterChunk, ChunkTurns, WholeTurns, AdmittedTurns, HandleInput, readable}
+use Rattle.dcsctp_spec_lemmas.specs.spec.association.Effect.{AssociationIdentity, identity_of, Effect, draws, holds, connects, begins, gives_up, completes, accepts, performs}
 use Rattle.dcsctp_spec_lemmas.specs.spec.association.Acts.{connect}
 use Rattle.dcsctp_spec_lemmas.specs.spec.Admission.{Admission, all_chunks, admits}
 use Rattle.dcsctp_spec_runs.specs.Past.{Each, InPlace}
-use Rattle.dcsctp_spec_runs.specs.Sockets.{Worked, Both, SocketRun, turns_after, endpoint_after}
+use Rattle.dcsctp_spec_runs.specs.Sockets.{PerformedAct, Both, SocketRun, turns_after, endpoint_after}
 use Rattle.dcsctp_theorem_sockets.specs.Agreement.{IsUsable, AreUsable, noted_past}
 use Rattle.dcsctp_theorem_sockets.specs.OneSocket.{EndsByAnswer}
 use Rattle.dcsctp_theorem_sockets.specs.Handshake.{AreFitting, AreConnected}
@@ -45,52 +45,52 @@ abbrev theirs : Pair
 theirs = record { tag = 9; first_tsn = 5 }
 
 -- a turn that noted this
-abbrev noted_by : Endpoint → Input → List Effect → Turned
-noted_by e input effects = turned input (record (still e) { effects = effects })
+abbrev noted_by : Endpoint → Input → List Effect → Transition
+noted_by e input effects = transition input (record (still e) { effects = effects })
 
 -- a RE-CONFIG with an answer to this number, under the own tag
 abbrev answered : ℕ → Input
 answered number = chunk_input 7 (re_config (reconfiguration_response number SuccessPerformed ∷ []))
 
-abbrev connected_with : Link → Endpoint → List Turned
+abbrev connected_with : AssociationIdentity → Endpoint → List Transition
 connected_with link e =
     noted_by e (act_input connect) (draws mine ∷ []) ∷ noted_by e (chunk_input 7 cookie_ack) (holds link ∷ connects link ∷ begins 1 ∷ []) ∷ []
 
 -- The own numbers begin at the own first TSN, go up by one, and each ends before the next begins.
-two_requests : (e : Endpoint) (link : Link) → Each InPlace (noted_past (connected_with (record link { my = mine }) e
+two_requests : (e : Endpoint) (link : AssociationIdentity) → Each InPlace (noted_past (connected_with (record link { my = mine }) e
     ++ noted_by e (answered 1) (completes mine 1 ∷ begins 2 ∷ []) ∷ noted_by e (answered 2) (completes mine 2 ∷ []) ∷ []))
 two_requests e link = ((refl, refl), ((refl, refl), ((refl, refl), ((refl, refl), (refl, (tt, (tt, tt)))))))
 
 -- A number that is left out is refused,
-left_out : (e : Endpoint) (link : Link) → Each InPlace (noted_past (connected_with (record link { my = mine }) e ++ noted_by e (answered 1) (completes mine 1 ∷ begins 3 ∷ []) ∷ [])) → ⊥
+left_out : (e : Endpoint) (link : AssociationIdentity) → Each InPlace (noted_past (connected_with (record link { my = mine }) e ++ noted_by e (answered 1) (completes mine 1 ∷ begins 3 ∷ []) ∷ [])) → ⊥
 left_out e link each = let same : Some 2 ≡ Some 3 = each.0.0 in absurd (cc)
 
 -- and so is one that begins while another is outstanding.
-while_outstanding : (e : Endpoint) (link : Link) → Each InPlace (noted_past (connected_with (record link { my = mine }) e ++ noted_by e (act_input connect) (begins 2 ∷ []) ∷ [])) → ⊥
+while_outstanding : (e : Endpoint) (link : AssociationIdentity) → Each InPlace (noted_past (connected_with (record link { my = mine }) e ++ noted_by e (act_input connect) (begins 2 ∷ []) ∷ [])) → ⊥
 while_outstanding e link each = let same : Some 1 ≡ None = each.0.1 in absurd (cc)
 
 -- The next number takes the place of one that is given up,
-given_up : (e : Endpoint) (link : Link) → Each InPlace (noted_past (connected_with (record link { my = mine }) e
+given_up : (e : Endpoint) (link : AssociationIdentity) → Each InPlace (noted_past (connected_with (record link { my = mine }) e
     ++ noted_by e (act_input connect) (gives_up 1 ∷ begins 2 ∷ []) ∷ noted_by e (answered 2) (completes mine 2 ∷ []) ∷ []))
 given_up e link = ((refl, refl), ((refl, refl), (refl, ((refl, refl), (refl, (tt, (tt, tt)))))))
 
 -- which has no end then.
-ended_given_up : (e : Endpoint) (link : Link) → Each InPlace (noted_past (connected_with (record link { my = mine }) e
+ended_given_up : (e : Endpoint) (link : AssociationIdentity) → Each InPlace (noted_past (connected_with (record link { my = mine }) e
     ++ noted_by e (act_input connect) (gives_up 1 ∷ begins 2 ∷ []) ∷ noted_by e (answered 1) (completes mine 1 ∷ []) ∷ [])) → ⊥
 ended_given_up e link each = let same : Some 2 ≡ Some 1 = each.0.0 in absurd (cc)
 
 -- One that has ended isn't given up.
-given_up_late : (e : Endpoint) (link : Link) → Each InPlace (noted_past (connected_with (record link { my = mine }) e
+given_up_late : (e : Endpoint) (link : AssociationIdentity) → Each InPlace (noted_past (connected_with (record link { my = mine }) e
     ++ noted_by e (answered 1) (completes mine 1 ∷ []) ∷ noted_by e (act_input connect) (gives_up 1 ∷ begins 2 ∷ []) ∷ [])) → ⊥
 given_up_late e link each = let same : None ≡ Some 1 = each.1.0 in absurd (cc)
 
 -- The peer's request 5 is accepted and performed,
-one_performance : (e : Endpoint) (link : Link)
+one_performance : (e : Endpoint) (link : AssociationIdentity)
     → Each InPlace (noted_past (connected_with (record link { my = mine; peer = theirs }) e ++ noted_by e (act_input connect) (accepts 5 ∷ performs theirs 5 ∷ []) ∷ []))
 one_performance e link = ((refl, refl), (refl, ((refl, refl), (refl, (tt, (tt, tt))))))
 
 -- and not again.
-performed_again : (e : Endpoint) (link : Link)
+performed_again : (e : Endpoint) (link : AssociationIdentity)
     → Each InPlace (noted_past (connected_with (record link { peer = theirs }) e ++ noted_by e (act_input connect) (accepts 5 ∷ performs theirs 5 ∷ performs theirs 5 ∷ []) ∷ [])) → ⊥
 performed_again e link each = let same : None ≡ Some 5 = each.0.0 in absurd (cc)
 
@@ -113,17 +113,17 @@ ended_in_progress e h = elim (h.completed mine 1 (inl refl)) [ inl is ↦ is.1 |
 
 -- It is a call of its turns.
 gives : Wire → (e : Endpoint) (other : Options) (with_checksum : Bool) (tag : ℕ) (content : Content) (o : Outcome) → IsTaken e.options other with_checksum tag content
-    → admits e.core (record { tag = tag; contents = content ∷ [] }) ≡ all_chunks → BeginTurn (counted_at e) e.core (has_data (content ∷ [])) (still (counted_at e))
-    → ContentTurn (counted_at e) tag content o → o.following ≡ next_chunk → OwesNothing o.after.below.transfer → HandleInput e (emission_bytes (ports_of other) (alone with_checksum tag content)) (delivered e tag content o)
+    → admits e.core (record { tag = tag; contents = content ∷ [] }) ≡ all_chunks → BeginTurn (counted_at e) e.core (has_data_chunk (content ∷ [])) (still (counted_at e))
+    → ContentTurn (counted_at e) tag content o → o.following ≡ next_chunk → OwesNothing o.after.queues.transfer → HandleInput e (emission_bytes (ports_of other) (alone with_checksum tag content)) (delivered e tag content o)
 gives law e other with_checksum tag content o h admitted begun comes goes_on owes =
     let packet : Packet = record { tag = tag; contents = content ∷ [] } in
-    let last : List Turned = turned packet_ends (still o.after) ∷ [] in
-    let rest : List Turned = turned (packet_begins (content ∷ [])) (still (counted_at e)) ∷ turned (chunk_input tag content) o ∷ last in
+    let last : List Transition = transition packet_ends (still o.after) ∷ [] in
+    let rest : List Transition = transition (packet_begins (content ∷ [])) (still (counted_at e)) ∷ transition (chunk_input tag content) o ∷ last in
     let behind : AfterChunk o.following (ChunkTurns o.after tag [] (packet_ends ∷ []) last) (Turns o.after (packet_ends ∷ []) last) (last ≡ []) =
     subst (λ (f : Following). AfterChunk f (ChunkTurns o.after tag [] (packet_ends ∷ []) last) (Turns o.after (packet_ends ∷ []) last) (last ≡ [])) (sym goes_on)
     (record { is = refl; comes = still_ends o.after owes }, tt) in
     let whole : WholeTurns (counted_at e) packet rest = (record { is = refl; comes = begun }, (record { is = refl; comes = comes }, behind)) in
-    readable (built (ports_of other) packet) (turned arrival (arrival_outcome e)) rest (is_read law e.options other with_checksum tag content h) (record { is = refl; comes = refl })
+    readable (built (ports_of other) packet) (transition arrival (arrival_outcome e)) rest (is_read law e.options other with_checksum tag content h) (record { is = refl; comes = refl })
     (subst (λ (p : Packet). AdmittedTurns (counted_at e) p (admits e.core p) rest) (sym (built_reads (ports_of other) packet h.sendable))
     (subst (λ (a : Admission). AdmittedTurns (counted_at e) packet a rest) (sym admitted) whole))
 
@@ -145,14 +145,14 @@ abbrev pair_b : Words → Pair
 pair_b w = pair_from w.word' w.next'
 
 -- A connects, the four packets are delivered in turn, and A connects once more, which changes nothing.
-abbrev five_acts : Options → Options → Words → List Worked
+abbrev five_acts : Options → Options → Words → List PerformedAct
 five_acts a b w =
     run_of sides.A (begun_by a w.word w.next) (answered_by a b (pair_a w) w.word' w.next') (echoed_by a b (pair_a w) (pair_b w) w.tie)
     (acknowledged_by a b (pair_a w) (pair_b w) w.tie') (connected_by a b (pair_a w) (pair_b w) w.tie)
 
-abbrev six_acts : Options → Options → Words → List Worked
+abbrev six_acts : Options → Options → Words → List PerformedAct
 six_acts a b w =
-    record { act = step_act (call_step sides.A connect_call); turns = turned (act_input connect) (still (endpoint_after a (turns_after (five_acts a b w)).a)) ∷ [] } ∷ five_acts a b w
+    record { act = step_act (call_step sides.A connect_call); turns = transition (act_input connect) (still (endpoint_after a (turns_after (five_acts a b w)).a)) ∷ [] } ∷ five_acts a b w
 
 handshake_runs : HandshakeLaws → (a b : Options) (w : Words) → Good a → Good b → a.remote_port ≡ b.local_port → b.remote_port ≡ a.local_port → SocketRun (record { a = a; b = b }) (five_acts a b w)
 handshake_runs law a b w good_a good_b to_b to_a =
@@ -185,8 +185,8 @@ by_side : (options : Both Options) → IsUsable options.a → IsUsable options.b
 by_side options a b sides.A = a
 by_side options a b sides.B = b
 
-abbrev inputs_of : List Turned → List Input
-inputs_of turns = map (λ (turn : Turned). turn.input) turns
+abbrev inputs_of : List Transition → List Input
+inputs_of turns = map (λ (turn : Transition). turn.input) turns
 
 inputs_of_a : (a b : Options) (w : Words) → let cookie = cookie_bytes (made_cookie a (pair_a w) (pair_b w)) in
     let answer = init_ack (answer_to a b (pair_a w) (pair_b w)) (Some cookie) in
@@ -198,7 +198,7 @@ inputs_of_a : (a b : Options) (w : Words) → let cookie = cookie_bytes (made_co
 inputs_of_a a b w = refl
 
 -- one pair was drawn, one association held, and it was connected once
-noted_by_a : (a b : Options) (w : Words) → let link = link_of (pair_a w) (held_here a b (pair_a w) (pair_b w)) in
+noted_by_a : (a b : Options) (w : Words) → let link = identity_of (pair_a w) (held_here a b (pair_a w) (pair_b w)) in
     noted_past (turns_after (six_acts a b w)).a ≡ connects link ∷ holds link ∷ draws (pair_a w) ∷ []
 noted_by_a a b w = refl
 

@@ -11,7 +11,7 @@ use Rattle.dcsctp_spec_lemmas.specs.spec.endpoint.Outcome.{Outcome, sends, to_pe
 use Rattle.dcsctp_spec_lemmas.specs.spec.endpoint.Turn.{BeginTurn}
 use Rattle.dcsctp_spec_lemmas.specs.spec.endpoint.CookieEchoOutcomes.{refused_restart_outcome}
 use Rattle.dcsctp_spec_lemmas.specs.spec.endpoint.EndOutcomes.{reflected_outcome}
-use Rattle.dcsctp_spec_lemmas.specs.spec.endpoint.ShutdownOutcomes.{received_tsn, phase_at, t2_begun, t2_goes_on, may_go_on, step_by, step_outcome, t1_stopped, shut_down_outcome, shutdown_outcome, shutdown_ack_outcome, shutdown_complete_outcome, sent_again, t2_again_outcome, shutdown_repeated}
+use Rattle.dcsctp_spec_lemmas.specs.spec.endpoint.ShutdownOutcomes.{received_tsn, phase_at, t2_begun, t2_goes_on, may_go_on, step_by, step_outcome, t1_stopped, shut_down_outcome, shutdown_outcome, shutdown_ack_outcome, shutdown_complete_outcome, shutdown_sent_again, t2_again_outcome, shutdown_repeated}
 use Rattle.dcsctp_spec_runs.specs.Fitting.{FitsHeld, FitsCore, FitsEndpoint, Sendable, TurnFits}
 use Rattle.dcsctp_spec_lemmas.specs.spec.CookieFits.{FitsPair}
 use Rattle.dcsctp_theorem_sockets.proofs.FlushFits.{still_fits}
@@ -47,9 +47,9 @@ begun_fits : (e : Endpoint) (phase : OpenPhase) (my : Pair) (held : Held) → Fi
 begun_fits e phase my held h own fits = record { valid = h.valid; options = h.options; core = (own, fits); t1 = tt }
 
 asks_fit : (e : Endpoint) (my : Pair) (held : Held) → FitsEndpoint e → FitsPair my → FitsHeld held
-    → TurnFits (sends (t2_begun (phase_at e shutdown_sent my held)) [] [] (to_peer held (shutdown (received_tsn e.below.transfer))))
+    → TurnFits (sends (t2_begun (phase_at e shutdown_sent my held)) [] [] (to_peer held (shutdown (received_tsn e.queues.transfer))))
 asks_fit e my held h own fits =
-    to_peer_fits (t2_begun (phase_at e shutdown_sent my held)) held (shutdown (received_tsn e.below.transfer)) (begun_fits e shutdown_sent my held h own fits) fits (shutdown_sendable e.below.transfer)
+    to_peer_fits (t2_begun (phase_at e shutdown_sent my held)) held (shutdown (received_tsn e.queues.transfer)) (begun_fits e shutdown_sent my held h own fits) fits (shutdown_sendable e.queues.transfer)
 
 answers_fit : (e : Endpoint) (my : Pair) (held : Held) → FitsEndpoint e → FitsPair my → FitsHeld held → TurnFits (sends (t2_begun (phase_at e shutdown_ack_sent my held)) [] [] (to_peer held shutdown_ack))
 answers_fit e my held h own fits = to_peer_fits (t2_begun (phase_at e shutdown_ack_sent my held)) held shutdown_ack (begun_fits e shutdown_ack_sent my held h own fits) fits shutdown_ack_sendable
@@ -141,13 +141,13 @@ refused_restart_fits e held h fits =
 
 -- ---- T2, and data while a SHUTDOWN waits for its answer
 
-again_fits : (e : Endpoint) (core : Core) → FitsEndpoint e → FitsCore core → TurnFits (sent_again e core)
+again_fits : (e : Endpoint) (core : Core) → FitsEndpoint e → FitsCore core → TurnFits (shutdown_sent_again e core)
 again_fits e closed h own = still_fits e h
 again_fits e (cookie_wait my) h own = still_fits e h
 again_fits e (cookie_echoed my held cookie) h own = still_fits e h
 again_fits e (open_in established my held) h own = still_fits e h
 again_fits e (open_in shutdown_pending my held) h own = still_fits e h
-again_fits e (open_in shutdown_sent my held) h own = to_peer_fits e held (shutdown (received_tsn e.below.transfer)) h own.1 (shutdown_sendable e.below.transfer)
+again_fits e (open_in shutdown_sent my held) h own = to_peer_fits e held (shutdown (received_tsn e.queues.transfer)) h own.1 (shutdown_sendable e.queues.transfer)
 again_fits e (open_in shutdown_received my held) h own = still_fits e h
 again_fits e (open_in shutdown_ack_sent my held) h own = to_peer_fits e held shutdown_ack h own.1 shutdown_ack_sendable
 
@@ -156,7 +156,7 @@ t2_again_fits e h = again_fits (t2_goes_on e) e.core (record { valid = h.valid; 
 
 repeated_fits : (e : Endpoint) (held : Held) → FitsEndpoint e → FitsHeld held → TurnFits (shutdown_repeated e held)
 repeated_fits e held h fits =
-    to_peer_fits (t2_begun e) held (shutdown (received_tsn e.below.transfer)) (record { valid = h.valid; options = h.options; core = h.core; t1 = h.t1 }) fits (shutdown_sendable e.below.transfer)
+    to_peer_fits (t2_begun e) held (shutdown (received_tsn e.queues.transfer)) (record { valid = h.valid; options = h.options; core = h.core; t1 = h.t1 }) fits (shutdown_sendable e.queues.transfer)
 
 -- What stands before the chunks of a packet sends a SHUTDOWN at most.
 pub begin_fits : (e : Endpoint) (core : Core) (has : Bool) (o : Outcome) → FitsEndpoint e → FitsCore core → BeginTurn e core has o → TurnFits o

@@ -10,10 +10,10 @@ use Rattle.dcsctp_spec_lemmas.specs.spec.endpoint.Event.{Event, sent, event_map,
 use Rattle.dcsctp_spec_lemmas.specs.spec.Packet.{Content, init, init_ack, cookie_echo, cookie_ack, re_config, abort, shutdown, shutdown_ack, shutdown_complete, plain, chunk_out, Emission, emission_bytes}
 use Rattle.dcsctp_spec_lemmas.specs.spec.endpoint.Endpoint.{Endpoint, fresh_endpoint}
 use Rattle.dcsctp_spec_lemmas.specs.spec.endpoint.Outcome.{Outcome, contents_len}
-use Rattle.dcsctp_spec_lemmas.specs.spec.endpoint.Turn.{Input, arrival, refusal, packet_begins, chunk_input, packet_ends, act_input, user_sets, user_sends, user_resets, user_takes, timer_expires, time_passes, restores, has_data, ContentTurn, ActTurn}
+use Rattle.dcsctp_spec_lemmas.specs.spec.endpoint.Turn.{Input, arrival, refusal, packet_begins, chunk_input, packet_ends, act_input, user_sets, user_sends, user_resets, user_takes, timer_expires, time_passes, restores, has_data_chunk, ContentTurn, ActTurn}
 use Rattle.dcsctp_spec_lemmas.specs.spec.endpoint.TimerOutcomes.{t1_goes_on}
 use Rattle.dcsctp_spec_lemmas.specs.spec.association.Acts.{Act, connect, t1_expires, shut_down, step_of_shutdown, shutdown_repeats, abort_with, hands_over, flushes, request_again, request_renewed}
-use Rattle.dcsctp_spec_lemmas.specs.spec.endpoint.CallTurns.{Turned, IsTurn, AlongTurns, events_of}
+use Rattle.dcsctp_spec_lemmas.specs.spec.endpoint.CallTurns.{Transition, IsTurn, AlongTurns, events_of}
 use Rattle.dcsctp_spec_runs.specs.Sockets.{of_side, turns_after}
 use Rattle.dcsctp_spec_runs.proofs.RunsAlong.{run_along_where}
 use Rattle.dcsctp_theorem_sockets.proofs.RestoreTurns.{restore_sizes}
@@ -54,25 +54,25 @@ act_sizes limit e flushes o may turn h = flush_turn_sizes limit e o turn h
 act_sizes limit e (request_again reset) o may turn h = absurd may
 act_sizes limit e (request_renewed reset) o may turn h = absurd may
 
-abbrev KeepsSize : ℕ → Endpoint → Turned → Type 0
+abbrev KeepsSize : ℕ → Endpoint → Transition → Type 0
 KeepsSize limit e t = AtLimit limit e → TurnSizes limit t.outcome
 
-turn_sizes : (limit : ℕ) (e : Endpoint) (input : Input) (t : Turned) → MayBe input → IsTurn e input t → KeepsSize limit e t
+turn_sizes : (limit : ℕ) (e : Endpoint) (input : Input) (t : Transition) → MayBe input → IsTurn e input t → KeepsSize limit e t
 turn_sizes limit e arrival t may turn h = subst (TurnSizes limit) (sym turn.comes) (h, tt)
 turn_sizes limit e (refusal text) t may turn h = subst (TurnSizes limit) (sym turn.comes) (h, tt)
-turn_sizes limit e (packet_begins contents) t may turn h = begin_sizes limit e e.core (has_data contents) t.outcome turn.comes h
+turn_sizes limit e (packet_begins contents) t may turn h = begin_sizes limit e e.core (has_data_chunk contents) t.outcome turn.comes h
 turn_sizes limit e (chunk_input tag content) t may turn h = chunk_sizes limit e tag content t.outcome turn.comes h
-turn_sizes limit e packet_ends t may turn h = end_sizes limit e e.below.transfer t.outcome turn.comes h
+turn_sizes limit e packet_ends t may turn h = end_sizes limit e e.queues.transfer t.outcome turn.comes h
 turn_sizes limit e (act_input act) t may turn h = act_sizes limit e act t.outcome may turn.comes h
 turn_sizes limit e (user_sets setting) t may turn h = subst (TurnSizes limit) (sym turn.comes) (h, tt)
 turn_sizes limit e (user_sends messages) t may turn h = send_sizes limit e messages t.outcome turn.comes h
 turn_sizes limit e (user_resets ids) t may turn h = resets_sizes limit e ids t.outcome turn.comes h
-turn_sizes limit e user_takes t may turn h = take_sizes limit e e.below.transfer t.outcome turn.comes h
+turn_sizes limit e user_takes t may turn h = take_sizes limit e e.queues.transfer t.outcome turn.comes h
 turn_sizes limit e (timer_expires timer) t may turn h = timer_sizes limit e timer t.outcome turn.comes h
 turn_sizes limit e (time_passes moment) t may turn h = subst (TurnSizes limit) (sym turn.comes) (h, tt)
 turn_sizes limit e (restores state) t may turn h = restore_sizes limit e state t.outcome turn.comes h
 
-all_short : (limit : ℕ) (e : Endpoint) (ts : List Turned) → AlongTurns (KeepsSize limit) e ts → AtLimit limit e → AllShort limit (events_of ts)
+all_short : (limit : ℕ) (e : Endpoint) (ts : List Transition) → AlongTurns (KeepsSize limit) e ts → AtLimit limit e → AllShort limit (events_of ts)
 all_short limit e [] along h = tt
 all_short limit e (t ∷ ts) along h =
     let first : TurnSizes limit t.outcome = along.0 h in
@@ -113,6 +113,6 @@ pub sockets_keep_sizes : SocketsKeepSizes
 sockets_keep_sizes options run runs side valid =
     let own : Options = of_side side options in
     let limit : ℕ = packet_size_limit own in
-    let turns : List Turned = of_side side (turns_after run) in
+    let turns : List Transition = of_side side (turns_after run) in
     shown_short own (events_of turns)
     (all_short limit (fresh_endpoint own) turns (run_along_where (KeepsSize limit) MayBe these_may_come (λ state. tt) (turn_sizes limit) options run runs side) (refl, valid.least_size))

@@ -3,7 +3,7 @@ use Rattle.std.proofs.Common.{◌==◌, ◌≡◌, ◌≤◌, ◌+◌, ◌-◌, 
 use Rattle.std.proofs.lemmas.List.{length-take, length-replicate}
 use Rattle.dcsctp_spec_lemmas.specs.wire.Content.{ParameterContent, data_chunk, sack_chunk, error_chunk, i_data_chunk, forward_tsn_chunk, i_forward_tsn_chunk, unrecognized_chunk_type}
 use Rattle.dcsctp_spec_lemmas.specs.wire.Format.{padding_of}
-use Rattle.dcsctp_spec_lemmas.specs.wire.Spelling.{zeros, as_parameter, chunk_bytes, parameter_bytes, list_bytes}
+use Rattle.dcsctp_spec_lemmas.specs.wire.Spelling.{zeros, as_parameter, chunk_bytes, parameter_bytes, parameter_chunk_bytes}
 use Rattle.dcsctp_spec_lemmas.specs.types.declared.association.Pair.{Pair}
 use Rattle.dcsctp_spec_lemmas.specs.types.declared.association.Held.{Held}
 use Rattle.dcsctp_spec_lemmas.specs.types.declared.ends.Violation.{Violation}
@@ -19,13 +19,13 @@ use Rattle.dcsctp_spec_lemmas.specs.spec.endpoint.Endpoint.{Endpoint, Core, clos
 use Rattle.dcsctp_spec_lemmas.specs.spec.endpoint.Outcome.{Outcome, contents_len, still, fits, to_peer}
 use Rattle.dcsctp_spec_lemmas.specs.spec.association.Effect.{Effect}
 use Rattle.dcsctp_spec_lemmas.specs.spec.association.FlushChanges.{reset_request}
-use Rattle.dcsctp_spec_lemmas.specs.spec.association.ResetChanges.{WorkedParameters}
+use Rattle.dcsctp_spec_lemmas.specs.spec.association.ResetChanges.{HandledParameters}
 use Rattle.dcsctp_spec_lemmas.specs.spec.endpoint.FlushOutcomes.{Answer, draft_to, flush_of}
 use Rattle.dcsctp_spec_lemmas.specs.spec.endpoint.HeartbeatOutcomes.{heartbeat_outcome, info_in, counter_of, answered, heartbeat_ack_outcome, interval_expired, beating, heartbeat_emission, beat, interval_outcome, is_exhausted}
 use Rattle.dcsctp_spec_lemmas.specs.spec.endpoint.OwnTimers.{OwnTimer, acknowledgement_delay, retransmission, heartbeat_interval, heartbeat_timeout, reconfiguration, TimerTurn}
-use Rattle.dcsctp_spec_lemmas.specs.spec.endpoint.PlainOutcomes.{PlainTurn, PlainTurnBy, violation_at, is_reported, after_unknown, unknown_bytes, unknown_error, unknown_told, error_outcome}
-use Rattle.dcsctp_spec_lemmas.specs.spec.endpoint.ReconfigurationOutcomes.{reset_again, request_emitted, renewed_where, request_renewed, request_unless, is_renewed, request_errors, request_expired, reconfiguration_outcome}
-use Rattle.dcsctp_spec_lemmas.specs.spec.endpoint.ResetOutcomes.{requested_in, is_reached, worked_in, OwnAnswer, answered_in, reset_events, told_of, resets_worked, responses_outcome, responses_by, ResponseAnswers, WorksResets, ResetTurn}
+use Rattle.dcsctp_spec_lemmas.specs.spec.endpoint.PlainOutcomes.{PlainTurn, PlainTurnBy, violation_at, is_reported, after_unknown, unknown_bytes, unknown_error, unknown_chunk_outcome, error_outcome}
+use Rattle.dcsctp_spec_lemmas.specs.spec.endpoint.ReconfigurationOutcomes.{reset_again, request_emitted, renewed_request_where, request_renewed, request_unless, is_renewed, request_errors, request_expired, reconfiguration_outcome}
+use Rattle.dcsctp_spec_lemmas.specs.spec.endpoint.ResetOutcomes.{requested_in, is_request_reached, parameters_handled_in, OwnAnswer, answered_in, reset_events, reset_events_of, resets_handled, responses_outcome, responses_by, ResponseAnswers, WorksResets, ResetTurn}
 use Rattle.dcsctp_spec_laws.proofs.ResetLemmas.{AreResets, nothing, acceptance, performance, completion, failure, chunk_brings, worked_keeps}
 use Rattle.dcsctp_theorem_sockets.proofs.Sizes.{AtLimit, AllShort, TurnSizes, short_append, packet_sizes, emits_sizes, flush_sizes}
 use Rattle.dcsctp_theorem_sockets.proofs.SizesData.{data_sizes, forward_sizes, sack_sizes, delay_sizes, loss_sizes}
@@ -34,7 +34,7 @@ use Rattle.dcsctp_theorem_sockets.proofs.SizesTurns.{aborting_sizes}
 -- ---- the report of a chunk of a type that isn't known
 
 report_len : (bytes : List ℕ) → contents_len (plain (error_of (unrecognized_chunk_type bytes ∷ [])) ∷ []) ≡ 8 + length bytes + padding_of (length bytes)
-unfolding parameter_bytes list_bytes
+unfolding parameter_bytes parameter_chunk_bytes
 report_len bytes =
     omega (
       arith,
@@ -53,7 +53,7 @@ report_fits limit e chunk h =
     omega (arith, len, few, h.0, h.1)
 
 unknown_sizes : (limit : ℕ) (e : Endpoint) (core : Core) (type : ℕ) (chunk : List ℕ) (reported : Bool) → AtLimit limit e
-    → TurnSizes limit (record (cond reported (unknown_told e core type chunk) (still e)) { following = after_unknown type })
+    → TurnSizes limit (record (cond reported (unknown_chunk_outcome e core type chunk) (still e)) { following = after_unknown type })
 unknown_sizes limit e core type chunk false h = (h, tt)
 unknown_sizes limit e closed type chunk true h = (h, tt)
 unknown_sizes limit e (cookie_wait my) type chunk true h = (h, tt)
@@ -100,7 +100,7 @@ request_sizes limit e held None reset h = (h, tt)
 request_sizes limit e held (Some number) reset h = emits_sizes limit e [] (to_peer held (reset_request number reset)) h
 
 renewed_sizes : (b : Bool) (limit : ℕ) (e : Endpoint) (held : Held) (number : ℕ) (request : Content) → fits e (to_peer held request) ≡ b → AtLimit limit e
-    → TurnSizes limit (renewed_where b e held number request)
+    → TurnSizes limit (renewed_request_where b e held number request)
 renewed_sizes true limit e held number request is h = packet_sizes true limit e [] (to_peer held request) is h
 renewed_sizes false limit e held number request is h = (h, tt)
 
@@ -123,8 +123,8 @@ reconfiguration_sizes limit e (Some held) (Some request) h =
 -- ---- each timer
 
 pub timer_sizes : (limit : ℕ) (e : Endpoint) (timer : OwnTimer) (o : Outcome) → TimerTurn e timer o → AtLimit limit e → TurnSizes limit o
-timer_sizes limit e acknowledgement_delay o turn h = subst (TurnSizes limit) (sym turn) (delay_sizes limit e e.below.transfer h)
-timer_sizes limit e retransmission o turn h = loss_sizes limit e e.below.transfer o turn h
+timer_sizes limit e acknowledgement_delay o turn h = subst (TurnSizes limit) (sym turn) (delay_sizes limit e e.queues.transfer h)
+timer_sizes limit e retransmission o turn h = loss_sizes limit e e.queues.transfer o turn h
 timer_sizes limit e heartbeat_interval o turn h = subst (TurnSizes limit) (sym turn) (interval_sizes limit e e.core h)
 timer_sizes limit e heartbeat_timeout o turn h = subst (TurnSizes limit) (sym turn) (h, tt)
 timer_sizes limit e reconfiguration o turn h = subst (TurnSizes limit) (sym turn) (reconfiguration_sizes limit e (held_in e.core) e.outstanding h)
@@ -156,12 +156,12 @@ sent_sizes false limit e told held parameters responses answers allowed h before
 
 works_sizes : (limit : ℕ) (e : Endpoint) (my : Pair) (held : Held) (parameters : List ResetParameter) (o : Outcome) → WorksResets e my held parameters o → AtLimit limit e → TurnSizes limit o
 works_sizes limit e my held parameters o turn h =
-    let w : WorkedParameters = worked_in e my held parameters in
-    let brought = chunk_brings my (is_reached e.below.transfer (requested_in parameters)) held parameters in
+    let w : HandledParameters = parameters_handled_in e my held parameters in
+    let brought = chunk_brings my (is_request_reached e.queues.transfer (requested_in parameters)) held parameters in
     let answer : OwnAnswer = answered_in held w parameters in
     let kept = worked_keeps e answer w.held turn.left in
     subst (TurnSizes limit) (sym turn.is)
-    (sent_sizes w.is_refused limit (resets_worked e answer w.held turn.left) (told_of e parameters w.effects) w.held parameters w.answers turn.answers turn.allowed
+    (sent_sizes w.is_refused limit (resets_handled e answer w.held turn.left) (reset_events_of e parameters w.effects) w.held parameters w.answers turn.answers turn.allowed
     (subst (λ (o : Options). packet_size_limit o ≡ limit) (sym kept.options) h.0, h.1) (told_short limit _ _ w.effects brought.are))
 
 pub reset_sizes : (limit : ℕ) (e : Endpoint) (core : Core) (parameters : List ResetParameter) (o : Outcome) → ResetTurn e core parameters o → AtLimit limit e → TurnSizes limit o
@@ -179,9 +179,9 @@ plain_by limit e (heartbeat parameters) None o turn h = subst (TurnSizes limit) 
 plain_by limit e (heartbeat_ack parameters) None o turn h = subst (TurnSizes limit) (sym turn) (heartbeat_ack_sizes limit e (counter_of (info_in parameters)) h)
 plain_by limit e (unworked (data_chunk chunk)) None o turn h = data_sizes limit e (data_arrival chunk) o turn h
 plain_by limit e (unworked (i_data_chunk chunk)) None o turn h = data_sizes limit e (i_data_arrival chunk) o turn h
-plain_by limit e (unworked (sack_chunk chunk)) None o turn h = sack_sizes limit e e.below.transfer chunk o turn h
-plain_by limit e (unworked (forward_tsn_chunk tsn streams)) None o turn h = forward_sizes limit e e.below.transfer tsn (skipped_in streams) o turn h
-plain_by limit e (unworked (i_forward_tsn_chunk tsn streams)) None o turn h = forward_sizes limit e e.below.transfer tsn (messages_skipped_in streams) o turn h
+plain_by limit e (unworked (sack_chunk chunk)) None o turn h = sack_sizes limit e e.queues.transfer chunk o turn h
+plain_by limit e (unworked (forward_tsn_chunk tsn streams)) None o turn h = forward_sizes limit e e.queues.transfer tsn (skipped_in streams) o turn h
+plain_by limit e (unworked (i_forward_tsn_chunk tsn streams)) None o turn h = forward_sizes limit e e.queues.transfer tsn (messages_skipped_in streams) o turn h
 plain_by limit e (unworked (error_chunk causes)) None o turn h = subst (TurnSizes limit) (sym turn) (error_sizes limit e e.core causes h)
 plain_by limit e (unworked chunk) None o turn h = subst (TurnSizes limit) (sym turn) (h, tt)
 

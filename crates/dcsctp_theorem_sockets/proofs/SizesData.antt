@@ -16,14 +16,14 @@ use Rattle.dcsctp_spec_lemmas.specs.spec.queues.Transfer.{Transfer}
 use Rattle.dcsctp_spec_lemmas.specs.spec.endpoint.Endpoint.{Endpoint, held_in}
 use Rattle.dcsctp_spec_lemmas.specs.spec.endpoint.Outcome.{Outcome, contents_len, to_peer}
 use Rattle.dcsctp_spec_lemmas.specs.spec.association.Choices.{plain_contents}
-use Rattle.dcsctp_spec_lemmas.specs.spec.endpoint.FlushOutcomes.{own_sack, Told, amount_is_low, total_amount_is_low, message_is_sent, message_may_have_expired, message_has_expired, message_ends, told_event, Answer, goes_out, draft_to, flush_of, room_in}
-use Rattle.dcsctp_spec_lemmas.specs.spec.endpoint.MessageOutcomes.{MessageRefusal, refusal_events, Sending, sending_refusal, name_of, queue_by, queue_one, queue_all, takes_any, SendAnswers, send_by, SendTurn}
-use Rattle.dcsctp_spec_lemmas.specs.spec.endpoint.PreparedResets.{ResetRefusal, reset_refusal, with_queue, OwnResetsWhere, OwnResetsTurn}
-use Rattle.dcsctp_spec_lemmas.specs.spec.queues.Acknowledging.{ends_delivery, told_by, delivered}
+use Rattle.dcsctp_spec_lemmas.specs.spec.endpoint.FlushOutcomes.{own_sack, FillingEvent, amount_is_low, total_amount_is_low, message_is_sent, message_may_have_expired, message_has_expired, message_ends, filling_event, Answer, goes_out, draft_to, flush_of, room_in}
+use Rattle.dcsctp_spec_lemmas.specs.spec.endpoint.MessageOutcomes.{MessageRefusal, refusal_events, Sending, sending_refusal, lifecycle_name, queue_by, queue_one, queue_all, takes_any, SendAnswers, send_by, SendTurn}
+use Rattle.dcsctp_spec_lemmas.specs.spec.endpoint.PreparedResets.{ResetRefusal, reset_refusal, endpoint_with_queue, OwnResetsWhere, OwnResetsTurn}
+use Rattle.dcsctp_spec_lemmas.specs.spec.queues.Acknowledging.{ends_delivery, lifecycle_events_by, delivered_events}
 use Rattle.dcsctp_spec_lemmas.specs.spec.queues.Items.{Item}
-use Rattle.dcsctp_spec_lemmas.specs.spec.queues.Outstanding.{acknowledged_by}
+use Rattle.dcsctp_spec_lemmas.specs.spec.queues.Outstanding.{acknowledged_count}
 use Rattle.dcsctp_spec_lemmas.specs.spec.queues.Retransmission.{has_fast_retransmit}
-use Rattle.dcsctp_spec_lemmas.specs.spec.endpoint.DataOutcomes.{DataWhere, with_transfer, with_tracker, flush_by, AnswersTo, FlushTurn, no_user_data_outcome, ReceiveTurn, DataTurn, ForwardTurn, SendsLost, FastRetransmits, sack_taken, AcknowledgesBy, SackWhere, SackBy, SackTurn, acknowledging, EndWhere, EndsBy, TakeWhere, TakeLeft, TakeTurn, delay_outcome, LossTurn}
+use Rattle.dcsctp_spec_lemmas.specs.spec.endpoint.DataOutcomes.{DataWhere, with_transfer, endpoint_with_tracker, flush_by, AnswersTo, FlushTurn, no_user_data_outcome, ReceiveTurn, DataTurn, ForwardTurn, SendsLost, FastRetransmits, sack_taken, AcknowledgesBy, SackWhere, SackBy, SackTurn, acknowledging, EndWhere, EndsBy, TakeWhere, TakeLeft, TakeTurn, delay_outcome, LossTurn}
 use Rattle.dcsctp_spec_lemmas.specs.spec.queues.Acknowledging.{is_sack_valid}
 use Rattle.dcsctp_theorem_sockets.proofs.Sizes.{AtLimit, IsShort, AllShort, TurnSizes, short_append, emits_sizes, flush_sizes}
 use Rattle.dcsctp_theorem_sockets.proofs.SizesShutdown.{step_sizes}
@@ -53,7 +53,7 @@ receive_sizes limit e (Some transfer) arrived o turn h = subst (TurnSizes limit)
 
 data_where_sizes : (limit : ℕ) (e : Endpoint) (arrived : Arrival) (payload : List ℕ) (o : Outcome) → DataWhere e arrived payload o → AtLimit limit e → TurnSizes limit o
 data_where_sizes limit e arrived [] o turn h = subst (TurnSizes limit) (sym turn) (no_data_sizes limit e (held_in e.core) arrived.tsn h)
-data_where_sizes limit e arrived (byte ∷ bytes) o turn h = receive_sizes limit e e.below.transfer arrived o turn h
+data_where_sizes limit e arrived (byte ∷ bytes) o turn h = receive_sizes limit e e.queues.transfer arrived o turn h
 
 pub data_sizes : (limit : ℕ) (e : Endpoint) (arrived : Arrival) (o : Outcome) → DataTurn e arrived o → AtLimit limit e → TurnSizes limit o
 data_sizes limit e arrived o turn h = data_where_sizes limit e arrived arrived.chunk.payload o turn h
@@ -64,15 +64,15 @@ forward_sizes limit e (Some transfer) tsn entries o turn h = subst (TurnSizes li
 
 -- ---- SACK
 
-told_of_short : (limit : ℕ) (name : Option ℕ) (ends : Bool) → AllShort limit (told_by name ends)
+told_of_short : (limit : ℕ) (name : Option ℕ) (ends : Bool) → AllShort limit (lifecycle_events_by name ends)
 told_of_short limit None ends = tt
 told_of_short limit (Some id) true = tt
 told_of_short limit (Some id) false = tt
 
-delivered_short : (limit : ℕ) (items : List Item) → AllShort limit (delivered items)
+delivered_short : (limit : ℕ) (items : List Item) → AllShort limit (delivered_events items)
 delivered_short limit [] = tt
 delivered_short limit (item ∷ items) =
-    short_append limit (told_by item.fragment.lifecycle (ends_delivery item)) (delivered items) (told_of_short limit item.fragment.lifecycle (ends_delivery item)) (delivered_short limit items)
+    short_append limit (lifecycle_events_by item.fragment.lifecycle (ends_delivery item)) (delivered_events items) (told_of_short limit item.fragment.lifecycle (ends_delivery item)) (delivered_short limit items)
 
 -- a packet, unless it is empty
 out_sizes : (limit : ℕ) (e : Endpoint) (with_checksum : Bool) (tag : ℕ) (contents : List Content) → AtLimit limit e → 12 + contents_len contents ≤ limit
@@ -96,11 +96,11 @@ acknowledges_sizes limit e held transfer sack o turn h =
     let fast : TurnSizes limit turn.fast = fast_sizes (has_fast_retransmit turn.left.retransmission) limit turn.stepped.after held turn.left turn.fast turn.resends step.0 in
     let flushed : TurnSizes limit (flush_of turn.fast.after (draft_to held) turn.answers) =
     flush_sizes limit turn.fast.after (draft_to held) turn.answers turn.allowed fast.0 (draft_short limit turn.fast.after held fast.0) in
-    let acknowledged : List Item = take (acknowledged_by transfer.retransmission.outstanding sack.cumulative_tsn_ack) transfer.retransmission.outstanding.items in
+    let acknowledged : List Item = take (acknowledged_count transfer.retransmission.outstanding sack.cumulative_tsn_ack) transfer.retransmission.outstanding.items in
     subst (TurnSizes limit) (sym turn.is) (
       flushed.0,
-      short_append limit (delivered acknowledged ++ (turn.stepped.events ++ turn.fast.events)) (flush_of turn.fast.after (draft_to held) turn.answers).events
-          (short_append limit (delivered acknowledged) (turn.stepped.events ++ turn.fast.events) (delivered_short limit acknowledged)
+      short_append limit (delivered_events acknowledged ++ (turn.stepped.events ++ turn.fast.events)) (flush_of turn.fast.after (draft_to held) turn.answers).events
+          (short_append limit (delivered_events acknowledged) (turn.stepped.events ++ turn.fast.events) (delivered_short limit acknowledged)
           (short_append limit turn.stepped.events turn.fast.events step.1 fast.1)) flushed.1,
     )
 
@@ -136,7 +136,7 @@ end_where_sizes : (b : Bool) (limit : ℕ) (e : Endpoint) (peer : Option Held) (
 end_where_sizes true limit e (Some held) transfer tracker o turn h =
     let sack : Plain = own_sack (record transfer { tracker = tracker }) in
     subst (TurnSizes limit) (sym turn.is)
-    (flush_sizes limit (with_tracker e transfer (sacked tracker)) (acknowledging e held sack) turn.answers turn.allowed h (acknowledging_short limit e held sack h))
+    (flush_sizes limit (endpoint_with_tracker e transfer (sacked tracker)) (acknowledging e held sack) turn.answers turn.allowed h (acknowledging_short limit e held sack h))
 end_where_sizes true limit e None transfer tracker o turn h = subst (TurnSizes limit) (sym turn) (h, tt)
 end_where_sizes false limit e peer transfer tracker o turn h = subst (TurnSizes limit) (sym turn) (h, tt)
 
@@ -165,7 +165,7 @@ refusal_short limit refusal (Some id) = tt
 
 queued_sizes : (limit : ℕ) (e : Endpoint) (message : Sending) (refusal : Option MessageRefusal) → AtLimit limit e → TurnSizes limit (queue_by e message refusal)
 queued_sizes limit e message None h = (h, tt)
-queued_sizes limit e message (Some refusal) h = (h, refusal_short limit refusal (name_of message))
+queued_sizes limit e message (Some refusal) h = (h, refusal_short limit refusal (lifecycle_name message))
 
 queue_sizes : (limit : ℕ) (e : Endpoint) (messages : List Sending) → AtLimit limit e → TurnSizes limit (queue_all e messages)
 queue_sizes limit e [] h = (h, tt)
@@ -187,7 +187,7 @@ send_sizes limit e messages o turn h =
 
 -- ---- own streams that the user resets
 
-told_short : (limit : ℕ) (told : List Told) → AllShort limit (map told_event told)
+told_short : (limit : ℕ) (told : List FillingEvent) → AllShort limit (map filling_event told)
 told_short limit [] = tt
 told_short limit (amount_is_low stream ∷ told) = told_short limit told
 told_short limit (total_amount_is_low ∷ told) = told_short limit told
@@ -198,9 +198,9 @@ told_short limit (message_ends id ∷ told) = told_short limit told
 
 resets_where_sizes : (refusal : Option ResetRefusal) (limit : ℕ) (e : Endpoint) (ids : List ℕ) (o : Outcome) → OwnResetsWhere refusal e ids o → AtLimit limit e → TurnSizes limit o
 resets_where_sizes None limit e ids o turn h =
-    let told = told_prepared ids e.below.queue in
-    let flushed : TurnSizes limit turn.flushed = flush_turn_sizes limit (with_queue e (prepared_all ids e.below.queue)) turn.flushed turn.flushes h in
-    subst (TurnSizes limit) (sym turn.is) (flushed.0, short_append limit (prepare_all_events ids e.below.queue) turn.flushed.events (subst (AllShort limit) (sym told.is) (told_short limit told.told)) flushed.1)
+    let told = told_prepared ids e.queues.queue in
+    let flushed : TurnSizes limit turn.flushed = flush_turn_sizes limit (endpoint_with_queue e (prepared_all ids e.queues.queue)) turn.flushed turn.flushes h in
+    subst (TurnSizes limit) (sym turn.is) (flushed.0, short_append limit (prepare_all_events ids e.queues.queue) turn.flushed.events (subst (AllShort limit) (sym told.is) (told_short limit told.told)) flushed.1)
 resets_where_sizes (Some refusal) limit e ids o turn h = subst (TurnSizes limit) (sym turn) (h, tt)
 
 pub resets_sizes : (limit : ℕ) (e : Endpoint) (ids : List ℕ) (o : Outcome) → OwnResetsTurn e ids o → AtLimit limit e → TurnSizes limit o

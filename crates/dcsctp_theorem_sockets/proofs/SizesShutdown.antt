@@ -8,7 +8,7 @@ use Rattle.dcsctp_spec_lemmas.specs.spec.endpoint.Endpoint.{Endpoint, Core, clos
 use Rattle.dcsctp_spec_lemmas.specs.spec.endpoint.Outcome.{Outcome, contents_len}
 use Rattle.dcsctp_spec_lemmas.specs.spec.endpoint.Turn.{BeginTurn}
 use Rattle.dcsctp_spec_lemmas.specs.spec.endpoint.EndOutcomes.{reflected_outcome}
-use Rattle.dcsctp_spec_lemmas.specs.spec.endpoint.ShutdownOutcomes.{received_tsn, sends_shutdown, sends_shutdown_ack, phase_at, t2_begun, may_go_on, step_by, step_outcome, t1_stopped, shut_down_outcome, shutdown_outcome, completed_outcome, shutdown_ack_outcome, shutdown_complete_outcome, t2_goes_on, sent_again, t2_again_outcome}
+use Rattle.dcsctp_spec_lemmas.specs.spec.endpoint.ShutdownOutcomes.{received_tsn, sends_shutdown, sends_shutdown_ack, phase_at, t2_begun, may_go_on, step_by, step_outcome, t1_stopped, shut_down_outcome, shutdown_outcome, completed_outcome, shutdown_ack_outcome, shutdown_complete_outcome, t2_goes_on, shutdown_sent_again, t2_again_outcome}
 use Rattle.dcsctp_theorem_sockets.proofs.Sizes.{AtLimit, TurnSizes}
 
 -- ---- what goes out
@@ -27,7 +27,7 @@ complete_len true = refl
 complete_len false = refl
 
 asks_sizes : (limit : ℕ) (e : Endpoint) (held : Held) → AtLimit limit e → TurnSizes limit (sends_shutdown e held)
-asks_sizes limit e held h = let len = shutdown_len (received_tsn e.below.transfer) in (h, (omega (arith, h.1, len), tt))
+asks_sizes limit e held h = let len = shutdown_len (received_tsn e.queues.transfer) in (h, (omega (arith, h.1, len), tt))
 
 answers_sizes : (limit : ℕ) (e : Endpoint) (held : Held) → AtLimit limit e → TurnSizes limit (sends_shutdown_ack e held)
 answers_sizes limit e held h = (h, (omega (arith, h.1, ack_len), tt))
@@ -105,7 +105,7 @@ shutdown_complete_sizes limit e (open_in shutdown_ack_sent my held) h = (h, tt)
 
 -- ---- T2, and data while a SHUTDOWN waits for its answer
 
-again_sizes : (limit : ℕ) (e : Endpoint) (core : Core) → AtLimit limit e → TurnSizes limit (sent_again e core)
+again_sizes : (limit : ℕ) (e : Endpoint) (core : Core) → AtLimit limit e → TurnSizes limit (shutdown_sent_again e core)
 again_sizes limit e closed h = (h, tt)
 again_sizes limit e (cookie_wait my) h = (h, tt)
 again_sizes limit e (cookie_echoed my held cookie) h = (h, tt)

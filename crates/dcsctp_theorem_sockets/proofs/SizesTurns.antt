@@ -1,6 +1,6 @@
 -- The turns of the handshake, of ABORT and of T1 send no packet that is longer than a limit, whatever a chunk says.
 use Rattle.std.proofs.Common.{◌≡◌, ℕ, Option, None, Some, Result, Ok, Err, List, [], ◌∷◌, refl, arith}
-use Rattle.dcsctp_spec_lemmas.specs.wire.Spelling.{parameter_bytes, other_bytes, list_bytes}
+use Rattle.dcsctp_spec_lemmas.specs.wire.Spelling.{parameter_bytes, other_bytes, parameter_chunk_bytes}
 use Rattle.dcsctp_spec_lemmas.specs.types.declared.association.Pair.{Pair}
 use Rattle.dcsctp_spec_lemmas.specs.types.declared.association.Held.{Held}
 use Rattle.dcsctp_spec_lemmas.specs.types.declared.word.Word.{Word}
@@ -19,7 +19,7 @@ use Rattle.dcsctp_spec_lemmas.specs.spec.endpoint.FlushOutcomes.{Answer, draft_t
 use Rattle.dcsctp_spec_lemmas.specs.spec.endpoint.EndOutcomes.{ended_outcome, abort_outcome, abort_to, end_of, aborting_outcome}
 use Rattle.dcsctp_spec_lemmas.specs.spec.endpoint.HandshakeOutcomes.{pair_from, renewed_pair, init_ack_emission, init_outcome, init_emission, awaits_init_ack, connect_outcome, no_cookie_text, abort_emission, awaits_cookie_ack, InitAckAnswers, accepted_init_ack_by, init_ack_by, connected_after, CookieAckAnswers, cookie_ack_by}
 use Rattle.dcsctp_spec_lemmas.specs.spec.endpoint.TimerOutcomes.{AgainAnswers, again_by, t1_gives_up_outcome}
-use Rattle.dcsctp_spec_lemmas.specs.spec.endpoint.CookieEchoOutcomes.{resolved_now, established_by, acknowledgement, EstablishAnswers, establish_by, queue_kept, queue_begun, restart_by, RestartAnswers, restart_by_where, MaintainAnswers, maintain_by, ResolvedAnswers, resolved_by, EchoedAnswers, cookie_echo_by}
+use Rattle.dcsctp_spec_lemmas.specs.spec.endpoint.CookieEchoOutcomes.{resolved_now, established_by, cookie_ack_emission, EstablishAnswers, establish_by, queue_kept, queue_begun, restart_by, RestartAnswers, restart_by_where, MaintainAnswers, maintain_by, ResolvedAnswers, resolved_by, EchoedAnswers, cookie_echo_by}
 use Rattle.dcsctp_spec_lemmas.specs.spec.association.CookieEchoChanges.{held_by_cookie, shutting_down_error, Resolution, establish_new, restart, simultaneous_init, discard, maintain_existing, invalid_tag, stale}
 use Rattle.dcsctp_theorem_sockets.proofs.Sizes.{AtLimit, AllShort, TurnSizes, short_append, emits_sizes, flushed_sizes, echoed_sizes}
 
@@ -74,10 +74,10 @@ ack_len = refl
 
 -- a flush that begins with COOKIE ACK, behind these events
 acknowledged_sizes : (limit : ℕ) (e : Endpoint) (words : List Word) (events : List (Event Emission)) (held : Held) (cookie : Cookie) (answers : List Answer)
-    → FlushAnswers e (acknowledgement held cookie) answers → AtLimit limit e → AllShort limit events
-    → TurnSizes limit (flush_answered answers e words events (acknowledgement held cookie).with_checksum cookie.addressee.tag (cookie_ack ∷ []))
+    → FlushAnswers e (cookie_ack_emission held cookie) answers → AtLimit limit e → AllShort limit events
+    → TurnSizes limit (flush_answered answers e words events (cookie_ack_emission held cookie).with_checksum cookie.addressee.tag (cookie_ack ∷ []))
 acknowledged_sizes limit e words events held cookie answers allowed h before =
-    flushed_sizes limit e words events (acknowledgement held cookie).with_checksum cookie.addressee.tag (cookie_ack ∷ []) answers allowed h before (omega (arith, h.1, ack_len))
+    flushed_sizes limit e words events (cookie_ack_emission held cookie).with_checksum cookie.addressee.tag (cookie_ack ∷ []) answers allowed h before (omega (arith, h.1, ack_len))
 
 established_sizes : (limit : ℕ) (e : Endpoint) (cookie : Cookie) (queue : SendQueueState) (tie : ℕ) (events : List (Event Emission)) (answers : List Answer)
     → EstablishAnswers e cookie queue tie answers → AtLimit limit e → AllShort limit events → TurnSizes limit (establish_by (flush_answered answers) e cookie queue tie events)
@@ -90,7 +90,7 @@ begun_sizes limit e cookie tie answers allowed h = established_sizes limit e coo
 
 -- SHUTDOWN ACK and ERROR
 refusal_len : contents_len (shutdown_ack ∷ shutting_down_error ∷ []) ≡ 12
-unfolding other_bytes list_bytes parameter_bytes
+unfolding other_bytes parameter_chunk_bytes parameter_bytes
 refusal_len = refl
 
 restarted_sizes : (limit : ℕ) (e : Endpoint) (cookie : Cookie) (tie : ℕ) (core : Core) (answers : List Answer) → RestartAnswers e cookie tie core answers → AtLimit limit e

@@ -41,9 +41,9 @@ held_again held = resumed_held held.peer held.capabilities held.own_next held.pe
 
 pub held_is : (options : Options) (e : Endpoint) (my : Pair) (held : Held) → UsesOwnMethod options held.capabilities → held_restored options (connected_snapshot e my held) ≡ held_again held
 held_is options e my held method =
-    ap (λ (n : ℕ). record (held_restored options (connected_snapshot e my held)) { own_next = n }) (flight_keeps e e.below.transfer _)
+    ap (λ (n : ℕ). record (held_restored options (connected_snapshot e my held)) { own_next = n }) (flight_keeps e e.queues.transfer _)
     ∙ ap (λ (n : ℕ). record (resumed_held held.peer (capabilities_restored options (capabilities_given held.capabilities)) held.own_next held.peer_last) { peer_last = n })
-    (received_keeps e.below.transfer (record empty_received_part { last_completed_reset_req_sn = held.peer_last }))
+    (received_keeps e.queues.transfer (record empty_received_part { last_completed_reset_req_sn = held.peer_last }))
     ∙ ap (λ (c : Capabilities). record (held_again held) { capabilities = c }) (capabilities_again options held.capabilities method)
 
 pub snapshots_bring_back : SnapshotsBringBack

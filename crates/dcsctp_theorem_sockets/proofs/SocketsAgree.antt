@@ -6,12 +6,12 @@ use Rattle.dcsctp_spec_lemmas.specs.types.declared.schedule.Side.{Side}
 use Rattle.dcsctp_spec_lemmas.specs.types.declared.schedule.Side.TheVariants as sides
 use Rattle.dcsctp_spec_lemmas.specs.types.Settings.{IsValid, FitsOptions}
 use Rattle.dcsctp_spec_lemmas.specs.types.Offer.{offer_of, negotiated}
-use Rattle.dcsctp_spec_lemmas.specs.spec.endpoint.CallTurns.{Turned}
-use Rattle.dcsctp_spec_lemmas.specs.spec.association.Effect.{Link, Effect, noted}
+use Rattle.dcsctp_spec_lemmas.specs.spec.endpoint.CallTurns.{Transition}
+use Rattle.dcsctp_spec_lemmas.specs.spec.association.Effect.{AssociationIdentity, Effect, noted}
 use Rattle.dcsctp_spec_runs.specs.Past.{Each}
 use Rattle.dcsctp_spec_runs.specs.World as machine
-use Rattle.dcsctp_spec_runs.specs.World.{SideState, fresh_side, at_a, at_b, world_after, Run, Moved, MovesMade, after_moves, with_moves}
-use Rattle.dcsctp_spec_runs.specs.Sockets.{Worked, Both, side_of, of_side, of_other, with_turns, turns_after, endpoint_after, packets_shown, StepTurns, SocketRun, side_of_act, NextTurns, acts_of}
+use Rattle.dcsctp_spec_runs.specs.World.{SideState, fresh_side_state, at_a, at_b, world_after, WorldRun, Moved, MovesMade, after_moves, with_moves}
+use Rattle.dcsctp_spec_runs.specs.Sockets.{PerformedAct, Both, side_of, of_side, of_other, side_turns_added, turns_after, endpoint_after, packets_shown, StepTurns, SocketRun, side_of_act, NextTurns, acts_of}
 use Rattle.dcsctp_theorem_association.specs.Agreement.{FindsCrossed, FindsPerformed, BothAgree, SidesAgree}
 use Rattle.dcsctp_theorem_sockets.specs.Agreement.{noted_past, FindsHeld, Agree, AreUsable, AreFresh, SocketsAgree}
 use Rattle.dcsctp_theorem_sockets.proofs.Follow.{Followed, each_connected_map}
@@ -20,13 +20,13 @@ use Rattle.dcsctp_theorem_sockets.proofs.Moves.{Below, SideMoves}
 use Rattle.dcsctp_theorem_sockets.proofs.StepMoves.{step_moves}
 
 -- The run of sockets is followed by a run of the machine.
-pub record Joined (options : Both Options) (turns : Both (List Turned)) : Type 0 where
-  pub steps : List machine.Step
-  pub is_run : Run options.a options.b steps
+pub record Joined (options : Both Options) (turns : Both (List Transition)) : Type 0 where
+  pub steps : List machine.WorldStep
+  pub is_run : WorldRun options.a options.b steps
   pub a : Followed options.a turns.a (world_after options.a options.b steps).a
   pub b : Followed options.b turns.b (world_after options.a options.b steps).b
 
-fresh : (options : Options) → IsValid options → FitsOptions options → Followed options [] (fresh_side options)
+fresh : (options : Options) → IsValid options → FitsOptions options → Followed options [] (fresh_side_state options)
 fresh options valid fits =
     record {
       fits = record { valid = valid; options = fits; core = tt; t1 = tt };
@@ -42,17 +42,17 @@ fresh options valid fits =
     }
 
 -- a run with these moves of one side behind it
-record WithMovesA (options : Both Options) (steps : List machine.Step) (moves : List Moved) : Type 0 where
-  is_run : Run options.a options.b (with_moves at_a moves steps)
+record WithMovesA (options : Both Options) (steps : List machine.WorldStep) (moves : List Moved) : Type 0 where
+  is_run : WorldRun options.a options.b (with_moves at_a moves steps)
   a : (world_after options.a options.b (with_moves at_a moves steps)).a ≡ after_moves (world_after options.a options.b steps).a moves
   b : (world_after options.a options.b (with_moves at_a moves steps)).b ≡ (world_after options.a options.b steps).b
 
-record WithMovesB (options : Both Options) (steps : List machine.Step) (moves : List Moved) : Type 0 where
-  is_run : Run options.a options.b (with_moves at_b moves steps)
+record WithMovesB (options : Both Options) (steps : List machine.WorldStep) (moves : List Moved) : Type 0 where
+  is_run : WorldRun options.a options.b (with_moves at_b moves steps)
   b : (world_after options.a options.b (with_moves at_b moves steps)).b ≡ after_moves (world_after options.a options.b steps).b moves
   a : (world_after options.a options.b (with_moves at_b moves steps)).a ≡ (world_after options.a options.b steps).a
 
-with_moves_a : (options : Both Options) (steps : List machine.Step) (moves : List Moved) → Run options.a options.b steps
+with_moves_a : (options : Both Options) (steps : List machine.WorldStep) (moves : List Moved) → WorldRun options.a options.b steps
     → MovesMade (world_after options.a options.b steps).a (world_after options.a options.b steps).b.past moves → WithMovesA options steps moves
 with_moves_a options steps [] run made = record { is_run = run; a = refl; b = refl }
 with_moves_a options steps (moved ∷ moves) run made =
@@ -60,7 +60,7 @@ with_moves_a options steps (moved ∷ moves) run made =
     with_moves_a options (record { side = at_a; move = moved.move; changes = moved.changes } ∷ steps) moves (made.0, run) made.1 in
     record { is_run = h.is_run; a = h.a; b = h.b }
 
-with_moves_b : (options : Both Options) (steps : List machine.Step) (moves : List Moved) → Run options.a options.b steps
+with_moves_b : (options : Both Options) (steps : List machine.WorldStep) (moves : List Moved) → WorldRun options.a options.b steps
     → MovesMade (world_after options.a options.b steps).b (world_after options.a options.b steps).a.past moves → WithMovesB options steps moves
 with_moves_b options steps [] run made = record { is_run = run; b = refl; a = refl }
 with_moves_b options steps (moved ∷ moves) run made =
@@ -68,27 +68,27 @@ with_moves_b options steps (moved ∷ moves) run made =
     with_moves_b options (record { side = at_b; move = moved.move; changes = moved.changes } ∷ steps) moves (made.0, run) made.1 in
     record { is_run = h.is_run; b = h.b; a = h.a }
 
-moved_a : (options : Both Options) (turns : Both (List Turned)) (more : List Turned) (h : Joined options turns)
+moved_a : (options : Both Options) (turns : Both (List Transition)) (more : List Transition) (h : Joined options turns)
     → SideMoves options.a turns.a (world_after options.a options.b h.steps).a (world_after options.a options.b h.steps).b.past more
-    → Joined options (with_turns sides.A more turns)
+    → Joined options (side_turns_added sides.A more turns)
 moved_a options turns more h m =
     let w : WithMovesA options h.steps m.moves = with_moves_a options h.steps m.moves h.is_run m.made in
     record { steps = with_moves at_a m.moves h.steps; is_run = w.is_run; a = subst (Followed options.a (turns.a ++ more)) (sym w.a) m.follows; b = subst (Followed options.b turns.b) (sym w.b) h.b }
 
-moved_b : (options : Both Options) (turns : Both (List Turned)) (more : List Turned) (h : Joined options turns)
+moved_b : (options : Both Options) (turns : Both (List Transition)) (more : List Transition) (h : Joined options turns)
     → SideMoves options.b turns.b (world_after options.a options.b h.steps).b (world_after options.a options.b h.steps).a.past more
-    → Joined options (with_turns sides.B more turns)
+    → Joined options (side_turns_added sides.B more turns)
 moved_b options turns more h m =
     let w : WithMovesB options h.steps m.moves = with_moves_b options h.steps m.moves h.is_run m.made in
     record { steps = with_moves at_b m.moves h.steps; is_run = w.is_run; a = subst (Followed options.a turns.a) (sym w.a) h.a; b = subst (Followed options.b (turns.b ++ more)) (sym w.b) m.follows }
 
 -- what comes of a step at this side
-abbrev TurnsAt : Side → Both Options → Both (List Turned) → StepContent → List Turned → Type 0
+abbrev TurnsAt : Side → Both Options → Both (List Transition) → StepContent → List Transition → Type 0
 TurnsAt side options turns step more =
     StepTurns (endpoint_after (of_side side options) (of_side side turns)) (packets_shown (of_other side options) (of_other side turns)) step more
 
-stepped : Below → (options : Both Options) (turns : Both (List Turned)) (step : StepContent) (more : List Turned) (side : Side) → AreUsable options → Joined options turns
-    → TurnsAt side options turns step more → Joined options (with_turns side more turns)
+stepped : Below → (options : Both Options) (turns : Both (List Transition)) (step : StepContent) (more : List Transition) (side : Side) → AreUsable options → Joined options turns
+    → TurnsAt side options turns step more → Joined options (side_turns_added side more turns)
 stepped law options turns step more sides.A are h done =
     let world : machine.World = world_after options.a options.b h.steps in
     moved_a options turns more h (step_moves law options.a options.b turns.a turns.b world.a world.b step more h.a h.b (are sides.B).fits done)
@@ -96,18 +96,18 @@ stepped law options turns step more sides.B are h done =
     let world : machine.World = world_after options.a options.b h.steps in
     moved_b options turns more h (step_moves law options.b options.a turns.b turns.a world.b world.a step more h.b h.a (are sides.A).fits done)
 
-acted : Below → (options : Both Options) (turns : Both (List Turned)) (act : ActContent) (more : List Turned) → AreUsable options → IsHonestAct act → Joined options turns
-    → NextTurns options turns act more → Joined options (with_turns (side_of_act act) more turns)
+acted : Below → (options : Both Options) (turns : Both (List Transition)) (act : ActContent) (more : List Transition) → AreUsable options → IsHonestAct act → Joined options turns
+    → NextTurns options turns act more → Joined options (side_turns_added (side_of_act act) more turns)
 acted law options turns (step_act step) more are honest h done = stepped law options turns step more (side_of step) are h done
 acted law options turns (outside_act outside) more are honest h done = absurd honest
 
-pub joined : Below → (options : Both Options) (run : List Worked) → AreUsable options → SocketRun options run → AreHonest (acts_of run) → Joined options (turns_after run)
+pub joined : Below → (options : Both Options) (run : List PerformedAct) → AreUsable options → SocketRun options run → AreHonest (acts_of run) → Joined options (turns_after run)
 joined law options [] are runs honest = record { steps = []; is_run = tt; a = fresh options.a (are sides.A).valid (are sides.A).fits; b = fresh options.b (are sides.B).valid (are sides.B).fits }
 joined law options (worked ∷ earlier) are runs honest =
     acted law options (turns_after earlier) worked.act worked.turns are honest.0 (joined law options earlier are runs.1 honest.1) runs.0
 
 -- What a side finds in the machine, a socket finds.
-finds : (mine theirs : Options) (my_side their_side : SideState) (turns : List Turned) (link : Link) → my_side.options ≡ mine → Followed theirs turns their_side
+finds : (mine theirs : Options) (my_side their_side : SideState) (turns : List Transition) (link : AssociationIdentity) → my_side.options ≡ mine → Followed theirs turns their_side
     → FindsCrossed my_side their_side link → FindsHeld mine theirs turns link
 finds mine theirs my_side their_side turns link is h found =
     record {
@@ -119,13 +119,13 @@ finds mine theirs my_side their_side turns link is h found =
     }
 
 -- What a side's past says of performed requests, a socket's turns say.
-resets : (mine theirs : Options) (my_side their_side : SideState) (turns others : List Turned) → Followed mine turns my_side → Followed theirs others their_side
+resets : (mine theirs : Options) (my_side their_side : SideState) (turns others : List Transition) → Followed mine turns my_side → Followed theirs others their_side
     → Each (FindsPerformed their_side.past) my_side.past → Each (FindsPerformed (noted_past others)) (noted_past turns)
 resets mine theirs my_side their_side turns others h k each =
     subst (λ (past : List Effect). Each (FindsPerformed (noted_past others)) past) h.past
     (subst (λ (past : List Effect). Each (FindsPerformed past) (noted my_side.past)) k.past (performed-noted their_side.past my_side.past each))
 
-agree_now : Below → SidesAgree → (options : Both Options) (run : List Worked) → AreUsable options → SocketRun options run → AreFresh (turns_after run) → AreHonest (acts_of run)
+agree_now : Below → SidesAgree → (options : Both Options) (run : List PerformedAct) → AreUsable options → SocketRun options run → AreFresh (turns_after run) → AreHonest (acts_of run)
     → Agree options (turns_after run)
 agree_now law agree options run are runs tags honest =
     let h : Joined options (turns_after run) = joined law options run are runs honest in

@@ -9,16 +9,16 @@ use Rattle.dcsctp_spec_lemmas.specs.spec.endpoint.Outcome.{Outcome}
 use Rattle.dcsctp_spec_laws.proofs.DataLemmas.{flushed_act, end_at, send_at, resets_at, take_at}
 use Rattle.dcsctp_spec_lemmas.specs.spec.endpoint.OwnTimers.{timer_act}
 use Rattle.dcsctp_spec_laws.proofs.HeartbeatLemmas.{timer_controlled}
-use Rattle.dcsctp_spec_lemmas.specs.spec.endpoint.Turn.{Input, arrival, refusal, packet_begins, chunk_input, packet_ends, act_input, user_sets, user_sends, user_resets, user_takes, timer_expires, time_passes, restores, has_data}
+use Rattle.dcsctp_spec_lemmas.specs.spec.endpoint.Turn.{Input, arrival, refusal, packet_begins, chunk_input, packet_ends, act_input, user_sets, user_sends, user_resets, user_takes, timer_expires, time_passes, restores, has_data_chunk}
 use Rattle.dcsctp_spec_lemmas.specs.spec.association.Effect.{Effect, noted, Change}
 use Rattle.dcsctp_spec_lemmas.specs.spec.association.Choices.{Choices}
 use Rattle.dcsctp_spec_lemmas.specs.spec.association.Acts.{Act, connect, t1_expires, shut_down, step_of_shutdown, shutdown_repeats, abort_with, hands_over, flushes, request_again, request_renewed, act_change, chunk_change}
 use Rattle.dcsctp_spec_lemmas.specs.spec.association.Controlled.{IsControlled, ControlledChunk, ControlledAct}
-use Rattle.dcsctp_spec_lemmas.specs.spec.endpoint.CallTurns.{Turned, IsTurn, AlongTurns, after_all, effects_of}
+use Rattle.dcsctp_spec_lemmas.specs.spec.endpoint.CallTurns.{Transition, IsTurn, AlongTurns, after_all, effects_of}
 use Rattle.dcsctp_spec_laws.specs.TurnLaws.{ChunksAreControlled, ActsAreControlled}
 use Rattle.dcsctp_spec_runs.specs.Past.{Each, InPlace}
 use Rattle.dcsctp_spec_runs.specs.World.{SideState, after_effects, ControlTurn, acted, worked, resumed, SideRun, side_after}
-use Rattle.dcsctp_spec_runs.specs.Sockets.{Worked, Both, of_side, turns_after, SocketRun}
+use Rattle.dcsctp_spec_runs.specs.Sockets.{PerformedAct, Both, of_side, turns_after, SocketRun}
 use Rattle.dcsctp_spec_laws.proofs.TurnLemmas.{same_after}
 use Rattle.dcsctp_spec_runs.proofs.RunsAlong.{run_along}
 use Rattle.dcsctp_spec_laws.proofs.ControlLemmas.{begin_stands}
@@ -29,7 +29,7 @@ use Rattle.dcsctp_spec_laws.proofs.ControlRestores.{resumed_by, restore_stands}
 use Rattle.dcsctp_theorem_sockets.proofs.RestoreTurns.{resumed_turn}
 use Rattle.dcsctp_theorem_sockets.specs.Agreement.{AreUsable}
 use Rattle.dcsctp_theorem_sockets.specs.OneSocket.{SocketEffectsInPlace}
-use Rattle.dcsctp_theorem_sockets.specs.Telling.{told_signs}
+use Rattle.dcsctp_theorem_sockets.specs.Telling.{observations_of_ends}
 use Rattle.dcsctp_theorem_sockets.proofs.Follow.{noted_after, after_both}
 use Rattle.dcsctp_theorem_sockets.proofs.NotedLemmas.{in_place-noted}
 use Rattle.dcsctp_theorem_sockets.proofs.TimeMoves.{longest_expires}
@@ -38,24 +38,24 @@ use Rattle.dcsctp_theorem_sockets.proofs.TimeMoves.{longest_expires}
 
 -- what a turn does to the association, and tells of it: nothing, or what one change says
 pub data Moves (e : Endpoint) (o : Outcome) : Type 0 where
-  it_rests : o.after.core ≡ e.core → SameOptions e.options o.after.options → o.effects ≡ [] → told_signs o.events ≡ [] → Moves e o
+  it_rests : o.after.core ≡ e.core → SameOptions e.options o.after.options → o.effects ≡ [] → observations_of_ends o.events ≡ [] → Moves e o
   it_moves : (change : Change) → ControlTurn e.options e.core change → IsControlled e o change → Moves e o
 
 -- a turn of a socket with usable options
-abbrev MovesAlone : Endpoint → Turned → Type 0
+abbrev MovesAlone : Endpoint → Transition → Type 0
 MovesAlone e t = IsValid e.options → Moves e t.outcome
 
-rests_as : (e : Endpoint) (t : Turned) (o : Outcome) → t.outcome ≡ o → o.after.core ≡ e.core → SameOptions e.options o.after.options → o.effects ≡ []
-    → told_signs o.events ≡ [] → Moves e t.outcome
+rests_as : (e : Endpoint) (t : Transition) (o : Outcome) → t.outcome ≡ o → o.after.core ≡ e.core → SameOptions e.options o.after.options → o.effects ≡ []
+    → observations_of_ends o.events ≡ [] → Moves e t.outcome
 rests_as e t o is core options effects told = subst (Moves e) (sym is) (it_rests core options effects told)
 
-moves_by_act : (e : Endpoint) (act : Act) (t : Turned) → ControlledAct e act t.outcome → Moves e t.outcome
+moves_by_act : (e : Endpoint) (act : Act) (t : Transition) → ControlledAct e act t.outcome → Moves e t.outcome
 moves_by_act e act t turn = it_moves (act_change e.options e.core act turn.0) (acted act turn.0 refl) turn.1
 
-moves_by_chunk : (e : Endpoint) (tag : ℕ) (content : Content) (t : Turned) → ControlledChunk e tag content t.outcome → Moves e t.outcome
+moves_by_chunk : (e : Endpoint) (tag : ℕ) (content : Content) (t : Transition) → ControlledChunk e tag content t.outcome → Moves e t.outcome
 moves_by_chunk e tag content t turn = it_moves turn.0 (worked tag content turn.1.0 turn.1.2) turn.2
 
-chunk_moves : ChunksAreControlled → (e : Endpoint) (tag : ℕ) (content : Content) (t : Turned) → IsTurn e (chunk_input tag content) t → IsValid e.options → Moves e t.outcome
+chunk_moves : ChunksAreControlled → (e : Endpoint) (tag : ℕ) (content : Content) (t : Transition) → IsTurn e (chunk_input tag content) t → IsValid e.options → Moves e t.outcome
 chunk_moves law e tag (init theirs) t h valid =
     let moved = init_moves e tag theirs t.outcome h.comes valid in
     it_moves (chunk_change e.options e.core tag (init theirs) moved.0) (worked tag (init theirs) moved.0 refl) moved.1
@@ -74,18 +74,18 @@ pub record MoveLaws : Type 0 where
   pub chunks : ChunksAreControlled
   pub acts : ActsAreControlled
 
-turn_moves : MoveLaws → (e : Endpoint) (input : Input) (t : Turned) → IsTurn e input t → MovesAlone e t
+turn_moves : MoveLaws → (e : Endpoint) (input : Input) (t : Transition) → IsTurn e input t → MovesAlone e t
 turn_moves law e arrival t h valid = rests_as e t _ h.comes refl refl refl refl
 turn_moves law e (refusal text) t h valid = rests_as e t _ h.comes refl refl refl refl
 turn_moves law e (packet_begins contents) t h valid =
-    elim (begin_stands e e.core (has_data contents) t.outcome refl h.comes) [ inl rests ↦ rests_as e t _ rests refl refl refl refl | inr acts ↦ moves_by_act e shutdown_repeats t acts ]
+    elim (begin_stands e e.core (has_data_chunk contents) t.outcome refl h.comes) [ inl rests ↦ rests_as e t _ rests refl refl refl refl | inr acts ↦ moves_by_act e shutdown_repeats t acts ]
 turn_moves law e (chunk_input tag content) t h valid = chunk_moves law.chunks e tag content t h valid
-turn_moves law e packet_ends t h valid = moves_by_act e flushes t (flushed_act e t.outcome (end_at e e.below.transfer t.outcome h.comes))
+turn_moves law e packet_ends t h valid = moves_by_act e flushes t (flushed_act e t.outcome (end_at e e.queues.transfer t.outcome h.comes))
 turn_moves law e (act_input act) t h valid = moves_by_act e act t (law.acts e act t.outcome h.comes)
 turn_moves law e (user_sets setting) t h valid = rests_as e t _ h.comes refl refl refl refl
 turn_moves law e (user_sends messages) t h valid = moves_by_act e flushes t (flushed_act e t.outcome (send_at e messages t.outcome h.comes))
 turn_moves law e (user_resets ids) t h valid = moves_by_act e flushes t (flushed_act e t.outcome (resets_at e ids t.outcome h.comes))
-turn_moves law e user_takes t h valid = moves_by_act e flushes t (flushed_act e t.outcome (take_at e e.below.transfer t.outcome h.comes))
+turn_moves law e user_takes t h valid = moves_by_act e flushes t (flushed_act e t.outcome (take_at e e.queues.transfer t.outcome h.comes))
 turn_moves law e (timer_expires timer) t h valid = moves_by_act e (timer_act e timer) t (timer_controlled e timer t.outcome h.comes)
 turn_moves law e (time_passes moment) t h valid = rests_as e t _ h.comes refl refl refl refl
 turn_moves law e (restores state) t h valid =
@@ -119,14 +119,14 @@ same_turn p q core change same turn = longest_turns p q.max_message_size core ch
 -- ---- several turns
 
 -- A run of one side. It noted what these turns did behind what was noted before, and has the association that they left.
-pub record RunsOn (options : Options) (turns : List Turned) (e : Endpoint) (before : List Effect) : Type 0 where
+pub record RunsOn (options : Options) (turns : List Transition) (e : Endpoint) (before : List Effect) : Type 0 where
   pub steps : List (List Change)
   pub is_run : SideRun options steps
   pub past : noted (side_after options steps).past ≡ after_effects (effects_of turns) before
   pub core : (side_after options steps).core ≡ (after_all e turns).core
 
 -- the past behind one more turn
-behind : (turns : List Turned) (t : Turned) (before : List Effect) → after_effects (effects_of turns) (after_effects t.outcome.effects before) ≡ after_effects (effects_of (t ∷ turns)) before
+behind : (turns : List Transition) (t : Transition) (before : List Effect) → after_effects (effects_of turns) (after_effects t.outcome.effects before) ≡ after_effects (effects_of (t ∷ turns)) before
 behind turns t before = sym (after_both t.outcome.effects (effects_of turns) before)
 
 still_valid : (p q : Options) → IsValid p → SameOptions p q → IsValid q
@@ -134,12 +134,12 @@ still_valid p q valid same =
     subst IsValid (sym same) (record { least_size = valid.least_size; greatest_size = valid.greatest_size; receive_window = valid.receive_window; send_buffer = valid.send_buffer })
 
 -- where the run goes on from the side of these steps
-abbrev GoesOn : Options → List Turned → Endpoint → Type 0
+abbrev GoesOn : Options → List Transition → Endpoint → Type 0
 GoesOn options turns e =
     (steps : List (List Change)) → SameOptions options e.options → (side_after options steps).core ≡ e.core → SideRun options steps
     → RunsOn options turns e (noted (side_after options steps).past)
 
-next_on : (options : Options) (turns : List Turned) (e : Endpoint) (t : Turned) → GoesOn options turns t.outcome.after → Moves e t.outcome → GoesOn options (t ∷ turns) e
+next_on : (options : Options) (turns : List Transition) (e : Endpoint) (t : Transition) → GoesOn options turns t.outcome.after → Moves e t.outcome → GoesOn options (t ∷ turns) e
 next_on options turns e t more (it_rests core same effects told) steps own is run =
     let before : List Effect = noted (side_after options steps).past in
     let rest : RunsOn options turns t.outcome.after before = more steps (same_after options e.options t.outcome.after.options own same) (is ∙ sym core) run in
@@ -164,7 +164,7 @@ next_on options turns e t more (it_moves change turn controlled) steps own is ru
       core = rest.core;
     }
 
-runs_on : (options : Options) (turns : List Turned) (e : Endpoint) → IsValid options → AlongTurns MovesAlone e turns → GoesOn options turns e
+runs_on : (options : Options) (turns : List Transition) (e : Endpoint) → IsValid options → AlongTurns MovesAlone e turns → GoesOn options turns e
 runs_on options [] e valid along steps own is run = record { steps = steps; is_run = run; past = refl; core = is }
 runs_on options (t ∷ turns) e valid along steps own is run =
     next_on options turns e t (λ more same core runs. runs_on options turns t.outcome.after valid along.1 more same core runs) (along.0 (still_valid options e.options valid own)) steps own is run
@@ -175,7 +175,7 @@ same_options : (e : Endpoint) (o : Outcome) → Moves e o → SameOptions e.opti
 same_options e o (it_rests core options effects told) = options
 same_options e o (it_moves change turn is) = is.options
 
-along_moves : (Good : Endpoint → Turned → Type 0) → ((e : Endpoint) (t : Turned) → Moves e t.outcome → Good e t) → (e : Endpoint) (turns : List Turned) → IsValid e.options
+along_moves : (Good : Endpoint → Transition → Type 0) → ((e : Endpoint) (t : Transition) → Moves e t.outcome → Good e t) → (e : Endpoint) (turns : List Transition) → IsValid e.options
     → AlongTurns MovesAlone e turns → AlongTurns Good e turns
 along_moves Good good e [] valid along = tt
 along_moves Good good e (t ∷ turns) valid along =
@@ -183,7 +183,7 @@ along_moves Good good e (t ∷ turns) valid along =
     (good e t moves, along_moves Good good t.outcome.after turns (still_valid e.options t.outcome.after.options valid (same_options e t.outcome moves)) along.1)
 
 -- What holds of a turn that moves the association so holds of each turn of a run.
-pub of_moves : MoveLaws → (Good : Endpoint → Turned → Type 0) → ((e : Endpoint) (t : Turned) → Moves e t.outcome → Good e t) → (options : Both Options) (run : List Worked)
+pub of_moves : MoveLaws → (Good : Endpoint → Transition → Type 0) → ((e : Endpoint) (t : Transition) → Moves e t.outcome → Good e t) → (options : Both Options) (run : List PerformedAct)
     → AreUsable options → SocketRun options run → (side : Side) → AlongTurns Good (fresh_endpoint (of_side side options)) (of_side side (turns_after run))
 of_moves law Good good options run are runs side =
     along_moves Good good (fresh_endpoint (of_side side options)) (of_side side (turns_after run)) (are side).valid (run_along MovesAlone (turn_moves law) options run runs side)
@@ -191,7 +191,7 @@ of_moves law Good good options run are runs side =
 -- ---- a run
 
 -- each socket of a run, as a side alone
-pub runs_alone : MoveLaws → (options : Both Options) (run : List Worked) → AreUsable options → SocketRun options run → (side : Side)
+pub runs_alone : MoveLaws → (options : Both Options) (run : List PerformedAct) → AreUsable options → SocketRun options run → (side : Side)
     → RunsOn (of_side side options) (of_side side (turns_after run)) (fresh_endpoint (of_side side options)) []
 runs_alone law options run are runs side =
     let own : Options = of_side side options in

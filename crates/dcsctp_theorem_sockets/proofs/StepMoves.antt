@@ -16,7 +16,7 @@ use Rattle.dcsctp_spec_lemmas.specs.types.Setting.{Setting}
 use Rattle.dcsctp_spec_lemmas.specs.spec.endpoint.SettingOutcomes.{setting_outcome}
 use Rattle.dcsctp_spec_lemmas.specs.spec.endpoint.MessageOutcomes.{Sending, sending_of}
 use Rattle.dcsctp_spec_runs.specs.Fitting.{FitsEndpoint, TurnFits}
-use Rattle.dcsctp_spec_lemmas.specs.spec.endpoint.CallTurns.{Turned, IsTurn, Turns}
+use Rattle.dcsctp_spec_lemmas.specs.spec.endpoint.CallTurns.{Transition, IsTurn, Turns}
 use Rattle.dcsctp_spec_lemmas.specs.spec.association.Effect.{Effect, unchanged}
 use Rattle.dcsctp_spec_lemmas.specs.spec.association.Acts.{shut_down, abort_with, hands_over, flushes}
 use Rattle.dcsctp_spec_runs.specs.World.{SideState}
@@ -36,13 +36,13 @@ use Rattle.dcsctp_theorem_sockets.proofs.PacketMoves.{delivery_moves}
 
 -- ---- close and shutdown
 
-abort_moves : Below → (options : Options) (turns : List Turned) (side : SideState) (theirs : List Effect) (reason : AbortReason) (more : List Turned) → Followed options turns side
+abort_moves : Below → (options : Options) (turns : List Transition) (side : SideState) (theirs : List Effect) (reason : AbortReason) (more : List Transition) → Followed options turns side
     → Turns (endpoint_after options turns) (act_input (abort_with reason) ∷ []) more → SideMoves options turns side theirs more
 abort_moves law options turns side theirs reason more h turn =
     let e : Endpoint = endpoint_after options turns in
     act_moves law options turns side theirs (abort_with reason) more (λ p q core choices. refl) h (λ o is. subst TurnFits (sym is) (aborting_fits e e.core reason h.fits h.fits.core)) turn
 
-shut_down_moves : Below → (options : Options) (turns : List Turned) (side : SideState) (theirs : List Effect) (more : List Turned) → Followed options turns side
+shut_down_moves : Below → (options : Options) (turns : List Transition) (side : SideState) (theirs : List Effect) (more : List Transition) → Followed options turns side
     → Turns (endpoint_after options turns) (act_input shut_down ∷ []) more → SideMoves options turns side theirs more
 shut_down_moves law options turns side theirs more h turn =
     let e : Endpoint = endpoint_after options turns in
@@ -51,7 +51,7 @@ shut_down_moves law options turns side theirs more h turn =
 -- ---- a handover
 
 -- Nothing happens if the socket isn't ready.
-hand_over_moves : Below → (options : Options) (turns : List Turned) (side : SideState) (theirs : List Effect) (readiness : ℕ) (more : List Turned) → Followed options turns side
+hand_over_moves : Below → (options : Options) (turns : List Transition) (side : SideState) (theirs : List Effect) (readiness : ℕ) (more : List Transition) → Followed options turns side
     → Turns (endpoint_after options turns) (inputs_of_handover readiness) more → SideMoves options turns side theirs more
 hand_over_moves law options turns side theirs zero more h turn =
     act_moves law options turns side theirs hands_over more (λ p q core choices. refl) h (λ o is. hand_over_fits (endpoint_after options turns) o is h.fits) turn
@@ -60,7 +60,7 @@ hand_over_moves law options turns side theirs (suc reasons) (t ∷ more) h turn 
 
 -- ---- the time
 
-moment_moves : Below → (options : Options) (turns : List Turned) (side : SideState) (theirs : List Effect) (moment : ℕ) (more : List Turned) → Followed options turns side
+moment_moves : Below → (options : Options) (turns : List Transition) (side : SideState) (theirs : List Effect) (moment : ℕ) (more : List Transition) → Followed options turns side
     → MomentTurns (endpoint_after options turns) moment more → SideMoves options turns side theirs more
 moment_moves law options turns side theirs moment [] h taken = absurd taken
 moment_moves law options turns side theirs moment (t ∷ more) h taken =
@@ -69,7 +69,7 @@ moment_moves law options turns side theirs moment (t ∷ more) h taken =
     (expiries_move law options theirs (timers_in (endpoint_after options (turns ++ t ∷ [])).core) (turns ++ t ∷ []) side false more first
     (subst (λ (x : Endpoint). DueTurns x more) (sym (after_last _ turns t)) taken.1))
 
-advance_moves : Below → (options : Options) (turns : List Turned) (side : SideState) (theirs : List Effect) (later : Bool) (moment : ℕ) (more : List Turned) → Followed options turns side
+advance_moves : Below → (options : Options) (turns : List Transition) (side : SideState) (theirs : List Effect) (later : Bool) (moment : ℕ) (more : List Transition) → Followed options turns side
     → TimeTurns later (endpoint_after options turns) moment more → SideMoves options turns side theirs more
 advance_moves law options turns side theirs true moment more h taken = moment_moves law options turns side theirs moment more h taken
 advance_moves law options turns side theirs false moment more h none = nothing_happens options turns side theirs more h none
@@ -99,14 +99,14 @@ setting_fits e setting fits =
       sends = tt;
     }
 
-setting_follows : (options : Options) (turns : List Turned) (side : SideState) (setting : Setting) (t : Turned) → Followed options turns side
+setting_follows : (options : Options) (turns : List Transition) (side : SideState) (setting : Setting) (t : Transition) → Followed options turns side
     → t.outcome ≡ setting_outcome (endpoint_after options turns) setting → Followed options (turns ++ t ∷ []) side
 setting_follows options turns side setting t h is =
     let e : Endpoint = endpoint_after options turns in
-    let controlled : IsControlled e (setting_outcome e setting) (unchanged e.core) = record { core = refl; options = refl; signs = refl; effects = refl; following = refl } in
+    let controlled : IsControlled e (setting_outcome e setting) (unchanged e.core) = record { core = refl; options = refl; observations = refl; effects = refl; following = refl } in
     follow_idle options turns side t h (subst (λ (o : Outcome). IsControlled e o (unchanged e.core)) (sym is) controlled) (subst TurnFits (sym is) (setting_fits e setting h.fits))
 
-setting_moves : (options : Options) (turns : List Turned) (side : SideState) (theirs : List Effect) (setting : Setting) (more : List Turned) → Followed options turns side
+setting_moves : (options : Options) (turns : List Transition) (side : SideState) (theirs : List Effect) (setting : Setting) (more : List Transition) → Followed options turns side
     → Turns (endpoint_after options turns) (user_sets setting ∷ []) more → SideMoves options turns side theirs more
 setting_moves options turns side theirs setting [] h turn = absurd turn
 setting_moves options turns side theirs setting (t ∷ []) h turn = rests options turns side theirs (t ∷ []) (setting_follows options turns side setting t h turn.0.comes)
@@ -116,9 +116,9 @@ setting_moves options turns side theirs setting (t ∷ next ∷ more) h turn = a
 
 -- Each turn of this input is a flush of the association.
 abbrev IsFlush : Endpoint → Input → Type 0
-IsFlush e input = (t : Turned) → IsTurn e input t → ControlledAct e flushes t.outcome × TurnFits t.outcome
+IsFlush e input = (t : Transition) → IsTurn e input t → ControlledAct e flushes t.outcome × TurnFits t.outcome
 
-flush_once : Below → (options : Options) (turns : List Turned) (side : SideState) (theirs : List Effect) (input : Input) (more : List Turned) → Followed options turns side
+flush_once : Below → (options : Options) (turns : List Transition) (side : SideState) (theirs : List Effect) (input : Input) (more : List Transition) → Followed options turns side
     → IsFlush (endpoint_after options turns) input → Turns (endpoint_after options turns) (input ∷ []) more → SideMoves options turns side theirs more
 flush_once law options turns side theirs input [] h is_flush turn = absurd turn
 flush_once law options turns side theirs input (t ∷ []) h is_flush turn =
@@ -133,26 +133,26 @@ resets_is_flush e ids fits t turn = (flushed_act e t.outcome (resets_at e ids t.
 
 take_is_flush : (e : Endpoint) → FitsEndpoint e → IsFlush e user_takes
 take_is_flush e fits t turn =
-    (flushed_act e t.outcome (take_at e e.below.transfer t.outcome turn.comes), take_fits e e.below.transfer t.outcome turn.comes fits)
+    (flushed_act e t.outcome (take_at e e.queues.transfer t.outcome turn.comes), take_fits e e.queues.transfer t.outcome turn.comes fits)
 
-send_moves : Below → (options : Options) (turns : List Turned) (side : SideState) (theirs : List Effect) (messages : List Sending) (more : List Turned) → Followed options turns side
+send_moves : Below → (options : Options) (turns : List Transition) (side : SideState) (theirs : List Effect) (messages : List Sending) (more : List Transition) → Followed options turns side
     → Turns (endpoint_after options turns) (user_sends messages ∷ []) more → SideMoves options turns side theirs more
 send_moves law options turns side theirs messages more h turn =
     flush_once law options turns side theirs (user_sends messages) more h (send_is_flush (endpoint_after options turns) messages h.fits) turn
 
-resets_moves : Below → (options : Options) (turns : List Turned) (side : SideState) (theirs : List Effect) (ids : List ℕ) (more : List Turned) → Followed options turns side
+resets_moves : Below → (options : Options) (turns : List Transition) (side : SideState) (theirs : List Effect) (ids : List ℕ) (more : List Transition) → Followed options turns side
     → Turns (endpoint_after options turns) (user_resets ids ∷ []) more → SideMoves options turns side theirs more
 resets_moves law options turns side theirs ids more h turn =
     flush_once law options turns side theirs (user_resets ids) more h (resets_is_flush (endpoint_after options turns) ids h.fits) turn
 
-take_moves : Below → (options : Options) (turns : List Turned) (side : SideState) (theirs : List Effect) (more : List Turned) → Followed options turns side
+take_moves : Below → (options : Options) (turns : List Transition) (side : SideState) (theirs : List Effect) (more : List Transition) → Followed options turns side
     → Turns (endpoint_after options turns) (user_takes ∷ []) more → SideMoves options turns side theirs more
 take_moves law options turns side theirs more h turn =
     flush_once law options turns side theirs user_takes more h (take_is_flush (endpoint_after options turns) h.fits) turn
 
 -- ---- a step
 
-pub step_moves : Below → (options other : Options) (turns others : List Turned) (side theirs : SideState) (step : StepContent) (more : List Turned)
+pub step_moves : Below → (options other : Options) (turns others : List Transition) (side theirs : SideState) (step : StepContent) (more : List Transition)
     → Followed options turns side → Followed other others theirs → FitsOptions other
     → StepTurns (endpoint_after options turns) (packets_shown other others) step more → SideMoves options turns side theirs.past more
 step_moves law options other turns others side theirs (call_step which connect_call) more h k fits done = connect_moves law options turns side theirs.past more h done

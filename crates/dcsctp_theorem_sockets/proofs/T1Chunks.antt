@@ -10,17 +10,17 @@ use Rattle.dcsctp_spec_lemmas.specs.spec.endpoint.Cause.{Cause}
 use Rattle.dcsctp_spec_lemmas.specs.wire.Content.{ParameterContent, data_chunk, sack_chunk, error_chunk, i_data_chunk, forward_tsn_chunk, i_forward_tsn_chunk}
 use Rattle.dcsctp_spec_lemmas.specs.spec.endpoint.HeartbeatOutcomes.{heartbeat_outcome, info_in, counter_of, answered, heartbeat_ack_outcome, interval_expired, beating, heartbeat_emission, beat, interval_outcome, is_exhausted}
 use Rattle.dcsctp_spec_lemmas.specs.spec.endpoint.OwnTimers.{OwnTimer, acknowledgement_delay, retransmission, heartbeat_interval, heartbeat_timeout, reconfiguration, TimerTurn}
-use Rattle.dcsctp_spec_lemmas.specs.spec.endpoint.ReconfigurationOutcomes.{reset_again, request_emitted, renewed_where, request_renewed, request_unless, is_renewed, request_errors, request_expired, reconfiguration_outcome}
+use Rattle.dcsctp_spec_lemmas.specs.spec.endpoint.ReconfigurationOutcomes.{reset_again, request_emitted, renewed_request_where, request_renewed, request_unless, is_renewed, request_errors, request_expired, reconfiguration_outcome}
 use Rattle.dcsctp_spec_lemmas.specs.spec.Reconfiguration.{RequestedReset}
 use Rattle.dcsctp_spec_lemmas.specs.spec.association.FlushChanges.{reset_request}
-use Rattle.dcsctp_spec_lemmas.specs.spec.endpoint.PlainOutcomes.{PlainTurn, PlainTurnBy, violation_at, is_reported, after_unknown, unknown_bytes, unknown_told, error_outcome}
+use Rattle.dcsctp_spec_lemmas.specs.spec.endpoint.PlainOutcomes.{PlainTurn, PlainTurnBy, violation_at, is_reported, after_unknown, unknown_bytes, unknown_chunk_outcome, error_outcome}
 use Rattle.dcsctp_spec_lemmas.specs.spec.queues.Arrivals.{data_arrival, i_data_arrival, skipped_in, messages_skipped_in}
 use Rattle.dcsctp_theorem_sockets.proofs.BegunSends.{asking_runs}
 use Rattle.dcsctp_theorem_sockets.proofs.T1Data.{data_up, forward_up, sack_up, delay_up, loss_up}
 use Rattle.dcsctp_theorem_sockets.proofs.T1Turns.{Up, UpAfter, aborting_up}
 
 unknown_up : (e : Endpoint) (core : Core) (type : ℕ) (chunk : List ℕ) (reported : Bool) → Up e
-    → UpAfter (record (cond reported (unknown_told e core type chunk) (still e)) { following = after_unknown type })
+    → UpAfter (record (cond reported (unknown_chunk_outcome e core type chunk) (still e)) { following = after_unknown type })
 unknown_up e core type chunk false h = h
 unknown_up e closed type chunk true h = h
 unknown_up e (cookie_wait my) type chunk true h = h
@@ -70,7 +70,7 @@ request_up : (e : Endpoint) (held : Held) (number : Option ℕ) (reset : Request
 request_up e held None reset h = h
 request_up e held (Some number) reset h = sent_up (fits e (to_peer held (reset_request number reset))) e (to_peer held (reset_request number reset)) h
 
-renewed_up : (b : Bool) (e : Endpoint) (held : Held) (number : ℕ) (request : Content) → Up e → UpAfter (renewed_where b e held number request)
+renewed_up : (b : Bool) (e : Endpoint) (held : Held) (number : ℕ) (request : Content) → Up e → UpAfter (renewed_request_where b e held number request)
 renewed_up true e held number request h = asking_runs e.core e.timers.t1 h
 renewed_up false e held number request h = h
 
@@ -92,8 +92,8 @@ reconfiguration_up e (Some held) (Some request) h =
 -- ---- each timer
 
 pub timer_up : (e : Endpoint) (timer : OwnTimer) (o : Outcome) → TimerTurn e timer o → Up e → UpAfter o
-timer_up e acknowledgement_delay o turn h = subst UpAfter (sym turn) (delay_up e e.below.transfer h)
-timer_up e retransmission o turn h = loss_up e e.below.transfer o turn h
+timer_up e acknowledgement_delay o turn h = subst UpAfter (sym turn) (delay_up e e.queues.transfer h)
+timer_up e retransmission o turn h = loss_up e e.queues.transfer o turn h
 timer_up e heartbeat_interval o turn h = subst UpAfter (sym turn) (interval_up e e.core h)
 timer_up e heartbeat_timeout o turn h = subst UpAfter (sym turn) h
 timer_up e reconfiguration o turn h = subst UpAfter (sym turn) (reconfiguration_up e (held_in e.core) e.outstanding h)
@@ -107,9 +107,9 @@ plain_by e (heartbeat parameters) None o turn h = subst UpAfter (sym turn) (hear
 plain_by e (heartbeat_ack parameters) None o turn h = subst UpAfter (sym turn) (heartbeat_ack_up e (counter_of (info_in parameters)) h)
 plain_by e (unworked (data_chunk chunk)) None o turn h = data_up e (data_arrival chunk) o turn h
 plain_by e (unworked (i_data_chunk chunk)) None o turn h = data_up e (i_data_arrival chunk) o turn h
-plain_by e (unworked (sack_chunk chunk)) None o turn h = sack_up e e.below.transfer chunk o turn h
-plain_by e (unworked (forward_tsn_chunk tsn streams)) None o turn h = forward_up e e.below.transfer tsn (skipped_in streams) o turn h
-plain_by e (unworked (i_forward_tsn_chunk tsn streams)) None o turn h = forward_up e e.below.transfer tsn (messages_skipped_in streams) o turn h
+plain_by e (unworked (sack_chunk chunk)) None o turn h = sack_up e e.queues.transfer chunk o turn h
+plain_by e (unworked (forward_tsn_chunk tsn streams)) None o turn h = forward_up e e.queues.transfer tsn (skipped_in streams) o turn h
+plain_by e (unworked (i_forward_tsn_chunk tsn streams)) None o turn h = forward_up e e.queues.transfer tsn (messages_skipped_in streams) o turn h
 plain_by e (unworked (error_chunk causes)) None o turn h = subst UpAfter (sym turn) (error_up e e.core causes h)
 plain_by e (unworked chunk) None o turn h = subst UpAfter (sym turn) h
 

@@ -15,10 +15,10 @@ use Rattle.dcsctp_spec_lemmas.specs.spec.association.Choices.{plain_contents}
 use Rattle.dcsctp_spec_lemmas.specs.spec.endpoint.FlushOutcomes.{own_sack, Answer, goes_out, draft_to}
 use Rattle.dcsctp_spec_lemmas.specs.spec.queues.OwnResets.{prepared_all}
 use Rattle.dcsctp_spec_lemmas.specs.spec.endpoint.MessageOutcomes.{MessageRefusal, sending_refusal, Sending, queue_by, queue_one, queue_all, takes_any, SendAnswers, send_by, SendTurn}
-use Rattle.dcsctp_spec_lemmas.specs.spec.endpoint.PreparedResets.{ResetRefusal, reset_refusal, with_queue, OwnResetsWhere, OwnResetsTurn}
+use Rattle.dcsctp_spec_lemmas.specs.spec.endpoint.PreparedResets.{ResetRefusal, reset_refusal, endpoint_with_queue, OwnResetsWhere, OwnResetsTurn}
 use Rattle.dcsctp_spec_lemmas.specs.types.declared.arrivals.SkippedTo.{SkippedTo}
 use Rattle.dcsctp_spec_lemmas.specs.spec.queues.Arrivals.{Arrival}
-use Rattle.dcsctp_spec_lemmas.specs.spec.endpoint.DataOutcomes.{DataWhere, with_transfer, with_tracker, flush_by, AnswersTo, FlushTurn, no_user_data_text, no_user_data_outcome, ReceiveTurn, DataTurn, ForwardTurn, FastRetransmits, sack_taken, AcknowledgesBy, SackWhere, SackBy, SackTurn, acknowledging, EndWhere, EndsBy, TakeWhere, TakeLeft, TakeTurn, delay_outcome, LossTurn}
+use Rattle.dcsctp_spec_lemmas.specs.spec.endpoint.DataOutcomes.{DataWhere, with_transfer, endpoint_with_tracker, flush_by, AnswersTo, FlushTurn, no_user_data_text, no_user_data_outcome, ReceiveTurn, DataTurn, ForwardTurn, FastRetransmits, sack_taken, AcknowledgesBy, SackWhere, SackBy, SackTurn, acknowledging, EndWhere, EndsBy, TakeWhere, TakeLeft, TakeTurn, delay_outcome, LossTurn}
 use Rattle.dcsctp_spec_lemmas.specs.spec.queues.Acknowledging.{is_sack_valid}
 use Rattle.dcsctp_spec_lemmas.proofs.FlushKeeps.{goes_out_keeps}
 use Rattle.dcsctp_theorem_sockets.proofs.T1Shutdown.{step_up}
@@ -50,7 +50,7 @@ receive_up e (Some transfer) arrived o turn h = subst UpAfter (sym turn.2) h
 
 data_where_up : (e : Endpoint) (arrived : Arrival) (payload : List ℕ) (o : Outcome) → DataWhere e arrived payload o → Up e → UpAfter o
 data_where_up e arrived [] o turn h = subst UpAfter (sym turn) (no_data_up e (held_in e.core) arrived.tsn h)
-data_where_up e arrived (byte ∷ bytes) o turn h = receive_up e e.below.transfer arrived o turn h
+data_where_up e arrived (byte ∷ bytes) o turn h = receive_up e e.queues.transfer arrived o turn h
 
 pub data_up : (e : Endpoint) (arrived : Arrival) (o : Outcome) → DataTurn e arrived o → Up e → UpAfter o
 data_up e arrived o turn h = data_where_up e arrived arrived.chunk.payload o turn h
@@ -91,7 +91,7 @@ sack_up e (Some transfer) sack o turn h = sack_by_up e (held_in e.core) transfer
 
 end_where_up : (b : Bool) (e : Endpoint) (peer : Option Held) (transfer : Transfer) (tracker : TrackerState) (o : Outcome) → EndWhere b e peer transfer tracker o → Up e → UpAfter o
 end_where_up true e (Some held) transfer tracker o turn h =
-    subst UpAfter (sym turn.is) (flush_up (with_tracker e transfer (sacked tracker)) (acknowledging e held (own_sack (record transfer { tracker = tracker }))) turn.answers turn.allowed h)
+    subst UpAfter (sym turn.is) (flush_up (endpoint_with_tracker e transfer (sacked tracker)) (acknowledging e held (own_sack (record transfer { tracker = tracker }))) turn.answers turn.allowed h)
 end_where_up true e None transfer tracker o turn h = subst UpAfter (sym turn) h
 end_where_up false e peer transfer tracker o turn h = subst UpAfter (sym turn) h
 
@@ -134,7 +134,7 @@ send_up e messages o turn h =
 -- ---- own streams that the user resets
 
 resets_where_up : (refusal : Option ResetRefusal) (e : Endpoint) (ids : List ℕ) (o : Outcome) → OwnResetsWhere refusal e ids o → Up e → UpAfter o
-resets_where_up None e ids o turn h = subst UpAfter (sym turn.is) (flush_turn_up (with_queue e (prepared_all ids e.below.queue)) turn.flushed turn.flushes h)
+resets_where_up None e ids o turn h = subst UpAfter (sym turn.is) (flush_turn_up (endpoint_with_queue e (prepared_all ids e.queues.queue)) turn.flushed turn.flushes h)
 resets_where_up (Some refusal) e ids o turn h = subst UpAfter (sym turn) h
 
 pub resets_up : (e : Endpoint) (ids : List ℕ) (o : Outcome) → OwnResetsTurn e ids o → Up e → UpAfter o

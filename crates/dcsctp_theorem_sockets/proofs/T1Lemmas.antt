@@ -5,10 +5,10 @@ use Rattle.dcsctp_spec_lemmas.specs.spec.Packet.{Content, init, init_ack, cookie
 use Rattle.dcsctp_spec_lemmas.specs.spec.endpoint.Endpoint.{Endpoint, fresh_endpoint}
 use Rattle.dcsctp_spec_lemmas.specs.spec.endpoint.Timers.{going_on}
 use Rattle.dcsctp_spec_lemmas.specs.spec.endpoint.Outcome.{Outcome}
-use Rattle.dcsctp_spec_lemmas.specs.spec.endpoint.Turn.{Input, arrival, refusal, packet_begins, chunk_input, packet_ends, act_input, user_sets, user_sends, user_resets, user_takes, timer_expires, time_passes, restores, has_data, ContentTurn, ActTurn}
+use Rattle.dcsctp_spec_lemmas.specs.spec.endpoint.Turn.{Input, arrival, refusal, packet_begins, chunk_input, packet_ends, act_input, user_sets, user_sends, user_resets, user_takes, timer_expires, time_passes, restores, has_data_chunk, ContentTurn, ActTurn}
 use Rattle.dcsctp_spec_lemmas.specs.spec.endpoint.TimerOutcomes.{t1_goes_on}
 use Rattle.dcsctp_spec_lemmas.specs.spec.association.Acts.{Act, connect, t1_expires, shut_down, step_of_shutdown, shutdown_repeats, abort_with, hands_over, flushes, request_again, request_renewed}
-use Rattle.dcsctp_spec_lemmas.specs.spec.endpoint.CallTurns.{Turned, IsTurn, AlongTurns, after_all}
+use Rattle.dcsctp_spec_lemmas.specs.spec.endpoint.CallTurns.{Transition, IsTurn, AlongTurns, after_all}
 use Rattle.dcsctp_spec_runs.specs.Sockets.{of_side, turns_after}
 use Rattle.dcsctp_spec_laws.proofs.AlongLemmas.{MayCome}
 use Rattle.dcsctp_spec_runs.proofs.RunsAlong.{run_along_where}
@@ -60,7 +60,7 @@ these_may_come =
 
 -- ---- each turn
 
-abbrev KeepsUp : Endpoint → Turned → Type 0
+abbrev KeepsUp : Endpoint → Transition → Type 0
 KeepsUp e t = Up e → UpAfter t.outcome
 
 chunk_up : (e : Endpoint) (tag : ℕ) (content : Content) (o : Outcome) → ContentTurn e tag content o → Up e → UpAfter o
@@ -89,24 +89,24 @@ act_up e flushes o may turn h = flush_turn_up e o turn h
 act_up e (request_again reset) o may turn h = absurd may
 act_up e (request_renewed reset) o may turn h = absurd may
 
-turn_up : (e : Endpoint) (input : Input) (t : Turned) → MayBe input → IsTurn e input t → KeepsUp e t
+turn_up : (e : Endpoint) (input : Input) (t : Transition) → MayBe input → IsTurn e input t → KeepsUp e t
 turn_up e arrival t may turn h = subst UpAfter (sym turn.comes) h
 turn_up e (refusal text) t may turn h = subst UpAfter (sym turn.comes) h
-turn_up e (packet_begins contents) t may turn h = begin_up e e.core (has_data contents) t.outcome turn.comes h
+turn_up e (packet_begins contents) t may turn h = begin_up e e.core (has_data_chunk contents) t.outcome turn.comes h
 turn_up e (chunk_input tag content) t may turn h = chunk_up e tag content t.outcome turn.comes h
-turn_up e packet_ends t may turn h = end_up e e.below.transfer t.outcome turn.comes h
+turn_up e packet_ends t may turn h = end_up e e.queues.transfer t.outcome turn.comes h
 turn_up e (act_input act) t may turn h = act_up e act t.outcome may turn.comes h
 turn_up e (user_sets setting) t may turn h = subst UpAfter (sym turn.comes) h
 turn_up e (user_sends messages) t may turn h = send_up e messages t.outcome turn.comes h
 turn_up e (user_resets ids) t may turn h = resets_up e ids t.outcome turn.comes h
-turn_up e user_takes t may turn h = take_up e e.below.transfer t.outcome turn.comes h
+turn_up e user_takes t may turn h = take_up e e.queues.transfer t.outcome turn.comes h
 turn_up e (timer_expires timer) t may turn h = timer_up e timer t.outcome turn.comes h
 turn_up e (time_passes moment) t may turn h = subst UpAfter (sym turn.comes) h
 turn_up e (restores state) t may turn h = restore_up e state t.outcome turn.comes h
 
 -- ---- a run
 
-all_up : (e : Endpoint) (ts : List Turned) → AlongTurns KeepsUp e ts → Up e → Up (after_all e ts)
+all_up : (e : Endpoint) (ts : List Transition) → AlongTurns KeepsUp e ts → Up e → Up (after_all e ts)
 all_up e [] along h = h
 all_up e (t ∷ ts) along h = all_up t.outcome.after ts along.1 (along.0 h)
 

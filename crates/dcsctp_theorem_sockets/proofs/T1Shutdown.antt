@@ -5,7 +5,7 @@ use Rattle.dcsctp_spec_lemmas.specs.types.declared.association.Held.{Held}
 use Rattle.dcsctp_spec_lemmas.specs.spec.endpoint.Endpoint.{Endpoint, Core, closed, cookie_wait, cookie_echoed, open_in, OpenPhase, established, shutdown_pending, shutdown_sent, shutdown_received, shutdown_ack_sent}
 use Rattle.dcsctp_spec_lemmas.specs.spec.endpoint.Outcome.{Outcome}
 use Rattle.dcsctp_spec_lemmas.specs.spec.endpoint.Turn.{BeginTurn}
-use Rattle.dcsctp_spec_lemmas.specs.spec.endpoint.ShutdownOutcomes.{phase_at, may_go_on, step_by, step_outcome, t1_stopped, shut_down_outcome, shutdown_outcome, shutdown_ack_outcome, shutdown_complete_outcome, t2_goes_on, sent_again, t2_again_outcome}
+use Rattle.dcsctp_spec_lemmas.specs.spec.endpoint.ShutdownOutcomes.{phase_at, may_go_on, step_by, step_outcome, t1_stopped, shut_down_outcome, shutdown_outcome, shutdown_ack_outcome, shutdown_complete_outcome, t2_goes_on, shutdown_sent_again, t2_again_outcome}
 use Rattle.dcsctp_theorem_sockets.proofs.T1Turns.{Up, UpAfter}
 
 -- ---- a step of it
@@ -74,7 +74,7 @@ shutdown_complete_up e (open_in shutdown_ack_sent my held) h = tt
 
 -- ---- T2, and data while a SHUTDOWN waits for its answer
 
-again_up : (e : Endpoint) (core : Core) → Up e → UpAfter (sent_again e core)
+again_up : (e : Endpoint) (core : Core) → Up e → UpAfter (shutdown_sent_again e core)
 again_up e closed h = h
 again_up e (cookie_wait my) h = h
 again_up e (cookie_echoed my held cookie) h = h

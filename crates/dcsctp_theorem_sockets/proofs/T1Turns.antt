@@ -16,7 +16,7 @@ use Rattle.dcsctp_spec_lemmas.specs.spec.endpoint.FlushOutcomes.{Answer, draft_t
 use Rattle.dcsctp_spec_lemmas.specs.spec.endpoint.EndOutcomes.{abort_outcome, aborting_outcome}
 use Rattle.dcsctp_spec_lemmas.specs.spec.endpoint.HandshakeOutcomes.{pair_from, renewed_pair, init_ack_emission, init_outcome, init_emission, awaits_init_ack, connect_outcome, awaits_cookie_ack, echo_emission, EchoAnswers, InitAckAnswers, accepted_init_ack_by, init_ack_by, connected_after, CookieAckAnswers, cookie_ack_by}
 use Rattle.dcsctp_spec_lemmas.specs.spec.endpoint.TimerOutcomes.{AgainAnswers, again_by, t1_gives_up_outcome}
-use Rattle.dcsctp_spec_lemmas.specs.spec.endpoint.CookieEchoOutcomes.{resolved_now, established_by, acknowledgement, EstablishAnswers, establish_by, queue_kept, queue_begun, RestartAnswers, restart_by_where, MaintainAnswers, maintain_by, ResolvedAnswers, resolved_by, EchoedAnswers, cookie_echo_by}
+use Rattle.dcsctp_spec_lemmas.specs.spec.endpoint.CookieEchoOutcomes.{resolved_now, established_by, cookie_ack_emission, EstablishAnswers, establish_by, queue_kept, queue_begun, RestartAnswers, restart_by_where, MaintainAnswers, maintain_by, ResolvedAnswers, resolved_by, EchoedAnswers, cookie_echo_by}
 use Rattle.dcsctp_spec_lemmas.specs.spec.association.CookieEchoChanges.{held_by_cookie, Resolution, establish_new, restart, simultaneous_init, discard, maintain_existing, invalid_tag, stale}
 use Rattle.dcsctp_spec_lemmas.proofs.FlushKeeps.{Keeps, begun_by, flush_keeps}
 use Rattle.dcsctp_spec_lemmas.specs.spec.endpoint.BegunResets.{BegunReset}
@@ -95,7 +95,7 @@ cookie_ack_up e (open_in phase my held) answers allowed h = h
 
 established_up : (e : Endpoint) (cookie : Cookie) (queue : SendQueueState) (tie : ℕ) (events : List (Event Emission)) (answers : List Answer) → EstablishAnswers e cookie queue tie answers
     → UpAfter (establish_by (flush_answered answers) e cookie queue tie events)
-established_up e cookie queue tie events answers allowed = flush_up (established_by e cookie queue tie) (acknowledgement (held_by_cookie e.options cookie) cookie) answers allowed tt
+established_up e cookie queue tie events answers allowed = flush_up (established_by e cookie queue tie) (cookie_ack_emission (held_by_cookie e.options cookie) cookie) answers allowed tt
 
 restarted_up : (e : Endpoint) (cookie : Cookie) (tie : ℕ) (core : Core) (answers : List Answer) → RestartAnswers e cookie tie core answers → Up e
     → UpAfter (restart_by_where (flush_answered answers) e cookie tie core)
@@ -111,8 +111,8 @@ restarted_up e cookie tie (open_in shutdown_ack_sent my held) answers allowed h 
 maintained_up : (e : Endpoint) (cookie : Cookie) (core : Core) (answers : List Answer) → MaintainAnswers e cookie core answers → Up e → UpAfter (maintain_by (flush_answered answers) e cookie core)
 maintained_up e cookie closed answers allowed h = h
 maintained_up e cookie (cookie_wait my) answers allowed h = h
-maintained_up e cookie (cookie_echoed my held echoed) answers allowed h = flush_up (connected_after e my held) (acknowledgement held cookie) answers allowed tt
-maintained_up e cookie (open_in phase my held) answers allowed h = flush_up e (acknowledgement held cookie) answers allowed h
+maintained_up e cookie (cookie_echoed my held echoed) answers allowed h = flush_up (connected_after e my held) (cookie_ack_emission held cookie) answers allowed tt
+maintained_up e cookie (open_in phase my held) answers allowed h = flush_up e (cookie_ack_emission held cookie) answers allowed h
 
 resolved_up : (e : Endpoint) (cookie : Cookie) (core : Core) (word : ℕ) (resolution : Resolution) (answers : List Answer) → ResolvedAnswers e cookie core word resolution answers → Up e
     → UpAfter (resolved_by (flush_answered answers) e cookie core word resolution)

@@ -10,12 +10,12 @@ use Rattle.dcsctp_spec_lemmas.specs.spec.endpoint.Outcome.{Outcome, still, quiet
 use Rattle.dcsctp_spec_laws.proofs.DataLemmas.{flushed_act, end_at, send_at, resets_at, take_at}
 use Rattle.dcsctp_spec_lemmas.specs.spec.endpoint.OwnTimers.{timer_act}
 use Rattle.dcsctp_spec_laws.proofs.HeartbeatLemmas.{timer_controlled}
-use Rattle.dcsctp_spec_lemmas.specs.spec.endpoint.Turn.{Input, arrival, refusal, packet_begins, chunk_input, packet_ends, act_input, user_sets, user_sends, user_resets, user_takes, timer_expires, time_passes, restores, has_data}
+use Rattle.dcsctp_spec_lemmas.specs.spec.endpoint.Turn.{Input, arrival, refusal, packet_begins, chunk_input, packet_ends, act_input, user_sets, user_sends, user_resets, user_takes, timer_expires, time_passes, restores, has_data_chunk}
 use Rattle.dcsctp_spec_lemmas.specs.spec.endpoint.HandshakeOutcomes.{pair_from, renewed_pair, init_ack_emission, init_outcome}
 use Rattle.dcsctp_spec_lemmas.specs.spec.association.Effect.{Effect, draws, sends, holds, connects, ends, begins, gives_up, completes, fails, accepts, performs, resumes, Change}
 use Rattle.dcsctp_spec_lemmas.specs.spec.association.Acts.{Act, act_change, shutdown_repeats, flushes}
-use Rattle.dcsctp_spec_lemmas.specs.spec.association.Controlled.{Sign, packet_sent, has_connected, has_ended, own_reset_performed, own_reset_failed, peer_reset_performed, signs_of_events, signs_of_effects, IsControlled, ControlledChunk, ControlledAct}
-use Rattle.dcsctp_spec_lemmas.specs.spec.endpoint.CallTurns.{Turned, IsTurn}
+use Rattle.dcsctp_spec_lemmas.specs.spec.association.Controlled.{Observation, packet_sent, has_connected, has_ended, own_reset_performed, own_reset_failed, peer_reset_performed, observations_of_events, observations_of_effects, IsControlled, ControlledChunk, ControlledAct}
+use Rattle.dcsctp_spec_lemmas.specs.spec.endpoint.CallTurns.{Transition, IsTurn}
 use Rattle.dcsctp_spec_laws.specs.TurnLaws.{ActsAreControlled}
 use Rattle.dcsctp_spec_runs.specs.World.{acted, worked}
 use Rattle.dcsctp_spec_runs.proofs.RunsAlong.{run_along}
@@ -29,21 +29,21 @@ use Rattle.dcsctp_spec_laws.proofs.ResetLemmas.{reset_controlled}
 use Rattle.dcsctp_theorem_association.specs.OneSide.{ends_in, OneEnd, it_ends, it_stays, EndsOnce}
 use Rattle.dcsctp_spec_laws.proofs.ControlRestores.{resumed_by, restore_stands}
 use Rattle.dcsctp_theorem_sockets.proofs.RestoreTurns.{resumed_turn}
-use Rattle.dcsctp_theorem_sockets.specs.OneSocket.{ends_told, TellsEnd, SocketsTellEnds}
+use Rattle.dcsctp_theorem_sockets.specs.OneSocket.{end_event_count, TellsEnd, SocketsTellEnds}
 use Rattle.dcsctp_theorem_sockets.specs.OneSocket as told
 
 -- ---- events and effects
 
-ends_among : List Sign → ℕ
+ends_among : List Observation → ℕ
 ends_among [] = 0
-ends_among (packet_sent packet ∷ signs) = ends_among signs
-ends_among (has_connected ∷ signs) = ends_among signs
-ends_among (has_ended ∷ signs) = suc (ends_among signs)
-ends_among (own_reset_performed ∷ signs) = ends_among signs
-ends_among (own_reset_failed ∷ signs) = ends_among signs
-ends_among (peer_reset_performed ∷ signs) = ends_among signs
+ends_among (packet_sent packet ∷ observations) = ends_among observations
+ends_among (has_connected ∷ observations) = ends_among observations
+ends_among (has_ended ∷ observations) = suc (ends_among observations)
+ends_among (own_reset_performed ∷ observations) = ends_among observations
+ends_among (own_reset_failed ∷ observations) = ends_among observations
+ends_among (peer_reset_performed ∷ observations) = ends_among observations
 
-told_among : (events : List (Event Emission)) → ends_told events ≡ ends_among (signs_of_events events)
+told_among : (events : List (Event Emission)) → end_event_count events ≡ ends_among (observations_of_events events)
 unfolding ends_among
 told_among [] = refl
 told_among (sent emission ∷ events) = told_among events
@@ -63,7 +63,7 @@ told_among (lifecycle_message_expired id ∷ events) = told_among events
 told_among (lifecycle_message_delivered id ∷ events) = told_among events
 told_among (lifecycle_end id ∷ events) = told_among events
 
-effects_among : (effects : List Effect) → ends_in effects ≡ ends_among (signs_of_effects effects)
+effects_among : (effects : List Effect) → ends_in effects ≡ ends_among (observations_of_effects effects)
 unfolding ends_among
 effects_among [] = refl
 effects_among (draws pair ∷ effects) = effects_among effects
@@ -81,26 +81,26 @@ effects_among (resumes link own last ∷ effects) = effects_among effects
 
 -- ---- one turn
 
-told_by : (e : Endpoint) (t : Turned) (change : Change) → IsControlled e t.outcome change → OneEnd e.core change → TellsEnd e t
+told_by : (e : Endpoint) (t : Transition) (change : Change) → IsControlled e t.outcome change → OneEnd e.core change → TellsEnd e t
 told_by e t change is (it_ends was shut once) =
-    told.it_ends was (is.core ∙ shut) (told_among t.outcome.events ∙ ap ends_among is.signs ∙ sym (effects_among change.effects) ∙ once)
+    told.it_ends was (is.core ∙ shut) (told_among t.outcome.events ∙ ap ends_among is.observations ∙ sym (effects_among change.effects) ∙ once)
 told_by e t change is (it_stays stays none) =
-    told.it_stays (λ shut. stays (sym is.core ∙ shut)) (told_among t.outcome.events ∙ ap ends_among is.signs ∙ sym (effects_among change.effects) ∙ none)
+    told.it_stays (λ shut. stays (sym is.core ∙ shut)) (told_among t.outcome.events ∙ ap ends_among is.observations ∙ sym (effects_among change.effects) ∙ none)
 
-by_chunk : EndsOnce → (e : Endpoint) (tag : ℕ) (content : Content) (t : Turned) → ControlledChunk e tag content t.outcome → TellsEnd e t
+by_chunk : EndsOnce → (e : Endpoint) (tag : ℕ) (content : Content) (t : Transition) → ControlledChunk e tag content t.outcome → TellsEnd e t
 by_chunk law e tag content t turn =
     told_by e t turn.0 turn.2 (law e.options e.core turn.0 (worked tag content turn.1.0 turn.1.2))
 
-by_act : EndsOnce → (e : Endpoint) (act : Act) (t : Turned) → ControlledAct e act t.outcome → TellsEnd e t
+by_act : EndsOnce → (e : Endpoint) (act : Act) (t : Transition) → ControlledAct e act t.outcome → TellsEnd e t
 by_act law e act t turn =
     told_by e t (act_change e.options e.core act turn.0) turn.1 (law e.options e.core (act_change e.options e.core act turn.0) (acted act turn.0 refl))
 
 -- the association stays, and no end is told
 record Rests (e : Endpoint) (o : Outcome) : Type 0 where
   core : o.after.core ≡ e.core
-  none : ends_told o.events ≡ 0
+  none : end_event_count o.events ≡ 0
 
-rests : (e : Endpoint) (t : Turned) (o : Outcome) → t.outcome ≡ o → Rests e o → TellsEnd e t
+rests : (e : Endpoint) (t : Transition) (o : Outcome) → t.outcome ≡ o → Rests e o → TellsEnd e t
 rests e t o is h =
     let here : Rests e t.outcome = subst (Rests e) (sym is) h in
     told.it_stays (λ shut. sym here.core ∙ shut) here.none
@@ -130,7 +130,7 @@ init_rests e theirs (open_in shutdown_sent my held) word next = with_effects e _
 init_rests e theirs (open_in shutdown_received my held) word next = with_effects e _ _ (renewed_rests e theirs word)
 init_rests e theirs (open_in shutdown_ack_sent my held) word next = emits_rest e [] (to_peer held shutdown_ack)
 
-chunk_tells : EndsOnce → (e : Endpoint) (tag : ℕ) (content : Content) (t : Turned) → IsTurn e (chunk_input tag content) t → TellsEnd e t
+chunk_tells : EndsOnce → (e : Endpoint) (tag : ℕ) (content : Content) (t : Transition) → IsTurn e (chunk_input tag content) t → TellsEnd e t
 chunk_tells law e tag (init theirs) t h = rests e t (init_outcome e theirs e.core h.comes.0 h.comes.1) h.comes.2 (init_rests e theirs e.core h.comes.0 h.comes.1)
 chunk_tells law e tag (init_ack theirs cookie) t h = by_chunk law e tag (init_ack theirs cookie) t (init_ack_controlled e tag theirs cookie t.outcome h.comes)
 chunk_tells law e tag (cookie_echo cookie) t h = by_chunk law e tag (cookie_echo cookie) t (cookie_echo_controlled e tag cookie t.outcome h.comes)
@@ -150,18 +150,18 @@ pub record EndLaws : Type 0 where
   pub once : EndsOnce
   pub acts : ActsAreControlled
 
-turn_tells : EndLaws → (e : Endpoint) (input : Input) (t : Turned) → IsTurn e input t → TellsEnd e t
+turn_tells : EndLaws → (e : Endpoint) (input : Input) (t : Transition) → IsTurn e input t → TellsEnd e t
 turn_tells law e arrival t h = rests e t _ h.comes (record { core = refl; none = refl })
 turn_tells law e (refusal text) t h = rests e t _ h.comes (record { core = refl; none = refl })
 turn_tells law e (packet_begins contents) t h =
-    elim (begin_stands e e.core (has_data contents) t.outcome refl h.comes) [ inl nothing ↦ rests e t _ nothing (still_rests e) | inr acts ↦ by_act law.once e shutdown_repeats t acts ]
+    elim (begin_stands e e.core (has_data_chunk contents) t.outcome refl h.comes) [ inl nothing ↦ rests e t _ nothing (still_rests e) | inr acts ↦ by_act law.once e shutdown_repeats t acts ]
 turn_tells law e (chunk_input tag content) t h = chunk_tells law.once e tag content t h
-turn_tells law e packet_ends t h = by_act law.once e flushes t (flushed_act e t.outcome (end_at e e.below.transfer t.outcome h.comes))
+turn_tells law e packet_ends t h = by_act law.once e flushes t (flushed_act e t.outcome (end_at e e.queues.transfer t.outcome h.comes))
 turn_tells law e (act_input act) t h = by_act law.once e act t (law.acts e act t.outcome h.comes)
 turn_tells law e (user_sets setting) t h = rests e t _ h.comes (record { core = refl; none = refl })
 turn_tells law e (user_sends messages) t h = by_act law.once e flushes t (flushed_act e t.outcome (send_at e messages t.outcome h.comes))
 turn_tells law e (user_resets ids) t h = by_act law.once e flushes t (flushed_act e t.outcome (resets_at e ids t.outcome h.comes))
-turn_tells law e user_takes t h = by_act law.once e flushes t (flushed_act e t.outcome (take_at e e.below.transfer t.outcome h.comes))
+turn_tells law e user_takes t h = by_act law.once e flushes t (flushed_act e t.outcome (take_at e e.queues.transfer t.outcome h.comes))
 turn_tells law e (timer_expires timer) t h = by_act law.once e (timer_act e timer) t (timer_controlled e timer t.outcome h.comes)
 turn_tells law e (time_passes moment) t h = rests e t _ h.comes (record { core = refl; none = refl })
 turn_tells law e (restores state) t h =

@@ -8,20 +8,20 @@ use Rattle.dcsctp_spec_lemmas.specs.spec.endpoint.Endpoint.{Endpoint, open_in, e
 use Rattle.dcsctp_spec_lemmas.specs.spec.endpoint.Endpoint as machine
 use Rattle.dcsctp_spec_lemmas.specs.spec.endpoint.Outcome.{still}
 use Rattle.dcsctp_spec_lemmas.specs.spec.endpoint.Turn.{arrival}
-use Rattle.dcsctp_spec_lemmas.specs.spec.association.Effect.{Link, Effect, draws, holds, connects, ends, begins, completes, fails, accepts, performs, resumes, link_of}
+use Rattle.dcsctp_spec_lemmas.specs.spec.association.Effect.{AssociationIdentity, Effect, draws, holds, connects, ends, begins, completes, fails, accepts, performs, resumes, identity_of}
 use Rattle.dcsctp_spec_lemmas.specs.spec.association.Controlled.{has_connected, own_reset_performed, own_reset_failed, peer_reset_performed}
-use Rattle.dcsctp_spec_lemmas.specs.spec.endpoint.CallTurns.{Turned, turned}
+use Rattle.dcsctp_spec_lemmas.specs.spec.endpoint.CallTurns.{Transition, transition}
 use Rattle.dcsctp_spec_runs.specs.Past.{Each}
 use Rattle.dcsctp_theorem_sockets.specs.Telling.{TellsNoted, HoldsNoted, NotesAnew, IsAnew}
 
 -- a turn that noted these and told those
-abbrev telling : Endpoint → List Effect → List (Event Emission) → Turned
-telling e effects events = turned arrival (record (still e) { effects = effects; events = events })
+abbrev telling : Endpoint → List Effect → List (Event Emission) → Transition
+telling e effects events = transition arrival (record (still e) { effects = effects; events = events })
 
 -- ---- events
 
 -- A restart connects the new association. Its packet and OnConnectionRestarted count for nothing.
-restart_told : (e : Endpoint) (link : Link) (emission : Emission)
+restart_told : (e : Endpoint) (link : AssociationIdentity) (emission : Emission)
     → TellsNoted (telling e (holds link ∷ connects link ∷ []) (connection_restarted ∷ connected ∷ sent emission ∷ []))
 restart_told e link emission = refl
 
@@ -39,10 +39,10 @@ unnoted : (e : Endpoint) → TellsNoted (telling e [] (connected ∷ [])) → �
 unnoted e tells = let same : has_connected ∷ [] ≡ [] = tells in absurd (cc)
 
 -- and so are one that isn't told, and one that is told twice.
-untold : (e : Endpoint) (link : Link) → TellsNoted (telling e (connects link ∷ []) (connection_restarted ∷ [])) → ⊥
+untold : (e : Endpoint) (link : AssociationIdentity) → TellsNoted (telling e (connects link ∷ []) (connection_restarted ∷ [])) → ⊥
 untold e link tells = let same : [] ≡ has_connected ∷ [] = tells in absurd (cc)
 
-told_twice : (e : Endpoint) (link : Link) → TellsNoted (telling e (connects link ∷ []) (connected ∷ connected ∷ [])) → ⊥
+told_twice : (e : Endpoint) (link : AssociationIdentity) → TellsNoted (telling e (connects link ∷ []) (connected ∷ connected ∷ [])) → ⊥
 told_twice e link tells = let same : has_connected ∷ has_connected ∷ [] ≡ has_connected ∷ [] = tells in absurd (cc)
 
 -- So are a request that failed and is told as performed, and events in another order.
@@ -56,24 +56,24 @@ in_another_order e mine theirs tells = let same : own_reset_performed ∷ peer_r
 -- ---- the association
 
 -- After an end there is none,
-ended_holds_none : (e : Endpoint) (link : Link) → HoldsNoted (telling e (holds link ∷ connects link ∷ []) [] ∷ telling e (ends ∷ []) [] ∷ []) (record e { core = machine.closed })
+ended_holds_none : (e : Endpoint) (link : AssociationIdentity) → HoldsNoted (telling e (holds link ∷ connects link ∷ []) [] ∷ telling e (ends ∷ []) [] ∷ []) (record e { core = machine.closed })
 ended_holds_none e link = refl
 
 -- but not before.
-lost_unnoted : (e : Endpoint) (link : Link) → HoldsNoted (telling e (holds link ∷ connects link ∷ []) [] ∷ []) (record e { core = machine.closed }) → ⊥
+lost_unnoted : (e : Endpoint) (link : AssociationIdentity) → HoldsNoted (telling e (holds link ∷ connects link ∷ []) [] ∷ []) (record e { core = machine.closed }) → ⊥
 lost_unnoted e link h = let same : Some link ≡ None = h in absurd (cc)
 
 -- One that is there isn't noted again.
-noted_again : (e : Endpoint) (my : Pair) (held : Held) → NotesAnew (record e { core = open_in established my held }) (telling e (holds (link_of my held) ∷ []) []) → ⊥
-noted_again e my held h = h (link_of my held) (inl refl) refl
+noted_again : (e : Endpoint) (my : Pair) (held : Held) → NotesAnew (record e { core = open_in established my held }) (telling e (holds (identity_of my held) ∷ []) []) → ⊥
+noted_again e my held h = h (identity_of my held) (inl refl) refl
 
 -- That is so in one turn too, after a restore as after a handshake,
-noted_twice : (link : Link) → Each IsAnew (connects link ∷ holds link ∷ connects link ∷ holds link ∷ []) → ⊥
+noted_twice : (link : AssociationIdentity) → Each IsAnew (connects link ∷ holds link ∷ connects link ∷ holds link ∷ []) → ⊥
 noted_twice link each = each.1.0 refl
 
-restored_and_noted : (link : Link) → Each IsAnew (holds link ∷ connects link ∷ resumes link 1 5 ∷ []) → ⊥
+restored_and_noted : (link : AssociationIdentity) → Each IsAnew (holds link ∷ connects link ∷ resumes link 1 5 ∷ []) → ⊥
 restored_and_noted link each = each.0 refl
 
 -- but not after an end.
-noted_after_an_end : (link : Link) → Each IsAnew (holds link ∷ ends ∷ connects link ∷ holds link ∷ [])
+noted_after_an_end : (link : AssociationIdentity) → Each IsAnew (holds link ∷ ends ∷ connects link ∷ holds link ∷ [])
 noted_after_an_end link = (λ same. absurd (cc), (tt, (tt, (λ same. absurd (cc), tt))))

@@ -5,7 +5,7 @@ use Rattle.dcsctp_spec_lemmas.specs.types.Settings.{SameOptions}
 use Rattle.dcsctp_spec_lemmas.specs.spec.endpoint.Endpoint.{Endpoint, Core, closed, cookie_wait, cookie_echoed, open_in}
 use Rattle.dcsctp_spec_lemmas.specs.spec.endpoint.Outcome.{Outcome, still}
 use Rattle.dcsctp_spec_lemmas.specs.spec.endpoint.Turn.{ActTurn, clock_at}
-use Rattle.dcsctp_spec_lemmas.specs.spec.endpoint.CallTurns.{Turned}
+use Rattle.dcsctp_spec_lemmas.specs.spec.endpoint.CallTurns.{Transition}
 use Rattle.dcsctp_spec_lemmas.specs.spec.association.Controlled.{IsControlled}
 use Rattle.dcsctp_spec_lemmas.specs.spec.association.Effect.{Change, unchanged}
 use Rattle.dcsctp_spec_lemmas.specs.spec.association.Choices.{Choices}
@@ -39,14 +39,14 @@ expires_same : (again : Bool) (p q : Options) (core : Core) (choices : Choices) 
 expires_same again p q core choices same = ap (λ (x : Options). act_change x core (t1_expires again) choices) same ∙ longest_expires again p q.max_message_size core choices
 
 -- The turn of T1 is one of the side's, by these choices.
-pub record T1Follows (options : Options) (turns : List Turned) (side : SideState) (again : Bool) (t : Turned) : Type 0 where
+pub record T1Follows (options : Options) (turns : List Transition) (side : SideState) (again : Bool) (t : Transition) : Type 0 where
   pub choices : Choices
   pub follows : Followed options (turns ++ t ∷ []) (after_changes side (act_change side.options side.core (t1_expires again) choices ∷ []))
 
 abbrev expires_at : Bool → Endpoint → Options → Core → Outcome → Choices → Type 0
 expires_at again e options core o choices = IsControlled e o (act_change options core (t1_expires again) choices)
 
-pub t1_follows : EffectsMean → ActsAreControlled → OfferReadsBack → (options : Options) (turns : List Turned) (side : SideState) (again : Bool) (t : Turned) → Followed options turns side
+pub t1_follows : EffectsMean → ActsAreControlled → OfferReadsBack → (options : Options) (turns : List Transition) (side : SideState) (again : Bool) (t : Transition) → Followed options turns side
     → ActTurn (endpoint_after options turns) (t1_expires again) t.outcome → T1Follows options turns side again t
 t1_follows means acts offers options turns side again t h turn =
     let e : Endpoint = endpoint_after options turns in
@@ -63,10 +63,10 @@ t1_follows means acts offers options turns side again t h turn =
 
 -- ---- the clock
 
-pub clock_follows : (options : Options) (turns : List Turned) (side : SideState) (moment : ℕ) (t : Turned) → Followed options turns side
+pub clock_follows : (options : Options) (turns : List Transition) (side : SideState) (moment : ℕ) (t : Transition) → Followed options turns side
     → t.outcome ≡ still (clock_at moment (endpoint_after options turns)) → Followed options (turns ++ t ∷ []) side
 clock_follows options turns side moment t h is =
     let e : Endpoint = endpoint_after options turns in
-    let controlled : IsControlled e (still (clock_at moment e)) (unchanged e.core) = record { core = refl; options = refl; signs = refl; effects = refl; following = refl } in
+    let controlled : IsControlled e (still (clock_at moment e)) (unchanged e.core) = record { core = refl; options = refl; observations = refl; effects = refl; following = refl } in
     let fits : TurnFits (still (clock_at moment e)) = record { after = record { valid = h.fits.valid; options = h.fits.options; core = h.fits.core; t1 = h.fits.t1 }; sends = tt } in
     follow_idle options turns side t h (subst (λ (o : Outcome). IsControlled e o (unchanged e.core)) (sym is) controlled) (subst TurnFits (sym is) fits)

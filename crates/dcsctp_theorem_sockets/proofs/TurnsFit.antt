@@ -16,9 +16,9 @@ use Rattle.dcsctp_spec_lemmas.specs.spec.endpoint.Outcome.{Outcome, noting, quie
 use Rattle.dcsctp_spec_lemmas.specs.spec.endpoint.Turn.{ContentTurn}
 use Rattle.dcsctp_spec_lemmas.specs.spec.endpoint.FlushOutcomes.{Answer, draft_to, FlushAnswers, flush_answered}
 use Rattle.dcsctp_spec_lemmas.specs.spec.endpoint.EndOutcomes.{ended_outcome, abort_outcome}
-use Rattle.dcsctp_spec_lemmas.specs.spec.endpoint.HandshakeOutcomes.{pair_from, renewed_pair, renewed_outcome, cookie_for, init_ack_emission, init_outcome, init_emission, awaits_init_ack, connect_outcome, no_cookie_text, abort_emission, awaits_cookie_ack, echo_emission, EchoAnswers, InitAckAnswers, accepted_init_ack_by, init_ack_by, connected_after, CookieAckAnswers, cookie_ack_by}
-use Rattle.dcsctp_spec_lemmas.specs.spec.endpoint.CookieEchoOutcomes.{resolved_now, established_by, acknowledgement, EstablishAnswers, establish_by, queue_kept, queue_begun, RestartAnswers, restart_by_where, MaintainAnswers, maintain_by, ResolvedAnswers, resolved_by, EchoedAnswers, cookie_echo_by}
-use Rattle.dcsctp_spec_lemmas.specs.spec.association.Effect.{Link, Effect, holds, connects, link_of}
+use Rattle.dcsctp_spec_lemmas.specs.spec.endpoint.HandshakeOutcomes.{pair_from, renewed_pair, renewed_pair_outcome, cookie_for, init_ack_emission, init_outcome, init_emission, awaits_init_ack, connect_outcome, no_cookie_text, abort_emission, awaits_cookie_ack, echo_emission, EchoAnswers, InitAckAnswers, accepted_init_ack_by, init_ack_by, connected_after, CookieAckAnswers, cookie_ack_by}
+use Rattle.dcsctp_spec_lemmas.specs.spec.endpoint.CookieEchoOutcomes.{resolved_now, established_by, cookie_ack_emission, EstablishAnswers, establish_by, queue_kept, queue_begun, RestartAnswers, restart_by_where, MaintainAnswers, maintain_by, ResolvedAnswers, resolved_by, EchoedAnswers, cookie_echo_by}
+use Rattle.dcsctp_spec_lemmas.specs.spec.association.Effect.{AssociationIdentity, Effect, holds, connects, identity_of}
 use Rattle.dcsctp_spec_lemmas.specs.spec.association.HandshakeChanges.{held_by_init_ack, new_held}
 use Rattle.dcsctp_spec_lemmas.specs.spec.association.CookieEchoChanges.{held_by_cookie, Resolution, establish_new, restart, simultaneous_init, discard, maintain_existing, invalid_tag, stale}
 use Rattle.dcsctp_spec_lemmas.specs.spec.CookieFits.{FitsPair}
@@ -64,7 +64,7 @@ answer_fits : OfferReadsBack → (e : Endpoint) (theirs : Introduction) (mine : 
 answer_fits law e theirs mine tie h said own = record { tag = said.tag; contents = (init_ack_sendable law e.options theirs mine (cookie_for e.moment theirs mine tie) h.valid h.options own, tt) }
 
 -- A new pair is drawn for it.
-renewed_answer_fits : OfferReadsBack → (e : Endpoint) (theirs : Introduction) (word : ℕ) → FitsEndpoint e → FitsPair theirs.pair → TurnFits (renewed_outcome e theirs word)
+renewed_answer_fits : OfferReadsBack → (e : Endpoint) (theirs : Introduction) (word : ℕ) → FitsEndpoint e → FitsPair theirs.pair → TurnFits (renewed_pair_outcome e theirs word)
 renewed_answer_fits law e theirs word h said =
     drawing_fits (renewed_pair e word) _
     (emits_fit e (U32 word ∷ []) (init_ack_emission e theirs (renewed_pair e word) e.tie) h (answer_fits law e theirs (renewed_pair e word) e.tie h said (renewed_fits e word)))
@@ -120,7 +120,7 @@ accepted_fits e my theirs None word answers allowed h own good =
     refused_fits (fits e (abort_emission theirs.pair.tag)) e theirs.pair.tag h (record { tag = good.said.tag; contents = (abort_sendable, tt) })
 accepted_fits e my theirs (Some cookie) word answers allowed h own good =
     let awaiting : Endpoint = awaits_cookie_ack e my theirs cookie word in
-    noting_fits (holds (link_of my (held_by_init_ack e.options my theirs)) ∷ []) _
+    noting_fits (holds (identity_of my (held_by_init_ack e.options my theirs)) ∷ []) _
     (echoed_fits (fits awaiting (echo_emission theirs.pair.tag cookie)) awaiting (U64 word ∷ []) theirs.pair.tag cookie answers allowed
     (record {
       valid = h.valid;
@@ -139,18 +139,18 @@ init_ack_fits e theirs cookie (open_in phase my held) word answers allowed h own
 -- ---- COOKIE ECHO
 
 -- a flush that begins with COOKIE ACK
-acknowledged_fits : (e : Endpoint) (words : List Word) (events : List (Event Emission)) (held : Held) (cookie : Cookie) (answers : List Answer) → FlushAnswers e (acknowledgement held cookie) answers
+acknowledged_fits : (e : Endpoint) (words : List Word) (events : List (Event Emission)) (held : Held) (cookie : Cookie) (answers : List Answer) → FlushAnswers e (cookie_ack_emission held cookie) answers
     → FitsEndpoint e → AllSent IsSendable events → cookie.addressee.tag < 2 ^ 32
-    → TurnFits (flush_answered answers e words events (acknowledgement held cookie).with_checksum cookie.addressee.tag (cookie_ack ∷ []))
+    → TurnFits (flush_answered answers e words events (cookie_ack_emission held cookie).with_checksum cookie.addressee.tag (cookie_ack ∷ []))
 acknowledged_fits e words events held cookie answers allowed h before tag_fits =
-    flushed_fits e words events (acknowledgement held cookie).with_checksum cookie.addressee.tag (cookie_ack ∷ []) answers allowed h before
+    flushed_fits e words events (cookie_ack_emission held cookie).with_checksum cookie.addressee.tag (cookie_ack ∷ []) answers allowed h before
     (record { tag = tag_fits; contents = (ack_sendable, tt) })
 
 established_fits : (e : Endpoint) (cookie : Cookie) (queue : SendQueueState) (tie : ℕ) (events : List (Event Emission)) (answers : List Answer) → EstablishAnswers e cookie queue tie answers
     → FitsEndpoint e → ReadPairs cookie → AllSent IsSendable events → TurnFits (establish_by (flush_answered answers) e cookie queue tie events)
 established_fits e cookie queue tie events answers allowed h pairs before =
     let held : Held = held_by_cookie e.options cookie in
-    let link : Link = link_of cookie.maker held in
+    let link : AssociationIdentity = identity_of cookie.maker held in
     noting_fits (holds link ∷ connects link ∷ []) _
     (acknowledged_fits (established_by e cookie queue tie) (U64 tie ∷ []) events held cookie answers allowed
     (record {
@@ -182,7 +182,7 @@ maintained_fits : (e : Endpoint) (cookie : Cookie) (core : Core) (answers : List
 maintained_fits e cookie closed answers allowed h own pairs = still_fits e h
 maintained_fits e cookie (cookie_wait my) answers allowed h own pairs = still_fits e h
 maintained_fits e cookie (cookie_echoed my held echoed) answers allowed h own pairs =
-    noting_fits (connects (link_of my held) ∷ []) _
+    noting_fits (connects (identity_of my held) ∷ []) _
     (acknowledged_fits (connected_after e my held) [] (connected ∷ []) held cookie answers allowed
     (record { valid = h.valid; options = h.options; core = (own.0, own.1); t1 = tt }) (tt, tt) pairs.addressee.tag)
 maintained_fits e cookie (open_in phase my held) answers allowed h own pairs = acknowledged_fits e [] [] held cookie answers allowed h tt pairs.addressee.tag
@@ -209,7 +209,7 @@ cookie_ack_fits : (e : Endpoint) (core : Core) (answers : List Answer) → Cooki
 cookie_ack_fits e closed answers allowed h own = still_fits e h
 cookie_ack_fits e (cookie_wait my) answers allowed h own = still_fits e h
 cookie_ack_fits e (cookie_echoed my held cookie) answers allowed h own =
-    noting_fits (connects (link_of my held) ∷ []) _
+    noting_fits (connects (identity_of my held) ∷ []) _
     (flushed_fits (connected_after e my held) [] (connected ∷ []) (draft_to held).with_checksum held.peer.tag [] answers allowed
     (record { valid = h.valid; options = h.options; core = (own.0, own.1); t1 = tt }) (tt, tt) (draft_sendable held own.1))
 cookie_ack_fits e (open_in phase my held) answers allowed h own = still_fits e h

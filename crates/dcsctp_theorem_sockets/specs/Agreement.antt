@@ -10,11 +10,11 @@ use Rattle.dcsctp_spec_lemmas.specs.types.Settings.{IsValid, FitsOptions}
 use Rattle.dcsctp_spec_lemmas.specs.types.Offer.{offer_of, negotiated}
 use Rattle.dcsctp_spec_lemmas.specs.spec.endpoint.Event.{Event, connected}
 use Rattle.dcsctp_spec_lemmas.specs.spec.Packet.{Emission}
-use Rattle.dcsctp_spec_lemmas.specs.spec.endpoint.CallTurns.{Turned, effects_of, pairs_of}
-use Rattle.dcsctp_spec_lemmas.specs.spec.association.Effect.{Link, Effect, link_in}
+use Rattle.dcsctp_spec_lemmas.specs.spec.endpoint.CallTurns.{Transition, effects_of, pairs_of}
+use Rattle.dcsctp_spec_lemmas.specs.spec.association.Effect.{AssociationIdentity, Effect, identity_in}
 use Rattle.dcsctp_spec_runs.specs.Past.{Each}
 use Rattle.dcsctp_spec_runs.specs.World.{after_effects}
-use Rattle.dcsctp_spec_runs.specs.Sockets.{Worked, Both, of_side, turns_after, SocketRun, acts_of}
+use Rattle.dcsctp_spec_runs.specs.Sockets.{PerformedAct, Both, of_side, turns_after, SocketRun, acts_of}
 use Rattle.dcsctp_theorem_association.specs.Agreement.{IsCrossed, FindsPerformed}
 
 -- No verification tag is drawn twice.
@@ -23,14 +23,14 @@ HasDistinctTags [] = Unit {0}
 HasDistinctTags (pair ∷ pairs) = AllByRecursion (λ later. pair.tag ≢ later.tag) pairs × HasDistinctTags pairs
 
 -- After one of these turns the association existed.
-abbrev pub WasHeld : Link → List Turned → Type 0
+abbrev pub WasHeld : AssociationIdentity → List Transition → Type 0
 WasHeld link [] = ⊥
-WasHeld link (turn ∷ turns) = (link_in turn.outcome.after.core ≡ Some link) ⊎ WasHeld link turns
+WasHeld link (turn ∷ turns) = (identity_in turn.outcome.after.core ≡ Some link) ⊎ WasHeld link turns
 
 -- Among these turns of the other side there is one after which it had the matching association. Each of the two has what the two
 -- offers have in common.
-pub record FindsHeld (mine theirs : Options) (turns : List Turned) (link : Link) : Type 0 where
-  pub other : Link
+pub record FindsHeld (mine theirs : Options) (turns : List Transition) (link : AssociationIdentity) : Type 0 where
+  pub other : AssociationIdentity
   pub held : WasHeld other turns
   pub crossed : IsCrossed link other
   pub capabilities : link.capabilities ≡ negotiated (offer_of mine) (offer_of theirs)
@@ -43,24 +43,24 @@ HasConnected (connected ∷ events) = Unit {0}
 HasConnected (event ∷ events) = HasConnected events
 
 -- The association after a turn is of this kind.
-pub record Holds (Kind : Link → Type 0) (turn : Turned) : Type 0 where
-  pub link : Link
-  pub held : link_in turn.outcome.after.core ≡ Some link
+pub record HoldsAssociation (Kind : AssociationIdentity → Type 0) (turn : Transition) : Type 0 where
+  pub link : AssociationIdentity
+  pub held : identity_in turn.outcome.after.core ≡ Some link
   pub kind : Kind link
 
 -- Each turn that adds OnConnected leaves an association of this kind.
-abbrev pub EachConnected : (Link → Type 0) → List Turned → Type 0
+abbrev pub EachConnected : (AssociationIdentity → Type 0) → List Transition → Type 0
 EachConnected Kind [] = Unit {0}
-EachConnected Kind (turn ∷ turns) = (HasConnected turn.outcome.events → Holds Kind turn) × EachConnected Kind turns
+EachConnected Kind (turn ∷ turns) = (HasConnected turn.outcome.events → HoldsAssociation Kind turn) × EachConnected Kind turns
 
 -- all that these turns noted, newest first
-abbrev pub noted_past : List Turned → List Effect
+abbrev pub noted_past : List Transition → List Effect
 noted_past turns = after_effects (effects_of turns) []
 
 -- Each OnConnected of either side finds the other so. Each of its performed requests finds that the other performed a request of
 -- that number. It did so in an association whose peer pair is its own pair. That holds for the first 2^32 - 1 requests in one
 -- lifetime of the association.
-pub record Agree (options : Both Options) (turns : Both (List Turned)) : Type 0 where
+pub record Agree (options : Both Options) (turns : Both (List Transition)) : Type 0 where
   pub a : EachConnected (FindsHeld options.a options.b turns.b) turns.a
   pub b : EachConnected (FindsHeld options.b options.a turns.a) turns.b
   pub a_performed : Each (FindsPerformed (noted_past turns.b)) (noted_past turns.a)
@@ -75,17 +75,17 @@ abbrev pub AreUsable : Both Options → Type 0
 AreUsable options = (side : Side) → IsUsable (of_side side options)
 
 -- No verification tag is drawn twice by one side.
-pub record AreFresh (turns : Both (List Turned)) : Type 0 where
+pub record AreFresh (turns : Both (List Transition)) : Type 0 where
   pub a : HasDistinctTags (pairs_of turns.a)
   pub b : HasDistinctTags (pairs_of turns.b)
 
 -- They agree at the end of each first part of the run that is honest, and in which no tag was drawn twice. So each OnConnected, when
 -- it is reported, finds what the other side has done so far, whatever comes later.
-abbrev pub AgreeThroughout : Both Options → List Worked → Type 0
+abbrev pub AgreeThroughout : Both Options → List PerformedAct → Type 0
 AgreeThroughout options [] = Agree options (turns_after [])
 AgreeThroughout options (worked ∷ earlier) =
     (AreHonest (acts_of (worked ∷ earlier)) → AreFresh (turns_after (worked ∷ earlier)) → Agree options (turns_after (worked ∷ earlier)))
     × AgreeThroughout options earlier
 
 abbrev pub SocketsAgree : Type 0
-SocketsAgree = (options : Both Options) (run : List Worked) → AreUsable options → SocketRun options run → AgreeThroughout options run
+SocketsAgree = (options : Both Options) (run : List PerformedAct) → AreUsable options → SocketRun options run → AgreeThroughout options run

@@ -8,10 +8,10 @@ use Rattle.dcsctp_spec_lemmas.specs.types.Schedule.{connect_call, StepContent, c
 use Rattle.dcsctp_spec_lemmas.specs.types.Offer.{offer_of, negotiated}
 use Rattle.dcsctp_spec_lemmas.specs.spec.endpoint.Event.{Event, connected}
 use Rattle.dcsctp_spec_lemmas.specs.spec.endpoint.Endpoint.{open_in, established}
-use Rattle.dcsctp_spec_lemmas.specs.spec.endpoint.CallTurns.{Turned, events_of}
+use Rattle.dcsctp_spec_lemmas.specs.spec.endpoint.CallTurns.{Transition, events_of}
 use Rattle.dcsctp_spec_lemmas.specs.spec.endpoint.FlushOutcomes.{allows_packet}
 use Rattle.dcsctp_spec_lemmas.specs.spec.association.HandshakeChanges.{new_held}
-use Rattle.dcsctp_spec_runs.specs.Sockets.{Worked, Both, endpoint_after, turns_after, SocketRun, acts_of}
+use Rattle.dcsctp_spec_runs.specs.Sockets.{PerformedAct, Both, endpoint_after, turns_after, SocketRun, acts_of}
 use Rattle.dcsctp_theorem_sockets.specs.Agreement.{AreUsable}
 
 abbrev pub other_side : Side → Side
@@ -47,18 +47,18 @@ pub record AreFitting (options : Both Options) : Type 0 where
   pub to_b : options.a.remote_port ≡ options.b.local_port
 
 -- how often OnConnected is among these events
-abbrev pub connections : {P : Type 0} → List (Event P) → ℕ
-connections [] = 0
-connections (connected ∷ events) = suc (connections events)
-connections (event ∷ events) = connections events
+abbrev pub connections_of_events : {P : Type 0} → List (Event P) → ℕ
+connections_of_events [] = 0
+connections_of_events (connected ∷ events) = suc (connections_of_events events)
+connections_of_events (event ∷ events) = connections_of_events events
 
 -- The side has connected once, and is Established with this pair and peer.
-pub record IsConnected (mine theirs : Options) (turns : List Turned) (my peer : Pair) : Type 0 where
+pub record IsConnected (mine theirs : Options) (turns : List Transition) (my peer : Pair) : Type 0 where
   pub core : (endpoint_after mine turns).core ≡ open_in established my (new_held my peer (negotiated (offer_of mine) (offer_of theirs)))
-  pub once : connections (events_of turns) ≡ 1
+  pub once : connections_of_events (events_of turns) ≡ 1
 
 -- Both are, and crossed.
-pub record AreConnected (options : Both Options) (turns : Both (List Turned)) : Type 0 where
+pub record AreConnected (options : Both Options) (turns : Both (List Transition)) : Type 0 where
   pub a_pair : Pair
   pub b_pair : Pair
   pub a : IsConnected options.a options.b turns.a a_pair b_pair
@@ -66,7 +66,7 @@ pub record AreConnected (options : Both Options) (turns : Both (List Turned)) : 
 
 -- At the end of each first part of the run whose acts are those of the handshake, both are connected. So they were connected
 -- after the first five acts, whatever came later.
-abbrev pub ConnectThroughout : Both Options → Side → List Worked → Type 0
+abbrev pub ConnectThroughout : Both Options → Side → List PerformedAct → Type 0
 ConnectThroughout options side [] = Unit {0}
 ConnectThroughout options side (worked ∷ earlier) =
     (acts_of (worked ∷ earlier) ≡ reverse (handshake_acts side) → AreConnected options (turns_after (worked ∷ earlier)))
@@ -74,5 +74,5 @@ ConnectThroughout options side (worked ∷ earlier) =
 
 abbrev pub FittingSocketsConnect : Type 0
 FittingSocketsConnect =
-    (options : Both Options) (side : Side) (run : List Worked) → AreUsable options → AreFitting options → SocketRun options run
+    (options : Both Options) (side : Side) (run : List PerformedAct) → AreUsable options → AreFitting options → SocketRun options run
     → ConnectThroughout options side run

@@ -14,11 +14,11 @@ use Rattle.dcsctp_spec_lemmas.specs.spec.endpoint.Endpoint.{Endpoint, fresh_endp
 use Rattle.dcsctp_spec_lemmas.specs.spec.endpoint.Endpoint as machine
 use Rattle.dcsctp_spec_lemmas.specs.spec.endpoint.Outcome.{Outcome}
 use Rattle.dcsctp_spec_lemmas.specs.spec.endpoint.Turn.{Input, chunk_input}
-use Rattle.dcsctp_spec_lemmas.specs.spec.endpoint.CallTurns.{Turned, AlongTurns}
+use Rattle.dcsctp_spec_lemmas.specs.spec.endpoint.CallTurns.{Transition, AlongTurns}
 use Rattle.dcsctp_spec_lemmas.specs.types.Schedule.{call_step, advance_call, ActContent, step_act}
 use Rattle.dcsctp_spec_lemmas.specs.spec.endpoint.TimeTurns.{Waits, MoveClock}
-use Rattle.dcsctp_spec_runs.specs.Past.{Has, Each, InPlace}
-use Rattle.dcsctp_spec_runs.specs.Sockets.{Worked, Both, of_side, turns_after, endpoint_after, packets_shown, side_of_act, SocketRun}
+use Rattle.dcsctp_spec_runs.specs.Past.{HasEffect, Each, InPlace}
+use Rattle.dcsctp_spec_runs.specs.Sockets.{PerformedAct, Both, of_side, turns_after, endpoint_after, packets_shown, side_of_act, SocketRun}
 use Rattle.dcsctp_theorem_association.specs.OneSide.{IsSuccess, IsRefusal, HasResponse, parameters_in}
 use Rattle.dcsctp_theorem_sockets.specs.Agreement.{AreUsable, noted_past}
 use Rattle.dcsctp_theorem_sockets.specs.Bursts.{flush_limit, packets_of}
@@ -27,7 +27,7 @@ use Rattle.dcsctp_theorem_sockets.specs.Bursts.{flush_limit, packets_of}
 -- and its own requests go up by one, one at a time. So do the peer's accepted ones, and each of these is performed at most once.
 abbrev pub SocketEffectsInPlace : Type 0
 SocketEffectsInPlace =
-    (options : Both Options) (run : List Worked) → AreUsable options → SocketRun options run → (side : Side)
+    (options : Both Options) (run : List PerformedAct) → AreUsable options → SocketRun options run → (side : Side)
     → Each InPlace (noted_past (of_side side (turns_after run)))
 
 -- The input is a RE-CONFIG with an answer to this number of this kind.
@@ -36,33 +36,33 @@ BearsAnswer Kind number (chunk_input tag content) = HasResponse Kind number (par
 BearsAnswer Kind number input = ⊥
 
 -- Its own request ends in a turn of such a chunk, and in no other (RFC 6525, section 5.2.7).
-pub record EndsByAnswer (turn : Turned) : Type 0 where
-  pub completed : (my : Pair) (number : ℕ) → Has (completes my number) turn.outcome.effects → BearsAnswer IsSuccess number turn.input
-  pub failed : (number : ℕ) → Has (fails number) turn.outcome.effects → BearsAnswer IsRefusal number turn.input
+pub record EndsByAnswer (turn : Transition) : Type 0 where
+  pub completed : (my : Pair) (number : ℕ) → HasEffect (completes my number) turn.outcome.effects → BearsAnswer IsSuccess number turn.input
+  pub failed : (number : ℕ) → HasEffect (fails number) turn.outcome.effects → BearsAnswer IsRefusal number turn.input
 
 abbrev pub SocketRequestsEndByAnswers : Type 0
 SocketRequestsEndByAnswers =
-    (options : Both Options) (run : List Worked) → SocketRun options run → (side : Side)
+    (options : Both Options) (run : List PerformedAct) → SocketRun options run → (side : Side)
     → AllByRecursion EndsByAnswer (of_side side (turns_after run))
 
 -- ---- ends
 
 -- how many of these events end an association
-abbrev pub ends_told : List (Event Emission) → ℕ
-ends_told [] = 0
-ends_told (closed ∷ events) = suc (ends_told events)
-ends_told (aborted kind text ∷ events) = suc (ends_told events)
-ends_told (event ∷ events) = ends_told events
+abbrev pub end_event_count : List (Event Emission) → ℕ
+end_event_count [] = 0
+end_event_count (closed ∷ events) = suc (end_event_count events)
+end_event_count (aborted kind text ∷ events) = suc (end_event_count events)
+end_event_count (event ∷ events) = end_event_count events
 
 -- A turn that leads to Closed from another phase adds OnClosed or OnAborted once, and any other turn adds neither (RFC 9260,
 -- section 9).
-pub data TellsEnd (e : Endpoint) (turn : Turned) : Type 0 where
-  it_ends : e.core ≢ machine.closed → turn.outcome.after.core ≡ machine.closed → ends_told turn.outcome.events ≡ 1 → TellsEnd e turn
-  it_stays : (turn.outcome.after.core ≡ machine.closed → e.core ≡ machine.closed) → ends_told turn.outcome.events ≡ 0 → TellsEnd e turn
+pub data TellsEnd (e : Endpoint) (turn : Transition) : Type 0 where
+  it_ends : e.core ≢ machine.closed → turn.outcome.after.core ≡ machine.closed → end_event_count turn.outcome.events ≡ 1 → TellsEnd e turn
+  it_stays : (turn.outcome.after.core ≡ machine.closed → e.core ≡ machine.closed) → end_event_count turn.outcome.events ≡ 0 → TellsEnd e turn
 
 abbrev pub SocketsTellEnds : Type 0
 SocketsTellEnds =
-    (options : Both Options) (run : List Worked) → SocketRun options run → (side : Side)
+    (options : Both Options) (run : List PerformedAct) → SocketRun options run → (side : Side)
     → AlongTurns TellsEnd (fresh_endpoint (of_side side options)) (of_side side (turns_after run))
 
 -- ---- sizes
@@ -74,7 +74,7 @@ IsWithinLimit options packet = length packet ≤ packet_size_limit options
 -- No packet that a socket ever emits is longer, if its options are valid.
 abbrev pub SocketsKeepSizes : Type 0
 SocketsKeepSizes =
-    (options : Both Options) (run : List Worked) → SocketRun options run → (side : Side) → IsValid (of_side side options)
+    (options : Both Options) (run : List PerformedAct) → SocketRun options run → (side : Side) → IsValid (of_side side options)
     → AllByRecursion (IsWithinLimit (of_side side options)) (packets_shown (of_side side options) (of_side side (turns_after run)))
 
 -- ---- flushes
@@ -84,27 +84,27 @@ SocketsKeepSizes =
 abbrev pub KeepsBurst : Endpoint → Input → Outcome → Type 0
 KeepsBurst e input o = length (packets_in o.events) ≤ packets_of e.options e.core input (flush_limit e.options.max_burst o.after.core)
 
-abbrev pub TurnKeepsBurst : Endpoint → Turned → Type 0
+abbrev pub TurnKeepsBurst : Endpoint → Transition → Type 0
 TurnKeepsBurst e turn = KeepsBurst e turn.input turn.outcome
 
 abbrev pub SocketsKeepBursts : Type 0
 SocketsKeepBursts =
-    (options : Both Options) (run : List Worked) → SocketRun options run → (side : Side)
+    (options : Both Options) (run : List PerformedAct) → SocketRun options run → (side : Side)
     → AlongTurns TurnKeepsBurst (fresh_endpoint (of_side side options)) (of_side side (turns_after run))
 
 -- ---- time
 
 -- The user moves the time. Before the next deadline only the clock moves, but in CookieEchoed. An earlier moment changes nothing.
-abbrev pub IsQuiet : Endpoint → ActContent → List Turned → Type 0
+abbrev pub IsQuiet : Endpoint → ActContent → List Transition → Type 0
 IsQuiet e (step_act (call_step side (advance_call moment))) turns = (Waits e moment → MoveClock e moment turns) × (moment < e.moment → turns ≡ [])
 IsQuiet e act turns = Unit {0}
 
 -- each act of a run, from what the acts before it left
-abbrev pub TimeIsQuiet : Both Options → List Worked → Type 0
+abbrev pub TimeIsQuiet : Both Options → List PerformedAct → Type 0
 TimeIsQuiet options [] = Unit {0}
 TimeIsQuiet options (worked ∷ earlier) =
     IsQuiet (endpoint_after (of_side (side_of_act worked.act) options) (of_side (side_of_act worked.act) (turns_after earlier))) worked.act worked.turns
     × TimeIsQuiet options earlier
 
 abbrev pub SocketsWaitQuietly : Type 0
-SocketsWaitQuietly = (options : Both Options) (run : List Worked) → SocketRun options run → TimeIsQuiet options run
+SocketsWaitQuietly = (options : Both Options) (run : List PerformedAct) → SocketRun options run → TimeIsQuiet options run

@@ -10,8 +10,8 @@ use Rattle.dcsctp_wire_build.specs.Building.{Building, bytes_remaining}
 use Rattle.dcsctp_send_retransmission.specs.spec.endpoint.Event.{Event}
 use Rattle.dcsctp_send_retransmission.specs.spec.Packet.{Plain, unworked, plain_out}
 use Rattle.dcsctp_send_retransmission.specs.spec.queues.Abandoning.{GivesUpFirst, GivesUpAll}
-use Rattle.dcsctp_send_retransmission.specs.spec.queues.Filling.{Stage, Steps, none, more}
-use Rattle.dcsctp_send_retransmission.specs.spec.queues.NextItem.{is_due}
+use Rattle.dcsctp_send_retransmission.specs.spec.queues.Filling.{Stage, StageSteps, none, more}
+use Rattle.dcsctp_send_retransmission.specs.spec.queues.NextItem.{is_abandonment_due}
 use Rattle.dcsctp_send_retransmission.specs.spec.queues.Items.{Item, is_first_abandoned}
 use Rattle.dcsctp_send_retransmission.specs.spec.queues.Retransmission.{RetransmissionState, outstanding_count}
 use Rattle.dcsctp_send_retransmission.specs.spec.queues.SendQueue.{SendQueueState}
@@ -21,33 +21,33 @@ use Rattle.dcsctp_send_retransmission.proofs.spec_lemmas.TellingLemmas.{tells_ab
 use Rattle.dcsctp_send_retransmission.proofs.spec_lemmas.ToldLemmas.{behind_events, given_up_before}
 use Rattle.dcsctp_send_retransmission.specs.send_streams.Telling.{contents}
 use Rattle.dcsctp_send_retransmission.specs.GivingUp.{GivesUpDue, StopsGivingUp}
-use Rattle.dcsctp_send_retransmission.specs.Sending.{Keeps}
+use Rattle.dcsctp_send_retransmission.specs.Sending.{KeepsAllFragments}
 use Rattle.dcsctp_send_retransmission.specs.States.{stage}
 use Rattle.dcsctp_send_retransmission.proofs.GivingUpLemmas.{gives_up_at}
 use Rattle.dcsctp_send_retransmission.proofs.SendingLemmas.{keeps_refl, keeps_trans, gives_up_keeps}
-use Rattle.dcsctp_transfer.specs.Forwarding.{PutsForward, Forwards, TellsAbandoning}
+use Rattle.dcsctp_transfer.specs.Forwarding.{PutsForward, MakesForwardTsn, TellsAbandoning}
 use Rattle.dcsctp_transfer.proofs.ForwardingLemmas.{adds_fitting}
 use Rattle.dcsctp_transfer.proofs.StoppedUpLemmas.{stops_giving_up}
 
 -- ---- if partial reliability wasn't negotiated, or nothing is outstanding
 
-keeps_steps : (now : ℕ) (old new : Stage) → Steps (GivesUpFirst now) old new → Keeps old.queue new.queue
+keeps_steps : (now : ℕ) (old new : Stage) → StageSteps (GivesUpFirst now) old new → KeepsAllFragments old.queue new.queue
 keeps_steps now old new none = keeps_refl old.queue
 keeps_steps now old new (more between new' steps step) =
     keeps_trans old.queue between.queue new'.queue (keeps_steps now old between steps)
     (gives_up_keeps step.place between.queue new'.queue (gives_up_at now step.place between new' step.gives_up))
 
-no_steps : (now : ℕ) (old new : Stage) → old.queue.partial_reliability ≡ false → Steps (GivesUpFirst now) old new → new ≡ old
+no_steps : (now : ℕ) (old new : Stage) → old.queue.partial_reliability ≡ false → StageSteps (GivesUpFirst now) old new → new ≡ old
 no_steps now old new not_negotiated none = refl
 no_steps now old new not_negotiated (more between new' steps step) =
     absurd (never step.is_due.item between.queue.partial_reliability ((keeps_steps now old between steps).partial_reliability ∙ not_negotiated) step.is_due.due)
   where
-    never : (item : Item) (negotiated : Bool) → negotiated ≡ false → is_due now negotiated item ≡ true → ⊥
-    never item negotiated without due = let both : false ≡ true = sym (ap (λ (b : Bool). is_due now b item) without) ∙ due in cc
+    never : (item : Item) (negotiated : Bool) → negotiated ≡ false → is_abandonment_due now negotiated item ≡ true → ⊥
+    never item negotiated without due = let both : false ≡ true = sym (ap (λ (b : Bool). is_abandonment_due now b item) without) ∙ due in cc
 
 -- nothing is abandoned
 pub forwards_none : (now : ℕ) (transfer : Transfer) (waiting : SendQueueState) (events : List (Event (List ℕ))) (packet : Building) → may_abandon transfer.retransmission ≡ false
-    → Forwards now transfer waiting events packet transfer waiting events packet None
+    → MakesForwardTsn now transfer waiting events packet transfer waiting events packet None
 forwards_none now transfer waiting events packet never =
     let start : Stage = stage_of waiting transfer.retransmission [] 0 in
     record {
@@ -101,7 +101,7 @@ record Makes (now : ℕ) (old : Transfer) (room : ℕ) (state : RetransmissionSt
 
 forwards_all : (now : ℕ) (old new : Transfer) (after : RetransmissionState) (shown left : SendQueueState) (events telling : Events) (packet filled : Building) (next : Option ℕ) → may_abandon old.retransmission ≡ true
     → AbandonsAll now old shown after left events telling → new ≡ record old { retransmission = after } → Makes now old (bytes_remaining packet) after packet filled next
-    → Forwards now old shown events packet new left telling filled next
+    → MakesForwardTsn now old shown events packet new left telling filled next
 forwards_all now old new after shown left events telling packet filled next may abandons new_is makes =
     let start : Stage = stage_of shown old.retransmission [] 0 in
     let tells = tells_abandoned now start abandons.gave_up abandons.all in
@@ -157,7 +157,7 @@ both_true false b is = absurd (cc)
 pub forwards_due : (now : ℕ) (old new : Transfer) (before after : RetransmissionState) (waiting shown left : SendQueueState) (events telling : List SocketEvent) (packet filled : Building) (next : ℕ) → before ≡ old.retransmission
     → waiting ≡ shown → new ≡ record old { retransmission = after } → (outstanding_count old.retransmission ≡ 0 → ⊥) → GivesUpAll now (stage before waiting events [] 0) (stage after left telling [] 0)
     → (before.partial_reliability && is_first_abandoned after.outstanding.items) ≡ true → next ≡ next_forward now old → PutsForward after packet filled
-    → Forwards now old shown (contents events) packet new left (contents telling) filled (Some next)
+    → MakesForwardTsn now old shown (contents events) packet new left (contents telling) filled (Some next)
 forwards_due now old new before after waiting shown left events telling packet filled next old_is shown_is new_is some all due next_is puts =
     let both = both_true before.partial_reliability (is_first_abandoned after.outstanding.items) due in
     let negotiated = ap (λ (q : RetransmissionState). q.partial_reliability) (sym old_is) ∙ both.0 in
@@ -166,10 +166,10 @@ forwards_due now old new before after waiting shown left events telling packet f
 
 pub forwards_not_due : (now : ℕ) (old new : Transfer) (before after : RetransmissionState) (waiting shown left : SendQueueState) (events telling : List SocketEvent) (packet : Building) → before ≡ old.retransmission → waiting ≡ shown
     → new ≡ record old { retransmission = after } → (outstanding_count old.retransmission ≡ 0 → ⊥) → GivesUpAll now (stage before waiting events [] 0) (stage after left telling [] 0)
-    → (before.partial_reliability && is_first_abandoned after.outstanding.items) ≡ false → Forwards now old shown (contents events) packet new left (contents telling) packet None
+    → (before.partial_reliability && is_first_abandoned after.outstanding.items) ≡ false → MakesForwardTsn now old shown (contents events) packet new left (contents telling) packet None
 forwards_not_due now old new before after waiting shown left events telling packet old_is shown_is new_is some all due = by_negotiated before.partial_reliability refl due
   where
-    by_negotiated : (b : Bool) → before.partial_reliability ≡ b → (b && is_first_abandoned after.outstanding.items) ≡ false → Forwards now old shown (contents events) packet new left (contents telling) packet None
+    by_negotiated : (b : Bool) → before.partial_reliability ≡ b → (b && is_first_abandoned after.outstanding.items) ≡ false → MakesForwardTsn now old shown (contents events) packet new left (contents telling) packet None
     by_negotiated true negotiated not_first =
         forwards_all now old new after shown left (contents events) (contents telling) packet packet None (may_if old.retransmission (ap (λ (q : RetransmissionState). q.partial_reliability) (sym old_is) ∙ negotiated) some)
         (abandons_all now old before after waiting shown left events telling old_is shown_is all) new_is (makes_none now old after packet not_first)

@@ -11,13 +11,13 @@ use Rattle.dcsctp_send_retransmission.specs.wire.declared.chunk.user_data.DataFl
 use Rattle.dcsctp_send_retransmission.proofs.wire_lemmas.Lengths.{length-chunk_bytes, length-data_fields, length-i_data_fields}
 use Rattle.dcsctp_wire_build.specs.Building.{Building, bytes_remaining}
 use Rattle.dcsctp_send_retransmission.specs.spec.Packet.{unworked}
-use Rattle.dcsctp_send_retransmission.specs.spec.queues.Chunks.{byte_field, flags_said, data_said, i_data_said, chunk_said, IsChunkOf, AreChunks}
+use Rattle.dcsctp_send_retransmission.specs.spec.queues.Chunks.{byte_field, flags_said, data_said, i_data_said, chunk_said, IsChunkOfItem, AreChunksOfTsns}
 use Rattle.dcsctp_send_retransmission.specs.spec.queues.Items.{Item, chunk_size}
 use Rattle.dcsctp_send_retransmission.specs.spec.queues.Outstanding.{OutstandingState, header_of, header, distance_to}
 use Rattle.dcsctp_send_retransmission.specs.spec.queues.Sending.{Fragment}
 use Rattle.dcsctp_send_retransmission.specs.send_outstanding.Outstanding.{FindsPlaces}
 use Rattle.dcsctp_send_retransmission.specs.Sending.{HasFragment, PackedFrom, HandsOut, none as none_packed, more as more_packed}
-use Rattle.dcsctp_transfer.specs.Adding.{HasChunk, HaveChunks, none, more, HasChunkWithin, AddsChunk, AddsChunkOf, AddsChunks, HasRest}
+use Rattle.dcsctp_transfer.specs.Adding.{HasChunk, HaveChunks, none, more, HasChunkWithin, AddsChunk, AddsChunkOf, AddsChunks, HasRoomForRest}
 
 -- ---- sizes
 
@@ -133,16 +133,16 @@ drop_at [] i d within = absurd (omega arith)
 drop_at (x ∷ xs) zero d within = refl
 drop_at (x ∷ xs) (suc i) d within = drop_at xs i d (omega arith)
 
-pub rest_of_all : (outstanding : OutstandingState) (tsns : List ℕ) (packet : Building) → HandsOut (bytes_remaining packet) outstanding tsns → HasRest outstanding 0 tsns packet
+pub rest_of_all : (outstanding : OutstandingState) (tsns : List ℕ) (packet : Building) → HandsOut (bytes_remaining packet) outstanding tsns → HasRoomForRest outstanding 0 tsns packet
 rest_of_all outstanding tsns packet hands =
     record { sizes = hands.used; chunks = have_packed outstanding tsns hands.used hands.packed; within = hands.fits }
 
-next_of : (outstanding : OutstandingState) (i d : ℕ) (tsns : List ℕ) (packet : Building) → i < length tsns → (rest : HasRest outstanding i tsns packet) → First outstanding (get_or tsns i d) (drop (suc i) tsns) rest.sizes
+next_of : (outstanding : OutstandingState) (i d : ℕ) (tsns : List ℕ) (packet : Building) → i < length tsns → (rest : HasRoomForRest outstanding i tsns packet) → First outstanding (get_or tsns i d) (drop (suc i) tsns) rest.sizes
 next_of outstanding i d tsns packet within rest =
     first_of outstanding (get_or tsns i d) (drop (suc i) tsns) rest.sizes (subst (λ (xs : List ℕ). HaveChunks outstanding xs rest.sizes) (drop_at tsns i d within) rest.chunks)
 
 -- there is room for the next one
-pub next_within : (outstanding : OutstandingState) (i d : ℕ) (tsns : List ℕ) (packet : Building) → i < length tsns → HasRest outstanding i tsns packet → HasChunkWithin (bytes_remaining packet) outstanding (get_or tsns i d)
+pub next_within : (outstanding : OutstandingState) (i d : ℕ) (tsns : List ℕ) (packet : Building) → i < length tsns → HasRoomForRest outstanding i tsns packet → HasChunkWithin (bytes_remaining packet) outstanding (get_or tsns i d)
 next_within outstanding i d tsns packet within rest =
     let next = next_of outstanding i d tsns packet within rest in
     record { size = next.size; chunk = next.chunk; within = omega (arith, next.sum, rest.within) }
@@ -153,7 +153,7 @@ room_left old new chunk size rest is size_is within =
     omega (arith, left, length-append old.body (chunk_bytes chunk), size_is, within)
 
 -- what is left once it is added
-pub rest_after : (outstanding : OutstandingState) (i d : ℕ) (tsns : List ℕ) (old new : Building) → i < length tsns → HasRest outstanding i tsns old → AddsChunkOf outstanding (get_or tsns i d) old new → HasRest outstanding (suc i) tsns new
+pub rest_after : (outstanding : OutstandingState) (i d : ℕ) (tsns : List ℕ) (old new : Building) → i < length tsns → HasRoomForRest outstanding i tsns old → AddsChunkOf outstanding (get_or tsns i d) old new → HasRoomForRest outstanding (suc i) tsns new
 rest_after outstanding i d tsns old new within rest adds =
     let next = next_of outstanding i d tsns old within rest in
     let one = adds next.size next.chunk in
@@ -173,8 +173,8 @@ all_with : (P : ChunkContent → Type 0) (chunks : List ChunkContent) (chunk : C
 all_with P [] chunk all here = (here, tt)
 all_with P (x ∷ xs) chunk all here = (all.0, all_with P xs chunk all.1 here)
 
-are_with : (outstanding : OutstandingState) (tsns : List ℕ) (tsn : ℕ) (chunks : List ChunkContent) (chunk : ChunkContent) → AreChunks outstanding tsns (map unworked chunks) → IsChunkOf outstanding tsn (unworked chunk)
-    → AreChunks outstanding (tsns ++ tsn ∷ []) (map unworked (chunks ++ chunk ∷ []))
+are_with : (outstanding : OutstandingState) (tsns : List ℕ) (tsn : ℕ) (chunks : List ChunkContent) (chunk : ChunkContent) → AreChunksOfTsns outstanding tsns (map unworked chunks) → IsChunkOfItem outstanding tsn (unworked chunk)
+    → AreChunksOfTsns outstanding (tsns ++ tsn ∷ []) (map unworked (chunks ++ chunk ∷ []))
 are_with outstanding [] tsn [] chunk are of = (of, tt)
 are_with outstanding [] tsn (first ∷ chunks) chunk are of = absurd are
 are_with outstanding (other ∷ tsns) tsn [] chunk are of = absurd are
@@ -203,7 +203,7 @@ take_next (x ∷ xs) zero d within = refl
 take_next (x ∷ xs) (suc i) d within = ap (λ (rest : List ℕ). x ∷ rest) (take_next xs i d (omega arith))
 
 -- the next one, behind those so far
-pub adds_next : (outstanding : OutstandingState) (i d : ℕ) (tsns : List ℕ) (start old new : Building) → i < length tsns → HasRest outstanding i tsns old → AddsChunks outstanding (take i tsns) start old → AddsChunkOf outstanding (get_or tsns i d) old new
+pub adds_next : (outstanding : OutstandingState) (i d : ℕ) (tsns : List ℕ) (start old new : Building) → i < length tsns → HasRoomForRest outstanding i tsns old → AddsChunks outstanding (take i tsns) start old → AddsChunkOf outstanding (get_or tsns i d) old new
     → AddsChunks outstanding (take (suc i) tsns) start new
 adds_next outstanding i d tsns start old new within rest adds added =
     let next = next_of outstanding i d tsns old within rest in

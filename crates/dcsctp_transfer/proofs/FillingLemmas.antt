@@ -8,13 +8,13 @@ use Rattle.dcsctp_send_retransmission.specs.wire.Content.{ChunkContent}
 use Rattle.dcsctp_wire_build.specs.Building.{Building, bytes_remaining}
 use Rattle.dcsctp_send_retransmission.specs.spec.endpoint.Event.{Event}
 use Rattle.dcsctp_send_retransmission.specs.spec.Packet.{unworked}
-use Rattle.dcsctp_send_retransmission.specs.spec.queues.Chunks.{AreChunks}
+use Rattle.dcsctp_send_retransmission.specs.spec.queues.Chunks.{AreChunksOfTsns}
 use Rattle.dcsctp_send_retransmission.specs.spec.queues.Filling.{Stage, FillsPacket as Fills}
 use Rattle.dcsctp_send_retransmission.specs.spec.queues.Items.{Item, marked_items}
 use Rattle.dcsctp_send_retransmission.specs.spec.endpoint.Timers.{TimerModel}
 use Rattle.dcsctp_send_retransmission.specs.spec.queues.NextItem.{Halts}
 use Rattle.dcsctp_send_retransmission.specs.spec.queues.Outstanding.{OutstandingState}
-use Rattle.dcsctp_send_retransmission.specs.spec.queues.SendQueue.{SendQueueState, has_data}
+use Rattle.dcsctp_send_retransmission.specs.spec.queues.SendQueue.{SendQueueState, has_queued_data}
 use Rattle.dcsctp_send_retransmission.specs.spec.queues.Transfer.{Transfer, may_give}
 use Rattle.dcsctp_send_retransmission.specs.spec.queues.Retransmission.{RetransmissionState, outstanding_count, can_send}
 use Rattle.dcsctp_send_retransmission.specs.spec.endpoint.FlushOutcomes.{stage_of, FillsWhere}
@@ -25,7 +25,7 @@ use Rattle.dcsctp_send_retransmission.specs.send_outstanding.Outstanding.{FindsP
 use Rattle.dcsctp_send_retransmission.specs.Halting.{FillsUp}
 use Rattle.dcsctp_send_retransmission.specs.States.{stage, StopsFilling, SendsPacket}
 use Rattle.dcsctp_transfer.specs.Adding.{AddsChunks}
-use Rattle.dcsctp_transfer.specs.Filling.{has_chunks, FillsPacket, TellsFilling}
+use Rattle.dcsctp_transfer.specs.Filling.{has_chunks, FillsDataPacket, TellsFilling}
 use Rattle.dcsctp_transfer.proofs.RoomLemmas.{halts_there}
 use Rattle.dcsctp_transfer.proofs.StoppedLemmas.{stops_filling}
 
@@ -44,14 +44,14 @@ no_items : (items : List Item) → nat_lt 0 (length items) ≡ false → items �
 no_items [] is = refl
 no_items (item ∷ items) is = absurd (grind (arith, nat_tests))
 
-may_give_none : (waiting : SendQueueState) (state : RetransmissionState) → has_data waiting ≡ false → state.outstanding.items ≡ [] → may_give waiting state ≡ false
+may_give_none : (waiting : SendQueueState) (state : RetransmissionState) → has_queued_data waiting ≡ false → state.outstanding.items ≡ [] → may_give waiting state ≡ false
 may_give_none waiting state nothing empty =
-    ap (λ (items : List Item). nat_lt 0 (marked_items items) || (has_data waiting && can_send state)) empty ∙ ap (λ (b : Bool). b && can_send state) nothing
+    ap (λ (items : List Item). nat_lt 0 (marked_items items) || (has_queued_data waiting && can_send state)) empty ∙ ap (λ (b : Bool). b && can_send state) nothing
 
-pub fills_none : (now : ℕ) (transfer : Transfer) (waiting : SendQueueState) (events : List (Event (List ℕ))) (packet : Building) → (has_data waiting || nat_lt 0 (outstanding_count transfer.retransmission)) ≡ false
-    → FillsPacket now transfer waiting events packet transfer waiting events packet false
+pub fills_none : (now : ℕ) (transfer : Transfer) (waiting : SendQueueState) (events : List (Event (List ℕ))) (packet : Building) → (has_queued_data waiting || nat_lt 0 (outstanding_count transfer.retransmission)) ≡ false
+    → FillsDataPacket now transfer waiting events packet transfer waiting events packet false
 fills_none now transfer waiting events packet idle =
-    let both = none_waits (has_data waiting) (nat_lt 0 (outstanding_count transfer.retransmission)) idle in
+    let both = none_waits (has_queued_data waiting) (nat_lt 0 (outstanding_count transfer.retransmission)) idle in
     let start : Stage = stage_of waiting transfer.retransmission [] (bytes_remaining packet) in
     record {
       sent = start;
@@ -74,7 +74,7 @@ fills_none now transfer waiting events packet idle =
 positive : (n : ℕ) → 0 < n → not (n == 0) ≡ true
 positive n some = grind (arith, nat_tests)
 
-as_many : (outstanding : OutstandingState) (tsns : List ℕ) (chunks : List ChunkContent) → AreChunks outstanding tsns (map unworked chunks) → not (length tsns == 0) ≡ has_chunks chunks
+as_many : (outstanding : OutstandingState) (tsns : List ℕ) (chunks : List ChunkContent) → AreChunksOfTsns outstanding tsns (map unworked chunks) → not (length tsns == 0) ≡ has_chunks chunks
 as_many outstanding [] [] are = refl
 as_many outstanding [] (chunk ∷ chunks) are = absurd are
 as_many outstanding (tsn ∷ tsns) [] are = absurd are
@@ -109,10 +109,10 @@ sent_packet now bytes before after waiting left events telling tsns sends up pla
 
 pub fills_some : (now bytes : ℕ) (old new : Transfer) (before after : RetransmissionState) (waiting shown left : SendQueueState) (events telling : List SocketEvent) (packet filled : Building) (tsns : Vec ℕ Global) (any : Bool)
     → before ≡ old.retransmission → waiting ≡ shown → bytes ≡ bytes_remaining packet → new ≡ record old { retransmission = after }
-    → (has_data shown || nat_lt 0 (outstanding_count old.retransmission)) ≡ true
+    → (has_queued_data shown || nat_lt 0 (outstanding_count old.retransmission)) ≡ true
     → SendsPacket now bytes before waiting events after left telling (Ok tsns) → FillsUp now bytes after left tsns.items → (0 < length tsns.items → FindsPlaces after.outstanding)
     → AddsChunks after.outstanding tsns.items packet filled → any ≡ not (length tsns.items == 0)
-    → FillsPacket now old shown (contents events) packet new left (contents telling) filled any
+    → FillsDataPacket now old shown (contents events) packet new left (contents telling) filled any
 fills_some now bytes old new before after waiting shown left events telling packet filled tsns any old_is shown_is bytes_is new_is some sends up places adds answer =
     let (room, fills) = sent_packet now bytes before after waiting left events telling tsns sends up places in
     let start : Stage = stage_of shown old.retransmission [] (bytes_remaining packet) in
@@ -123,9 +123,9 @@ fills_some now bytes old new before after waiting shown left events telling pack
     record {
       sent = stripped;
       fills = fills_where (may_give shown old.retransmission) now start stripped does;
-      idle = λ nothing none_out. absurd (some_waits (has_data shown) (outstanding_count old.retransmission) some nothing none_out);
+      idle = λ nothing none_out. absurd (some_waits (has_queued_data shown) (outstanding_count old.retransmission) some nothing none_out);
       chunks = adds.chunks;
-      are = subst (λ (s : Stage). AreChunks s.queue.outstanding s.tsns (map unworked adds.chunks)) is adds.are;
+      are = subst (λ (s : Stage). AreChunksOfTsns s.queue.outstanding s.tsns (map unworked adds.chunks)) is adds.are;
       fits = adds.fits;
       adds = adds.is;
       told = tells.told;

@@ -14,21 +14,21 @@ use Rattle.dcsctp_wire_build.specs.Building.{Building, bytes_remaining}
 use Rattle.dcsctp_send_retransmission.specs.spec.Packet.{unworked, plain_out}
 use Rattle.dcsctp_send_retransmission.specs.spec.queues.Items.{Item}
 use Rattle.dcsctp_send_retransmission.specs.spec.queues.Retransmission.{RetransmissionState}
-use Rattle.dcsctp_send_retransmission.specs.spec.queues.Skipping.{entry_limit, entry_bytes, forward_chunk, ListsEntries, IsRow, SaysForward}
+use Rattle.dcsctp_send_retransmission.specs.spec.queues.Skipping.{entry_limit, entry_bytes, forward_chunk, ListsEntries, IsSkippedRow, SaysForward}
 use Rattle.dcsctp_send_retransmission.specs.spec.endpoint.FlushOutcomes.{FitsPlain, where_fits}
 use Rattle.dcsctp_send_retransmission.specs.declared.forward_tsn.ForwardTsn.{ForwardTsn}
 use Rattle.dcsctp_send_retransmission.specs.declared.forward_tsn.Skipped.{Skipped}
 use Rattle.dcsctp_send_retransmission.specs.declared.forward_tsn.Skipped.TheVariants.{Streams, Messages}
-use Rattle.dcsctp_send_retransmission.specs.Forwarding.{stream_entry, messages_entry, entry_count, Lists, Says}
-use Rattle.dcsctp_send_retransmission.specs.SkippedBytes.{stream_bytes, messages_bytes, skipped_bytes, ReadsAs}
+use Rattle.dcsctp_send_retransmission.specs.Forwarding.{stream_entry, messages_entry, entry_count, Lists, SkipsAbandoned}
+use Rattle.dcsctp_send_retransmission.specs.SkippedBytes.{skipped_stream_bytes, messages_bytes, skipped_bytes, ReadsAs}
 use Rattle.dcsctp_transfer.specs.Filling.{with_chunk}
 use Rattle.dcsctp_transfer.specs.Forwarding.{forward_said, PutsForward}
 
 -- ---- the entries, as they lie in memory
 
-streams_said : (streams : List SkippedStream) → flat_map stream_bytes streams ≡ flat_map (entry_bytes false) (map stream_entry streams)
+streams_said : (streams : List SkippedStream) → flat_map skipped_stream_bytes streams ≡ flat_map (entry_bytes false) (map stream_entry streams)
 streams_said [] = refl
-streams_said (entry ∷ streams) = ap (λ (bytes : List ℕ). stream_bytes entry ++ bytes) (streams_said streams)
+streams_said (entry ∷ streams) = ap (λ (bytes : List ℕ). skipped_stream_bytes entry ++ bytes) (streams_said streams)
 
 messages_said : (messages : List SkippedMessages) → flat_map messages_bytes messages ≡ flat_map (entry_bytes true) (map messages_entry messages)
 messages_said [] = refl
@@ -67,7 +67,7 @@ says_entries true row (Messages messages) lists =
       said = λ tsn bytes is. ap (i_forward_tsn_chunk tsn) (is ∙ messages_said messages.items);
     }
 
-says_forward : (state : RetransmissionState) (forward : ForwardTsn) (bytes : List ℕ) → Says state forward → bytes ≡ skipped_bytes forward.skipped
+says_forward : (state : RetransmissionState) (forward : ForwardTsn) (bytes : List ℕ) → SkipsAbandoned state forward → bytes ≡ skipped_bytes forward.skipped
     → SaysForward state (forward_said forward.new_cumulative_tsn bytes forward.skipped)
 says_forward state forward bytes says is =
     let interleaving = state.outstanding.is_interleaved in
@@ -75,7 +75,7 @@ says_forward state forward bytes says is =
     record {
       count = says.count;
       entries = says_all.entries;
-      row = subst (λ (n : ℕ). IsRow interleaving (entry_limit interleaving state.congestion.mtu) n says.count state.outstanding.items) says_all.count says.row;
+      row = subst (λ (n : ℕ). IsSkippedRow interleaving (entry_limit interleaving state.congestion.mtu) n says.count state.outstanding.items) says_all.count says.row;
       lists = says_all.lists;
       is = says_all.said forward.new_cumulative_tsn bytes is ∙ ap (λ (tsn : ℕ). forward_chunk interleaving tsn says_all.entries) says.cumulative;
     }
@@ -92,7 +92,7 @@ said_fits tsn entries (Streams streams) tsn_fits bytes reads short =
 said_fits tsn entries (Messages messages) tsn_fits bytes reads short =
     record { tsn_fits = tsn_fits; len_fits = short; streams_fit = record { whole = omega (arith, reads.0); entries_in_bytes = bytes } }
 
-pub puts_forward : (state : RetransmissionState) (forward : ForwardTsn) (entries : List ℕ) (packet filled : Building) → Says state forward → entries ≡ skipped_bytes forward.skipped → ReadsAs forward.skipped entries
+pub puts_forward : (state : RetransmissionState) (forward : ForwardTsn) (entries : List ℕ) (packet filled : Building) → SkipsAbandoned state forward → entries ≡ skipped_bytes forward.skipped → ReadsAs forward.skipped entries
     → forward.new_cumulative_tsn < 2 ^ 32 → AllByRecursion IsByte entries → packet.size ≤ 65535 → filled ≡ with_chunk packet (forward_said forward.new_cumulative_tsn entries forward.skipped)
     → PutsForward state packet filled
 puts_forward state forward entries packet filled says said reads tsn_fits bytes small is =

@@ -2,7 +2,7 @@
 use Rattle.std.proofs.Common.{◌≡◌, ◌∙◌, ℕ, ◌<◌, Some, List, [], ◌∷◌, length, ap, sym, subst, arith}
 use Rattle.std.specs.List.{slice_get}
 use Rattle.dcsctp_send_retransmission.specs.spec.queues.Filling.{Stage, FillsStage}
-use Rattle.dcsctp_send_retransmission.specs.spec.queues.Items.{size_of}
+use Rattle.dcsctp_send_retransmission.specs.spec.queues.Items.{item_size}
 use Rattle.dcsctp_send_retransmission.specs.spec.queues.NextItem.{Halts}
 use Rattle.dcsctp_send_retransmission.specs.spec.queues.Outstanding.{OutstandingState, header}
 use Rattle.dcsctp_send_retransmission.specs.spec.queues.Retransmission.{RetransmissionState}
@@ -21,7 +21,7 @@ one_size outstanding tsn a b places has of =
     let place : has.place ≡ of.place = sym (found_at outstanding tsn a places has) ∙ found_at outstanding tsn b places here in
     let both : Some has.item ≡ Some of.item = sym has.at ∙ (ap (slice_get outstanding.items) place ∙ of.at) in
     let same : has.item ≡ of.item = cc in
-    has.size_is ∙ (ap (size_of (header outstanding)) same ∙ sym of.size_is)
+    has.size_is ∙ (ap (item_size (header outstanding)) same ∙ sym of.size_is)
 
 one_sum : (outstanding : OutstandingState) (tsns : List ℕ) (a b : ℕ) → (0 < length tsns → FindsPlaces outstanding) → HaveChunks outstanding tsns a → AreTsnsOf outstanding tsns b → a ≡ b
 one_sum outstanding [] a b places none are = sym are

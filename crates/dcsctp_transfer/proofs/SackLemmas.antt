@@ -6,17 +6,17 @@ use Rattle.std.proofs.lemmas.List.{take_all}
 use Rattle.dcsctp_send_retransmission.specs.wire.Content.{SackContent, sack_chunk}
 use Rattle.dcsctp_wire_build.specs.Building.{Building}
 use Rattle.dcsctp_send_retransmission.specs.spec.queues.Reassembly.{ReassemblyState, remaining_bytes, bytes_to_watermark}
-use Rattle.dcsctp_send_retransmission.specs.spec.queues.Transfer.{Transfer, window_told}
+use Rattle.dcsctp_send_retransmission.specs.spec.queues.Transfer.{Transfer, advertised_window}
 use Rattle.dcsctp_send_retransmission.specs.types.declared.tracking.AckState.{AckState}
 use Rattle.dcsctp_send_retransmission.specs.types.declared.tracking.AckState.TheVariants.{Idle, BecomingDelayed, Delayed, Immediate}
 use Rattle.dcsctp_receive_tracker.specs.declared.data_tracker.SelectiveAck.{SelectiveAck}
-use Rattle.dcsctp_send_retransmission.specs.spec.queues.Tracker.{TrackerState, is_due, is_acknowledgement_due, owes_acknowledgement, all_acknowledged, acknowledged, block_bytes, sack_of, sacked}
-use Rattle.dcsctp_transfer.specs.Filling.{is_sack_wanted, with_chunk, Acknowledges}
-use Rattle.dcsctp_transfer.specs.Adding.{said_by}
+use Rattle.dcsctp_send_retransmission.specs.spec.queues.Tracker.{TrackerState, is_sack_due, is_acknowledgement_due, owes_acknowledgement, all_acknowledged, acknowledgement_asked, block_bytes, sack_of, sacked}
+use Rattle.dcsctp_transfer.specs.Filling.{is_sack_wanted, with_chunk, FillsRequestedSack}
+use Rattle.dcsctp_transfer.specs.Adding.{sack_said}
 
 -- ---- whether it is wanted
 
-due_by : (state : AckState) (along : Bool) → (is_due state false || (is_due state true && along)) ≡ is_due state along
+due_by : (state : AckState) (along : Bool) → (is_sack_due state false || (is_sack_due state true && along)) ≡ is_sack_due state along
 due_by Idle true = refl
 due_by Idle false = refl
 due_by BecomingDelayed true = refl
@@ -35,9 +35,9 @@ pub record Says (sack : SelectiveAck) (tracker : TrackerState) : Type 0 where
   pub duplicates : sack.duplicate_tsns.items ≡ flat_map (to_be_bytes w32) tracker.duplicates
   pub few : length tracker.duplicates ≤ 20
 
-says_so : (sack : SelectiveAck) (tracker : TrackerState) (window : ℕ) → sack.a_rwnd ≡ window % 2 ^ 32 → Says sack tracker → said_by sack ≡ sack_of tracker window
+says_so : (sack : SelectiveAck) (tracker : TrackerState) (window : ℕ) → sack.a_rwnd ≡ window % 2 ^ 32 → Says sack tracker → sack_said sack ≡ sack_of tracker window
 says_so sack tracker window window_is says =
-    let said : SackContent = said_by sack in
+    let said : SackContent = sack_said sack in
     let duplicates : sack.duplicate_tsns.items ≡ flat_map (to_be_bytes w32) (take 20 tracker.duplicates) =
     says.duplicates ∙ ap (flat_map (to_be_bytes w32)) (sym (take_all 20 tracker.duplicates says.few)) in
     ap (λ (n : ℕ). record said { cumulative_tsn_ack = n }) says.cumulative
@@ -49,8 +49,8 @@ says_so sack tracker window window_is says =
 abbrev pub told_where : Bool → ReassemblyState → ℕ
 told_where follows queue = if follows then bytes_to_watermark queue else remaining_bytes queue
 
-asking_keeps : (tracker asked : TrackerState) (along : Bool) → asked ≡ acknowledged along tracker → asked.follows_rfc ≡ tracker.follows_rfc
-asking_keeps tracker asked along is = ap (λ (t : TrackerState). t.follows_rfc) is ∙ go (is_due tracker.acknowledgement along)
+asking_keeps : (tracker asked : TrackerState) (along : Bool) → asked ≡ acknowledgement_asked along tracker → asked.follows_rfc ≡ tracker.follows_rfc
+asking_keeps tracker asked along is = ap (λ (t : TrackerState). t.follows_rfc) is ∙ go (is_sack_due tracker.acknowledgement along)
   where
     go : (b : Bool) → (if b then all_acknowledged tracker else tracker).follows_rfc ≡ tracker.follows_rfc
     go true = refl
@@ -59,23 +59,23 @@ asking_keeps tracker asked along is = ap (λ (t : TrackerState). t.follows_rfc) 
 pub gives_wanted : (old new : Transfer) (tracker asked after : TrackerState) (along : Bool) (sack : SelectiveAck) (packet filled : Building)
     → tracker ≡ old.tracker
     → new ≡ record old { tracker = after }
-    → is_due tracker.acknowledgement along ≡ true
-    → asked ≡ acknowledged along tracker
+    → is_sack_due tracker.acknowledgement along ≡ true
+    → asked ≡ acknowledgement_asked along tracker
     → after ≡ record asked { duplicates = [] }
     → Says sack asked
     → sack.a_rwnd ≡ (told_where asked.follows_rfc old.reassembly) % 2 ^ 32
-    → filled ≡ with_chunk packet (sack_chunk (said_by sack))
-    → Acknowledges (is_sack_wanted along old) old packet new filled
+    → filled ≡ with_chunk packet (sack_chunk (sack_said sack))
+    → FillsRequestedSack (is_sack_wanted along old) old packet new filled
 gives_wanted old new tracker asked after along sack packet filled seen new_is due asked_is after_is says window adds =
     let wanted : is_sack_wanted along old ≡ true =
     ap (λ (t : TrackerState). is_acknowledgement_due t || (owes_acknowledgement t && along)) (sym seen) ∙ (due_by tracker.acknowledgement along ∙ due) in
     let idle : asked ≡ all_acknowledged tracker = asked_is ∙ ap (λ (b : Bool). if b then all_acknowledged tracker else tracker) due in
     let left : after ≡ sacked old.tracker = after_is ∙ (ap (λ (t : TrackerState). record t { duplicates = [] }) idle ∙ ap sacked seen) in
-    let told : told_where asked.follows_rfc old.reassembly ≡ window_told old =
+    let told : told_where asked.follows_rfc old.reassembly ≡ advertised_window old =
     ap (λ (b : Bool). told_where b old.reassembly) (asking_keeps tracker asked along asked_is ∙ ap (λ (t : TrackerState). t.follows_rfc) seen) in
-    let said : said_by sack ≡ sack_of old.tracker (window_told old) =
-    says_so sack asked (window_told old) (window ∙ ap (λ (n : ℕ). n % 2 ^ 32) told) says
-    ∙ (ap (λ (t : TrackerState). sack_of t (window_told old)) idle ∙ ap (λ (t : TrackerState). sack_of t (window_told old)) seen) in
-    let gives : Acknowledges true old packet new filled =
+    let said : sack_said sack ≡ sack_of old.tracker (advertised_window old) =
+    says_so sack asked (advertised_window old) (window ∙ ap (λ (n : ℕ). n % 2 ^ 32) told) says
+    ∙ (ap (λ (t : TrackerState). sack_of t (advertised_window old)) idle ∙ ap (λ (t : TrackerState). sack_of t (advertised_window old)) seen) in
+    let gives : FillsRequestedSack true old packet new filled =
     (new_is ∙ ap (λ (t : TrackerState). record old { tracker = t }) left, adds ∙ ap (λ (content : SackContent). with_chunk packet (sack_chunk content)) said) in
-    subst (λ (b : Bool). Acknowledges b old packet new filled) (sym wanted) gives
+    subst (λ (b : Bool). FillsRequestedSack b old packet new filled) (sym wanted) gives

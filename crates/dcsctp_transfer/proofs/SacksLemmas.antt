@@ -2,20 +2,20 @@
 use Rattle.std.proofs.Common.{◌≡◌, ℕ, ◌≤◌, ◌<◌, nat_le, Bool, true, false, if◌then◌else◌, Option, None, Some, refl, arith}
 use Rattle.std.proofs.lemmas.Bool.Decides.{nat_tests}
 use Rattle.dcsctp_send_retransmission.specs.spec.queues.Acknowledging.{is_sack_valid, has_acknowledged}
-use Rattle.dcsctp_send_retransmission.specs.spec.queues.Outstanding.{acknowledged_by}
+use Rattle.dcsctp_send_retransmission.specs.spec.queues.Outstanding.{acknowledged_count}
 use Rattle.dcsctp_send_retransmission.specs.spec.queues.Retransmission.{RetransmissionState, outstanding_count, after_expiry}
 use Rattle.dcsctp_send_retransmission.specs.spec.queues.Transfer.{Transfer}
 use Rattle.dcsctp_send_retransmission.specs.spec.endpoint.TransferMoves.{timed_by}
 use Rattle.dcsctp_transfer.specs.Sacks.{lost_where}
 
-pub is_valid : (state : RetransmissionState) (tsn : ℕ) → acknowledged_by state.outstanding tsn ≤ outstanding_count state → is_sack_valid state tsn ≡ true
-is_valid state tsn within = test (acknowledged_by state.outstanding tsn) (outstanding_count state) within
+pub is_valid : (state : RetransmissionState) (tsn : ℕ) → acknowledged_count state.outstanding tsn ≤ outstanding_count state → is_sack_valid state tsn ≡ true
+is_valid state tsn within = test (acknowledged_count state.outstanding tsn) (outstanding_count state) within
   where
     test : (n m : ℕ) → n ≤ m → nat_le n m ≡ true
     test n m less = grind (arith, nat_tests)
 
-pub is_invalid : (state : RetransmissionState) (tsn : ℕ) → outstanding_count state < acknowledged_by state.outstanding tsn → is_sack_valid state tsn ≡ false
-is_invalid state tsn beyond = test (acknowledged_by state.outstanding tsn) (outstanding_count state) beyond
+pub is_invalid : (state : RetransmissionState) (tsn : ℕ) → outstanding_count state < acknowledged_count state.outstanding tsn → is_sack_valid state tsn ≡ false
+is_invalid state tsn beyond = test (acknowledged_count state.outstanding tsn) (outstanding_count state) beyond
   where
     test : (n m : ℕ) → m < n → nat_le n m ≡ false
     test n m less = grind (arith, nat_tests)

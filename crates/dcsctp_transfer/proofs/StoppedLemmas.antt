@@ -2,7 +2,7 @@
 use Rattle.std.proofs.Common.{◌≡◌, ◌∙◌, ◌⊎◌, inl, inr, ℕ, ◌+◌, ◌-◌, ◌^◌, min, nat_lt, Bool, true, false, if◌then◌else◌, List, ◌++◌, refl, ap, sym, subst, arith}
 use Rattle.dcsctp_send_retransmission.specs.types.declared.progress.Change.TheVariants.{Abandon}
 use Rattle.dcsctp_send_retransmission.specs.spec.endpoint.Event.{Event}
-use Rattle.dcsctp_send_retransmission.specs.spec.queues.Filling.{Stage, payload_room, StepAgain, MayAdd, StepNew, Steps, none, more, counting}
+use Rattle.dcsctp_send_retransmission.specs.spec.queues.Filling.{Stage, payload_room, StepAgain, MayAdd, StepNew, StageSteps, none, more, resent_packet_counted}
 use Rattle.dcsctp_send_retransmission.specs.spec.queues.Items.{Item, marked_items}
 use Rattle.dcsctp_send_retransmission.specs.spec.queues.NextItem.{IsNextMarked}
 use Rattle.dcsctp_send_retransmission.specs.spec.queues.Outstanding.{header}
@@ -27,7 +27,7 @@ unmarked_after now old new (may, inl sends) =
     ap (λ (s : Stage). marked_items s.queue.outstanding.items) sends.is ∙ none_marked old.queue.outstanding.items sends.item sends.is_fresh.progress may.none_marked
 unmarked_after now old new (may, inr finds) = ap (λ (s : Stage). marked_items s.queue.outstanding.items) finds.is ∙ may.none_marked
 
-none_or_unmarked : (now : ℕ) (old new : Stage) → Steps (StepNew now) old new → (new ≡ old) ⊎ (marked_items new.queue.outstanding.items ≡ 0)
+none_or_unmarked : (now : ℕ) (old new : Stage) → StageSteps (StepNew now) old new → (new ≡ old) ⊎ (marked_items new.queue.outstanding.items ≡ 0)
 none_or_unmarked now old _ none = inl refl
 none_or_unmarked now old _ (more between new steps step) = inr (unmarked_after now between new step)
 
@@ -60,7 +60,7 @@ up_uncounted false size front now s left telling up = up
 -- ---- a further step
 
 -- An allocation fails for a message that is to be abandoned.
-up_front : (front : Events) (now : ℕ) (old mid : Stage) (left : SendQueueState) (telling : Events) → Steps (StepAgain now) old mid → RefusesUp now (behind_events front mid) left telling → FillsTelling front now old telling
+up_front : (front : Events) (now : ℕ) (old mid : Stage) (left : SendQueueState) (telling : Events) → StageSteps (StepAgain now) old mid → RefusesUp now (behind_events front mid) left telling → FillsTelling front now old telling
 up_front front now old mid left telling again up =
     let gives = gives_up_telling front now up.place mid up.next.marked.item telling up.next.marked.at up.refused in
     let step : StepAgain now mid gives.new = inr (record { place = up.place; next = up.next; due = up.due; gives_up = gives.up }) in
@@ -70,7 +70,7 @@ up_front front now old mid left telling again up =
       tells = gives.tells;
     }
 
-again_refused : (front : Events) (now : ℕ) (old resent : Stage) (left : SendQueueState) (telling : Events) → Steps (StepAgain now) old resent → Refused now (behind_events front resent) left telling
+again_refused : (front : Events) (now : ℕ) (old resent : Stage) (left : SendQueueState) (telling : Events) → StageSteps (StepAgain now) old resent → Refused now (behind_events front resent) left telling
     → FillsTelling front now old telling
 again_refused front now old resent left telling again (inl same) = fills_same front now old resent telling (filled_from_again now old resent again) same.1
 again_refused front now old resent left telling again (inr (inl up)) = up_front front now old resent left telling again up
@@ -78,15 +78,15 @@ again_refused front now old resent left telling again (inr (inr (may, stops))) =
     let size : ℕ = old.room - resent.room in
     let header_is = ap header (counted_outstanding size resent.queue) in
     let there = subst (λ (h : ℕ). StopsTaking now (payload_room h resent.room) resent.waiting (front ++ resent.told) left telling) (sym header_is) stops in
-    taking_front front now old resent (counting old.room resent) left telling again none (may_counted (nat_lt 0 size) size resent (may_before front resent may)) there
+    taking_front front now old resent (resent_packet_counted old.room resent) left telling again none (may_counted (nat_lt 0 size) size resent (may_before front resent may)) there
 
-anew_refused : (front : Events) (now : ℕ) (old resent mid : Stage) (left : SendQueueState) (telling : Events) → Steps (StepAgain now) old resent → Steps (StepNew now) (counting old.room resent) mid
+anew_refused : (front : Events) (now : ℕ) (old resent mid : Stage) (left : SendQueueState) (telling : Events) → StageSteps (StepAgain now) old resent → StageSteps (StepNew now) (resent_packet_counted old.room resent) mid
     → Refused now (behind_events front mid) left telling → FillsTelling front now old telling
-anew_refused front now old resent mid left telling again anew (inl same) = elim (none_or_unmarked now (counting old.room resent) mid anew) [
+anew_refused front now old resent mid left telling again anew (inl same) = elim (none_or_unmarked now (resent_packet_counted old.room resent) mid anew) [
   | inl is ↦ fills_same front now old resent telling (filled_from_again now old resent again) (same.1 ∙ ap (λ (s : Stage). front ++ s.told) is)
   | inr unmarked ↦ fills_same front now old mid telling (filled_from_new now old resent mid again anew unmarked) same.1
 ]
-anew_refused front now old resent mid left telling again anew (inr (inl up)) = elim (none_or_unmarked now (counting old.room resent) mid anew) [
+anew_refused front now old resent mid left telling again anew (inr (inl up)) = elim (none_or_unmarked now (resent_packet_counted old.room resent) mid anew) [
   | inl is ↦
       let size : ℕ = old.room - resent.room in
       let here = subst (λ (s : Stage). RefusesUp now (behind_events front s) left telling) is up in
@@ -101,7 +101,7 @@ stops_filling front now old new (inl stops) =
     again_refused front now old resent.stripped new.waiting new.told resent.step (subst (λ (s : Stage). Refused now s new.waiting new.told) resent.is stops.refused)
 stops_filling front now old new (inr later) =
     let resent = before_steps (StepAgain now) front (before_again front now) old later.resent later.again in
-    let counted : Steps (StepNew now) (behind_events front (counting old.room resent.stripped)) later.stops.at =
-    subst (λ (s : Stage). Steps (StepNew now) (counting old.room s) later.stops.at) resent.is later.stops.steps in
-    let anew = before_steps (StepNew now) front (before_anew front now) (counting old.room resent.stripped) later.stops.at counted in
+    let counted : StageSteps (StepNew now) (behind_events front (resent_packet_counted old.room resent.stripped)) later.stops.at =
+    subst (λ (s : Stage). StageSteps (StepNew now) (resent_packet_counted old.room s) later.stops.at) resent.is later.stops.steps in
+    let anew = before_steps (StepNew now) front (before_anew front now) (resent_packet_counted old.room resent.stripped) later.stops.at counted in
     anew_refused front now old resent.stripped anew.stripped new.waiting new.told resent.step anew.step (subst (λ (s : Stage). Refused now s new.waiting new.told) anew.is later.stops.refused)

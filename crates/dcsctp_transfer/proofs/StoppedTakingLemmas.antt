@@ -1,8 +1,8 @@
 -- If an allocation fails for what the send queue gives, what the user was told is the first part of what some whole filling tells.
 use Rattle.std.proofs.Common.{◌≡◌, ◌∙◌, inl, inr, ℕ, ◌-◌, false, List, [], ◌∷◌, ◌++◌, append_assoc, refl, ap, sym, subst}
 use Rattle.dcsctp_send_retransmission.specs.spec.endpoint.Event.{Event}
-use Rattle.dcsctp_send_retransmission.specs.spec.queues.Filling.{Stage, payload_room, SendsNew, StepAgain, MayAdd, StepNew, Steps, more, counting}
-use Rattle.dcsctp_send_retransmission.specs.spec.queues.Items.{Item, size_of}
+use Rattle.dcsctp_send_retransmission.specs.spec.queues.Filling.{Stage, payload_room, SendsNew, StepAgain, MayAdd, StepNew, StageSteps, more, resent_packet_counted}
+use Rattle.dcsctp_send_retransmission.specs.spec.queues.Items.{Item, item_size}
 use Rattle.dcsctp_send_retransmission.specs.spec.queues.Outstanding.{header, next_tsn}
 use Rattle.dcsctp_send_retransmission.specs.types.queues.Progress.{just_sent}
 use Rattle.dcsctp_send_retransmission.specs.spec.queues.SendQueue.{SendQueueState}
@@ -48,7 +48,7 @@ fills_front front now old before whole telling filled tells =
 
 -- ---- what the send queue gives next
 
-drops_front : (front : Events) (now : ℕ) (old resent mid : Stage) (left : SendQueueState) (telling : Events) → Steps (StepAgain now) old resent → Steps (StepNew now) (counting old.room resent) mid → MayAdd mid
+drops_front : (front : Events) (now : ℕ) (old resent mid : Stage) (left : SendQueueState) (telling : Events) → StageSteps (StepAgain now) old resent → StageSteps (StepNew now) (resent_packet_counted old.room resent) mid → MayAdd mid
     → (events : Events) → Drops now mid.waiting events left → (coming : Events) → DropsNext now left coming → TellsFront (front ++ (mid.told ++ events)) coming telling → FillsTelling front now old telling
 drops_front front now old resent mid left telling again anew may events drops coming next tells =
     let idle = sym (drops_idle now mid.waiting left events drops) ∙ next.idle in
@@ -73,7 +73,7 @@ next_stage now mid left events coming next = record mid {
   waiting = produced next.place (payload_room (header mid.queue.outstanding) mid.room) next.message next.under_way left;
   told = (mid.told ++ events) ++ produced_events next.place (payload_room (header mid.queue.outstanding) mid.room) next.message next.under_way left;
   tsns = mid.tsns ++ next_tsn mid.queue.outstanding ∷ [];
-  room = mid.room - size_of (header mid.queue.outstanding) (next_item now mid left coming next);
+  room = mid.room - item_size (header mid.queue.outstanding) (next_item now mid left coming next);
 }
 
 sends_next : (now : ℕ) (mid : Stage) (left : SendQueueState) (events : Events) → Drops now mid.waiting events left → (coming : Events) (next : PartNext now (payload_room (header mid.queue.outstanding) mid.room) mid.waiting left coming)
@@ -99,7 +99,7 @@ sends_next now mid left events drops coming next =
       is = refl;
     }
 
-sends_front : (front : Events) (now : ℕ) (old resent mid : Stage) (left : SendQueueState) (telling : Events) → Steps (StepAgain now) old resent → Steps (StepNew now) (counting old.room resent) mid → MayAdd mid
+sends_front : (front : Events) (now : ℕ) (old resent mid : Stage) (left : SendQueueState) (telling : Events) → StageSteps (StepAgain now) old resent → StageSteps (StepNew now) (resent_packet_counted old.room resent) mid → MayAdd mid
     → (events : Events) → Drops now mid.waiting events left → (coming : Events) → PartNext now (payload_room (header mid.queue.outstanding) mid.room) mid.waiting left coming → TellsFront (front ++ (mid.told ++ events)) coming telling
     → FillsTelling front now old telling
 sends_front front now old resent mid left telling again anew may events drops coming next tells =
@@ -109,7 +109,7 @@ sends_front front now old resent mid left telling again anew may events drops co
     fills_front front now old (mid.told ++ events) coming telling (subst (Filled now old) (ap (λ (es : Events). (mid.told ++ events) ++ es) (sym next.is)) all) tells
 
 -- An allocation fails for what the send queue gives.
-pub taking_front : (front : Events) (now : ℕ) (old resent mid : Stage) (left : SendQueueState) (telling : Events) → Steps (StepAgain now) old resent → Steps (StepNew now) (counting old.room resent) mid → MayAdd mid
+pub taking_front : (front : Events) (now : ℕ) (old resent mid : Stage) (left : SendQueueState) (telling : Events) → StageSteps (StepAgain now) old resent → StageSteps (StepNew now) (resent_packet_counted old.room resent) mid → MayAdd mid
     → StopsTaking now (payload_room (header mid.queue.outstanding) mid.room) mid.waiting (front ++ mid.told) left telling → FillsTelling front now old telling
 taking_front front now old resent mid left telling again anew may stops =
     let tells = subst (λ (es : Events). TellsFront es stops.coming telling) (append_assoc front mid.told stops.events) stops.tells in

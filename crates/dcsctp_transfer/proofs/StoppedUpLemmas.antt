@@ -5,7 +5,7 @@ use Rattle.std.specs.List.{slice_get}
 use Rattle.dcsctp_send_retransmission.specs.types.declared.progress.Change.TheVariants.{Abandon}
 use Rattle.dcsctp_send_retransmission.specs.spec.endpoint.Event.{Event}
 use Rattle.dcsctp_send_retransmission.specs.spec.queues.Abandoning.{IsDueAt, GivesUpFirst, GivesUpAll}
-use Rattle.dcsctp_send_retransmission.specs.spec.queues.Filling.{Stage, maybe_expired, Closes, GivesUpAt, more}
+use Rattle.dcsctp_send_retransmission.specs.spec.queues.Filling.{Stage, maybe_expired, ClosesMessage, GivesUpAt, more}
 use Rattle.dcsctp_send_retransmission.specs.spec.queues.Items.{Item, changed_between}
 use Rattle.dcsctp_send_retransmission.specs.spec.queues.Retransmission.{with_items}
 use Rattle.dcsctp_send_retransmission.proofs.spec_lemmas.GivingUpOutcomes.{dropped_at, drops_named, given_up_at, given_up_from}
@@ -30,13 +30,13 @@ pub record GivesUpTelling (front : Events) (now place : ℕ) (at : Stage) (telli
 -- the same until its items are changed
 record ClosesTelling (front : Events) (now : ℕ) (last : Item) (at : Stage) (telling : Events) (is_end : Bool) : Type 0 where
   closed : Stage
-  closes : Closes now last at closed is_end
+  closes : ClosesMessage now last at closed is_end
   first : Events
   rest : Events
   told : closed.told ≡ first ++ rest
   tells : telling ≡ front ++ first
 
-closes_front : (front : Events) (now : ℕ) (last : Item) (at closed : Stage) (whole telling : Events) (is_end : Bool) → Closes now last at closed is_end → closed.told ≡ at.told ++ whole
+closes_front : (front : Events) (now : ℕ) (last : Item) (at closed : Stage) (whole telling : Events) (is_end : Bool) → ClosesMessage now last at closed is_end → closed.told ≡ at.told ++ whole
     → TellsFront (front ++ at.told) whole telling → ClosesTelling front now last at telling is_end
 closes_front front now last at closed whole telling is_end closes told tells =
     record {
@@ -69,7 +69,7 @@ gives_up_telling front now place at item telling is refused = by_end refused.las
             last = refused.last;
             at = refused.at;
             closed = c.closed;
-            closes = subst (λ (b : Bool). Closes now refused.last at c.closed b) (sym ends) c.closes;
+            closes = subst (λ (b : Bool). ClosesMessage now refused.last at c.closed b) (sym ends) c.closes;
             is = refl;
           };
           first = c.first;

@@ -7,13 +7,13 @@ use Rattle.dcsctp_send_retransmission.specs.wire.Spelling.{chunk_bytes}
 use Rattle.dcsctp_wire_build.specs.Building.{Building, bytes_remaining}
 use Rattle.dcsctp_send_retransmission.specs.spec.endpoint.Event.{Event}
 use Rattle.dcsctp_send_retransmission.specs.spec.Packet.{unworked}
-use Rattle.dcsctp_send_retransmission.specs.spec.queues.Chunks.{AreChunks}
+use Rattle.dcsctp_send_retransmission.specs.spec.queues.Chunks.{AreChunksOfTsns}
 use Rattle.dcsctp_send_retransmission.specs.spec.queues.Filling.{Stage}
 use Rattle.dcsctp_send_retransmission.specs.spec.queues.Retransmission.{outstanding_count}
-use Rattle.dcsctp_send_retransmission.specs.spec.queues.SendQueue.{SendQueueState, has_data}
+use Rattle.dcsctp_send_retransmission.specs.spec.queues.SendQueue.{SendQueueState, has_queued_data}
 use Rattle.dcsctp_send_retransmission.specs.spec.queues.Tracker.{is_acknowledgement_due, owes_acknowledgement, sack_of, sacked}
-use Rattle.dcsctp_send_retransmission.specs.spec.queues.Transfer.{Transfer, window_told, may_give}
-use Rattle.dcsctp_send_retransmission.specs.spec.endpoint.FlushOutcomes.{Told, told_content, stage_of, FillsWhere}
+use Rattle.dcsctp_send_retransmission.specs.spec.queues.Transfer.{Transfer, advertised_window, may_give}
+use Rattle.dcsctp_send_retransmission.specs.spec.endpoint.FlushOutcomes.{FillingEvent, filling_event_content, stage_of, FillsWhere}
 use Rattle.dcsctp_send_retransmission.specs.send_streams.Telling.{TellsFront}
 
 -- is there any?
@@ -24,22 +24,22 @@ has_chunks (chunk ∷ chunks) = true
 -- ---- data
 
 -- what the queues do while a packet with that much room is filled
-abbrev pub FillsData : ℕ → ℕ → Transfer → SendQueueState → Stage → Type 0
-FillsData now room transfer waiting sent =
+abbrev pub FillsRoom : ℕ → ℕ → Transfer → SendQueueState → Stage → Type 0
+FillsRoom now room transfer waiting sent =
     FillsWhere (may_give waiting transfer.retransmission) now (stage_of waiting transfer.retransmission [] room) sent
 
 -- Chunks with data were put into a packet, or none, and the user was told of it. Where nothing waits and nothing is outstanding,
 -- nothing has changed.
-pub record FillsPacket (now : ℕ) (old : Transfer) (waiting : SendQueueState) (events : List (Event (List ℕ))) (packet : Building) (new : Transfer) (left : SendQueueState) (telling : List (Event (List ℕ))) (filled : Building) (any : Bool) : Type 0 where
+pub record FillsDataPacket (now : ℕ) (old : Transfer) (waiting : SendQueueState) (events : List (Event (List ℕ))) (packet : Building) (new : Transfer) (left : SendQueueState) (telling : List (Event (List ℕ))) (filled : Building) (any : Bool) : Type 0 where
   pub sent : Stage
-  pub fills : FillsData now (bytes_remaining packet) old waiting sent
-  pub idle : has_data waiting ≡ false → outstanding_count old.retransmission ≡ 0 → sent ≡ stage_of waiting old.retransmission [] (bytes_remaining packet)
+  pub fills : FillsRoom now (bytes_remaining packet) old waiting sent
+  pub idle : has_queued_data waiting ≡ false → outstanding_count old.retransmission ≡ 0 → sent ≡ stage_of waiting old.retransmission [] (bytes_remaining packet)
   pub chunks : List ChunkContent
-  pub are : AreChunks sent.queue.outstanding sent.tsns (map unworked chunks)
+  pub are : AreChunksOfTsns sent.queue.outstanding sent.tsns (map unworked chunks)
   pub fits : AllByRecursion FitsChunk chunks
   pub adds : filled ≡ record packet { body = packet.body ++ flat_map chunk_bytes chunks }
-  pub told : List Told
-  pub are_told : map told_content told ≡ sent.told
+  pub told : List FillingEvent
+  pub are_told : map filling_event_content told ≡ sent.told
   pub tells : telling ≡ events ++ sent.told
   pub answers : any ≡ has_chunks chunks
   pub queue : left ≡ sent.waiting
@@ -48,7 +48,7 @@ pub record FillsPacket (now : ℕ) (old : Transfer) (waiting : SendQueueState) (
 -- If an allocation failed, the user was told the first part of what some such filling tells.
 pub record TellsFilling (now room : ℕ) (old : Transfer) (waiting : SendQueueState) (before after : List (Event (List ℕ))) : Type 0 where
   pub sent : Stage
-  pub fills : FillsData now room old waiting sent
+  pub fills : FillsRoom now room old waiting sent
   pub tells : TellsFront before sent.told after
 
 -- ---- what acknowledges
@@ -62,7 +62,7 @@ abbrev pub with_chunk : Building → ChunkContent → Building
 with_chunk packet chunk = if nat_le (length (chunk_bytes chunk)) (bytes_remaining packet) then record packet { body = packet.body ++ chunk_bytes chunk } else packet
 
 -- A SACK was made, or none was asked for.
-abbrev pub Acknowledges : Bool → Transfer → Building → Transfer → Building → Type 0
-Acknowledges true old packet new filled =
-    (new ≡ record old { tracker = sacked old.tracker }) × (filled ≡ with_chunk packet (sack_chunk (sack_of old.tracker (window_told old))))
-Acknowledges false old packet new filled = (new ≡ old) × (filled ≡ packet)
+abbrev pub FillsRequestedSack : Bool → Transfer → Building → Transfer → Building → Type 0
+FillsRequestedSack true old packet new filled =
+    (new ≡ record old { tracker = sacked old.tracker }) × (filled ≡ with_chunk packet (sack_chunk (sack_of old.tracker (advertised_window old))))
+FillsRequestedSack false old packet new filled = (new ≡ old) × (filled ≡ packet)

@@ -10,7 +10,7 @@ use Rattle.dcsctp_send_retransmission.specs.spec.endpoint.Event.{Event}
 use Rattle.dcsctp_send_retransmission.specs.spec.queues.Acknowledging.{is_sack_valid, has_acknowledged, delivered_by}
 use Rattle.dcsctp_send_retransmission.specs.spec.Packet.{unworked}
 use Rattle.dcsctp_send_retransmission.specs.spec.queues.AtOnce.{SendsAtOnce}
-use Rattle.dcsctp_send_retransmission.specs.spec.queues.Chunks.{AreChunks}
+use Rattle.dcsctp_send_retransmission.specs.spec.queues.Chunks.{AreChunksOfTsns}
 use Rattle.dcsctp_send_retransmission.specs.spec.queues.Retransmission.{RetransmissionState}
 use Rattle.dcsctp_send_retransmission.specs.spec.queues.SendQueue.{SendQueueState}
 use Rattle.dcsctp_send_retransmission.specs.spec.queues.Transfer.{Transfer}
@@ -44,7 +44,7 @@ pub record FillsAtOnce (now : ℕ) (old : Transfer) (packet : Building) (new : T
   pub tsns : List ℕ
   pub sends : (waiting : SendQueueState) → SendsAtOnce now (bytes_remaining packet) waiting old.retransmission left tsns
   pub chunks : List ChunkContent
-  pub are : AreChunks left.outstanding tsns (map unworked chunks)
+  pub are : AreChunksOfTsns left.outstanding tsns (map unworked chunks)
   pub fits : AllByRecursion FitsChunk chunks
   pub adds : filled ≡ record packet { body = packet.body ++ flat_map chunk_bytes chunks }
   pub is : new ≡ record old { retransmission = left }

@@ -4,8 +4,8 @@ ghost use Rattle.std.specs.Prelude.{◌≡◌, true, [], OnOk};
 ghost use Rattle.std.specs.List.{list_all};
 ghost use Rattle.dcsctp_send_retransmission.specs.types.Snapshot.{send_part, received_part, has_bytes_or_is_abandoned, is_valid_queued};
 ghost use Rattle.dcsctp_send_retransmission.specs.spec.queues.OutstandingParts.{with_retransmission};
-ghost use Rattle.dcsctp_send_retransmission.specs.spec.queues.QueuedParts.{with_queue, queue_restored};
-ghost use Rattle.dcsctp_send_retransmission.specs.spec.queues.ReceivedParts.{with_tracker, with_reassembly};
+ghost use Rattle.dcsctp_send_retransmission.specs.spec.queues.QueuedParts.{part_with_queue, queue_restored};
+ghost use Rattle.dcsctp_send_retransmission.specs.spec.queues.ReceivedParts.{part_with_tracker, with_reassembly};
 ghost use Rattle.dcsctp_send_retransmission.specs.spec.endpoint.RestoreOutcomes.{RestoresTransfer};
 
 use crate::transfer::Transfer;
@@ -24,7 +24,7 @@ impl Transfer {
         rx: &mut HandoverReceive,
     ) -> Result<(), AllocError>
         ensures sent { OnOk result (send_part tx.new ≡ with_retransmission now with_outstanding_data self.now.retransmission (send_part tx.old)) }
-        ensures received { OnOk result (received_part rx.new ≡ with_reassembly self.now.reassembly (with_tracker self.now.tracker (received_part rx.old))) }
+        ensures received { OnOk result (received_part rx.new ≡ with_reassembly self.now.reassembly (part_with_tracker self.now.tracker (received_part rx.old))) }
     {
         self.retransmission_queue
             .add_to_handover_state(now, with_outstanding_data, tx)?;

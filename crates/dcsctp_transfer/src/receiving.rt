@@ -5,7 +5,7 @@ ghost use Rattle.std.specs.Prelude.{◌≡◌, map, ◌∷◌, ◌&&◌, nat_lt,
 ghost use Rattle.dcsctp_send_retransmission.specs.spec.endpoint.TimeTurns.{has_come};
 ghost use Rattle.dcsctp_send_retransmission.specs.spec.endpoint.TransferMoves.{has_room, dropping, ReceivesData, MovesForward};
 ghost use Rattle.dcsctp_send_retransmission.specs.spec.endpoint.DataOutcomes.{open_window, taken_to};
-ghost use Rattle.dcsctp_send_retransmission.specs.spec.queues.Transfer.{window_told};
+ghost use Rattle.dcsctp_send_retransmission.specs.spec.queues.Transfer.{advertised_window};
 ghost use Rattle.dcsctp_send_retransmission.specs.types.queues.Messages.{message_content};
 ghost use Rattle.dcsctp_receive_reassembly.specs.Streams.{chunk_of};
 ghost use Rattle.dcsctp_send_retransmission.specs.spec.queues.Tracker.{after_packet_end, is_acknowledgement_due, is_valid_tsn, delayed_acknowledgement, delay_over};
@@ -154,7 +154,7 @@ impl Transfer {
 
     // Is the window that a SACK tells too small to be worth telling? Only with `Options::follow_rfc`.
     fn is_window_small(&self, options: &Options) -> bool
-        ensures { result ≡ (self.now.tracker.follows_rfc && nat_lt (window_told self.now) (open_window options.now)) }
+        ensures { result ≡ (self.now.tracker.follows_rfc && nat_lt (advertised_window self.now) (open_window options.now)) }
     {
         self.data_tracker.follows_rfc() && self.window_told() < open_window(options)
     }
@@ -162,7 +162,7 @@ impl Transfer {
     /// What a SACK says is left of the receive window (RFC 9260, section 3.3.4). With `Options::follow_rfc`
     /// it is what is left for new data.
     pub fn window_told(&self) -> usize
-        ensures { result ≡ window_told self.now }
+        ensures { result ≡ advertised_window self.now }
     {
         if self.data_tracker.follows_rfc() {
             self.reassembly_queue.bytes_to_watermark()

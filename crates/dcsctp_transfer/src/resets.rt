@@ -8,7 +8,7 @@ ghost use Rattle.dcsctp_send_retransmission.specs.spec.queues.OwnResets.{ready_s
 ghost use Rattle.dcsctp_send_retransmission.specs.spec.queues.Retransmission.{with_reset_begun};
 ghost use Rattle.dcsctp_send_retransmission.specs.spec.queues.Transfer.{is_none_ready};
 ghost use Rattle.dcsctp_send_retransmission.specs.spec.endpoint.BegunResets.{last_assigned_tsn};
-ghost use Rattle.dcsctp_send_retransmission.specs.spec.endpoint.ResetOutcomes.{defers_reset, ResetsStreams};
+ghost use Rattle.dcsctp_send_retransmission.specs.spec.endpoint.ResetOutcomes.{defers_reset, ResetsTransferStreams};
 ghost use Rattle.dcsctp_send_retransmission.specs.spec.queues.Numbers.{is_tsn_beyond};
 ghost use Rattle.dcsctp_send_retransmission.specs.send_streams.Telling.{contents};
 
@@ -46,7 +46,7 @@ impl Transfer {
     /// `Err`: an allocation failed for something that waited. That and what came after it keep waiting, and
     /// the streams are reset.
     pub fn reset_streams(&mut self, streams: &[StreamId]) -> Result<(), AllocError>
-        ensures ok { OnOk result (ResetsStreams (stream_numbers streams.now) self.old self.new) }
+        ensures ok { OnOk result (ResetsTransferStreams (stream_numbers streams.now) self.old self.new) }
         ensures rest { self.new ≡ record self.old { reassembly = self.new.reassembly } }
     {
         self.reassembly_queue

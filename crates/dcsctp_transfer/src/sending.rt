@@ -7,7 +7,7 @@ ghost use Rattle.dcsctp_send_retransmission.specs.wire.Content.{data_chunk, i_da
 ghost use Rattle.dcsctp_send_retransmission.specs.wire.ReadsBack.{IsByte, FitsChunk};
 ghost use Rattle.dcsctp_send_retransmission.specs.wire.Spelling.{chunk_bytes};
 ghost use Rattle.dcsctp_wire_build.specs.Building.{bytes_remaining};
-ghost use Rattle.dcsctp_send_retransmission.specs.spec.queues.SendQueue.{has_data};
+ghost use Rattle.dcsctp_send_retransmission.specs.spec.queues.SendQueue.{has_queued_data};
 ghost use Rattle.dcsctp_send_retransmission.specs.spec.queues.Retransmission.{outstanding_count, has_fast_retransmit, can_send};
 ghost use Rattle.dcsctp_send_retransmission.specs.spec.queues.Chunks.{flags_said, ppid_or_fsn, data_said, i_data_said, chunk_said};
 ghost use Rattle.dcsctp_send_retransmission.specs.spec.queues.Outstanding.{header_of};
@@ -15,10 +15,10 @@ ghost use Rattle.dcsctp_send_retransmission.specs.send_outstanding.Outstanding.{
 ghost use Rattle.dcsctp_send_retransmission.specs.send_streams.Telling.{contents};
 ghost use Rattle.dcsctp_send_retransmission.specs.spec.queues.Items.{chunk_size, is_first_abandoned};
 ghost use Rattle.dcsctp_send_retransmission.specs.Sending.{HandsOut};
-ghost use Rattle.dcsctp_transfer.specs.Filling.{TellsFilling, FillsPacket, is_sack_wanted, with_chunk, Acknowledges};
+ghost use Rattle.dcsctp_transfer.specs.Filling.{TellsFilling, FillsDataPacket, is_sack_wanted, with_chunk, FillsRequestedSack};
 ghost use Rattle.dcsctp_send_retransmission.specs.spec.queues.Transfer.{may_give};
 ghost use Rattle.dcsctp_transfer.specs.Sacks.{FillsAtOnce};
-ghost use Rattle.dcsctp_transfer.specs.Adding.{HasChunkWithin, AddsChunkOf, AddsChunks, said_by};
+ghost use Rattle.dcsctp_transfer.specs.Adding.{HasChunkWithin, AddsChunkOf, AddsChunks, sack_said};
 
 use crate::transfer::Transfer;
 use dcsctp_receive_tracker::SelectiveAck;
@@ -44,10 +44,10 @@ impl Transfer {
         now: SocketTime,
         packet: &mut SctpPacketBuilder,
     ) -> Result<bool, AllocError>
-        ensures ok { IfOk result (λ any. FillsPacket now self.old queue.old (contents events.old) packet.old self.new queue.new (contents events.new) packet.new any) }
+        ensures ok { IfOk result (λ any. FillsDataPacket now self.old queue.old (contents events.old) packet.old self.new queue.new (contents events.new) packet.new any) }
         ensures told { OnErr result (TellsFilling now (bytes_remaining packet.old) self.old queue.old (contents events.old) (contents events.new)) }
         ensures kept { OnErr result (packet.new ≡ packet.old) }
-        ensures idle { has_data queue.old ≡ false → outstanding_count self.old.retransmission ≡ 0 → IsOk result }
+        ensures idle { has_queued_data queue.old ≡ false → outstanding_count self.old.retransmission ≡ 0 → IsOk result }
     {
         if !self.may_have_data(queue) {
             return Ok(false);
@@ -99,7 +99,7 @@ impl Transfer {
         also_if_delayed: bool,
         packet: &mut SctpPacketBuilder,
     ) -> Result<(), AllocError>
-        ensures ok { OnOk result (Acknowledges (is_sack_wanted also_if_delayed self.old) self.old packet.old self.new packet.new) }
+        ensures ok { OnOk result (FillsRequestedSack (is_sack_wanted also_if_delayed self.old) self.old packet.old self.new packet.new) }
         ensures kept { OnErr result (packet.new ≡ packet.old) }
         ensures idle { is_sack_wanted also_if_delayed self.old ≡ false → IsOk result }
     {
@@ -141,7 +141,7 @@ impl Transfer {
 
     // Does a message wait, or is something outstanding?
     fn may_have_data(&self, queue: &SendQueue) -> bool
-        ensures { result ≡ (has_data queue.now || nat_lt 0 (outstanding_count self.now.retransmission)) }
+        ensures { result ≡ (has_queued_data queue.now || nat_lt 0 (outstanding_count self.now.retransmission)) }
     {
         queue.has_data_to_send() || 0 < self.retransmission_queue.outstanding_items()
     }
@@ -149,7 +149,7 @@ impl Transfer {
 
 // Puts the SACK into the packet, if it fits.
 fn add_sack(sack: &SelectiveAck, packet: &mut SctpPacketBuilder)
-    ensures added { packet.new ≡ with_chunk packet.old (sack_chunk (said_by sack.now)) }
+    ensures added { packet.new ≡ with_chunk packet.old (sack_chunk (sack_said sack.now)) }
     ensures blocks { AllByRecursion IsByte sack.now.gap_ack_blocks.items }
     ensures duplicates { AllByRecursion IsByte sack.now.duplicate_tsns.items }
 {

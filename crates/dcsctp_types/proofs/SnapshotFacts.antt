@@ -6,7 +6,7 @@ use Rattle.dcsctp_types.specs.declared.snapshot.HandoverOutgoingStream.{Handover
 use Rattle.dcsctp_types.specs.declared.snapshot.HandoverOrderedStream.{HandoverOrderedStream}
 use Rattle.dcsctp_types.specs.declared.snapshot.HandoverUnorderedStream.{HandoverUnorderedStream}
 use Rattle.dcsctp_types.specs.SnapshotItems.{OutstandingPart, empty_queued_part, empty_outstanding_part}
-use Rattle.dcsctp_types.specs.Snapshot.{SendPart, ReceivePart, Snapshot, empty_send_part, empty_received_part, empty_snapshot, no_capabilities, is_valid_snapshot}
+use Rattle.dcsctp_types.specs.Snapshot.{SendPart, ReceivePart, Snapshot, empty_send_part, empty_received_part, empty_snapshot, no_handover_capabilities, is_valid_snapshot}
 
 -- ---- snapshots
 
@@ -32,7 +32,7 @@ closed_is_valid options = refl
 
 -- Nothing else counts there: this one has zero checksum, and a list that isn't valid.
 closed_is_valid_with_all : (options : Options) →
-    is_valid_snapshot options (record empty_snapshot { capabilities = record no_capabilities { zero_checksum = true }; tx = record empty_send_part { queued_messages = empty_queued_part ∷ [] } }) ≡ true
+    is_valid_snapshot options (record empty_snapshot { capabilities = record no_handover_capabilities { zero_checksum = true }; tx = record empty_send_part { queued_messages = empty_queued_part ∷ [] } }) ≡ true
 closed_is_valid_with_all options = refl
 
 -- ---- verification tags
@@ -55,7 +55,7 @@ peer_tag_of_0_is_not options = refl
 zero_checksum_under : Options → ℕ → Bool
 zero_checksum_under options method =
     is_valid_snapshot (record options { zero_checksum_alternate_error_detection_method = record { 0 = method } })
-    (record (sends idle) { capabilities = record no_capabilities { zero_checksum = true } })
+    (record (sends idle) { capabilities = record no_handover_capabilities { zero_checksum = true } })
 
 zero_checksum_with_a_method : (options : Options) → zero_checksum_under options 1 ≡ true
 unfolding zero_checksum_under sends connected idle

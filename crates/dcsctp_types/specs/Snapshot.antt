@@ -122,8 +122,8 @@ snapshot state =
       rx = received_part state.rx;
     }
 
-abbrev pub no_capabilities : HandoverCapabilities
-no_capabilities =
+abbrev pub no_handover_capabilities : HandoverCapabilities
+no_handover_capabilities =
     record {
       partial_reliability = false;
       message_interleaving = false;
@@ -143,7 +143,7 @@ empty_snapshot =
       peer_verification_tag = 0;
       peer_initial_tsn = 0;
       tie_tag = 0;
-      capabilities = no_capabilities;
+      capabilities = no_handover_capabilities;
       tx = empty_send_part;
       rx = empty_received_part;
     }

@@ -1,7 +1,7 @@
 //! How far an item is, and what changes that.
 
 ghost use Rattle.std.specs.Prelude.{◌≡◌};
-ghost use Rattle.dcsctp_types.specs.queues.Progress.{is_in_flight, is_marked, is_unacknowledged, is_abandoned, sent_again, has_come_to, tells_of, missed, missed_where, marked, acknowledged, changed, just_sent};
+ghost use Rattle.dcsctp_types.specs.queues.Progress.{is_in_flight, is_marked, is_unacknowledged, is_abandoned, item_sent_again, has_come_to, tells_of, missed, missed_where, marked_lost, acknowledged, progress_changed, just_sent};
 
 /// How far an item is.
 #[derive(Clone, Copy, Debug, PartialEq, Eq)]
@@ -136,7 +136,7 @@ impl Progress {
 
     // Sent again, before this TSN is sent for the first time.
     fn sent_again(self, next: u32) -> Progress
-        ensures { result ≡ sent_again next self }
+        ensures { result ≡ item_sent_again next self }
     {
         Progress {
             state: ItemState::InFlight,
@@ -199,7 +199,7 @@ impl Progress {
 
     // Lost, if it was in flight.
     fn marked(self) -> Progress
-        ensures { result ≡ marked self.state self }
+        ensures { result ≡ marked_lost self.state self }
     {
         match self.state {
             ItemState::InFlight => self.in_state(ItemState::Marked),
@@ -226,7 +226,7 @@ impl Progress {
 
     /// How far it is after the change.
     pub fn changed(self, change: Change) -> Progress
-        ensures { result ≡ changed change self }
+        ensures { result ≡ progress_changed change self }
     {
         match change {
             Change::SendAgain(next) => self.sent_again(next),

@@ -1,7 +1,7 @@
 //! Streams that messages are sent by: the types that the send queue and its definition share.
 
 ghost use Rattle.std.specs.Prelude.{◌≡◌};
-ghost use Rattle.dcsctp_types.specs.queues.SendStreams.{comes_after, is_later};
+ghost use Rattle.dcsctp_types.specs.queues.SendStreams.{comes_after, is_asked_later};
 
 use crate::ids::StreamId;
 
@@ -45,7 +45,7 @@ pub struct Turn {
 impl Turn {
     // Of equal priority, is this stream asked after the other?
     fn is_later(self, other: Turn) -> bool
-        ensures { result ≡ is_later self other }
+        ensures { result ≡ is_asked_later self other }
     {
         other.last_turn < self.last_turn
             || (self.last_turn == other.last_turn && other.stream_id.0 < self.stream_id.0)

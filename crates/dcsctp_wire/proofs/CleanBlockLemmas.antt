@@ -6,7 +6,7 @@ use Rattle.std.specs.List.Sorted.{IsNonDecreasingBy}
 use Rattle.std.proofs.lemmas.List.{get_or_default}
 use Rattle.std.proofs.lemmas.List.Folds.{list_any-append}
 use Rattle.dcsctp_wire.specs.declared.chunk.sack.GapAckBlock.{GapAckBlock}
-use Rattle.dcsctp_wire.specs.CleanBlocks.{is_range, IsRange, names, AreApart, BeginsBefore, Adds}
+use Rattle.dcsctp_wire.specs.CleanBlocks.{is_range, IsRange, names, AreApart, BeginsBefore, AddsGapBlock}
 
 -- ---- a gap before the next one
 
@@ -30,7 +30,7 @@ named_behind : (offset : ℕ) (blocks : List GapAckBlock) (next : GapAckBlock)
 named_behind offset blocks next = rw (list_any-append (names offset) blocks (next ∷ []), or_false (names offset next)) refl
 
 pub behind_a_gap : (blocks : List GapAckBlock) (last next : GapAckBlock) → BeginsBefore last next → last.end + 1 < next.start
-    → Adds (blocks ++ last ∷ []) next ((blocks ++ last ∷ []) ++ next ∷ [])
+    → AddsGapBlock (blocks ++ last ∷ []) next ((blocks ++ last ∷ []) ++ next ∷ [])
 behind_a_gap blocks last next before gap = record {
   apart = apart_behind blocks last next (omega (arith, before.first_begins, before.ordered)) before.second_ends gap;
   same = λ offset. named_behind offset (blocks ++ last ∷ []) next;
@@ -49,7 +49,7 @@ named_joined : (offset a b c d : ℕ) → a ≤ b → c ≤ d → a ≤ c → c 
 named_joined offset a b c d one two ordered touches = grind arith
 
 pub without_gap : (blocks : List GapAckBlock) (last next : GapAckBlock) → BeginsBefore last next → next.start ≤ last.end + 1
-    → Adds (blocks ++ last ∷ []) next (blocks ++ record { start = last.start; end = max last.end next.end } ∷ [])
+    → AddsGapBlock (blocks ++ last ∷ []) next (blocks ++ record { start = last.start; end = max last.end next.end } ∷ [])
 without_gap blocks last next before touches = record {
   apart = apart_longer blocks last (record { start = last.start; end = max last.end next.end }) refl (omega arith);
   same = λ offset.

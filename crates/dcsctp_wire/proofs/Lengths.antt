@@ -8,7 +8,7 @@ use Rattle.dcsctp_wire.specs.declared.parameter.Parameter.{Parameter}
 use Rattle.dcsctp_wire.specs.declared.cause.ErrorCause.{ErrorCause}
 use Rattle.dcsctp_wire.specs.Content.{ParameterContent, InitContent, CauseContent, DataContent, IDataContent, SackContent, ChunkContent, cause_content, data_chunk, init_chunk, init_ack_chunk, sack_chunk, heartbeat_chunk, heartbeat_ack_chunk, abort_chunk, shutdown_chunk, shutdown_ack_chunk, error_chunk, cookie_echo_chunk, cookie_ack_chunk, shutdown_complete_chunk, i_data_chunk, re_config_chunk, forward_tsn_chunk, i_forward_tsn_chunk, unknown_chunk, parameter_content}
 use Rattle.dcsctp_wire.specs.Format.{padding_of}
-use Rattle.dcsctp_wire.specs.Spelling.{zeros, header_bytes, parameter_value, parameter_len, parameter_bytes, parameters_len, init_fields, data_fields, i_data_fields, sack_fields, as_parameter, Spelled, by_value, by_list, spelled, spelled_len, chunk_len, other_bytes, list_bytes, spelled_bytes, chunk_bytes}
+use Rattle.dcsctp_wire.specs.Spelling.{zeros, header_bytes, parameter_value, parameter_len, parameter_bytes, parameters_len, init_fields, data_fields, i_data_fields, sack_fields, as_parameter, Spelled, by_value, by_list, spelled, spelled_len, chunk_len, other_bytes, parameter_chunk_bytes, spelled_bytes, chunk_bytes}
 
 pub length-parameter_bytes : (parameter : ParameterContent) → length (parameter_bytes parameter) ≡ parameter_len parameter + padding_of (parameter_len parameter)
 unfolding parameter_bytes
@@ -21,8 +21,8 @@ length-other_bytes chunk_type flags value =
     omega (arith, length-append value (zeros (padding_of (length value))), length-replicate {A = ℕ} (padding_of (length value)) 0)
 
 pub length-list_bytes : (chunk_type flags : ℕ) (fields : List ℕ) (parameters : List ParameterContent)
-    → length (list_bytes chunk_type flags fields parameters) ≡ 4 + length fields + length (flat_map parameter_bytes parameters)
-unfolding list_bytes
+    → length (parameter_chunk_bytes chunk_type flags fields parameters) ≡ 4 + length fields + length (flat_map parameter_bytes parameters)
+unfolding parameter_chunk_bytes
 length-list_bytes chunk_type flags fields parameters = omega (arith, length-append fields (flat_map parameter_bytes parameters))
 
 -- the length of parameters, with one more behind them
@@ -115,7 +115,7 @@ pub chunk_is_padded : (chunk : ChunkContent) → length (chunk_bytes chunk) % 4 
 chunk_is_padded chunk = omega (arith, length-chunk_bytes chunk)
 
 pub list_size : (chunk_type flags : ℕ) (fields : List ℕ) (parameters : List ParameterContent)
-    → length (list_bytes chunk_type flags fields parameters) ≡ 4 + length fields + sum_by (λ parameter. length (parameter_bytes parameter)) parameters
+    → length (parameter_chunk_bytes chunk_type flags fields parameters) ≡ 4 + length fields + sum_by (λ parameter. length (parameter_bytes parameter)) parameters
 list_size chunk_type flags fields parameters =
     length-list_bytes chunk_type flags fields parameters ∙ ap (λ (n : ℕ). 4 + length fields + n) (length-flat_map parameter_bytes parameters)
 

@@ -34,7 +34,7 @@ pub record BeginsBefore (first second : GapAckBlock) : Type 0 where
   pub ordered : first.start ≤ second.start
 
 -- A block is added: the blocks stay apart, and name its TSNs too.
-pub record Adds (blocks : List GapAckBlock) (block : GapAckBlock) (more : List GapAckBlock) : Type 0 where
+pub record AddsGapBlock (blocks : List GapAckBlock) (block : GapAckBlock) (more : List GapAckBlock) : Type 0 where
   pub apart : AreApart blocks → AreApart more
   pub same : (offset : ℕ) → list_any (names offset) more ≡ (list_any (names offset) blocks || names offset block)
 

@@ -80,8 +80,8 @@ parameter_of parameter_type value =
     else Some (unknown_parameter parameter_type value))))))))
 
 -- a stream of a request to reset streams, by its place among them
-abbrev pub stream_at : ℕ → List ℕ → ℕ
-stream_at index streams = u16_at (2 * index) streams
+abbrev pub request_stream_at : ℕ → List ℕ → ℕ
+request_stream_at index streams = u16_at (2 * index) streams
 
 -- ---- causes
 

@@ -13,7 +13,7 @@ abbrev pub IsByte : ℕ → Type 0
 IsByte byte = byte < 2 ^ 8
 
 -- whole entries of that many bytes
-pub record AreEntries (len : ℕ) (entries : List ℕ) : Type 0 where
+pub record AreWholeEntries (len : ℕ) (entries : List ℕ) : Type 0 where
   pub whole : length entries % len ≡ 0
   pub entries_in_bytes : AllByRecursion IsByte entries
 
@@ -28,7 +28,7 @@ pub record FitsOutgoingRequest (number answered last_tsn : ℕ) (streams : List 
   pub number_fits : number < 2 ^ 32
   pub answered_fits : answered < 2 ^ 32
   pub last_tsn_fits : last_tsn < 2 ^ 32
-  pub streams_fit : AreEntries 2 streams
+  pub streams_fit : AreWholeEntries 2 streams
 
 abbrev pub FitsNextTsns : Option NextTsns → Type 0
 FitsNextTsns None = Unit {0}
@@ -39,7 +39,7 @@ abbrev pub FitsParameter : ParameterContent → Type 0
 FitsParameter (heartbeat_info info) = AllByRecursion IsByte info
 FitsParameter (state_cookie cookie) = AllByRecursion IsByte cookie
 FitsParameter (outgoing_ssn_reset_request number answered last_tsn streams) = FitsOutgoingRequest number answered last_tsn streams
-FitsParameter (incoming_ssn_reset_request number streams) = (number < 2 ^ 32) × AreEntries 2 streams
+FitsParameter (incoming_ssn_reset_request number streams) = (number < 2 ^ 32) × AreWholeEntries 2 streams
 FitsParameter (reconfiguration_response number result next) = (number < 2 ^ 32) × FitsNextTsns next
 FitsParameter (supported_extensions chunk_types) = AllByRecursion IsByte chunk_types
 FitsParameter (zero_checksum_acceptable method) = method < 2 ^ 32
@@ -47,7 +47,7 @@ FitsParameter forward_tsn_supported = Unit {0}
 FitsParameter (unknown_parameter other value) = FitsUnknown other value
 
 -- parameters in a chunk that has nothing else
-pub record FitsList (parameters : List ParameterContent) : Type 0 where
+pub record FitsParameters (parameters : List ParameterContent) : Type 0 where
   pub len_fits : 4 + parameters_len parameters < 2 ^ 16
   pub parameters_fit : AllByRecursion FitsParameter parameters
 
@@ -94,14 +94,14 @@ pub record FitsSack (chunk : SackContent) : Type 0 where
   pub cumulative_tsn_ack : chunk.cumulative_tsn_ack < 2 ^ 32
   pub a_rwnd : chunk.a_rwnd < 2 ^ 32
   pub len_fits : 16 + length chunk.gap_ack_blocks + length chunk.duplicate_tsns < 2 ^ 16
-  pub blocks : AreEntries 4 chunk.gap_ack_blocks
-  pub duplicates : AreEntries 4 chunk.duplicate_tsns
+  pub blocks : AreWholeEntries 4 chunk.gap_ack_blocks
+  pub duplicates : AreWholeEntries 4 chunk.duplicate_tsns
 
 -- a new cumulative TSN and skipped streams of that many bytes each (RFC 3758, section 3.2; RFC 8260, section 2.3.1)
 pub record FitsForward (entry tsn : ℕ) (streams : List ℕ) : Type 0 where
   pub tsn_fits : tsn < 2 ^ 32
   pub len_fits : 8 + length streams < 2 ^ 16
-  pub streams_fit : AreEntries entry streams
+  pub streams_fit : AreWholeEntries entry streams
 
 -- a COOKIE ECHO within its fields (RFC 9260, section 3.3.11)
 pub record FitsEcho (cookie : List ℕ) : Type 0 where
@@ -116,7 +116,7 @@ pub record FitsUnknownCause (code : ℕ) (value : List ℕ) : Type 0 where
 
 -- A cause within its fields (RFC 9260, section 3.3.10). Its length fits if that of its chunk does.
 abbrev pub FitsCause : CauseContent → Type 0
-FitsCause (missing_mandatory_parameter types) = AreEntries 2 types
+FitsCause (missing_mandatory_parameter types) = AreWholeEntries 2 types
 FitsCause (unrecognized_chunk_type chunk) = AllByRecursion IsByte chunk
 FitsCause (no_user_data tsn) = tsn < 2 ^ 32
 FitsCause cookie_received_while_shutting_down = Unit {0}
@@ -135,8 +135,8 @@ FitsChunk (data_chunk chunk) = FitsData chunk
 FitsChunk (init_chunk init) = FitsInit init
 FitsChunk (init_ack_chunk init) = FitsInit init
 FitsChunk (sack_chunk chunk) = FitsSack chunk
-FitsChunk (heartbeat_chunk parameters) = FitsList parameters
-FitsChunk (heartbeat_ack_chunk parameters) = FitsList parameters
+FitsChunk (heartbeat_chunk parameters) = FitsParameters parameters
+FitsChunk (heartbeat_ack_chunk parameters) = FitsParameters parameters
 FitsChunk (abort_chunk reflected causes) = FitsCauses causes
 FitsChunk (shutdown_chunk cumulative_tsn) = cumulative_tsn < 2 ^ 32
 FitsChunk shutdown_ack_chunk = Unit {0}
@@ -145,7 +145,7 @@ FitsChunk (cookie_echo_chunk cookie) = FitsEcho cookie
 FitsChunk cookie_ack_chunk = Unit {0}
 FitsChunk (shutdown_complete_chunk reflected) = Unit {0}
 FitsChunk (i_data_chunk chunk) = FitsIData chunk
-FitsChunk (re_config_chunk parameters) = FitsList parameters
+FitsChunk (re_config_chunk parameters) = FitsParameters parameters
 FitsChunk (forward_tsn_chunk tsn streams) = FitsForward 4 tsn streams
 FitsChunk (i_forward_tsn_chunk tsn streams) = FitsForward 8 tsn streams
 FitsChunk (unknown_chunk chunk_type flags value) = FitsOther chunk_type flags value

@@ -166,13 +166,13 @@ other_bytes chunk_type flags value =
     chunk_type ∷ flags ∷ to_be_bytes w16 (4 + length value) ++ value ++ zeros (padding_of (length value))
 
 -- a chunk of this type and flags, with these fields and parameters
-unfoldable pub list_bytes : ℕ → ℕ → List ℕ → List ParameterContent → List ℕ
-list_bytes chunk_type flags fields parameters =
+unfoldable pub parameter_chunk_bytes : ℕ → ℕ → List ℕ → List ParameterContent → List ℕ
+parameter_chunk_bytes chunk_type flags fields parameters =
     chunk_type ∷ flags ∷ to_be_bytes w16 (4 + length fields + parameters_len parameters) ++ fields ++ flat_map parameter_bytes parameters
 
 abbrev pub spelled_bytes : Spelled → List ℕ
 spelled_bytes (by_value chunk_type flags value) = other_bytes chunk_type flags value
-spelled_bytes (by_list chunk_type flags fields parameters) = list_bytes chunk_type flags fields parameters
+spelled_bytes (by_list chunk_type flags fields parameters) = parameter_chunk_bytes chunk_type flags fields parameters
 
 -- a chunk with its padding (RFC 9260, section 3.2)
 abbrev pub chunk_bytes : ChunkContent → List ℕ

@@ -3,7 +3,7 @@
 ghost use Rattle.std.specs.Prelude.{◌≡◌, ◌≤◌, ◌<◌, ◌/◌, length};
 ghost use Rattle.std.specs.Option.{option_map};
 ghost use Rattle.dcsctp_wire.specs.Content.{parameter_content};
-ghost use Rattle.dcsctp_wire.specs.Fields.{u32_at, outgoing_request_in, incoming_request_in, result_of, response_with, next_tsns_in, response_in, stream_at};
+ghost use Rattle.dcsctp_wire.specs.Fields.{u32_at, outgoing_request_in, incoming_request_in, result_of, response_with, next_tsns_in, response_in, request_stream_at};
 ghost use Rattle.dcsctp_wire.specs.Spelling.{result_code};
 
 use crate::bytes::{has_entries, u16_at, u32_at};
@@ -104,7 +104,7 @@ impl<'a> OutgoingSsnResetRequestParameter<'a> {
     /// The stream at this place.
     pub fn stream(&self, index: usize) -> u16
         requires { index < length self.now.streams.now / 2 }
-        ensures { result ≡ stream_at index self.now.streams.now }
+        ensures { result ≡ request_stream_at index self.now.streams.now }
     {
         u16_at(self.streams, 2 * index)
     }
@@ -121,7 +121,7 @@ impl<'a> IncomingSsnResetRequestParameter<'a> {
     /// The stream at this place.
     pub fn stream(&self, index: usize) -> u16
         requires { index < length self.now.streams.now / 2 }
-        ensures { result ≡ stream_at index self.now.streams.now }
+        ensures { result ≡ request_stream_at index self.now.streams.now }
     {
         u16_at(self.streams, 2 * index)
     }

@@ -4,7 +4,7 @@ ghost use Rattle.std.specs.Prelude.{◌≡◌, ℕ, ◌+◌, ◌%◌, List, leng
 ghost use Rattle.std.specs.List.{sum_by, flat_map};
 ghost use Rattle.dcsctp_wire.specs.Content.{ParameterContent, ChunkContent, parameter_content, cause_content, chunk_content};
 ghost use Rattle.dcsctp_wire.specs.Format.{padding_of};
-ghost use Rattle.dcsctp_wire.specs.Spelling.{parameter_value, parameter_len, parameter_bytes, parameters_len, cause_value, as_parameter, list_bytes, other_bytes, chunk_len, chunk_bytes};
+ghost use Rattle.dcsctp_wire.specs.Spelling.{parameter_value, parameter_len, parameter_bytes, parameters_len, cause_value, as_parameter, parameter_chunk_bytes, other_bytes, chunk_len, chunk_bytes};
 
 use crate::bytes::padding_of;
 use crate::cause::ErrorCause;
@@ -137,7 +137,7 @@ pub fn sizes()
     ensures parameter { (parameter : ParameterContent) → length (parameter_bytes parameter)
         ≡ parameter_len parameter + padding_of (parameter_len parameter) }
     ensures list { (chunk_type flags : ℕ) (fields : List ℕ) (parameters : List ParameterContent)
-        → length (list_bytes chunk_type flags fields parameters) ≡ 4 + length fields + sum_by
+        → length (parameter_chunk_bytes chunk_type flags fields parameters) ≡ 4 + length fields + sum_by
         (λ parameter. length (parameter_bytes parameter)) parameters }
     ensures other { (chunk_type flags : ℕ) (value : List ℕ) → length
         (other_bytes chunk_type flags value) ≡ 4 + length value + padding_of (length value) }

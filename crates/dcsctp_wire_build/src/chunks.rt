@@ -4,7 +4,7 @@ ghost use Rattle.std.specs.Prelude.{◌≡◌, ◌≤◌, ◌<◌, ◌+◌, ◌^
 ghost use Rattle.std.specs.Vec.{vec_len, vec_capacity};
 ghost use Rattle.std.specs.Int.{w32, to_be_bytes};
 ghost use Rattle.dcsctp_wire.specs.Content.{parameter_content, cause_content, init_content, data_content, i_data_content, sack_content, chunk_content};
-ghost use Rattle.dcsctp_wire.specs.Spelling.{as_parameter, t_bit, data_flags, data_fields, i_data_fields, sack_fields, init_fields, other_bytes, list_bytes, chunk_bytes};
+ghost use Rattle.dcsctp_wire.specs.Spelling.{as_parameter, t_bit, data_flags, data_fields, i_data_fields, sack_fields, init_fields, other_bytes, parameter_chunk_bytes, chunk_bytes};
 
 use crate::fixed::{chunk_head, data_front, forward_front, i_data_front, init_fields, sack_front};
 use crate::parameters::{put_causes, put_parameters};
@@ -16,12 +16,12 @@ use dcsctp_wire::{
 
 // An INIT, type 1, or an INIT ACK, type 2.
 fn put_init(out: &mut Vec<u8>, chunk_type: u8, init: &InitChunk<'_>)
-    requires fits { length (list_bytes chunk_type 0 (init_fields (init_content init.now))
+    requires fits { length (parameter_chunk_bytes chunk_type 0 (init_fields (init_content init.now))
         (map parameter_content init.now.parameters.items)) < 2 ^ 16 }
-    requires room { vec_len out.old + length (list_bytes chunk_type 0 (init_fields
+    requires room { vec_len out.old + length (parameter_chunk_bytes chunk_type 0 (init_fields
         (init_content init.now)) (map parameter_content init.now.parameters.items))
         ≤ vec_capacity out.old }
-    ensures items { out.new.items ≡ out.old.items ++ list_bytes chunk_type 0 (init_fields
+    ensures items { out.new.items ≡ out.old.items ++ parameter_chunk_bytes chunk_type 0 (init_fields
         (init_content init.now)) (map parameter_content init.now.parameters.items) }
     ensures capacity { vec_capacity out.old ≤ vec_capacity out.new }
 {
@@ -34,11 +34,11 @@ fn put_init(out: &mut Vec<u8>, chunk_type: u8, init: &InitChunk<'_>)
 
 // A chunk of parameters alone.
 fn put_parameter_list(out: &mut Vec<u8>, chunk_type: u8, parameters: &[Parameter<'_>])
-    requires fits { length (list_bytes chunk_type 0 [] (map parameter_content parameters.now))
+    requires fits { length (parameter_chunk_bytes chunk_type 0 [] (map parameter_content parameters.now))
         < 2 ^ 16 }
-    requires room { vec_len out.old + length (list_bytes chunk_type 0 []
+    requires room { vec_len out.old + length (parameter_chunk_bytes chunk_type 0 []
         (map parameter_content parameters.now)) ≤ vec_capacity out.old }
-    ensures items { out.new.items ≡ out.old.items ++ list_bytes chunk_type 0 []
+    ensures items { out.new.items ≡ out.old.items ++ parameter_chunk_bytes chunk_type 0 []
         (map parameter_content parameters.now) }
     ensures capacity { vec_capacity out.old ≤ vec_capacity out.new }
 {
@@ -50,11 +50,11 @@ fn put_parameter_list(out: &mut Vec<u8>, chunk_type: u8, parameters: &[Parameter
 
 // An ABORT or ERROR.
 fn put_cause_list(out: &mut Vec<u8>, chunk_type: u8, flags: u8, causes: &[ErrorCause<'_>])
-    requires fits { length (list_bytes chunk_type flags [] (map as_parameter
+    requires fits { length (parameter_chunk_bytes chunk_type flags [] (map as_parameter
         (map cause_content causes.now))) < 2 ^ 16 }
-    requires room { vec_len out.old + length (list_bytes chunk_type flags []
+    requires room { vec_len out.old + length (parameter_chunk_bytes chunk_type flags []
         (map as_parameter (map cause_content causes.now))) ≤ vec_capacity out.old }
-    ensures items { out.new.items ≡ out.old.items ++ list_bytes chunk_type flags []
+    ensures items { out.new.items ≡ out.old.items ++ parameter_chunk_bytes chunk_type flags []
         (map as_parameter (map cause_content causes.now)) }
     ensures capacity { vec_capacity out.old ≤ vec_capacity out.new }
 {

@@ -6,19 +6,19 @@ use Rattle.std.specs.Fmt.{digits}
 use Rattle.dcsctp_wire.specs.Content.{missing_mandatory_parameter, unrecognized_chunk_type, no_user_data, cookie_received_while_shutting_down, user_initiated_abort, protocol_violation, unknown_cause, abort_chunk, error_chunk}
 use Rattle.dcsctp_wire.specs.Fields.{missing_types, no_user_data_in, cause_of}
 use Rattle.dcsctp_wire.specs.Format.{frame_at, form_of, IsChunkOf}
-use Rattle.dcsctp_wire.specs.Spelling.{parameter_bytes, parameters_len, list_bytes, chunk_bytes}
+use Rattle.dcsctp_wire.specs.Spelling.{parameter_bytes, parameters_len, parameter_chunk_bytes, chunk_bytes}
 use Rattle.dcsctp_wire.specs.ReadsBack.{FitsChunk}
 use Rattle.dcsctp_wire.specs.Texts.{cause_text, causes_text}
 
 abort_is_spelled : chunk_bytes (abort_chunk false []) ≡ 6 ∷ 0 ∷ 0 ∷ 4 ∷ []
-unfolding list_bytes parameters_len
+unfolding parameter_chunk_bytes parameters_len
 abort_is_spelled = refl
 
 -- The T bit is the lowest flag. The State Cookie, parameter 7, is missing; two bytes of padding are no part of
 -- the chunk's length.
 missing_parameter_is_spelled : chunk_bytes (abort_chunk true (missing_mandatory_parameter (0 ∷ 7 ∷ []) ∷ []))
     ≡ 6 ∷ 1 ∷ 0 ∷ 14 ∷ 0 ∷ 2 ∷ 0 ∷ 10 ∷ 0 ∷ 0 ∷ 0 ∷ 1 ∷ 0 ∷ 7 ∷ 0 ∷ 0 ∷ []
-unfolding list_bytes parameters_len parameter_bytes
+unfolding parameter_chunk_bytes parameters_len parameter_bytes
 missing_parameter_is_spelled = refl
 
 missing_parameter_is_read : cause_of 2 (0 ∷ 0 ∷ 0 ∷ 1 ∷ 0 ∷ 7 ∷ []) ≡ Some (missing_mandatory_parameter (0 ∷ 7 ∷ []))
@@ -77,7 +77,7 @@ error_is_read = (no_user_data 1 ∷ [], refl, (_, record { value = 0 ∷ 0 ∷ 0
 
 error_is_spelled : chunk_bytes (error_chunk (no_user_data 1 ∷ cookie_received_while_shutting_down ∷ []))
     ≡ 9 ∷ 0 ∷ 0 ∷ 16 ∷ 0 ∷ 9 ∷ 0 ∷ 8 ∷ 0 ∷ 0 ∷ 0 ∷ 1 ∷ 0 ∷ 10 ∷ 0 ∷ 4 ∷ []
-unfolding list_bytes parameters_len parameter_bytes
+unfolding parameter_chunk_bytes parameters_len parameter_bytes
 error_is_spelled = refl
 
 -- An ABORT with causes of several kinds fits its fields.

@@ -4,7 +4,7 @@ use Rattle.std.proofs.Common.{◌≡◌, ℕ, List, [], ◌∷◌, refl, arith}
 use Rattle.dcsctp_wire.specs.Content.{state_cookie, supported_extensions, forward_tsn_supported, InitContent, init_chunk, init_ack_chunk, cookie_echo_chunk, cookie_ack_chunk, unknown_chunk}
 use Rattle.dcsctp_wire.specs.Fields.{parameter_of, fields_in}
 use Rattle.dcsctp_wire.specs.Format.{frame_at, form_of, IsInitValue, IsChunkOf}
-use Rattle.dcsctp_wire.specs.Spelling.{parameter_bytes, parameters_len, init_fields, list_bytes, other_bytes, chunk_bytes}
+use Rattle.dcsctp_wire.specs.Spelling.{parameter_bytes, parameters_len, init_fields, parameter_chunk_bytes, other_bytes, chunk_bytes}
 
 -- an INIT whose fields all differ; its last parameter has padding
 every_field : InitContent
@@ -27,14 +27,14 @@ every_field_value =
 init_is_spelled : chunk_bytes (init_chunk every_field)
     ≡ 1 ∷ 0 ∷ 0 ∷ 30 ∷ 1 ∷ 2 ∷ 3 ∷ 4 ∷ 5 ∷ 6 ∷ 7 ∷ 8 ∷ 9 ∷ 10 ∷ 11 ∷ 12 ∷ 13 ∷ 14 ∷ 15 ∷ 16
     ∷ 0xc0 ∷ 0 ∷ 0 ∷ 4 ∷ 0x80 ∷ 8 ∷ 0 ∷ 6 ∷ 0x82 ∷ 0xc0 ∷ 0 ∷ 0 ∷ []
-unfolding list_bytes init_fields parameters_len parameter_bytes every_field
+unfolding parameter_chunk_bytes init_fields parameters_len parameter_bytes every_field
 init_is_spelled = refl
 
 -- an INIT ACK; padding between its parameters counts: 20 + 8 + 4 + 7
 init_ack_is_spelled : chunk_bytes (init_ack_chunk (record { initiate_tag = 1; a_rwnd = 1500; outbound_streams = 1; inbound_streams = 2; initial_tsn = 3; parameters = supported_extensions (0x82 ∷ []) ∷ forward_tsn_supported ∷ state_cookie (1 ∷ 2 ∷ 3 ∷ []) ∷ [] }))
     ≡ 2 ∷ 0 ∷ 0 ∷ 39 ∷ 0 ∷ 0 ∷ 0 ∷ 1 ∷ 0 ∷ 0 ∷ 5 ∷ 0xdc ∷ 0 ∷ 1 ∷ 0 ∷ 2 ∷ 0 ∷ 0 ∷ 0 ∷ 3
     ∷ 0x80 ∷ 8 ∷ 0 ∷ 5 ∷ 0x82 ∷ 0 ∷ 0 ∷ 0 ∷ 0xc0 ∷ 0 ∷ 0 ∷ 4 ∷ 0 ∷ 7 ∷ 0 ∷ 7 ∷ 1 ∷ 2 ∷ 3 ∷ 0 ∷ []
-unfolding list_bytes init_fields parameters_len parameter_bytes
+unfolding parameter_chunk_bytes init_fields parameters_len parameter_bytes
 init_ack_is_spelled = refl
 
 every_field_is_read : IsInitValue every_field every_field_value

@@ -7,7 +7,7 @@ use Rattle.dcsctp_wire.specs.declared.reconfiguration.NextTsns.{NextTsns}
 use Rattle.dcsctp_wire.specs.declared.chunk.user_data.DataFlags.{DataFlags}
 use Rattle.dcsctp_wire.specs.Content.{ParameterContent, heartbeat_info, state_cookie, outgoing_ssn_reset_request, incoming_ssn_reset_request, reconfiguration_response, supported_extensions, zero_checksum_acceptable, forward_tsn_supported, unknown_parameter, InitContent, CauseContent, missing_mandatory_parameter, unrecognized_chunk_type, no_user_data, cookie_received_while_shutting_down, user_initiated_abort, protocol_violation, unknown_cause, DataContent, IDataContent, SackContent, ChunkContent, data_chunk, init_chunk, init_ack_chunk, sack_chunk, heartbeat_chunk, heartbeat_ack_chunk, abort_chunk, shutdown_chunk, shutdown_ack_chunk, error_chunk, cookie_echo_chunk, cookie_ack_chunk, shutdown_complete_chunk, i_data_chunk, re_config_chunk, forward_tsn_chunk, i_forward_tsn_chunk, unknown_chunk}
 use Rattle.dcsctp_wire.specs.Format.{padding_of}
-use Rattle.dcsctp_wire.specs.Spelling.{zeros, result_code, next_tsns_bytes, parameter_type, parameter_value, parameter_len, parameter_bytes, parameters_len, init_fields, as_parameter, t_bit, data_flags, data_fields, i_data_fields, sack_fields, Spelled, by_value, by_list, spelled, other_bytes, list_bytes, spelled_bytes, chunk_bytes, header_bytes}
+use Rattle.dcsctp_wire.specs.Spelling.{zeros, result_code, next_tsns_bytes, parameter_type, parameter_value, parameter_len, parameter_bytes, parameters_len, init_fields, as_parameter, t_bit, data_flags, data_fields, i_data_fields, sack_fields, Spelled, by_value, by_list, spelled, other_bytes, parameter_chunk_bytes, spelled_bytes, chunk_bytes, header_bytes}
 use Rattle.dcsctp_wire.specs.ReadsBack.{IsByte, FitsParameter, FitsCause, FitsChunk}
 
 -- ---- numbers
@@ -148,8 +148,8 @@ in_other chunk_type flags value type_fits flags_fit value_in_bytes =
     (type_fits, (flags_fit, both (len ++ value) padding (both len value (in_two (4 + length value)) value_in_bytes) (in_zeros (padding_of (length value)))))
 
 in_list : (chunk_type flags : ℕ) (fields : List ℕ) (parameters : List ParameterContent)
-    → IsByte chunk_type → IsByte flags → AllByRecursion IsByte fields → AllByRecursion ValueInBytes parameters → AllByRecursion IsByte (list_bytes chunk_type flags fields parameters)
-unfolding list_bytes
+    → IsByte chunk_type → IsByte flags → AllByRecursion IsByte fields → AllByRecursion ValueInBytes parameters → AllByRecursion IsByte (parameter_chunk_bytes chunk_type flags fields parameters)
+unfolding parameter_chunk_bytes
 in_list chunk_type flags fields parameters type_fits flags_fit in_fields in_each =
     let n : ℕ = 4 + length fields + parameters_len parameters in
     let all : List ℕ = flat_map parameter_bytes parameters in

@@ -5,7 +5,7 @@ use Rattle.dcsctp_wire.specs.declared.chunk.user_data.DataFlags.{DataFlags}
 use Rattle.dcsctp_wire.specs.Content.{heartbeat_info, incoming_ssn_reset_request, DataContent, IDataContent, SackContent, data_chunk, sack_chunk, heartbeat_chunk, heartbeat_ack_chunk, shutdown_chunk, shutdown_ack_chunk, shutdown_complete_chunk, i_data_chunk, re_config_chunk, forward_tsn_chunk, i_forward_tsn_chunk, unknown_chunk}
 use Rattle.dcsctp_wire.specs.Fields.{parameter_of, incoming_request_in, data_in, i_data_in, sack_in, shutdown_in, forward_tsn_in, i_forward_tsn_in, fields_in, gap_ack_block_at, skipped_stream_at, skipped_messages_at}
 use Rattle.dcsctp_wire.specs.Format.{frame_at, form_of, IsChunkOf}
-use Rattle.dcsctp_wire.specs.Spelling.{parameter_bytes, parameters_len, data_fields, i_data_fields, sack_fields, list_bytes, other_bytes, chunk_bytes}
+use Rattle.dcsctp_wire.specs.Spelling.{parameter_bytes, parameters_len, data_fields, i_data_fields, sack_fields, parameter_chunk_bytes, other_bytes, chunk_bytes}
 
 -- ---- DATA (RFC 9260, section 3.3.1)
 
@@ -99,7 +99,7 @@ cut_block_is_refused = refl
 -- ---- HEARTBEAT and HEARTBEAT ACK (RFC 9260, sections 3.3.5 and 3.3.6)
 
 heartbeat_is_spelled : chunk_bytes (heartbeat_chunk (heartbeat_info (1 ∷ 2 ∷ 3 ∷ []) ∷ [])) ≡ 4 ∷ 0 ∷ 0 ∷ 11 ∷ 0 ∷ 1 ∷ 0 ∷ 7 ∷ 1 ∷ 2 ∷ 3 ∷ 0 ∷ []
-unfolding list_bytes parameters_len parameter_bytes
+unfolding parameter_chunk_bytes parameters_len parameter_bytes
 heartbeat_is_spelled = refl
 
 heartbeat_is_read : IsChunkOf (heartbeat_chunk (heartbeat_info (1 ∷ 2 ∷ 3 ∷ []) ∷ [])) 4 1 (0 ∷ 1 ∷ 0 ∷ 7 ∷ 1 ∷ 2 ∷ 3 ∷ [])
@@ -107,7 +107,7 @@ unfolding form_of frame_at parameter_of
 heartbeat_is_read = (heartbeat_info (1 ∷ 2 ∷ 3 ∷ []) ∷ [], refl, (_, record { value = 1 ∷ 2 ∷ 3 ∷ []; framed = refl; read = refl }, refl))
 
 heartbeat_ack_is_5 : chunk_bytes (heartbeat_ack_chunk []) ≡ 5 ∷ 0 ∷ 0 ∷ 4 ∷ []
-unfolding list_bytes parameters_len
+unfolding parameter_chunk_bytes parameters_len
 heartbeat_ack_is_5 = refl
 
 heartbeat_ack_is_read : IsChunkOf (heartbeat_ack_chunk []) 5 0 []
@@ -147,7 +147,7 @@ shutdown_complete_is_read = refl
 -- ---- RE-CONFIG (RFC 6525, section 3.1)
 
 re_config_is_spelled : chunk_bytes (re_config_chunk (incoming_ssn_reset_request 3 (0 ∷ 4 ∷ []) ∷ [])) ≡ 130 ∷ 0 ∷ 0 ∷ 14 ∷ 0 ∷ 14 ∷ 0 ∷ 10 ∷ 0 ∷ 0 ∷ 0 ∷ 3 ∷ 0 ∷ 4 ∷ 0 ∷ 0 ∷ []
-unfolding list_bytes parameters_len parameter_bytes
+unfolding parameter_chunk_bytes parameters_len parameter_bytes
 re_config_is_spelled = refl
 
 re_config_is_read : IsChunkOf (re_config_chunk (incoming_ssn_reset_request 3 (0 ∷ 4 ∷ []) ∷ [])) 130 0 (0 ∷ 14 ∷ 0 ∷ 10 ∷ 0 ∷ 0 ∷ 0 ∷ 3 ∷ 0 ∷ 4 ∷ [])

@@ -9,7 +9,7 @@ use Rattle.dcsctp_wire.specs.Content.{CauseContent, missing_mandatory_parameter}
 use Rattle.dcsctp_wire.specs.Fields.{u32_at, missing_types, no_user_data_in, cause_of}
 use Rattle.dcsctp_wire.specs.Format.{AreCauses}
 use Rattle.dcsctp_wire.specs.Spelling.{as_parameter}
-use Rattle.dcsctp_wire.specs.ReadsBack.{AreEntries, FitsCause}
+use Rattle.dcsctp_wire.specs.ReadsBack.{AreWholeEntries, FitsCause}
 use Rattle.dcsctp_wire_laws.proofs.ReadFitsNumbers.{picked, InBytes, behind_in_bytes, u32_fits, front_entries}
 use Rattle.dcsctp_wire_laws.proofs.ReadFitsLists.{FitsWithin, FitAll, items_fit}
 
@@ -22,7 +22,7 @@ FitsIfRead number value cause = cause_of number value ≡ Some cause → Within 
 
 -- ---- fields
 
-types_fit : (value : List ℕ) → InBytes value → IfSome (missing_types value) (λ types. AreEntries 2 types × (4 + length types ≤ length value))
+types_fit : (value : List ℕ) → InBytes value → IfSome (missing_types value) (λ types. AreWholeEntries 2 types × (4 + length types ≤ length value))
 unfolding missing_types
 types_fit value is =
     let n : ℕ = 2 * u32_at 0 value in
@@ -32,7 +32,7 @@ types_fit value is =
     let inside : n ≤ length (drop 4 value) = omega (arith, length-drop 4 value) in
     (front_entries 2 n (drop 4 value) (behind_in_bytes 4 value is) (omega arith) inside, omega (arith, length-take-le n (drop 4 value) inside))))
 
-missing_fits : (value : List ℕ) (o : Option (List ℕ)) → IfSome o (λ types. AreEntries 2 types × (4 + length types ≤ length value)) → IfSome (option_map missing_mandatory_parameter o) (Within value)
+missing_fits : (value : List ℕ) (o : Option (List ℕ)) → IfSome o (λ types. AreWholeEntries 2 types × (4 + length types ≤ length value)) → IfSome (option_map missing_mandatory_parameter o) (Within value)
 missing_fits value None fits = tt
 missing_fits value (Some types) fits = record { fits = fits.0; within = omega (arith, fits.1) }
 

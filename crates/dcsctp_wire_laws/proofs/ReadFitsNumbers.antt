@@ -7,7 +7,7 @@ use Rattle.std.proofs.lemmas.Bool.{cond_both, ltb-false, eqb-true, and_parts, no
 use Rattle.std.proofs.lemmas.List.{length-take-le}
 use Rattle.std.proofs.lemmas.List.Elements.{All-take, All-drop, All-from_recursion, recursion_from_All}
 use Rattle.dcsctp_wire.specs.Fields.{u16_at, u32_at, has_entries}
-use Rattle.dcsctp_wire.specs.ReadsBack.{IsByte, AreEntries}
+use Rattle.dcsctp_wire.specs.ReadsBack.{IsByte, AreWholeEntries}
 
 -- ---- where a test picks
 
@@ -49,14 +49,14 @@ u32_fits at bytes is = four_fit (drop at bytes) (behind_in_bytes at bytes is)
 -- ---- entries
 
 -- the bytes in front, where they are whole entries of so many
-pub front_entries : (len n : ℕ) (bytes : List ℕ) → InBytes bytes → n % len ≡ 0 → n ≤ length bytes → AreEntries len (take n bytes)
+pub front_entries : (len n : ℕ) (bytes : List ℕ) → InBytes bytes → n % len ≡ 0 → n ≤ length bytes → AreWholeEntries len (take n bytes)
 front_entries len n bytes is whole inside =
     record { whole = ap (λ (k : ℕ). k % len) (length-take-le n bytes inside) ∙ whole; entries_in_bytes = front_in_bytes n bytes is }
 
 -- There are fields, and whole entries behind them.
 pub record HasEntries (fields len : ℕ) (value : List ℕ) : Type 0 where
   pub fields_there : fields ≤ length value
-  pub entries_fit : AreEntries len (drop fields value)
+  pub entries_fit : AreWholeEntries len (drop fields value)
 
 pub entries_there : (fields len : ℕ) (value : List ℕ) → InBytes value → has_entries fields len value ≡ true → HasEntries fields len value
 entries_there fields len value is has =

@@ -7,7 +7,7 @@ use Rattle.dcsctp_wire.specs.Numbers.{init_type, init_ack_type, heartbeat_type, 
 use Rattle.dcsctp_wire.specs.Content.{ParameterContent, InitContent, CauseContent, ChunkContent}
 use Rattle.dcsctp_wire.specs.Fields.{lowest_bit}
 use Rattle.dcsctp_wire.specs.Format.{IsInitValue, AreParameters, AreCauses, Form, introduction, parameter_list, cause_list, fields, form_of, HasForm, IsReadByHeader, BeginsWithChunk, AreChunks}
-use Rattle.dcsctp_wire.specs.ReadsBack.{IsByte, FitsList, FitsInit, FitsCauses, FitsChunk}
+use Rattle.dcsctp_wire.specs.ReadsBack.{IsByte, FitsParameters, FitsInit, FitsCauses, FitsChunk}
 use Rattle.dcsctp_wire_laws.specs.ReadFits.{ReadPacketFits}
 use Rattle.dcsctp_wire_laws.proofs.ReadFitsNumbers.{InBytes, behind_in_bytes, u16_fits, u32_fits}
 use Rattle.dcsctp_wire_laws.proofs.ReadFitsLists.{frame_fits}
@@ -30,7 +30,7 @@ init_fits init value is short says =
       parameters = all.0;
     }
 
-list_fits : (parameters : List ParameterContent) (value : List ℕ) → InBytes value → 4 + length value < 2 ^ 16 → AreParameters parameters value → FitsList parameters
+list_fits : (parameters : List ParameterContent) (value : List ℕ) → InBytes value → 4 + length value < 2 ^ 16 → AreParameters parameters value → FitsParameters parameters
 list_fits parameters value is short are =
     let all = parameters_fit parameters value is are in
     record { len_fits = omega (arith, all.1); parameters_fit = all.0 }
@@ -45,7 +45,7 @@ cause_list_fits causes value is short are =
 -- A chunk of the form fits where its fields, parameters or causes do.
 abbrev Carries : Form → Type 0
 Carries (introduction says) = (init : InitContent) → FitsInit init → FitsChunk (says init)
-Carries (parameter_list says) = (parameters : List ParameterContent) → FitsList parameters → FitsChunk (says parameters)
+Carries (parameter_list says) = (parameters : List ParameterContent) → FitsParameters parameters → FitsChunk (says parameters)
 Carries (cause_list says) = (bit : Bool) (causes : List CauseContent) → FitsCauses causes → FitsChunk (says bit causes)
 Carries fields = Unit {0}
 

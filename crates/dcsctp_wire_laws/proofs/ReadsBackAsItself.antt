@@ -4,7 +4,7 @@ use Rattle.std.specs.List.{flat_map, AllByRecursion}
 use Rattle.std.proofs.lemmas.Nat.{from_be_bytes-to_be_bytes_2, from_be_bytes-to_be_bytes_4}
 use Rattle.dcsctp_wire.specs.Content.{InitContent, ChunkContent, data_chunk, init_chunk, init_ack_chunk, sack_chunk, heartbeat_chunk, heartbeat_ack_chunk, abort_chunk, shutdown_chunk, shutdown_ack_chunk, error_chunk, cookie_echo_chunk, cookie_ack_chunk, shutdown_complete_chunk, i_data_chunk, re_config_chunk, forward_tsn_chunk, i_forward_tsn_chunk, unknown_chunk}
 use Rattle.dcsctp_wire.specs.Format.{Frame, frame_at, HasInitMinima, IsInitValue, form_of, IsReadByHeader, BeginsWithChunk, AreChunks}
-use Rattle.dcsctp_wire.specs.Spelling.{init_fields, list_bytes, chunk_bytes}
+use Rattle.dcsctp_wire.specs.Spelling.{init_fields, parameter_chunk_bytes, chunk_bytes}
 use Rattle.dcsctp_wire.specs.ReadsBack.{FitsInit, FitsChunk, HasMinima}
 use Rattle.dcsctp_wire.proofs.Chunks.{one_chunk}
 use Rattle.dcsctp_wire.proofs.Frames.{frame_of_nothing, same_frame}
@@ -30,7 +30,7 @@ init_has_minima init read fits is =
 
 -- An INIT is read as an INIT, and an INIT ACK as an INIT ACK.
 has_minima : (chunk read : ChunkContent) → FitsChunk chunk → (rest : List ℕ) → IsReadByHeader read (chunk_bytes chunk ++ rest) (chunk_value chunk) → HasMinima chunk
-unfolding form_of list_bytes
+unfolding form_of parameter_chunk_bytes
 has_minima (data_chunk chunk) read fits rest is = tt
 has_minima (init_chunk init) read fits rest is = init_has_minima init is.0 fits is.2
 has_minima (init_ack_chunk init) read fits rest is = init_has_minima init is.0 fits is.2

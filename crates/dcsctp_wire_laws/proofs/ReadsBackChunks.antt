@@ -7,8 +7,8 @@ use Rattle.std.proofs.lemmas.Nat.{from_be_bytes-to_be_bytes_2, from_be_bytes-to_
 use Rattle.dcsctp_wire.specs.Content.{ParameterContent, InitContent, CauseContent, ChunkContent, data_chunk, init_chunk, init_ack_chunk, sack_chunk, heartbeat_chunk, heartbeat_ack_chunk, abort_chunk, shutdown_chunk, shutdown_ack_chunk, error_chunk, cookie_echo_chunk, cookie_ack_chunk, shutdown_complete_chunk, i_data_chunk, re_config_chunk, forward_tsn_chunk, i_forward_tsn_chunk, unknown_chunk}
 use Rattle.dcsctp_wire.specs.Fields.{fields_in}
 use Rattle.dcsctp_wire.specs.Format.{padding_of, frame_at, HasInitMinima, IsInitValue, AreParameters, AreCauses, Form, form_of, HasForm, IsChunkOf, IsReadByHeader, BeginsWithChunk, AreChunks}
-use Rattle.dcsctp_wire.specs.Spelling.{zeros, parameter_bytes, parameters_len, init_fields, as_parameter, data_fields, i_data_fields, sack_fields, Spelled, by_value, by_list, spelled, other_bytes, list_bytes, spelled_bytes, chunk_bytes}
-use Rattle.dcsctp_wire.specs.ReadsBack.{FitsList, FitsInit, FitsOther, FitsCauses, FitsChunk, HasMinima}
+use Rattle.dcsctp_wire.specs.Spelling.{zeros, parameter_bytes, parameters_len, init_fields, as_parameter, data_fields, i_data_fields, sack_fields, Spelled, by_value, by_list, spelled, other_bytes, parameter_chunk_bytes, spelled_bytes, chunk_bytes}
+use Rattle.dcsctp_wire.specs.ReadsBack.{FitsParameters, FitsInit, FitsOther, FitsCauses, FitsChunk, HasMinima}
 use Rattle.dcsctp_wire.proofs.Lengths.{padded_parameters}
 use Rattle.dcsctp_wire_laws.proofs.ReadsBackFields.{bit_read, data_reads, i_data_reads, sack_reads, shutdown_reads, forward_reads, i_forward_reads}
 use Rattle.dcsctp_wire_laws.proofs.ReadsBackFrames.{frame_behind}
@@ -109,7 +109,7 @@ fits_frame (i_forward_tsn_chunk tsn streams) fits = omega (arith, fits.len_fits)
 fits_frame (unknown_chunk chunk_type flags value) fits = fits.len_fits
 
 spelled_framed : (s : Spelled) → FitsFrame s → (rest : List ℕ) → frame_at (spelled_bytes s ++ rest) ≡ Some (record { value = spelled_value s; rest = rest })
-unfolding list_bytes
+unfolding parameter_chunk_bytes
 spelled_framed (by_value chunk_type flags value) fits rest = other_framed chunk_type flags value fits rest
 spelled_framed (by_list chunk_type flags fields parameters) fits rest =
     framed_with chunk_type flags (4 + length fields + parameters_len parameters) fields parameters fits.0 refl fits.1 rest
@@ -119,7 +119,7 @@ framed chunk fits rest = spelled_framed (spelled chunk) (fits_frame chunk fits) 
 
 -- ---- what the value says
 
-list_read : (parameters : List ParameterContent) → FitsList parameters → AreParameters parameters (value_with [] parameters)
+list_read : (parameters : List ParameterContent) → FitsParameters parameters → AreParameters parameters (value_with [] parameters)
 list_read parameters fits = parameters_read_back parameters fits.parameters_fit (omega (arith, fits.len_fits))
 
 causes_read : (causes : List CauseContent) → FitsCauses causes → AreCauses causes (value_with [] (map as_parameter causes))
@@ -131,7 +131,7 @@ unknown_read chunk_type flags value fits =
     subst (λ (form : Form). HasForm form (unknown_chunk chunk_type flags value) chunk_type flags value) (sym fits.form) fits.read_as_unknown
 
 says : (chunk : ChunkContent) → FitsChunk chunk → HasMinima chunk → (rest : List ℕ) → IsReadByHeader chunk (chunk_bytes chunk ++ rest) (chunk_value chunk)
-unfolding form_of fields_in list_bytes other_bytes
+unfolding form_of fields_in parameter_chunk_bytes other_bytes
 says (data_chunk chunk) fits minima rest = data_reads chunk fits
 says (init_chunk init) fits minima rest = (init, refl, init_read init fits minima)
 says (init_ack_chunk init) fits minima rest = (init, refl, init_read init fits minima)

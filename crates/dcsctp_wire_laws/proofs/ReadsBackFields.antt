@@ -9,11 +9,11 @@ use Rattle.dcsctp_wire.specs.declared.chunk.user_data.DataFlags.{DataFlags}
 use Rattle.dcsctp_wire.specs.Content.{DataContent, IDataContent, SackContent, data_chunk, sack_chunk, shutdown_chunk, i_data_chunk, forward_tsn_chunk, i_forward_tsn_chunk}
 use Rattle.dcsctp_wire.specs.Fields.{u16_at, u32_at, has_entries, lowest_bit, flags_in, data_in, i_data_in, sack_in, shutdown_in, forward_tsn_in, i_forward_tsn_in}
 use Rattle.dcsctp_wire.specs.Spelling.{t_bit, data_flags, data_fields, i_data_fields, sack_fields}
-use Rattle.dcsctp_wire.specs.ReadsBack.{AreEntries, FitsData, FitsIData, FitsSack, FitsForward}
+use Rattle.dcsctp_wire.specs.ReadsBack.{AreWholeEntries, FitsData, FitsIData, FitsSack, FitsForward}
 
 -- ---- entries behind fields
 
-pub entries_behind : (fields entry : ℕ) (front entries : List ℕ) → length front ≡ fields → AreEntries entry entries → has_entries fields entry (front ++ entries) ≡ true
+pub entries_behind : (fields entry : ℕ) (front entries : List ℕ) → length front ≡ fields → AreWholeEntries entry entries → has_entries fields entry (front ++ entries) ≡ true
 entries_behind fields entry front entries long are =
     let enough : ltb (length (front ++ entries)) fields ≡ false = le-ltb (length (front ++ entries)) fields (omega (arith, length-append front entries)) in
     let left : length (front ++ entries) - fields ≡ length entries = omega (arith, length-append front entries) in
@@ -77,7 +77,7 @@ i_data_reads chunk fits =
 -- ---- SACK
 
 -- a number of entries of four bytes
-four_each : (entries : List ℕ) → AreEntries 4 entries → length entries < 2 ^ 16 → 4 * u16_at 0 (to_be_bytes w16 (length entries / 4)) ≡ length entries
+four_each : (entries : List ℕ) → AreWholeEntries 4 entries → length entries < 2 ^ 16 → 4 * u16_at 0 (to_be_bytes w16 (length entries / 4)) ≡ length entries
 four_each entries are short = omega (arith, from_be_bytes-to_be_bytes_2 (length entries / 4) (omega arith), are.whole)
 
 pub sack_reads : (chunk : SackContent) → FitsSack chunk → sack_in (sack_fields chunk ++ (chunk.gap_ack_blocks ++ chunk.duplicate_tsns)) ≡ Some (sack_chunk chunk)

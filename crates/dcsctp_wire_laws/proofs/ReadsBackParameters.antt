@@ -11,7 +11,7 @@ use Rattle.dcsctp_wire.specs.Content.{ParameterContent, heartbeat_info, state_co
 use Rattle.dcsctp_wire.specs.Fields.{u32_at, outgoing_request_in, incoming_request_in, result_of, response_with, next_tsns_in, response_in, method_in, parameter_of}
 use Rattle.dcsctp_wire.specs.Format.{AreParameters}
 use Rattle.dcsctp_wire.specs.Spelling.{result_code, parameter_type, parameter_value, parameter_bytes, parameters_len}
-use Rattle.dcsctp_wire.specs.ReadsBack.{AreEntries, FitsOutgoingRequest, FitsNextTsns, FitsParameter}
+use Rattle.dcsctp_wire.specs.ReadsBack.{AreWholeEntries, FitsOutgoingRequest, FitsNextTsns, FitsParameter}
 use Rattle.dcsctp_wire_laws.proofs.ReadsBackFields.{entries_behind}
 use Rattle.dcsctp_wire_laws.proofs.ReadsBackItems.{IsReadBack, items_read_back}
 
@@ -27,7 +27,7 @@ outgoing_reads number answered last_tsn streams fits =
     rw (entries_behind 12 2 (to_be_bytes w32 number ++ to_be_bytes w32 answered ++ to_be_bytes w32 last_tsn) streams refl fits.streams_fit)
     (λ i. Some (outgoing_ssn_reset_request (one i) (two i) (three i) streams))
 
-incoming_reads : (number : ℕ) (streams : List ℕ) → number < 2 ^ 32 → AreEntries 2 streams
+incoming_reads : (number : ℕ) (streams : List ℕ) → number < 2 ^ 32 → AreWholeEntries 2 streams
     → incoming_request_in (parameter_value (incoming_ssn_reset_request number streams)) ≡ Some (incoming_ssn_reset_request number streams)
 unfolding incoming_request_in
 incoming_reads number streams fits are =

@@ -3,7 +3,7 @@
 use Rattle.std.proofs.Common.{◌≡◌, None, Some, [], ◌∷◌, refl}
 use Rattle.dcsctp_wire.specs.declared.reconfiguration.ReconfigurationResponseResult.TheVariants.{SuccessPerformed, InProgress}
 use Rattle.dcsctp_wire.specs.Content.{heartbeat_info, state_cookie, outgoing_ssn_reset_request, incoming_ssn_reset_request, reconfiguration_response, supported_extensions, zero_checksum_acceptable, forward_tsn_supported, unknown_parameter}
-use Rattle.dcsctp_wire.specs.Fields.{u16_at, u32_at, stream_at, outgoing_request_in, incoming_request_in, result_of, response_in, method_in, parameter_of}
+use Rattle.dcsctp_wire.specs.Fields.{u16_at, u32_at, request_stream_at, outgoing_request_in, incoming_request_in, result_of, response_in, method_in, parameter_of}
 use Rattle.dcsctp_wire.specs.Format.{frame_at}
 use Rattle.dcsctp_wire.specs.Spelling.{parameter_bytes}
 
@@ -134,7 +134,7 @@ outgoing_is_read : parameter_of 13 (0 ∷ 0 ∷ 0 ∷ 3 ∷ 0 ∷ 0 ∷ 0 ∷ 2 
 unfolding parameter_of outgoing_request_in
 outgoing_is_read = refl
 
-second_stream_is_5 : stream_at 1 (0 ∷ 4 ∷ 0 ∷ 5 ∷ []) ≡ 5
+second_stream_is_5 : request_stream_at 1 (0 ∷ 4 ∷ 0 ∷ 5 ∷ []) ≡ 5
 second_stream_is_5 = refl
 
 outgoing_is_spelled : parameter_bytes (outgoing_ssn_reset_request 3 2 1 (0 ∷ 4 ∷ []))

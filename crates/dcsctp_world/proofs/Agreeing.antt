@@ -11,11 +11,11 @@ use Rattle.dcsctp_core.specs.spec.endpoint.Event.{Event, event_map, sent, connec
 use Rattle.dcsctp_core.specs.spec.Packet.{Emission, emission_bytes}
 use Rattle.dcsctp_core.specs.types.Settings.{ports_of}
 use Rattle.dcsctp_core.specs.spec.endpoint.Endpoint.{Endpoint}
-use Rattle.dcsctp_core.specs.spec.endpoint.CallTurns.{Turned, events_of}
+use Rattle.dcsctp_core.specs.spec.endpoint.CallTurns.{Transition, events_of}
 use Rattle.dcsctp_core.specs.types.declared.schedule.Side.{Side}
-use Rattle.dcsctp_spec_runs.specs.Sockets.{Worked, Both, of_side, turns_after, acts_of}
+use Rattle.dcsctp_spec_runs.specs.Sockets.{PerformedAct, Both, of_side, turns_after, acts_of}
 use Rattle.dcsctp_theorem_sockets.specs.Deadlines.{RunsT1}
-use Rattle.dcsctp_theorem_sockets.specs.Handshake.{ConnectThroughout, handshake_acts, connections, IsConnected, AreConnected, FittingSocketsConnect}
+use Rattle.dcsctp_theorem_sockets.specs.Handshake.{ConnectThroughout, handshake_acts, connections_of_events, IsConnected, AreConnected, FittingSocketsConnect}
 use Rattle.dcsctp_theorem_sockets.specs.Laws.{SocketLaws}
 use Rattle.dcsctp_theorem_sockets.specs.OneSocket.{IsWithinLimit}
 use Rattle.dcsctp_theorem_sockets.specs.Telling.{HoldsNoted}
@@ -26,11 +26,11 @@ use Rattle.dcsctp_world.specs.Shown.{SideShown, WorldView, options_of}
 use Rattle.dcsctp_world.specs.Run.{SideRuns, IsRun}
 use Rattle.dcsctp_core.specs.api.declared.errors.SocketFault.{SocketFault}
 use Rattle.dcsctp_core.specs.api.declared.errors.SocketFault.TheVariants.{OutOfMemory, Failed}
-use Rattle.dcsctp_world.specs.Acts.{Applies, Ran, Runs}
+use Rattle.dcsctp_world.specs.Acts.{Applies, Ran, RunsSteps}
 use Rattle.dcsctp_world.specs.Drawing.{DrawOn, AreWhole}
 use Rattle.dcsctp_world.specs.Recording.{Recording, recorded_stream}
 use Rattle.dcsctp_world.proofs.Honest.{honest_run}
-use Rattle.dcsctp_world.specs.Agreement.{Agrees, ShowsConnected, BothConnected, HandshakeConnects}
+use Rattle.dcsctp_world.specs.Agreement.{Agrees, ShowsConnected, BothConnected, ShownHandshakeConnects}
 
 pub world_agrees : {R : Type 0} → SocketLaws → CookieLaws → UsersReadWhatWasSent → (options : Both Options) (world : WorldView R) → IsRun options world → Agrees options world
 world_agrees law cookies delivery options world h =
@@ -56,7 +56,7 @@ world_agrees law cookies delivery options world h =
 
 -- ---- the handshake
 
-connections_shown : (f : Emission → List ℕ) (events : List (Event Emission)) → connections (map (event_map f) events) ≡ connections events
+connections_shown : (f : Emission → List ℕ) (events : List (Event Emission)) → connections_of_events (map (event_map f) events) ≡ connections_of_events events
 connections_shown f [] = refl
 connections_shown f (sent packet ∷ events) = connections_shown f events
 connections_shown f (connected ∷ events) = ap suc (connections_shown f events)
@@ -75,12 +75,12 @@ connections_shown f (lifecycle_message_expired id ∷ events) = connections_show
 connections_shown f (lifecycle_message_delivered id ∷ events) = connections_shown f events
 connections_shown f (lifecycle_end id ∷ events) = connections_shown f events
 
-shows_connected : {R : Type 0} (mine theirs : Options) (turns : List Turned) (side : SideShown R) (my peer : Pair) → SideRuns mine turns side → IsConnected mine theirs turns my peer
+shows_connected : {R : Type 0} (mine theirs : Options) (turns : List Transition) (side : SideShown R) (my peer : Pair) → SideRuns mine turns side → IsConnected mine theirs turns my peer
     → ShowsConnected mine theirs side my peer
 shows_connected mine theirs turns side my peer h is =
     record {
       core = ap (λ (e : Endpoint). e.core) h.endpoint ∙ is.core;
-      once = ap (λ (es : List (Event (List ℕ))). connections es) h.events ∙ connections_shown (emission_bytes (ports_of mine)) (events_of turns) ∙ is.once;
+      once = ap (λ (es : List (Event (List ℕ))). connections_of_events es) h.events ∙ connections_shown (emission_bytes (ports_of mine)) (events_of turns) ∙ is.once;
     }
 
 both_connected : {R : Type 0} (options : Both Options) (world : WorldView R) (h : IsRun options world) → AreConnected options (turns_after h.steps) → BothConnected options world
@@ -93,11 +93,11 @@ both_connected options world h is =
     }
 
 -- at the end of the run
-at_end : (options : Both Options) (side : Side) (run : List Worked) → acts_of run ≡ reverse (handshake_acts side) → ConnectThroughout options side run → AreConnected options (turns_after run)
+at_end : (options : Both Options) (side : Side) (run : List PerformedAct) → acts_of run ≡ reverse (handshake_acts side) → ConnectThroughout options side run → AreConnected options (turns_after run)
 at_end options side [] schedule h = absurd (cc)
 at_end options side (worked ∷ earlier) schedule h = h.0 schedule
 
-pub handshake_connects : {R : Type 0} → FittingSocketsConnect → (options : Both Options) (world : WorldView R) → IsRun options world → HandshakeConnects options world
+pub handshake_connects : {R : Type 0} → FittingSocketsConnect → (options : Both Options) (world : WorldView R) → IsRun options world → ShownHandshakeConnects options world
 handshake_connects law options world run side acts_are fit =
     let are : acts_of run.steps ≡ reverse (handshake_acts side) =
     sym (reverse-reverse (acts_of run.steps)) ∙ ap (λ (l : List ActContent). reverse l) (sym run.acts ∙ acts_are) in
@@ -113,7 +113,7 @@ split_at (x ∷ xs) (suc i) default within = ap (λ (l : List Step). x ∷ l) (s
 -- the steps before the one that was refused ran
 refused_at : {R : Type 0} (stream : R → Stream) → SocketLaws → CookieLaws → UsersReadWhatWasSent → (steps : List Step) (i : ℕ) (default : Step) (fault : SocketFault) (old now new : WorldView (Recording R)) → i < length steps
     → Ran (map step_content (take i steps)) old now → DrawOn (recorded_stream stream) old.sides now.sides → AreWhole now.sides → Applies (step_act (step_content (get_or steps i default))) now (Err fault) new
-    → Runs stream (map step_content steps) old (Err fault) new
+    → RunsSteps stream (map step_content steps) old (Err fault) new
 refused_at stream law cookies delivery steps i default OutOfMemory old now new within ran drawn whole out =
     record {
       done = map step_content (take i steps);
@@ -136,7 +136,7 @@ refused_at stream law cookies delivery steps i default Failed old now new within
 
 pub ran_out_among : {R : Type 0} (stream : R → Stream) → SocketLaws → CookieLaws → UsersReadWhatWasSent → (steps : List Step) (i : ℕ) (default : Step) (fault : SocketFault) (old now new : WorldView (Recording R)) → i < length steps
     → Ran (map step_content (take i steps)) old now → DrawOn (recorded_stream stream) old.sides now.sides → AreWhole now.sides → Applies (step_act (step_content (get_or steps i default))) now (Err fault) new
-    → (result : Result (Unit {0}) SocketFault) → IsErrAnd result (λ given. given ≡ fault) → Runs stream (map step_content steps) old result new
+    → (result : Result (Unit {0}) SocketFault) → IsErrAnd result (λ given. given ≡ fault) → RunsSteps stream (map step_content steps) old result new
 ran_out_among stream law cookies delivery steps i default fault old now new within ran drawn whole out (Ok done) is = absurd is
 ran_out_among stream law cookies delivery steps i default fault old now new within ran drawn whole out (Err given) is =
-    subst (λ (f : SocketFault). Runs stream (map step_content steps) old (Err f) new) (sym is) (refused_at stream law cookies delivery steps i default fault old now new within ran drawn whole out)
+    subst (λ (f : SocketFault). RunsSteps stream (map step_content steps) old (Err f) new) (sym is) (refused_at stream law cookies delivery steps i default fault old now new within ran drawn whole out)

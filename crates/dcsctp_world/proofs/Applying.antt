@@ -8,9 +8,9 @@ use Rattle.dcsctp_core.specs.types.declared.schedule.Step.{Step}
 use Rattle.dcsctp_core.specs.spec.endpoint.Event.{Event, packets_in}
 use Rattle.dcsctp_core.specs.types.Settings.{ports_of}
 use Rattle.dcsctp_core.specs.spec.endpoint.Endpoint.{association_of}
-use Rattle.dcsctp_core.specs.spec.endpoint.CallTurns.{Turned, events_of, words_of, pairs_of}
+use Rattle.dcsctp_core.specs.spec.endpoint.CallTurns.{Transition, events_of, words_of, pairs_of}
 use Rattle.dcsctp_spec_runs.specs.Sockets.{Both, of_side, of_other, side_of_act, TurnsOfAct}
-use Rattle.dcsctp_delivery_sockets.specs.UserMessages.{sent_of, read_of}
+use Rattle.dcsctp_delivery_sockets.specs.UserMessages.{messages_sent_in, read_of}
 use Rattle.dcsctp_core.specs.api.declared.errors.SocketFault.{SocketFault}
 use Rattle.dcsctp_core.specs.api.declared.errors.SocketFault.TheVariants.{OutOfMemory, Failed}
 use Rattle.dcsctp_core.specs.api.Calls.{user_event}
@@ -23,7 +23,7 @@ use Rattle.dcsctp_world.specs.declared.watched_socket.WatchedSocket.{WatchedSock
 use Rattle.dcsctp_world.specs.Shown.{SideShown, WorldView, options_of}
 use Rattle.dcsctp_world.specs.Growth.{Grows, SideExtends, with_association}
 use Rattle.dcsctp_world.specs.Run.{IsRun}
-use Rattle.dcsctp_world.specs.Acts.{ActMoves, AppliedAll, BothExtend, with_associations, Applied, WorksAct, WorldExtends, RanOut, Ran}
+use Rattle.dcsctp_world.specs.Acts.{ActMoves, AppliedAll, BothExtend, with_associations, Applied, WorksAct, WorldExtends, ActRanOutOfMemory, Ran}
 use Rattle.dcsctp_world.specs.Parts.{world_of}
 use Rattle.dcsctp_world.proofs.Keeping.{extends_itself, extends_by, extends_further}
 use Rattle.dcsctp_world.proofs.Running.{is_run_next}
@@ -57,7 +57,7 @@ side_extends_further a b c first second =
 same_side_extends : {R : Type 0} (old new : SideShown R) → new ≡ old → SideExtends old new
 same_side_extends {R = R} old new same = subst (λ (s : SideShown R). SideExtends old s) (sym same) (side_extends_itself old)
 
-grows_extends : {R : Type 0} {answer : Reply} (Turns : List Turned → Type 0) (old new : SideShown R) → Grows Turns answer old new → SideExtends old new
+grows_extends : {R : Type 0} {answer : Reply} (Turns : List Transition → Type 0) (old new : SideShown R) → Grows Turns answer old new → SideExtends old new
 grows_extends Turns old new grows =
     let told : List (Event (List _)) = map (user_event (ports_of old.socket.view.endpoint.options)) (events_of grows.turns) in
     record {
@@ -65,12 +65,12 @@ grows_extends Turns old new grows =
       packets = extends_by (packets_in told) grows.packets;
       words = extends_by (words_of grows.turns) grows.words;
       pairs = extends_by (pairs_of grows.turns) grows.pairs;
-      sent = extends_by (sent_of old.socket.view.endpoint grows.turns) grows.sent;
+      sent = extends_by (messages_sent_in old.socket.view.endpoint grows.turns) grows.sent;
       read = extends_by (read_of old.socket.view.endpoint grows.turns) grows.read;
       associations = extends_by [] (grows.associations ∙ sym (append-nil old.associations));
     }
 
-moves_extend_at : {R : Type 0} {answer : Reply} (Turns : List Turned → Type 0) (mover : Side) (old moved : Both (SideShown R))
+moves_extend_at : {R : Type 0} {answer : Reply} (Turns : List Transition → Type 0) (mover : Side) (old moved : Both (SideShown R))
     → Grows Turns answer (of_side mover old) (of_side mover moved) → of_other mover moved ≡ of_other mover old → BothExtend old moved
 moves_extend_at Turns sides.A old moved grows stays = record { a = grows_extends Turns old.a moved.a grows; b = same_side_extends old.b moved.b stays }
 moves_extend_at Turns sides.B old moved grows stays = record { a = same_side_extends old.a moved.a stays; b = grows_extends Turns old.b moved.b grows }
@@ -139,7 +139,7 @@ applied_is_run act reply a b new_a new_b made new_made false is fits invariant a
 pub ran_out_in : {R : Type 0} (act : ActContent) (fault : SocketFault) (a b new_a new_b : WatchedSocket R) (made new_made : List Act) (failed : Bool) → failed ≡ false
     → (failed ≡ false → IsRun (options_of (world_of a b made failed)) (world_of a b made failed))
     → WorksAct act (world_of a b made false) (Err fault) (world_of new_a new_b new_made false)
-    → RanOut act (world_of a b made failed) (world_of new_a new_b new_made true)
+    → ActRanOutOfMemory act (world_of a b made failed) (world_of new_a new_b new_made true)
 ran_out_in act OutOfMemory a b new_a new_b made new_made failed is invariant stops = record { runs = is; fails = refl; stops = stops.0; acts = stops.1 }
 ran_out_in act Failed a b new_a new_b made new_made failed is invariant stays =
     let goes_on : (of_side (side_of_act act) (world_of a b made failed).sides).socket.failed ≡ false = ((invariant is).sides (side_of_act act)).goes_on in
@@ -195,7 +195,7 @@ ran_next steps i default reply old now new within ran applied is_run options =
 
 -- ---- the step wasn't copied
 
-pub copy_refused : {R : Type 0} (act : ActContent) (old : WorldView R) → old.failed ≡ false → RanOut act old (record old { failed = true })
+pub copy_refused : {R : Type 0} (act : ActContent) (old : WorldView R) → old.failed ≡ false → ActRanOutOfMemory act old (record old { failed = true })
 copy_refused {R = R} act old runs =
     let mover : SideShown R = of_side (side_of_act act) old.sides in
     let other : SideShown R = of_other (side_of_act act) old.sides in

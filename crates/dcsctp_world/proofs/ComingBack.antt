@@ -15,7 +15,7 @@ use Rattle.dcsctp_core.specs.types.Snapshot.{Snapshot}
 use Rattle.dcsctp_core.specs.spec.SocketSnapshot.{connected_snapshot, snapshot_in, snapshot_of}
 use Rattle.dcsctp_core.specs.spec.endpoint.Turn.{act_input}
 use Rattle.dcsctp_core.specs.spec.association.Acts.{hands_over}
-use Rattle.dcsctp_core.specs.spec.endpoint.CallTurns.{Turned, Turns, after_all}
+use Rattle.dcsctp_core.specs.spec.endpoint.CallTurns.{Transition, Turns, after_all}
 use Rattle.dcsctp_core.specs.types.declared.schedule.Side.{Side}
 use Rattle.dcsctp_core.specs.types.declared.schedule.Side.TheVariants as sides
 use Rattle.dcsctp_core.specs.spec.Handover.{readiness_of}
@@ -28,16 +28,16 @@ use Rattle.dcsctp_core.specs.api.Calls.{is_closed}
 use Rattle.dcsctp_world.specs.declared.act.Reply.{Reply}
 use Rattle.dcsctp_world.specs.declared.act.Reply.TheVariants.{Restored}
 use Rattle.dcsctp_world.specs.Acts.{Applied, Applies, with_associations}
-use Rattle.dcsctp_world.specs.Growth.{IsReply, IsRestored, IsHandedOver, IsHandedOn}
+use Rattle.dcsctp_world.specs.Growth.{IsReply, IsRestoreReply, IsHandedOver, IsHandedOn}
 use Rattle.dcsctp_world.specs.Shown.{SideShown, WorldView}
 use Rattle.dcsctp_core.specs.spec.endpoint.BegunResets.{BegunReset, after_begun}
 use Rattle.dcsctp_core.specs.spec.endpoint.DataOutcomes.{FlushTurn, AnswersTo, flush_by}
-use Rattle.dcsctp_core.specs.spec.endpoint.FlushOutcomes.{Answer, Ask, Answers, at_limit, at_empty, after_packet, Answered, goes_out, filled, answer_contents, asked, next_draft, flush_of, draft_to, told_event}
+use Rattle.dcsctp_core.specs.spec.endpoint.FlushOutcomes.{Answer, Ask, AreFlushAnswers, at_limit, at_empty, after_packet, IsFlushAnswer, goes_out, filled, answer_contents, asked, next_draft, flush_of, draft_to, filling_event}
 use Rattle.dcsctp_core.specs.spec.endpoint.HandoverOutcomes.{hand_over_outcome}
 use Rattle.dcsctp_core.specs.spec.endpoint.RestoreOutcomes.{own_pair, held_restored, RestoreTurn}
 use Rattle.dcsctp_theorem_sockets.specs.Restores.{RestoredSocketsBeginNothing}
 use Rattle.dcsctp_theorem_sockets.proofs.SnapshotsBack.{held_is}
-use Rattle.dcsctp_world.specs.Returning.{GoesOnFrom, GoesOn, BothSound, RestoresBy}
+use Rattle.dcsctp_world.specs.Returning.{GoesOnFrom, ResumesEstablished, BothSound, RestoresBy}
 use Rattle.dcsctp_world.specs.Run.{IsRun}
 
 -- ---- a flush keeps the tie tag
@@ -50,13 +50,13 @@ begun_tie : (begun : Option BegunReset) (e : Endpoint) → (after_begun begun e)
 begun_tie None e = refl
 begun_tie (Some begun) e = refl
 
-asked_tie : (ask : Ask) (e : Endpoint) (draft : Emission) (answer : Answer) → Answered ask e draft answer → (asked e draft answer).after.tie ≡ e.tie
+asked_tie : (ask : Ask) (e : Endpoint) (draft : Emission) (answer : Answer) → IsFlushAnswer ask e draft answer → (asked e draft answer).after.tie ≡ e.tie
 asked_tie ask e draft answer h =
-    goes_out_tie answer.after (map told_event answer.told) draft.with_checksum draft.packet.tag (filled draft (answer_contents answer)).packet.contents
+    goes_out_tie answer.after (map filling_event answer.told) draft.with_checksum draft.packet.tag (filled draft (answer_contents answer)).packet.contents
     ∙ ap (λ (x : Endpoint). x.tie) h.kept
     ∙ begun_tie answer.begun e
 
-flush_tie : (ask : Ask) (n : ℕ) (e : Endpoint) (draft : Emission) (answers : List Answer) → Answers ask n e draft answers → (flush_of e draft answers).after.tie ≡ e.tie
+flush_tie : (ask : Ask) (n : ℕ) (e : Endpoint) (draft : Emission) (answers : List Answer) → AreFlushAnswers ask n e draft answers → (flush_of e draft answers).after.tie ≡ e.tie
 flush_tie _ _ _ _ _ (at_limit ask e draft) = refl
 flush_tie _ _ _ _ _ (at_empty ask more e draft answer is empty) = asked_tie ask e draft answer is
 flush_tie _ _ _ _ _ (after_packet ask more e draft answer answers is some rest) =
@@ -76,7 +76,7 @@ restore_at e (cookie_echoed my held cookie) state o is turn = absurd (cc)
 restore_at e (open_in phase my held) state o is turn = absurd (cc)
 
 -- the turns of a restore from a connected socket's snapshot
-pub goes_on_from : RestoredSocketsBeginNothing → (e : Endpoint) (connection : HandoverSocketState) (state : Snapshot) (ts : List Turned) → e.core ≡ closed
+pub goes_on_from : RestoredSocketsBeginNothing → (e : Endpoint) (connection : HandoverSocketState) (state : Snapshot) (ts : List Transition) → e.core ≡ closed
     → connection ≡ states.Connected → Turns e (inputs_of_snapshot connection state) ts → GoesOnFrom e.options state (after_all e ts)
 goes_on_from law e states.Closed state ts none is turns = absurd (cc)
 goes_on_from law e states.Connected state [] none is turns = absurd turns
@@ -94,7 +94,7 @@ goes_on_from law e states.Connected state (t ∷ next ∷ last ∷ ts) none is t
 
 -- what is restored from it
 pub goes_on : (old mid new : Endpoint) (my : Pair) (held : Held) → UsesOwnMethod old.options held.capabilities → mid.options ≡ old.options
-    → GoesOnFrom mid.options (connected_snapshot old my held) new → GoesOn old my held new
+    → GoesOnFrom mid.options (connected_snapshot old my held) new → ResumesEstablished old my held new
 goes_on old mid new my held method options h =
     record {
       core = h.core
@@ -111,8 +111,8 @@ left_by e core my held o is left =
     let ends : o ≡ hand_over_outcome e (open_in established my held) = left ∙ ap (hand_over_outcome e) is in
     (ap (λ (x : Outcome). x.after.core) ends, ap (λ (x : Outcome). x.after.options) ends)
 
-pub handed_on : RestoredSocketsBeginNothing → (e : Endpoint) (my : Pair) (held : Held) (ts : List Turned) → IsSound e → e.core ≡ open_in established my held
-    → Turns e (act_input hands_over ∷ inputs_of_snapshot (snapshot_of e).socket_state (snapshot_of e)) ts → GoesOn e my held (after_all e ts)
+pub handed_on : RestoredSocketsBeginNothing → (e : Endpoint) (my : Pair) (held : Held) (ts : List Transition) → IsSound e → e.core ≡ open_in established my held
+    → Turns e (act_input hands_over ∷ inputs_of_snapshot (snapshot_of e).socket_state (snapshot_of e)) ts → ResumesEstablished e my held (after_all e ts)
 handed_on law e my held [] sound core turns = absurd turns
 handed_on law e my held (t ∷ ts) sound core turns =
     let here : IsSoundCore e.options (open_in established my held) = subst (IsSoundCore e.options) core sound in
@@ -125,28 +125,28 @@ handed_on law e my held (t ∷ ts) sound core turns =
 
 -- ---- an act of a world
 
-not_restored : (core : Core) → is_closed core ≡ false → IsRestored true core (Restored (Ok tt)) → ⊥
+not_restored : (core : Core) → is_closed core ≡ false → IsRestoreReply true core (Restored (Ok tt)) → ⊥
 not_restored core is_open answer = let closes : is_closed core ≡ true = answer in absurd (cc)
 
-restored_by : RestoredSocketsBeginNothing → (e new : Endpoint) (core : Core) (is_valid : Bool) (state : Snapshot) (reply : Reply) (ts : List Turned) → e.core ≡ core → IsRestored is_valid core reply
+restored_by : RestoredSocketsBeginNothing → (e new : Endpoint) (core : Core) (is_valid : Bool) (state : Snapshot) (reply : Reply) (ts : List Transition) → e.core ≡ core → IsRestoreReply is_valid core reply
     → Turns e (inputs_where_valid is_valid core state) ts → new ≡ after_all e ts → reply ≡ Restored (Ok tt) → state.socket_state ≡ states.Connected → GoesOnFrom e.options state new
 restored_by law e new closed true state reply ts is answer turns after restored connected =
     subst (GoesOnFrom e.options state) (sym after) (goes_on_from law e state.socket_state state ts is connected turns)
-restored_by law e new (cookie_wait my) true state reply ts is answer turns after restored connected = absurd (not_restored (cookie_wait my) refl (subst (IsRestored true (cookie_wait my)) restored answer))
+restored_by law e new (cookie_wait my) true state reply ts is answer turns after restored connected = absurd (not_restored (cookie_wait my) refl (subst (IsRestoreReply true (cookie_wait my)) restored answer))
 restored_by law e new (cookie_echoed my held cookie) true state reply ts is answer turns after restored connected =
-    absurd (not_restored (cookie_echoed my held cookie) refl (subst (IsRestored true (cookie_echoed my held cookie)) restored answer))
+    absurd (not_restored (cookie_echoed my held cookie) refl (subst (IsRestoreReply true (cookie_echoed my held cookie)) restored answer))
 restored_by law e new (open_in phase my held) true state reply ts is answer turns after restored connected =
-    absurd (not_restored (open_in phase my held) refl (subst (IsRestored true (open_in phase my held)) restored answer))
+    absurd (not_restored (open_in phase my held) refl (subst (IsRestoreReply true (open_in phase my held)) restored answer))
 restored_by law e new core false state reply ts is answer turns after restored connected = absurd (cc)
 
-handed_on_by : RestoredSocketsBeginNothing → (e new : Endpoint) (readiness : ℕ) (reply : Reply) (ts : List Turned) → IsSound e → IsHandedOn readiness e reply
+handed_on_by : RestoredSocketsBeginNothing → (e new : Endpoint) (readiness : ℕ) (reply : Reply) (ts : List Transition) → IsSound e → IsHandedOn readiness e reply
     → Turns e (inputs_of_both readiness (snapshot_of e)) ts → new ≡ after_all e ts → reply ≡ Restored (Ok tt)
-    → (my : Pair) (held : Held) → e.core ≡ open_in established my held → GoesOn e my held new
+    → (my : Pair) (held : Held) → e.core ≡ open_in established my held → ResumesEstablished e my held new
 handed_on_by law e new zero reply ts sound answer turns after restored my held core =
-    subst (GoesOn e my held) (sym after) (handed_on law e my held ts sound core turns)
+    subst (ResumesEstablished e my held) (sym after) (handed_on law e my held ts sound core turns)
 handed_on_by law e new (suc reasons) reply ts sound answer turns after restored my held core = absurd (subst (IsHandedOver e) restored answer)
 
-by_act : RestoredSocketsBeginNothing → (e new : Endpoint) (packets : List (List ℕ)) (outside : OutsideContent) (reply : Reply) (ts : List Turned) → IsSound e → IsReply e packets (outside_act outside) reply
+by_act : RestoredSocketsBeginNothing → (e new : Endpoint) (packets : List (List ℕ)) (outside : OutsideContent) (reply : Reply) (ts : List Transition) → IsSound e → IsReply e packets (outside_act outside) reply
     → TurnsOfAct e packets (outside_act outside) ts → new ≡ after_all e ts → RestoresBy outside reply e new
 by_act law e new packets (input_outside side bytes) reply ts sound answer turns after = tt
 by_act law e new packets (handover_outside side) reply ts sound answer turns after = handed_on_by law e new (readiness_of e) reply ts sound answer turns after

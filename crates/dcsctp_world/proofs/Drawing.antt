@@ -10,7 +10,7 @@ use Rattle.dcsctp_core.specs.types.queues.Messages.{MessageContent}
 use Rattle.dcsctp_core.specs.View.{Drawn}
 use Rattle.dcsctp_core.proofs.Moving.{Drawn-append}
 use Rattle.dcsctp_socket.specs.SocketView.{SocketView}
-use Rattle.dcsctp_world.specs.Growth.{Collects}
+use Rattle.dcsctp_world.specs.Growth.{CollectsWaiting}
 use Rattle.dcsctp_world.specs.Acts.{with_associations}
 use Rattle.dcsctp_world.specs.Drawing.{CallDraws, SideDraws, DrewFrom, DrawOn}
 use Rattle.dcsctp_world.specs.Shown.{SideShown}
@@ -39,7 +39,7 @@ behind_nothing stream old mid new (Err error) first none second = tt
 
 -- the socket's call, and then what it brought was kept
 pub side_draws : {R : Type 0} (stream : R → Stream) (old new : SideShown R) (socket : SocketView R) (sent read : List MessageContent) → CallDraws stream old.socket socket
-    → Collects (called_side old socket sent read) new → SideDraws stream old new
+    → CollectsWaiting (called_side old socket sent read) new → SideDraws stream old new
 side_draws stream old new socket sent read draws collects =
     record {
       added = socket.view.words;

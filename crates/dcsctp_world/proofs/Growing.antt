@@ -3,30 +3,30 @@ use Rattle.std.proofs.Common.{◌≡◌, ℕ, List, [], ◌∷◌, ◌++◌, inr
 use Rattle.std.proofs.lemmas.List.{append-nil}
 use Rattle.dcsctp_core.specs.types.declared.association.Pair.{Pair}
 use Rattle.dcsctp_core.specs.types.declared.word.Word.{Word}
-use Rattle.dcsctp_core.specs.spec.endpoint.CallTurns.{Turned, after_all, words_of, pairs_of}
+use Rattle.dcsctp_core.specs.spec.endpoint.CallTurns.{Transition, after_all, words_of, pairs_of}
 use Rattle.dcsctp_core.specs.spec.endpoint.Endpoint.{association_of}
 use Rattle.dcsctp_core.specs.spec.endpoint.Event.{Event, packets_in}
 use Rattle.dcsctp_core.specs.types.Schedule.{CallContent}
 use Rattle.dcsctp_core.specs.spec.endpoint.UserTurns.{UserTurns}
 use Rattle.dcsctp_core.specs.types.queues.Messages.{MessageContent}
-use Rattle.dcsctp_delivery_sockets.specs.UserMessages.{sent_of, read_of}
+use Rattle.dcsctp_delivery_sockets.specs.UserMessages.{messages_sent_in, read_of}
 use Rattle.dcsctp_core.specs.api.Calls.{Follows}
 use Rattle.dcsctp_socket.specs.SocketView.{SocketView, user_view_of}
 use Rattle.dcsctp_world.specs.declared.act.Reply.{Reply}
-use Rattle.dcsctp_world.specs.Growth.{AddsFront, Collects, CollectsFront, told, WasCalled, CallMade, Grows, Stops, IsCallReply}
-use Rattle.dcsctp_world.specs.Messages.{sent_by, read_by}
+use Rattle.dcsctp_world.specs.Growth.{AppendsFirst, CollectsWaiting, CollectsFront, events_for_user, WasCalled, CallMade, Grows, StopsKeeping, IsCallReply}
+use Rattle.dcsctp_world.specs.Messages.{messages_of_call, read_by}
 use Rattle.dcsctp_world.specs.Shown.{SideShown}
 use Rattle.dcsctp_world.proofs.Keeping.{front_same, front_whole}
 use Rattle.dcsctp_world.proofs.QuietTurns.{AreQuiet}
 use Rattle.dcsctp_world.proofs.SaidMessages.{AreSaid, call_says}
 use Rattle.dcsctp_world.proofs.Stopping.{called_side, stops_after}
 
-grown : {R : Type 0} (Turns : List Turned → Type 0) (answer : Reply) (old new : SideShown R) (socket : SocketView R) (sent read : List MessageContent) (turns : List Turned)
+grown : {R : Type 0} (Turns : List Transition → Type 0) (answer : Reply) (old new : SideShown R) (socket : SocketView R) (sent read : List MessageContent) (turns : List Transition)
     → Turns turns → WasCalled answer → old.socket.view.events ≡ [] → Follows (user_view_of old.socket) turns (user_view_of socket)
-    → sent ≡ old.sent ++ sent_of old.socket.view.endpoint turns → read ≡ old.read ++ read_of old.socket.view.endpoint turns
-    → Collects (called_side old socket sent read) new → Grows Turns answer old new
+    → sent ≡ old.sent ++ messages_sent_in old.socket.view.endpoint turns → read ≡ old.read ++ read_of old.socket.view.endpoint turns
+    → CollectsWaiting (called_side old socket sent read) new → Grows Turns answer old new
 grown Turns answer old new socket sent read turns turned called empty follows sends reads collects =
-    let waiting : socket.view.events ≡ told old turns = follows.events ∙ ap (λ (l : List (Event (List ℕ))). l ++ told old turns) empty in
+    let waiting : socket.view.events ≡ events_for_user old turns = follows.events ∙ ap (λ (l : List (Event (List ℕ))). l ++ events_for_user old turns) empty in
     record {
       turns = turns;
       are = turned;
@@ -48,17 +48,17 @@ grown Turns answer old new socket sent read turns turned called empty follows se
 
 -- ---- a call that sends and reads nothing
 
-module _ {R : Type 0} (Turns : List Turned → Type 0) (old new : SideShown R) (socket : SocketView R) (turns : List Turned) (turned : Turns turns) (empty : old.socket.view.events ≡ [])
+module _ {R : Type 0} (Turns : List Transition → Type 0) (old new : SideShown R) (socket : SocketView R) (turns : List Transition) (turned : Turns turns) (empty : old.socket.view.events ≡ [])
     (follows : Follows (user_view_of old.socket) turns (user_view_of socket)) (quiet : AreQuiet old.socket.view.endpoint turns) where
-  pub quiet_grows : (answer : Reply) → WasCalled answer → Collects (record old { socket = socket }) new → Grows Turns answer old new
+  pub quiet_grows : (answer : Reply) → WasCalled answer → CollectsWaiting (record old { socket = socket }) new → Grows Turns answer old new
   quiet_grows answer called collects =
       grown Turns answer old new socket old.sent old.read turns turned called empty follows
       (sym (append-nil old.sent) ∙ ap (λ (l : List MessageContent). old.sent ++ l) (sym quiet.sent))
       (sym (append-nil old.read) ∙ ap (λ (l : List MessageContent). old.read ++ l) (sym quiet.read)) collects
 
-  pub quiet_stops : CollectsFront (record old { socket = socket }) new → Stops Turns old new
+  pub quiet_stops : CollectsFront (record old { socket = socket }) new → StopsKeeping Turns old new
   quiet_stops part =
-      stops_after Turns old new socket old.sent old.read turns turned empty follows (front_same (sent_of old.socket.view.endpoint turns) refl)
+      stops_after Turns old new socket old.sent old.read turns turned empty follows (front_same (messages_sent_in old.socket.view.endpoint turns) refl)
       (front_same (read_of old.socket.view.endpoint turns) refl) part
 
 -- ---- any call of the user
@@ -69,38 +69,38 @@ module _ {R : Type 0} (call : CallContent) (reply : Reply) (old : SideShown R) (
   said = call_says old.socket.view.endpoint call reply made.turns made.are made.reply
 
   -- its messages were kept
-  module _ (new : SideShown R) (sends : sent ≡ old.sent ++ sent_by call reply) (reads : read ≡ old.read ++ read_by call reply) where
-    sends_all : sent ≡ old.sent ++ sent_of old.socket.view.endpoint made.turns
+  module _ (new : SideShown R) (sends : sent ≡ old.sent ++ messages_of_call call reply) (reads : read ≡ old.read ++ read_by call reply) where
+    sends_all : sent ≡ old.sent ++ messages_sent_in old.socket.view.endpoint made.turns
     sends_all = sends ∙ ap (λ (l : List MessageContent). old.sent ++ l) (sym said.sent)
 
     reads_all : read ≡ old.read ++ read_of old.socket.view.endpoint made.turns
     reads_all = reads ∙ ap (λ (l : List MessageContent). old.read ++ l) (sym said.read)
 
-    pub call_grows : Collects (called_side old socket sent read) new → Grows (UserTurns old.socket.view.endpoint call) reply old new
+    pub call_grows : CollectsWaiting (called_side old socket sent read) new → Grows (UserTurns old.socket.view.endpoint call) reply old new
     call_grows collects =
         grown (UserTurns old.socket.view.endpoint call) reply old new socket sent read made.turns made.are made.called empty made.follows sends_all reads_all collects
 
-    pub call_stops : CollectsFront (called_side old socket sent read) new → Stops (UserTurns old.socket.view.endpoint call) old new
+    pub call_stops : CollectsFront (called_side old socket sent read) new → StopsKeeping (UserTurns old.socket.view.endpoint call) old new
     call_stops part =
         stops_after (UserTurns old.socket.view.endpoint call) old new socket sent read made.turns made.are empty made.follows
-        (front_whole (sent_of old.socket.view.endpoint made.turns) sends_all) (front_whole (read_of old.socket.view.endpoint made.turns) reads_all) part
+        (front_whole (messages_sent_in old.socket.view.endpoint made.turns) sends_all) (front_whole (read_of old.socket.view.endpoint made.turns) reads_all) part
 
   -- They were kept in part, and nothing else.
-  pub messages_stop : AddsFront (sent_by call reply) old.sent sent → AddsFront (read_by call reply) old.read read
-      → Stops (UserTurns old.socket.view.endpoint call) old (called_side old socket sent read)
+  pub messages_stop : AppendsFirst (messages_of_call call reply) old.sent sent → AppendsFirst (read_by call reply) old.read read
+      → StopsKeeping (UserTurns old.socket.view.endpoint call) old (called_side old socket sent read)
   messages_stop sends reads =
-      let turns : List Turned = made.turns in
+      let turns : List Transition = made.turns in
       record {
         turns = turns;
         are = inr made.are;
         shows = record {
           options = refl;
-          events = front_same (told old turns) refl;
-          packets = front_same (packets_in (told old turns)) refl;
+          events = front_same (events_for_user old turns) refl;
+          packets = front_same (packets_in (events_for_user old turns)) refl;
           words = front_same (words_of turns) refl;
           pairs = front_same (pairs_of turns) refl;
-          sent = subst (λ (l : List MessageContent). AddsFront l old.sent sent) (sym said.sent) sends;
-          read = subst (λ (l : List MessageContent). AddsFront l old.read read) (sym said.read) reads;
+          sent = subst (λ (l : List MessageContent). AppendsFirst l old.sent sent) (sym said.sent) sends;
+          read = subst (λ (l : List MessageContent). AppendsFirst l old.read read) (sym said.read) reads;
           associations = front_same (association_of (after_all old.socket.view.endpoint turns).core ∷ []) refl;
         };
       }

@@ -15,7 +15,7 @@ use Rattle.dcsctp_core.specs.spec.SocketSnapshot.{snapshot_of}
 use Rattle.dcsctp_core.specs.spec.endpoint.Turn.{act_input}
 use Rattle.dcsctp_core.specs.spec.association.Acts.{hands_over}
 use Rattle.dcsctp_core.specs.spec.association.Effect.{drawn_in}
-use Rattle.dcsctp_core.specs.spec.endpoint.CallTurns.{Turned, IsTurn, Turns, after_all, words_of, effects_of, pairs_of, events_of}
+use Rattle.dcsctp_core.specs.spec.endpoint.CallTurns.{Transition, IsTurn, Turns, after_all, words_of, effects_of, pairs_of, events_of}
 use Rattle.dcsctp_core.specs.spec.HandoverInputs.{inputs_of_handover, inputs_of_restore}
 use Rattle.dcsctp_spec_runs.specs.Sockets.{inputs_where_valid, inputs_of_both}
 use Rattle.dcsctp_core.specs.spec.endpoint.HandoverOutcomes.{hand_over_outcome}
@@ -27,12 +27,12 @@ use Rattle.dcsctp_core.specs.api.declared.errors.HandoverError.{HandoverError}
 use Rattle.dcsctp_core.specs.api.declared.errors.HandoverError.TheVariants.{NotReady}
 use Rattle.dcsctp_core.specs.api.declared.errors.RestoreError.TheVariants.{SocketNotClosed}
 use Rattle.dcsctp_core.specs.api.declared.errors.RestoreError.{RestoreError}
-use Rattle.dcsctp_core.specs.api.Handover.{IsHandoverAnswer, Restores}
+use Rattle.dcsctp_core.specs.api.Handover.{IsHandoverAnswer, RestoresSocket}
 use Rattle.dcsctp_world.specs.declared.act.Reply.{Reply}
 use Rattle.dcsctp_world.specs.declared.act.Reply.TheVariants.{NoCall, Done, Sent, SentMany, Reset, Taken, HandedOver, Restored}
-use Rattle.dcsctp_world.specs.Growth.{Called, Works, IsHandedOn, IsRestored}
+use Rattle.dcsctp_world.specs.Growth.{Called, HandlesAct, IsHandedOn, IsRestoreReply}
 use Rattle.dcsctp_world.specs.Shown.{SideShown}
-use Rattle.dcsctp_world.specs.Outside.{HandoverTurns, IsHandedOnBy, ValidTurns, IsRestoredBy}
+use Rattle.dcsctp_world.specs.Outside.{OutsideHandoverTurns, IsHandedOnBy, ValidTurns, IsRestoredBy}
 use Rattle.dcsctp_world.proofs.Stopping.{grows_by_nothing}
 
 -- ---- what the handover leaves
@@ -57,7 +57,7 @@ ready_leaves_closed e (open_in shutdown_ack_sent my held) is ready = absurd (cc)
 -- ---- two calls as one
 
 -- the turn of the first, and the turns of the second
-follows_both : (old mid new : UserView) (t : Turned) (ts : List Turned) → t.outcome.words ≡ [] → drawn_in t.outcome.effects ≡ []
+follows_both : (old mid new : UserView) (t : Transition) (ts : List Transition) → t.outcome.words ≡ [] → drawn_in t.outcome.effects ≡ []
     → mid.endpoint.options ≡ old.endpoint.options → Follows old (t ∷ []) mid → Follows mid ts new → Follows old (t ∷ ts) new
 follows_both old mid new t ts words pairs options first second =
     let shown : Event Emission → Event (List ℕ) = user_event (ports_of old.endpoint.options) in
@@ -76,7 +76,7 @@ follows_both old mid new t ts words pairs options first second =
 
 -- a socket that was handed over: its turn, and what it leaves
 record Left (old mid : UserView) : Type 0 where
-  turn : Turned
+  turn : Transition
   comes : IsTurn old.endpoint (act_input hands_over) turn
   follows : Follows old (turn ∷ []) mid
   words : turn.outcome.words ≡ []
@@ -84,7 +84,7 @@ record Left (old mid : UserView) : Type 0 where
   core : mid.endpoint.core ≡ closed
   options : mid.endpoint.options ≡ old.endpoint.options
 
-handed_by : (old mid : UserView) (t : Turned) → readiness_of old.endpoint ≡ 0 → IsTurn old.endpoint (act_input hands_over) t → Follows old (t ∷ []) mid → Left old mid
+handed_by : (old mid : UserView) (t : Transition) → readiness_of old.endpoint ≡ 0 → IsTurn old.endpoint (act_input hands_over) t → Follows old (t ∷ []) mid → Left old mid
 handed_by old mid t ready comes follows =
     let left : LeavesClosed old.endpoint t.outcome = subst (LeavesClosed old.endpoint) (sym comes.comes) (ready_leaves_closed old.endpoint old.endpoint.core refl ready) in
     record {
@@ -97,7 +97,7 @@ handed_by old mid t ready comes follows =
       options = ap (λ (e : Endpoint). e.options) follows.endpoint ∙ left.options;
     }
 
-handed_over : (old mid : UserView) (readiness : ℕ) (turns : List Turned) → readiness_of old.endpoint ≡ 0 → readiness ≡ 0
+handed_over : (old mid : UserView) (readiness : ℕ) (turns : List Transition) → readiness_of old.endpoint ≡ 0 → readiness ≡ 0
     → Turns old.endpoint (inputs_of_handover readiness) turns → Follows old turns mid → Left old mid
 handed_over old mid zero [] ready is are follows = absurd are
 handed_over old mid zero (t ∷ []) ready is are follows = handed_by old mid t ready are.0 follows
@@ -107,7 +107,7 @@ handed_over old mid (suc reasons) turns ready is are follows = absurd (cc)
 -- ---- the answers
 
 -- both took place
-turns_of_both : (old mid : UserView) (h : Left old mid) (state : Snapshot) (ts : List Turned) → ValidTurns mid.endpoint state ts → is_valid_snapshot mid.endpoint.options state ≡ true
+turns_of_both : (old mid : UserView) (h : Left old mid) (state : Snapshot) (ts : List Transition) → ValidTurns mid.endpoint state ts → is_valid_snapshot mid.endpoint.options state ≡ true
     → Turns old.endpoint (inputs_of_both 0 state) (h.turn ∷ ts)
 turns_of_both old mid h state ts are valid =
     let from_mid : Turns mid.endpoint (inputs_where_valid true mid.endpoint.core state) ts = subst (λ (b : Bool). Turns mid.endpoint (inputs_where_valid b mid.endpoint.core state) ts) valid are in
@@ -115,7 +115,7 @@ turns_of_both old mid h state ts are valid =
     (h.comes, subst (λ (e : Endpoint). Turns e (inputs_of_restore closed state) ts) h.follows.endpoint from_closed)
 
 -- what a closed socket answers
-answer_of : (answer : Reply) → IsRestored true closed answer → answer ≡ Restored (Ok tt)
+answer_of : (answer : Reply) → IsRestoreReply true closed answer → answer ≡ Restored (Ok tt)
 answer_of NoCall is = absurd is
 answer_of Done is = absurd is
 answer_of (Sent result) is = absurd is
@@ -127,15 +127,15 @@ answer_of (Restored (Ok done)) is = refl
 answer_of (Restored (Err SocketNotClosed)) is = absurd (cc)
 
 -- The snapshot is valid for the options of the socket that gave it, and they are as they were.
-pub hands_on : (old mid new : UserView) (state : Snapshot) (result : Result Reply SocketFault) (turns : List Turned)
+pub hands_on : (old mid new : UserView) (state : Snapshot) (result : Result Reply SocketFault) (turns : List Transition)
     → readiness_of old.endpoint ≡ 0 → state ≡ snapshot_of old.endpoint → is_valid_snapshot mid.endpoint.options state ≡ true
     → Turns old.endpoint (inputs_of_handover (readiness_of old.endpoint)) turns → Follows old turns mid
     → Called (ValidTurns mid.endpoint state) (IsRestoredBy mid.endpoint state) mid result new
-    → Called (HandoverTurns old.endpoint) (IsHandedOnBy old.endpoint) old result new
+    → Called (OutsideHandoverTurns old.endpoint) (IsHandedOnBy old.endpoint) old result new
 hands_on old mid new state (Ok answer) turns ready same valid are follows made =
     let h : Left old mid = handed_over old mid (readiness_of old.endpoint) turns ready ready are follows in
-    let at_mid : IsRestored true mid.endpoint.core answer = subst (λ (b : Bool). IsRestored b mid.endpoint.core answer) valid made.reply in
-    let is : answer ≡ Restored (Ok tt) = answer_of answer (subst (λ (c : Core). IsRestored true c answer) h.core at_mid) in
+    let at_mid : IsRestoreReply true mid.endpoint.core answer = subst (λ (b : Bool). IsRestoreReply b mid.endpoint.core answer) valid made.reply in
+    let is : answer ≡ Restored (Ok tt) = answer_of answer (subst (λ (c : Core). IsRestoreReply true c answer) h.core at_mid) in
     let turned : Turns old.endpoint (inputs_of_both 0 (snapshot_of old.endpoint)) (h.turn ∷ made.turns) =
     subst (λ (s : Snapshot). Turns old.endpoint (inputs_of_both 0 s) (h.turn ∷ made.turns)) same (turns_of_both old mid h state made.turns made.are valid) in
     record {
@@ -149,14 +149,14 @@ hands_on old mid new state (Err OutOfMemory) turns ready same valid are follows 
 hands_on old mid new state (Err Failed) turns ready same valid are follows made = let runs : mid.failed ≡ false = follows.goes_on in let failed : mid.failed ≡ true = made in absurd (cc)
 
 -- the handover drew no word
-pub hand_over_draws_nothing : (old mid : UserView) (turns : List Turned) → readiness_of old.endpoint ≡ 0 → Turns old.endpoint (inputs_of_handover (readiness_of old.endpoint)) turns
+pub hand_over_draws_nothing : (old mid : UserView) (turns : List Transition) → readiness_of old.endpoint ≡ 0 → Turns old.endpoint (inputs_of_handover (readiness_of old.endpoint)) turns
     → Follows old turns mid → mid.words ≡ []
 hand_over_draws_nothing old mid turns ready are follows =
     let h : Left old mid = handed_over old mid (readiness_of old.endpoint) turns ready ready are follows in
     h.follows.words ∙ ap (λ (ws : List Word). ws ++ []) h.words
 
 -- The options stay, so the snapshot is valid where it is restored.
-pub valid_there : (old mid : UserView) (state : Snapshot) (turns : List Turned) → readiness_of old.endpoint ≡ 0 → is_valid_snapshot old.endpoint.options state ≡ true
+pub valid_there : (old mid : UserView) (state : Snapshot) (turns : List Transition) → readiness_of old.endpoint ≡ 0 → is_valid_snapshot old.endpoint.options state ≡ true
     → Turns old.endpoint (inputs_of_handover (readiness_of old.endpoint)) turns → Follows old turns mid → is_valid_snapshot mid.endpoint.options state ≡ true
 valid_there old mid state turns ready valid are follows =
     let h : Left old mid = handed_over old mid (readiness_of old.endpoint) turns ready ready are follows in
@@ -166,7 +166,7 @@ valid_there old mid state turns ready valid are follows =
 is_not_ready : (e : Endpoint) (error : HandoverError) → IsHandoverAnswer e (Err error) → readiness_of e ≢ 0
 is_not_ready e (NotReady readiness) is = is.0
 
-refused_at : (e : Endpoint) (readiness : ℕ) (turns : List Turned) (state : Snapshot) → readiness ≢ 0 → Turns e (inputs_of_handover readiness) turns
+refused_at : (e : Endpoint) (readiness : ℕ) (turns : List Transition) (state : Snapshot) → readiness ≢ 0 → Turns e (inputs_of_handover readiness) turns
     → Turns e (inputs_of_both readiness state) turns
 refused_at e zero turns state some are = absurd (some refl)
 refused_at e (suc reasons) turns state some are = are
@@ -175,9 +175,9 @@ refused_reply : (e : Endpoint) (readiness : ℕ) (error : HandoverError) → rea
 refused_reply e zero error some is = absurd (some refl)
 refused_reply e (suc reasons) error some is = is
 
-pub hand_over_refused : (old new : UserView) (error : HandoverError) (turns : List Turned) → IsHandoverAnswer old.endpoint (Err error)
+pub hand_over_refused : (old new : UserView) (error : HandoverError) (turns : List Transition) → IsHandoverAnswer old.endpoint (Err error)
     → Turns old.endpoint (inputs_of_handover (readiness_of old.endpoint)) turns → Follows old turns new
-    → Called (HandoverTurns old.endpoint) (IsHandedOnBy old.endpoint) old (Ok (HandedOver (Err error))) new
+    → Called (OutsideHandoverTurns old.endpoint) (IsHandedOnBy old.endpoint) old (Ok (HandedOver (Err error))) new
 hand_over_refused old new error turns is are follows =
     let some : readiness_of old.endpoint ≢ 0 = is_not_ready old.endpoint error is in
     record {
@@ -191,10 +191,10 @@ hand_over_refused old new error turns is are follows =
 -- ---- a restore alone
 
 pub restore_called : (old new : UserView) (state : Snapshot) (answer : Result (Unit {0}) RestoreError) → is_valid_snapshot old.endpoint.options state ≡ true
-    → Restores state old (Ok answer) new → Called (ValidTurns old.endpoint state) (IsRestoredBy old.endpoint state) old (Ok (Restored answer)) new
+    → RestoresSocket state old (Ok answer) new → Called (ValidTurns old.endpoint state) (IsRestoredBy old.endpoint state) old (Ok (Restored answer)) new
 restore_called old new state answer valid made =
     record {
-      reply = subst (λ (b : Bool). IsRestored b old.endpoint.core (Restored answer)) (sym valid) made.0;
+      reply = subst (λ (b : Bool). IsRestoreReply b old.endpoint.core (Restored answer)) (sym valid) made.0;
       called = tt;
       turns = made.1;
       are = subst (λ (b : Bool). Turns old.endpoint (inputs_where_valid b old.endpoint.core state) made.1) (sym valid) made.2;
@@ -203,9 +203,9 @@ restore_called old new state answer valid made =
 
 -- a snapshot that isn't valid
 pub not_restored_by : {R : Type 0} (old : SideShown R) (state : Snapshot) → is_valid_snapshot old.socket.view.endpoint.options state ≡ false → old.socket.view.events ≡ []
-    → Works (ValidTurns old.socket.view.endpoint state) (IsRestoredBy old.socket.view.endpoint state) old (Ok NoCall) old
+    → HandlesAct (ValidTurns old.socket.view.endpoint state) (IsRestoredBy old.socket.view.endpoint state) old (Ok NoCall) old
 not_restored_by {R} old state invalid waiting =
     let e : Endpoint = old.socket.view.endpoint in
     let Restoring : Bool → Type 0 = λ is_valid.
-    Works (λ (ts : List Turned). Turns e (inputs_where_valid is_valid e.core state) ts) (λ (reply : Reply). IsRestored is_valid e.core reply) old (Ok NoCall) old in
+    HandlesAct (λ (ts : List Transition). Turns e (inputs_where_valid is_valid e.core state) ts) (λ (reply : Reply). IsRestoreReply is_valid e.core reply) old (Ok NoCall) old in
     subst Restoring (sym invalid) (refl, grows_by_nothing _ old tt waiting)

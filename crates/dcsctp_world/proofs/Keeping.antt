@@ -7,14 +7,14 @@ use Rattle.std.specs.List.{slice_get}
 use Rattle.std.specs.Option.{option_map}
 use Rattle.std.specs.declared.alloc.Global.{Global}
 use Rattle.dcsctp_core.specs.spec.endpoint.Event.{Event, packets_in}
-use Rattle.dcsctp_spec_runs.specs.Sockets.{numbered}
+use Rattle.dcsctp_spec_runs.specs.Sockets.{packet_at_number}
 use Rattle.dcsctp_core.specs.api.declared.events.SocketEvent.{SocketEvent}
 use Rattle.dcsctp_core.specs.api.declared.events.SocketEvent.TheVariants.{SendPacket}
 use Rattle.dcsctp_core.specs.api.Events.{event_content}
 use Rattle.dcsctp_core.specs.api.Calls.{UserView, PollsEvent}
 use Rattle.dcsctp_theorem_sockets.proofs.Bursts.{packets_in-append}
-use Rattle.dcsctp_world.specs.Growth.{Extends, AddsFront, Kept, with_events, KeptFront}
-use Rattle.dcsctp_world.specs.Parts.{packet_bytes, kept}
+use Rattle.dcsctp_world.specs.Growth.{Extends, AppendsFirst, Kept, with_events, KeptFront}
+use Rattle.dcsctp_world.specs.Parts.{bytes_of_packets, kept}
 
 -- ---- lists that grow
 
@@ -33,14 +33,14 @@ extends_further xs ys zs first second =
 
 -- ---- a front part of a list
 
-pub front_same : {A : Type 0} {old new : List A} (all : List A) → new ≡ old → AddsFront all old new
+pub front_same : {A : Type 0} {old new : List A} (all : List A) → new ≡ old → AppendsFirst all old new
 front_same {old = old} all same = record { added = []; rest = all; behind = same ∙ sym (append-nil old); front = refl }
 
-pub front_whole : {A : Type 0} {old new : List A} (all : List A) → new ≡ old ++ all → AddsFront all old new
+pub front_whole : {A : Type 0} {old new : List A} (all : List A) → new ≡ old ++ all → AppendsFirst all old new
 front_whole all behind = record { added = all; rest = []; behind = behind; front = sym (append-nil all) }
 
 -- the whole of what comes first, then a front part of what comes next
-pub front_behind : {A : Type 0} (whole first all rest old mid new : List A) → whole ≡ first ++ (all ++ rest) → mid ≡ old ++ first → AddsFront all mid new → AddsFront whole old new
+pub front_behind : {A : Type 0} (whole first all rest old mid new : List A) → whole ≡ first ++ (all ++ rest) → mid ≡ old ++ first → AppendsFirst all mid new → AppendsFirst whole old new
 front_behind whole first all rest old mid new is before next =
     record {
       added = first ++ next.added;
@@ -69,11 +69,11 @@ module _ (events events' : List SocketEvent) (packets packets' : List (Vec ℕ G
 
   -- its packet too
   added_packet : (event : SocketEvent) (packet copy : Vec ℕ Global) → event ≡ SendPacket packet → copy.items ≡ packet.items → packets' ≡ packets ++ copy ∷ []
-      → packet_bytes packets' ≡ packet_bytes packets ++ packets_in (event_content event ∷ [])
+      → bytes_of_packets packets' ≡ bytes_of_packets packets ++ packets_in (event_content event ∷ [])
   added_packet event packet copy is_packet same is =
-      ap packet_bytes is ∙ map-append (λ (p : Vec ℕ Global). p.items) packets (copy ∷ [])
-      ∙ ap (λ (l : List ℕ). packet_bytes packets ++ l ∷ []) same
-      ∙ ap (λ (e : SocketEvent). packet_bytes packets ++ packets_in (event_content e ∷ [])) (sym is_packet)
+      ap bytes_of_packets is ∙ map-append (λ (p : Vec ℕ Global). p.items) packets (copy ∷ [])
+      ∙ ap (λ (l : List ℕ). bytes_of_packets packets ++ l ∷ []) same
+      ∙ ap (λ (e : SocketEvent). bytes_of_packets packets ++ packets_in (event_content e ∷ [])) (sym is_packet)
 
   pub kept_packet : (event : SocketEvent) (packet copy : Vec ℕ Global) → event ≡ SendPacket packet → copy.items ≡ packet.items
       → events' ≡ events ++ event ∷ [] → packets' ≡ packets ++ copy ∷ []
@@ -95,7 +95,7 @@ module _ (events events' : List SocketEvent) (packets packets' : List (Vec ℕ G
   kept_nothing event is_events is_packets =
       record {
         events = front_same (event_content event ∷ []) (ap (λ (l : List SocketEvent). map event_content l) is_events);
-        packets = front_same (packets_in (event_content event ∷ [])) (ap packet_bytes is_packets);
+        packets = front_same (packets_in (event_content event ∷ [])) (ap bytes_of_packets is_packets);
       }
 
   no_packet : (event : SocketEvent) → ((packet : Vec ℕ Global) → event ≡ SendPacket packet → ⊥) → packets_in (event_content event ∷ []) ≡ []
@@ -106,7 +106,7 @@ module _ (events events' : List SocketEvent) (packets packets' : List (Vec ℕ G
       → kept events' packets' ≡ with_events (event_content event ∷ []) (kept events packets)
   kept_other event none is_events is_packets =
       same_kept (kept events' packets') (with_events (event_content event ∷ []) (kept events packets)) (added_events event is_events)
-      (ap packet_bytes is_packets ∙ sym (append-nil (packet_bytes packets)) ∙ ap (λ (l : List (List ℕ)). packet_bytes packets ++ l) (sym (no_packet event none)))
+      (ap bytes_of_packets is_packets ∙ sym (append-nil (bytes_of_packets packets)) ∙ ap (λ (l : List (List ℕ)). bytes_of_packets packets ++ l) (sym (no_packet event none)))
 
 -- Events were taken from a socket and kept, and nothing else of it changed.
 pub record Taken (old : UserView) (kept_before : Kept) (new : UserView) (kept_now : Kept) : Type 0 where
@@ -156,10 +156,10 @@ slice_get_past (x ∷ xs) (suc k) past = slice_get_past xs k (omega arith)
 
 pub numbered_found : (packets : List (Vec ℕ Global)) (number k : ℕ) (result : Option (Bor (Vec ℕ Global))) → number ≡ suc k
     → is_some result ≡ ltb k (length packets) → IfSome result (λ x. x.now ≡ get_or packets k x.now)
-    → numbered number (packet_bytes packets) ≡ option_map (λ (x : Bor (Vec ℕ Global)). x.now.items) result
+    → packet_at_number number (bytes_of_packets packets) ≡ option_map (λ (x : Bor (Vec ℕ Global)). x.now.items) result
 numbered_found packets number k (Some x) is tests here =
-    ap (λ (n : ℕ). numbered n (packet_bytes packets)) is ∙ slice_get-map (λ (p : Vec ℕ Global). p.items) packets k
+    ap (λ (n : ℕ). packet_at_number n (bytes_of_packets packets)) is ∙ slice_get-map (λ (p : Vec ℕ Global). p.items) packets k
     ∙ ap (option_map (λ (p : Vec ℕ Global). p.items)) (slice_get_read packets (length packets) k x.now refl (within k (length packets) (sym tests)) here)
 numbered_found packets number k None is tests here =
-    ap (λ (n : ℕ). numbered n (packet_bytes packets)) is ∙ slice_get-map (λ (p : Vec ℕ Global). p.items) packets k
+    ap (λ (n : ℕ). packet_at_number n (bytes_of_packets packets)) is ∙ slice_get-map (λ (p : Vec ℕ Global). p.items) packets k
     ∙ ap (option_map (λ (p : Vec ℕ Global). p.items)) (slice_get_past packets k (beyond k (length packets) (sym tests)))

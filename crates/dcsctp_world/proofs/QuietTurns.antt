@@ -6,7 +6,7 @@ use Rattle.dcsctp_core.specs.types.declared.ends.AbortReason.TheVariants.{TooMan
 use Rattle.dcsctp_core.specs.types.declared.snapshot.HandoverSocketState.{HandoverSocketState}
 use Rattle.dcsctp_core.specs.types.declared.snapshot.HandoverSocketState.TheVariants as states
 use Rattle.dcsctp_core.specs.spec.Admission.{Admission, all_chunks, shutdown_acks_alone, refused, admits, shutdown_acks_in}
-use Rattle.dcsctp_core.specs.spec.endpoint.CallTurns.{Turned, IsTurn, Turns, AfterChunk, ChunkTurns, WholeTurns, AdmittedTurns, HandleInput, unreadable, readable}
+use Rattle.dcsctp_core.specs.spec.endpoint.CallTurns.{Transition, IsTurn, Turns, AfterChunk, ChunkTurns, WholeTurns, AdmittedTurns, HandleInput, unreadable, readable}
 use Rattle.dcsctp_core.specs.spec.endpoint.Endpoint.{Endpoint, Core, closed, cookie_wait, cookie_echoed, open_in}
 use Rattle.dcsctp_core.specs.spec.endpoint.Following.{Following, next_chunk, packet_end, dropped_rest}
 use Rattle.dcsctp_core.specs.spec.Packet.{Content, Packet, packet_in}
@@ -20,11 +20,11 @@ use Rattle.dcsctp_core.specs.spec.endpoint.Turn.{Input, arrival, refusal, packet
 use Rattle.dcsctp_core.specs.spec.association.Acts.{abort_with, flushes}
 use Rattle.dcsctp_core.specs.types.queues.Messages.{MessageContent}
 use Rattle.dcsctp_core.specs.spec.endpoint.HeartbeatOutcomes.{is_exhausted}
-use Rattle.dcsctp_delivery_sockets.specs.UserMessages.{sent_in, sent_of, read_in, read_of}
+use Rattle.dcsctp_delivery_sockets.specs.UserMessages.{sent_in, messages_sent_in, read_in, read_of}
 
 -- no message was sent, and none was read
-pub record AreQuiet (e : Endpoint) (turns : List Turned) : Type 0 where
-  pub sent : sent_of e turns ≡ []
+pub record AreQuiet (e : Endpoint) (turns : List Transition) : Type 0 where
+  pub sent : messages_sent_in e turns ≡ []
   pub read : read_of e turns ≡ []
 
 -- ---- inputs
@@ -54,18 +54,18 @@ quiet_input e (restores state) quiet = (refl, refl)
 
 -- ---- turns
 
-none_quiet : (e : Endpoint) (turns : List Turned) → turns ≡ [] → AreQuiet e turns
+none_quiet : (e : Endpoint) (turns : List Transition) → turns ≡ [] → AreQuiet e turns
 none_quiet e turns none = subst (AreQuiet e) (sym none) (record { sent = refl; read = refl })
 
-first_quiet : (e : Endpoint) (input : Input) (t : Turned) (turns : List Turned) → IsQuiet input → IsTurn e input t → AreQuiet t.outcome.after turns → AreQuiet e (t ∷ turns)
+first_quiet : (e : Endpoint) (input : Input) (t : Transition) (turns : List Transition) → IsQuiet input → IsTurn e input t → AreQuiet t.outcome.after turns → AreQuiet e (t ∷ turns)
 first_quiet e input t turns quiet turn rest =
     let none = quiet_input e t.input (subst IsQuiet (sym turn.is) quiet) in
     record {
-      sent = ap (λ (l : List MessageContent). l ++ sent_of t.outcome.after turns) none.0 ∙ rest.sent;
+      sent = ap (λ (l : List MessageContent). l ++ messages_sent_in t.outcome.after turns) none.0 ∙ rest.sent;
       read = ap (λ (l : List MessageContent). l ++ read_of t.outcome.after turns) none.1 ∙ rest.read;
     }
 
-pub turns_quiet : (e : Endpoint) (inputs : List Input) (turns : List Turned) → AllQuiet inputs → Turns e inputs turns → AreQuiet e turns
+pub turns_quiet : (e : Endpoint) (inputs : List Input) (turns : List Transition) → AllQuiet inputs → Turns e inputs turns → AreQuiet e turns
 turns_quiet e [] [] quiet taken = none_quiet e [] refl
 turns_quiet e [] (t ∷ turns) quiet taken = absurd taken
 turns_quiet e (input ∷ inputs) [] quiet taken = absurd taken
@@ -74,13 +74,13 @@ turns_quiet e (input ∷ inputs) (t ∷ turns) quiet taken = first_quiet e input
 -- ---- a packet
 
 -- whatever follows a chunk
-rest_quiet : (following : Following) (e : Endpoint) (tail : List Input) (turns : List Turned) (More : Type 0) → AllQuiet tail → (More → AreQuiet e turns)
+rest_quiet : (following : Following) (e : Endpoint) (tail : List Input) (turns : List Transition) (More : Type 0) → AllQuiet tail → (More → AreQuiet e turns)
     → AfterChunk following More (Turns e tail turns) (turns ≡ []) → AreQuiet e turns
 rest_quiet next_chunk e tail turns More quiet more rest = more rest
 rest_quiet packet_end e tail turns More quiet more rest = turns_quiet e tail turns quiet rest
 rest_quiet dropped_rest e tail turns More quiet more rest = none_quiet e turns rest
 
-chunks_quiet : (contents : List Content) (e : Endpoint) (tag : ℕ) (tail : List Input) (turns : List Turned) → AllQuiet tail → ChunkTurns e tag contents tail turns → AreQuiet e turns
+chunks_quiet : (contents : List Content) (e : Endpoint) (tag : ℕ) (tail : List Input) (turns : List Transition) → AllQuiet tail → ChunkTurns e tag contents tail turns → AreQuiet e turns
 chunks_quiet [] e tag tail turns quiet taken = turns_quiet e tail turns quiet taken
 chunks_quiet (content ∷ contents) e tag tail [] quiet taken = absurd taken
 chunks_quiet (content ∷ contents) e tag tail (t ∷ turns) quiet taken =
@@ -88,18 +88,18 @@ chunks_quiet (content ∷ contents) e tag tail (t ∷ turns) quiet taken =
     (rest_quiet t.outcome.following t.outcome.after tail turns (ChunkTurns t.outcome.after tag contents tail turns) quiet
     (λ rest. chunks_quiet contents t.outcome.after tag tail turns quiet rest) taken.1)
 
-whole_quiet : (e : Endpoint) (packet : Packet) (turns : List Turned) → WholeTurns e packet turns → AreQuiet e turns
+whole_quiet : (e : Endpoint) (packet : Packet) (turns : List Transition) → WholeTurns e packet turns → AreQuiet e turns
 whole_quiet e packet [] taken = absurd taken
 whole_quiet e packet (t ∷ turns) taken =
     first_quiet e (packet_begins packet.contents) t turns tt taken.0
     (chunks_quiet packet.contents t.outcome.after packet.tag (packet_ends ∷ []) turns (tt, tt) taken.1)
 
-admitted_quiet : (e : Endpoint) (packet : Packet) (admission : Admission) (turns : List Turned) → AdmittedTurns e packet admission turns → AreQuiet e turns
+admitted_quiet : (e : Endpoint) (packet : Packet) (admission : Admission) (turns : List Transition) → AdmittedTurns e packet admission turns → AreQuiet e turns
 admitted_quiet e packet all_chunks turns taken = whole_quiet e packet turns taken
 admitted_quiet e packet shutdown_acks_alone turns taken = chunks_quiet (shutdown_acks_in packet.contents) e packet.tag [] turns tt taken
 admitted_quiet e packet (refused text) turns taken = turns_quiet e (refusal text ∷ []) turns (tt, tt) taken
 
-pub input_quiet : (e : Endpoint) (bytes : List ℕ) (turns : List Turned) → HandleInput e bytes turns → AreQuiet e turns
+pub input_quiet : (e : Endpoint) (bytes : List ℕ) (turns : List Transition) → HandleInput e bytes turns → AreQuiet e turns
 input_quiet e bytes _ (unreadable turns none taken) = turns_quiet e (arrival ∷ refusal unreadable_text ∷ []) turns (tt, (tt, tt)) taken
 input_quiet e bytes _ (readable packet counted turns found counts taken) =
     first_quiet e arrival counted turns tt counts (admitted_quiet counted.outcome.after (packet_in packet) (admits e.core (packet_in packet)) turns taken)
@@ -129,27 +129,27 @@ after_quiet : (e : Endpoint) (has_expired : Bool) → AllQuiet (after_expiries e
 after_quiet e false = tt
 after_quiet e true = behind_quiet e e.core
 
-expiry_then_quiet : (due : Bool) (Rest : Bool → Endpoint → List Turned → Type 0) → ((has_expired : Bool) (e : Endpoint) (turns : List Turned) → Rest has_expired e turns → AreQuiet e turns)
-    → (e : Endpoint) (has_expired : Bool) (timer : Timer) (turns : List Turned) → ExpiryThen due Rest e has_expired timer turns → AreQuiet e turns
+expiry_then_quiet : (due : Bool) (Rest : Bool → Endpoint → List Transition → Type 0) → ((has_expired : Bool) (e : Endpoint) (turns : List Transition) → Rest has_expired e turns → AreQuiet e turns)
+    → (e : Endpoint) (has_expired : Bool) (timer : Timer) (turns : List Transition) → ExpiryThen due Rest e has_expired timer turns → AreQuiet e turns
 expiry_then_quiet true Rest rest e has_expired timer [] taken = absurd taken
 expiry_then_quiet true Rest rest e has_expired timer (t ∷ turns) taken = first_quiet e (expiry_input e timer) t turns (expiry_quiet e timer) taken.0 (rest true t.outcome.after turns taken.1)
 expiry_then_quiet false Rest rest e has_expired timer turns taken = rest has_expired e turns taken
 
-expiries_quiet : (timers : List Timer) (has_expired : Bool) (e : Endpoint) (turns : List Turned) → ExpiryTurns timers has_expired e turns → AreQuiet e turns
+expiries_quiet : (timers : List Timer) (has_expired : Bool) (e : Endpoint) (turns : List Transition) → ExpiryTurns timers has_expired e turns → AreQuiet e turns
 expiries_quiet [] has_expired e turns taken = turns_quiet e (after_expiries e has_expired) turns (after_quiet e has_expired) taken
 expiries_quiet (timer ∷ timers) has_expired e turns taken =
     expiry_then_quiet (has_come e.moment (deadline e timer)) (ExpiryTurns timers) (expiries_quiet timers) e has_expired timer turns taken
 
-moment_quiet : (e : Endpoint) (moment : ℕ) (turns : List Turned) → MomentTurns e moment turns → AreQuiet e turns
+moment_quiet : (e : Endpoint) (moment : ℕ) (turns : List Transition) → MomentTurns e moment turns → AreQuiet e turns
 moment_quiet e moment [] taken = absurd taken
 moment_quiet e moment (t ∷ turns) taken =
     first_quiet e (time_passes moment) t turns tt taken.0 (expiries_quiet (timers_in t.outcome.after.core) false t.outcome.after turns taken.1)
 
-time_quiet : (later : Bool) (e : Endpoint) (moment : ℕ) (turns : List Turned) → TimeTurns later e moment turns → AreQuiet e turns
+time_quiet : (later : Bool) (e : Endpoint) (moment : ℕ) (turns : List Transition) → TimeTurns later e moment turns → AreQuiet e turns
 time_quiet true e moment turns taken = moment_quiet e moment turns taken
 time_quiet false e moment turns none = none_quiet e turns none
 
-pub advance_quiet : (e : Endpoint) (moment : ℕ) (turns : List Turned) → AdvanceTurns e moment turns → AreQuiet e turns
+pub advance_quiet : (e : Endpoint) (moment : ℕ) (turns : List Transition) → AdvanceTurns e moment turns → AreQuiet e turns
 advance_quiet e moment turns taken = time_quiet (nat_le e.moment moment) e moment turns taken
 
 -- ---- handover and restore
@@ -176,9 +176,9 @@ both_quiet : (readiness : ℕ) (state : Snapshot) → AllQuiet (inputs_of_both r
 both_quiet zero state = (tt, restore_quiet closed state)
 both_quiet (suc reasons) state = tt
 
-pub restore_turns_quiet : (e : Endpoint) (state : Snapshot) (turns : List Turned) → Turns e (inputs_where_valid (is_valid_snapshot e.options state) e.core state) turns → AreQuiet e turns
+pub restore_turns_quiet : (e : Endpoint) (state : Snapshot) (turns : List Transition) → Turns e (inputs_where_valid (is_valid_snapshot e.options state) e.core state) turns → AreQuiet e turns
 restore_turns_quiet e state turns taken =
     turns_quiet e (inputs_where_valid (is_valid_snapshot e.options state) e.core state) turns (valid_quiet (is_valid_snapshot e.options state) e.core state) taken
 
-pub handover_turns_quiet : (e : Endpoint) (turns : List Turned) → Turns e (inputs_of_both (readiness_of e) (snapshot_of e)) turns → AreQuiet e turns
+pub handover_turns_quiet : (e : Endpoint) (turns : List Transition) → Turns e (inputs_of_both (readiness_of e) (snapshot_of e)) turns → AreQuiet e turns
 handover_turns_quiet e turns taken = turns_quiet e (inputs_of_both (readiness_of e) (snapshot_of e)) turns (both_quiet (readiness_of e) (snapshot_of e)) taken

@@ -12,19 +12,19 @@ use Rattle.dcsctp_core.specs.spec.endpoint.Event.{Event, event_map, packets_in}
 use Rattle.dcsctp_core.specs.spec.Packet.{Emission, emission_bytes}
 use Rattle.dcsctp_core.specs.types.Settings.{Ports, SameOptions, ports_of}
 use Rattle.dcsctp_core.specs.spec.endpoint.Endpoint.{Endpoint, association_of, fresh_endpoint}
-use Rattle.dcsctp_core.specs.spec.endpoint.CallTurns.{Turned, after_all, events_of, words_of, pairs_of}
-use Rattle.dcsctp_spec_runs.specs.Sockets.{Both, of_side, of_other, side_of_act, TurnsOfAct, NextTurns, Worked, turns_after, with_turns, endpoint_after, events_shown, packets_shown, acts_of, associations_of}
+use Rattle.dcsctp_core.specs.spec.endpoint.CallTurns.{Transition, after_all, events_of, words_of, pairs_of}
+use Rattle.dcsctp_spec_runs.specs.Sockets.{Both, of_side, of_other, side_of_act, TurnsOfAct, NextTurns, PerformedAct, turns_after, side_turns_added, endpoint_after, events_shown, packets_shown, acts_of, associations_of}
 use Rattle.dcsctp_core.proofs.spec_lemmas.TurnLists.{after_all-append, words_of-append, pairs_of-append, events_of-append}
 use Rattle.dcsctp_spec_runs.proofs.SocketLemmas.{sockets_keep_options}
 use Rattle.dcsctp_core.specs.types.queues.Messages.{MessageContent}
 use Rattle.dcsctp_delivery_sockets.specs.Delivery.{FitsAct}
-use Rattle.dcsctp_delivery_sockets.specs.UserMessages.{sent_in, sent_of, read_in, read_of}
+use Rattle.dcsctp_delivery_sockets.specs.UserMessages.{sent_in, messages_sent_in, read_in, read_of}
 use Rattle.dcsctp_core.specs.api.Calls.{user_event}
 use Rattle.dcsctp_core.specs.types.declared.schedule.Act.{Act}
 use Rattle.dcsctp_core.specs.types.Schedule.{ActContent, act_content}
 use Rattle.dcsctp_world.specs.declared.act.Reply.{Reply}
 use Rattle.dcsctp_world.specs.declared.watched_socket.WatchedSocket.{WatchedSocket}
-use Rattle.dcsctp_world.specs.Shown.{SideShown, WorldView, fresh_side, fresh_world, options_of}
+use Rattle.dcsctp_world.specs.Shown.{SideShown, WorldView, fresh_side_shown, fresh_world, options_of}
 use Rattle.dcsctp_world.specs.Growth.{Grows}
 use Rattle.dcsctp_theorem_sockets.specs.Agreement.{IsUsable}
 use Rattle.dcsctp_world.specs.Run.{SideRuns, IsRun}
@@ -42,7 +42,7 @@ reverse-cons x xs = reverse_onto xs x []
 
 -- ---- a world that was just made
 
-fresh_side_runs : {R : Type 0} (options : Options) (generator : R) → SideRuns options [] (fresh_side options generator)
+fresh_side_runs : {R : Type 0} (options : Options) (generator : R) → SideRuns options [] (fresh_side_shown options generator)
 fresh_side_runs options generator = record { made_with = refl; goes_on = refl; endpoint = refl; waiting = refl; events = refl; packets = refl; words = refl; pairs = refl; sent = refl; read = refl }
 
 fresh_world_runs : {R : Type 0} (options : Both Options) (generators : Both R) → IsUsable options.a → IsUsable options.b → IsRun options (fresh_world options generators)
@@ -59,11 +59,11 @@ fresh_world_runs options generators a b =
     }
 
 pub is_fresh : {R : Type 0} (a b : WatchedSocket R) (made : List Act) (options : Both Options) (generators : Both R)
-    → shown a ≡ fresh_side options.a generators.a → shown b ≡ fresh_side options.b generators.b → made ≡ []
+    → shown a ≡ fresh_side_shown options.a generators.a → shown b ≡ fresh_side_shown options.b generators.b → made ≡ []
     → world_of a b made false ≡ fresh_world options generators
 is_fresh {R = R} a b made options generators is_a is_b is_made =
     ap (λ (side : SideShown R). let w : WorldView R = record { sides = record { a = side; b = shown b }; acts = map act_content made; failed = false } in w) is_a
-    ∙ ap (λ (side : SideShown R). let w : WorldView R = record { sides = record { a = fresh_side options.a generators.a; b = side }; acts = map act_content made; failed = false } in w) is_b
+    ∙ ap (λ (side : SideShown R). let w : WorldView R = record { sides = record { a = fresh_side_shown options.a generators.a; b = side }; acts = map act_content made; failed = false } in w) is_b
     ∙ ap (λ (l : List ActContent). let w : WorldView R = record (fresh_world options generators) { acts = l } in w) (ap (λ (l : List Act). map act_content l) is_made)
 
 pub fresh_is_run : {R : Type 0} (options : Both Options) (generators : Both R) (world : WorldView R) → world ≡ fresh_world options generators
@@ -82,24 +82,24 @@ is_run_of_own options world h = subst (λ (o : Both Options). IsRun o world) (sy
 
 -- ---- a side that grows
 
-events_shown-append : (options : Options) (xs ys : List Turned) → events_shown options (xs ++ ys) ≡ events_shown options xs ++ events_shown options ys
+events_shown-append : (options : Options) (xs ys : List Transition) → events_shown options (xs ++ ys) ≡ events_shown options xs ++ events_shown options ys
 events_shown-append options xs ys =
     ap (λ (l : List (Event Emission)). map (event_map (emission_bytes (ports_of options))) l) (events_of-append xs ys)
     ∙ map-append (event_map (emission_bytes (ports_of options))) (events_of xs) (events_of ys)
 
-sent_of-append : (e : Endpoint) (xs ys : List Turned) → sent_of e (xs ++ ys) ≡ sent_of e xs ++ sent_of (after_all e xs) ys
+sent_of-append : (e : Endpoint) (xs ys : List Transition) → messages_sent_in e (xs ++ ys) ≡ messages_sent_in e xs ++ messages_sent_in (after_all e xs) ys
 sent_of-append e [] ys = refl
 sent_of-append e (t ∷ xs) ys =
     ap (λ (l : List MessageContent). sent_in e t.input ++ l) (sent_of-append t.outcome.after xs ys)
-    ∙ sym (append_assoc (sent_in e t.input) (sent_of t.outcome.after xs) (sent_of (after_all t.outcome.after xs) ys))
+    ∙ sym (append_assoc (sent_in e t.input) (messages_sent_in t.outcome.after xs) (messages_sent_in (after_all t.outcome.after xs) ys))
 
-read_of-append : (e : Endpoint) (xs ys : List Turned) → read_of e (xs ++ ys) ≡ read_of e xs ++ read_of (after_all e xs) ys
+read_of-append : (e : Endpoint) (xs ys : List Transition) → read_of e (xs ++ ys) ≡ read_of e xs ++ read_of (after_all e xs) ys
 read_of-append e [] ys = refl
 read_of-append e (t ∷ xs) ys =
     ap (λ (l : List MessageContent). read_in e t.input ++ l) (read_of-append t.outcome.after xs ys)
     ∙ sym (append_assoc (read_in e t.input) (read_of t.outcome.after xs) (read_of (after_all t.outcome.after xs) ys))
 
-side_grows : {R : Type 0} {answer : Reply} (options : Options) (turns : List Turned) (Turns : List Turned → Type 0) (old new : SideShown R) (grows : Grows Turns answer old new)
+side_grows : {R : Type 0} {answer : Reply} (options : Options) (turns : List Transition) (Turns : List Transition → Type 0) (old new : SideShown R) (grows : Grows Turns answer old new)
     → SameOptions options (endpoint_after options turns).options → SideRuns options turns old → SideRuns options (turns ++ grows.turns) new
 side_grows options turns Turns old new grows kept h =
     let os = grows.turns in
@@ -117,29 +117,29 @@ side_grows options turns Turns old new grows kept h =
           ∙ sym (packets_in-append (events_shown options turns) (events_shown options os)) ∙ ap packets_in (sym (events_shown-append options turns os));
       words = grows.words ∙ ap (λ (l : List Word). l ++ words_of os) h.words ∙ sym (words_of-append turns os);
       pairs = grows.pairs ∙ ap (λ (l : List Pair). l ++ pairs_of os) h.pairs ∙ sym (pairs_of-append turns os);
-      sent = grows.sent ∙ ap (λ (l : List MessageContent). l ++ sent_of old.socket.view.endpoint os) h.sent
-          ∙ ap (λ (e : Endpoint). sent_of (fresh_endpoint options) turns ++ sent_of e os) h.endpoint ∙ sym (sent_of-append (fresh_endpoint options) turns os);
+      sent = grows.sent ∙ ap (λ (l : List MessageContent). l ++ messages_sent_in old.socket.view.endpoint os) h.sent
+          ∙ ap (λ (e : Endpoint). messages_sent_in (fresh_endpoint options) turns ++ messages_sent_in e os) h.endpoint ∙ sym (sent_of-append (fresh_endpoint options) turns os);
       read = grows.read ∙ ap (λ (l : List MessageContent). l ++ read_of old.socket.view.endpoint os) h.read
           ∙ ap (λ (e : Endpoint). read_of (fresh_endpoint options) turns ++ read_of e os) h.endpoint ∙ sym (read_of-append (fresh_endpoint options) turns os);
     }
 
 -- ---- an act more
 
-abbrev SidesRun : {R : Type 0} → Both Options → Both (List Turned) → Both (SideShown R) → Side → Type 0
+abbrev SidesRun : {R : Type 0} → Both Options → Both (List Transition) → Both (SideShown R) → Side → Type 0
 SidesRun options turns shown side = SideRuns (of_side side options) (of_side side turns) (of_side side shown)
 
 -- the side that moved, and the other
-sides_next : {R : Type 0} {answer : Reply} (options : Both Options) (turns : Both (List Turned)) (old moved : Both (SideShown R)) (Turns : List Turned → Type 0) (mover : Side)
+sides_next : {R : Type 0} {answer : Reply} (options : Both Options) (turns : Both (List Transition)) (old moved : Both (SideShown R)) (Turns : List Transition → Type 0) (mover : Side)
     (grows : Grows Turns answer (of_side mover old) (of_side mover moved)) → of_other mover moved ≡ of_other mover old
     → SameOptions (of_side mover options) (endpoint_after (of_side mover options) (of_side mover turns)).options
-    → ((side : Side) → SidesRun options turns old side) → (side : Side) → SidesRun options (with_turns mover grows.turns turns) moved side
+    → ((side : Side) → SidesRun options turns old side) → (side : Side) → SidesRun options (side_turns_added mover grows.turns turns) moved side
 sides_next options turns old moved Turns sides.A grows stays kept before sides.A = side_grows options.a turns.a Turns old.a moved.a grows kept (before sides.A)
 sides_next {R = R} options turns old moved Turns sides.A grows stays kept before sides.B = subst (λ (s : SideShown R). SideRuns options.b turns.b s) (sym stays) (before sides.B)
 sides_next {R = R} options turns old moved Turns sides.B grows stays kept before sides.A = subst (λ (s : SideShown R). SideRuns options.a turns.a s) (sym stays) (before sides.A)
 sides_next options turns old moved Turns sides.B grows stays kept before sides.B = side_grows options.b turns.b Turns old.b moved.b grows kept (before sides.B)
 
 -- no association was noted yet
-same_associations : {R : Type 0} {answer : Reply} (old moved : Both (SideShown R)) (Turns : List Turned → Type 0) (mover : Side)
+same_associations : {R : Type 0} {answer : Reply} (old moved : Both (SideShown R)) (Turns : List Transition → Type 0) (mover : Side)
     → Grows Turns answer (of_side mover old) (of_side mover moved) → of_other mover moved ≡ of_other mover old
     → (side : Side) → (of_side side moved).associations ≡ (of_side side old).associations
 same_associations old moved Turns sides.A grows stays sides.A = grows.associations
@@ -153,20 +153,20 @@ noted : {R : Type 0} (moved : Both (SideShown R)) (side : Side)
 noted moved sides.A = refl
 noted moved sides.B = refl
 
-noted_runs : {R : Type 0} (options : Both Options) (turns : Both (List Turned)) (moved : Both (SideShown R)) (side : Side) → SidesRun options turns moved side
+noted_runs : {R : Type 0} (options : Both Options) (turns : Both (List Transition)) (moved : Both (SideShown R)) (side : Side) → SidesRun options turns moved side
     → SidesRun options turns (with_associations moved) side
 noted_runs options turns moved sides.A h =
     record { made_with = h.made_with; goes_on = h.goes_on; endpoint = h.endpoint; waiting = h.waiting; events = h.events; packets = h.packets; words = h.words; pairs = h.pairs; sent = h.sent; read = h.read }
 noted_runs options turns moved sides.B h =
     record { made_with = h.made_with; goes_on = h.goes_on; endpoint = h.endpoint; waiting = h.waiting; events = h.events; packets = h.packets; words = h.words; pairs = h.pairs; sent = h.sent; read = h.read }
 
-other_packets : {R : Type 0} (options : Both Options) (turns : Both (List Turned)) (old : Both (SideShown R)) (mover : Side) → ((side : Side) → SidesRun options turns old side)
+other_packets : {R : Type 0} (options : Both Options) (turns : Both (List Transition)) (old : Both (SideShown R)) (mover : Side) → ((side : Side) → SidesRun options turns old side)
     → (of_other mover old).packets ≡ packets_shown (of_other mover options) (of_other mover turns)
 other_packets options turns old sides.A runs = (runs sides.B).packets
 other_packets options turns old sides.B runs = (runs sides.A).packets
 
 -- the act's turns, from where the sides' turns had led
-turns_of : {R : Type 0} (options : Both Options) (turns : Both (List Turned)) (old : Both (SideShown R)) (act : ActContent) (os : List Turned)
+turns_of : {R : Type 0} (options : Both Options) (turns : Both (List Transition)) (old : Both (SideShown R)) (act : ActContent) (os : List Transition)
     → ((side : Side) → SidesRun options turns old side)
     → TurnsOfAct (of_side (side_of_act act) old).socket.view.endpoint (of_other (side_of_act act) old).packets act os → NextTurns options turns act os
 turns_of options turns old act os runs turned =
@@ -179,10 +179,10 @@ is_run_next {R = R} options act reply old new fits h applied =
     let mover : Side = side_of_act act in
     let moved : Both (SideShown R) = applied.moved in
     let os = applied.moves.grows.turns in
-    let before : Both (List Turned) = turns_after h.steps in
-    let worked : Worked = record { act = act; turns = os } in
-    let now : Both (List Turned) = with_turns mover os before in
-    let Turns : List Turned → Type 0 = TurnsOfAct (of_side mover old.sides).socket.view.endpoint (of_other mover old.sides).packets act in
+    let before : Both (List Transition) = turns_after h.steps in
+    let worked : PerformedAct = record { act = act; turns = os } in
+    let now : Both (List Transition) = side_turns_added mover os before in
+    let Turns : List Transition → Type 0 = TurnsOfAct (of_side mover old.sides).socket.view.endpoint (of_other mover old.sides).packets act in
     let runs : (side : Side) → SidesRun options now moved side =
     sides_next options before old.sides moved Turns mover applied.moves.grows applied.moves.other_stays (sockets_keep_options.run options h.steps h.run mover) h.sides in
     let ends = turns_of options before old.sides act os h.sides applied.moves.grows.are in

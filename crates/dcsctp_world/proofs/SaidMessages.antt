@@ -6,7 +6,7 @@ use Rattle.std.proofs.lemmas.List.{append-nil}
 use Rattle.dcsctp_core.specs.types.declared.ends.AbortReason.TheVariants.{CloseCalled}
 use Rattle.dcsctp_core.specs.types.declared.message.Message.{Message}
 use Rattle.dcsctp_core.specs.types.declared.message.SendOptions.{SendOptions}
-use Rattle.dcsctp_core.specs.spec.endpoint.CallTurns.{Turned, Turns}
+use Rattle.dcsctp_core.specs.spec.endpoint.CallTurns.{Transition, Turns}
 use Rattle.dcsctp_core.specs.spec.endpoint.Endpoint.{Endpoint}
 use Rattle.dcsctp_core.specs.spec.Handover.{readiness_of}
 use Rattle.dcsctp_core.specs.types.Schedule.{CallContent, connect_call, close_call, shutdown_call, advance_call, set_call, send_call, send_many_call, reset_call, take_call, hand_over_call}
@@ -17,12 +17,12 @@ use Rattle.dcsctp_core.specs.spec.association.Acts.{connect, shut_down, abort_wi
 use Rattle.dcsctp_core.specs.types.queues.Messages.{MessageContent}
 use Rattle.dcsctp_core.specs.spec.endpoint.MessageOutcomes.{MessageRefusal, Sending, sending_of, sending_refusal, queue_one, RefusedMessage, refused_where, refused_from, message_refusal}
 use Rattle.dcsctp_core.specs.api.declared.errors.BatchSendError.{BatchSendError}
-use Rattle.dcsctp_core.specs.api.Messages.{IsBatchAnswer, ready_messages, IsFirst}
-use Rattle.dcsctp_delivery_sockets.specs.UserMessages.{accepted_where, accepted, sent_in, sent_of, first_of, read_in, read_of}
+use Rattle.dcsctp_core.specs.api.Messages.{IsBatchAnswer, ready_messages, IsFirstMessage}
+use Rattle.dcsctp_delivery_sockets.specs.UserMessages.{accepted_where, accepted_messages, sent_in, messages_sent_in, first_readable, read_in, read_of}
 use Rattle.dcsctp_world.specs.declared.act.Reply.{Reply}
 use Rattle.dcsctp_world.specs.declared.act.Reply.TheVariants.{NoCall, Done, Sent, SentMany, Reset, Taken, HandedOver, Restored}
 use Rattle.dcsctp_world.specs.Growth.{IsSent, IsSentMany, IsTaken, IsCallReply}
-use Rattle.dcsctp_world.specs.Messages.{refused_by, is_refused_at, other_at, others_from, sent_if, sent_among, sent_by, taken_by, read_by}
+use Rattle.dcsctp_world.specs.Messages.{refused_by, is_refused_at, other_at, others_from, sent_if, sent_among, messages_of_call, taken_by, read_by}
 use Rattle.dcsctp_world.proofs.QuietTurns.{turns_quiet, advance_quiet, handover_quiet}
 
 -- ---- several messages
@@ -64,12 +64,12 @@ accepted_first place (Some refusal) rest message messages others none is =
     ∙ others_skip place (place + 1) (Some refusal) rest messages (omega arith) ∙ is
 
 accepted_are_others : (options : SendOptions) (messages : List MessageContent) (place : ℕ) (e : Endpoint)
-    → others_from place (refused_from place e (map (sending_of options) messages)) messages ≡ accepted e (map (sending_of options) messages)
+    → others_from place (refused_from place e (map (sending_of options) messages)) messages ≡ accepted_messages e (map (sending_of options) messages)
 accepted_are_others options [] place e = refl
 accepted_are_others options (message ∷ messages) place e =
     let next : Endpoint = (queue_one e (sending_of options message)).after in
     accepted_first place (sending_refusal e (sending_of options message)) (refused_from (place + 1) next (map (sending_of options) messages)) message messages
-    (accepted next (map (sending_of options) messages)) (not_refused_before place (place + 1) next (map (sending_of options) messages) (omega arith))
+    (accepted_messages next (map (sending_of options) messages)) (not_refused_before place (place + 1) next (map (sending_of options) messages) (omega arith))
     (accepted_are_others options messages (place + 1) next)
 
 refused_are : (refused : List RefusedMessage) (answer : Result (Unit {0}) BatchSendError) → IsBatchAnswer refused answer → refused ≡ refused_by answer
@@ -78,19 +78,19 @@ refused_are refused (Err error) is = sym is.0
 
 -- ---- one turn
 
-sent_alone : (e : Endpoint) (sendings : List Sending) (turns : List Turned) → Turns e (user_sends sendings ∷ []) turns → (sent_of e turns ≡ accepted e sendings) × (read_of e turns ≡ [])
+sent_alone : (e : Endpoint) (sendings : List Sending) (turns : List Transition) → Turns e (user_sends sendings ∷ []) turns → (messages_sent_in e turns ≡ accepted_messages e sendings) × (read_of e turns ≡ [])
 sent_alone e sendings [] taken = absurd taken
 sent_alone e sendings (t ∷ []) taken = (
-  ap (λ (i : Input). sent_in e i ++ []) taken.0.is ∙ append-nil (accepted e sendings),
+  ap (λ (i : Input). sent_in e i ++ []) taken.0.is ∙ append-nil (accepted_messages e sendings),
   ap (λ (i : Input). read_in e i ++ []) taken.0.is,
 )
 sent_alone e sendings (t ∷ next ∷ turns) taken = absurd taken.1
 
-read_alone : (e : Endpoint) (turns : List Turned) → Turns e (user_takes ∷ []) turns → (sent_of e turns ≡ []) × (read_of e turns ≡ first_of (ready_messages e))
+read_alone : (e : Endpoint) (turns : List Transition) → Turns e (user_takes ∷ []) turns → (messages_sent_in e turns ≡ []) × (read_of e turns ≡ first_readable (ready_messages e))
 read_alone e [] taken = absurd taken
 read_alone e (t ∷ []) taken = (
   ap (λ (i : Input). sent_in e i ++ []) taken.0.is,
-  ap (λ (i : Input). read_in e i ++ []) taken.0.is ∙ append-nil (first_of (ready_messages e)),
+  ap (λ (i : Input). read_in e i ++ []) taken.0.is ∙ append-nil (first_readable (ready_messages e)),
 )
 read_alone e (t ∷ next ∷ turns) taken = absurd taken.1
 
@@ -108,7 +108,7 @@ said_if refusal message (HandedOver answer) is = absurd is
 said_if refusal message (Restored answer) is = absurd is
 
 said_among : (e : Endpoint) (options : SendOptions) (messages : List MessageContent) (reply : Reply) → IsSentMany (refused_from 0 e (map (sending_of options) messages)) reply
-    → accepted e (map (sending_of options) messages) ≡ sent_among messages reply
+    → accepted_messages e (map (sending_of options) messages) ≡ sent_among messages reply
 said_among e options messages (SentMany answer) is =
     sym (accepted_are_others options messages 0 e)
     ∙ ap (λ (l : List RefusedMessage). others_from 0 l messages) (refused_are (refused_from 0 e (map (sending_of options) messages)) answer is)
@@ -120,11 +120,11 @@ said_among e options messages (Taken taken) is = absurd is
 said_among e options messages (HandedOver answer) is = absurd is
 said_among e options messages (Restored answer) is = absurd is
 
-said_first : (ready : List MessageContent) (taken : Option Message) → IsFirst ready taken → first_of ready ≡ taken_by (Taken taken)
-said_first ready None is = ap first_of is
-said_first ready (Some message) is = ap first_of is.1
+said_first : (ready : List MessageContent) (taken : Option Message) → IsFirstMessage ready taken → first_readable ready ≡ taken_by (Taken taken)
+said_first ready None is = ap first_readable is
+said_first ready (Some message) is = ap first_readable is.1
 
-said_taken : (ready : List MessageContent) (reply : Reply) → IsTaken ready reply → first_of ready ≡ taken_by reply
+said_taken : (ready : List MessageContent) (reply : Reply) → IsTaken ready reply → first_readable ready ≡ taken_by reply
 said_taken ready (Taken taken) is = said_first ready taken is
 said_taken ready NoCall is = absurd is
 said_taken ready Done is = absurd is
@@ -137,11 +137,11 @@ said_taken ready (Restored answer) is = absurd is
 -- ---- a call
 
 -- What these turns send and read is what the answer of this call says.
-pub record AreSaid (e : Endpoint) (call : CallContent) (reply : Reply) (turns : List Turned) : Type 0 where
-  pub sent : sent_of e turns ≡ sent_by call reply
+pub record AreSaid (e : Endpoint) (call : CallContent) (reply : Reply) (turns : List Transition) : Type 0 where
+  pub sent : messages_sent_in e turns ≡ messages_of_call call reply
   pub read : read_of e turns ≡ read_by call reply
 
-pub call_says : (e : Endpoint) (call : CallContent) (reply : Reply) (turns : List Turned) → UserTurns e call turns → IsCallReply e call reply → AreSaid e call reply turns
+pub call_says : (e : Endpoint) (call : CallContent) (reply : Reply) (turns : List Transition) → UserTurns e call turns → IsCallReply e call reply → AreSaid e call reply turns
 call_says e connect_call reply turns taken is = let h = turns_quiet e (act_input connect ∷ []) turns (tt, tt) taken in record { sent = h.sent; read = h.read }
 call_says e close_call reply turns taken is = let h = turns_quiet e (act_input (abort_with CloseCalled) ∷ []) turns (tt, tt) taken in record { sent = h.sent; read = h.read }
 call_says e shutdown_call reply turns taken is = let h = turns_quiet e (act_input shut_down ∷ []) turns (tt, tt) taken in record { sent = h.sent; read = h.read }

@@ -4,7 +4,7 @@ use Rattle.std.proofs.lemmas.List.{append-nil}
 use Rattle.dcsctp_core.specs.types.declared.message.Message.{Message}
 use Rattle.dcsctp_core.specs.types.queues.Messages.{MessageContent, message_content}
 use Rattle.dcsctp_core.specs.spec.endpoint.MessageOutcomes.{RefusedMessage}
-use Rattle.dcsctp_world.specs.Growth.{AddsFront}
+use Rattle.dcsctp_world.specs.Growth.{AppendsFirst}
 use Rattle.dcsctp_world.specs.Messages.{other_at, others_from}
 use Rattle.dcsctp_world.proofs.Keeping.{front_behind}
 
@@ -50,8 +50,8 @@ module _ (refused : List RefusedMessage) (i : ℕ) (xs : List Message) (x : Mess
       ∙ ap (λ (l : List MessageContent). before ++ l) (sym (others_more refused 0 i xs x within))
       ∙ ap (λ (n : ℕ). before ++ others_from 0 refused (map message_content (take n xs))) {x = suc i} (omega arith)
 
-  pub kept_in_part : AddsFront (other_at i refused (message_content x)) now next → AddsFront (others_from 0 refused (map message_content xs)) before next
+  pub kept_in_part : AppendsFirst (other_at i refused (message_content x)) now next → AppendsFirst (others_from 0 refused (map message_content xs)) before next
   kept_in_part part =
       front_behind (others_from 0 refused (map message_content xs)) (others_from 0 refused (map message_content (take i xs)))
       (other_at (0 + i) refused (message_content (get_or xs i x))) (others_from (0 + i + 1) refused (map message_content (drop (suc i) xs)))
-      before now next (others_split refused 0 i xs x within) so_far (subst (λ (l : List MessageContent). AddsFront l now next) same_other part)
+      before now next (others_split refused 0 i xs x within) so_far (subst (λ (l : List MessageContent). AppendsFirst l now next) same_other part)

@@ -4,7 +4,7 @@ use Rattle.std.proofs.lemmas.List.{append-nil}
 use Rattle.dcsctp_core.specs.types.Schedule.{set_call}
 use Rattle.dcsctp_core.specs.spec.endpoint.UserTurns.{UserTurns}
 use Rattle.dcsctp_core.specs.spec.endpoint.Turn.{user_sets}
-use Rattle.dcsctp_core.specs.spec.endpoint.CallTurns.{turned}
+use Rattle.dcsctp_core.specs.spec.endpoint.CallTurns.{transition}
 use Rattle.dcsctp_core.specs.types.Setting.{Setting}
 use Rattle.dcsctp_core.specs.spec.endpoint.SettingOutcomes.{setting_outcome}
 use Rattle.dcsctp_core.specs.api.Calls.{UserView, with_setting}
@@ -16,7 +16,7 @@ set_is_called setting old runs =
     record {
       reply = refl;
       called = tt;
-      turns = turned (user_sets setting) (setting_outcome old.endpoint setting) ∷ [];
+      turns = transition (user_sets setting) (setting_outcome old.endpoint setting) ∷ [];
       are = (record { is = refl; comes = refl }, tt);
       follows = record {
         runs = runs;

@@ -8,10 +8,10 @@ use Rattle.dcsctp_core.specs.types.declared.schedule.Side.{Side}
 use Rattle.dcsctp_core.specs.types.declared.schedule.Side.TheVariants as sides
 use Rattle.dcsctp_core.specs.spec.endpoint.Event.{Event, packets_in}
 use Rattle.dcsctp_core.specs.spec.endpoint.Endpoint.{Endpoint, association_of}
-use Rattle.dcsctp_core.specs.spec.endpoint.CallTurns.{Turned, after_all, words_of, pairs_of}
+use Rattle.dcsctp_core.specs.spec.endpoint.CallTurns.{Transition, after_all, words_of, pairs_of}
 use Rattle.dcsctp_spec_runs.specs.Sockets.{Both, of_side, of_other, side_of_act, TurnsOfAct}
 use Rattle.dcsctp_core.specs.types.queues.Messages.{MessageContent}
-use Rattle.dcsctp_delivery_sockets.specs.UserMessages.{sent_of, read_of}
+use Rattle.dcsctp_delivery_sockets.specs.UserMessages.{messages_sent_in, read_of}
 use Rattle.dcsctp_core.specs.api.declared.errors.SocketFault.{SocketFault}
 use Rattle.dcsctp_core.specs.api.declared.errors.SocketFault.TheVariants.{OutOfMemory, Failed}
 use Rattle.dcsctp_core.specs.api.Calls.{Follows, HandlesInput}
@@ -22,7 +22,7 @@ use Rattle.dcsctp_world.specs.declared.act.Reply.{Reply}
 use Rattle.dcsctp_world.specs.declared.act.Reply.TheVariants.{NoCall}
 use Rattle.dcsctp_world.specs.declared.watched_socket.WatchedSocket.{WatchedSocket}
 use Rattle.dcsctp_world.specs.Shown.{SideShown, WorldView}
-use Rattle.dcsctp_world.specs.Growth.{AddsFront, CollectsFront, told, Called, Grows, ShowsFront, Stops, Fails, with_association}
+use Rattle.dcsctp_world.specs.Growth.{AppendsFirst, CollectsFront, events_for_user, Called, Grows, ShowsFront, StopsKeeping, FailsAtSide, with_association}
 use Rattle.dcsctp_world.specs.Acts.{ActMoves, ActStops, MovesSide, WorksAct}
 use Rattle.dcsctp_world.specs.Parts.{both, world_of}
 use Rattle.dcsctp_world.proofs.Keeping.{front_same, front_whole}
@@ -33,7 +33,7 @@ called_side old socket sent read = record old { socket = socket; sent = sent; re
 
 -- ---- no call was made
 
-pub grows_by_nothing : {R : Type 0} (Turns : List Turned → Type 0) (side : SideShown R) → Turns [] → side.socket.view.events ≡ [] → Grows Turns NoCall side side
+pub grows_by_nothing : {R : Type 0} (Turns : List Transition → Type 0) (side : SideShown R) → Turns [] → side.socket.view.events ≡ [] → Grows Turns NoCall side side
 grows_by_nothing Turns side turned empty =
     record {
       turns = [];
@@ -57,61 +57,61 @@ grows_by_nothing Turns side turned empty =
 -- ---- a growth was refused
 
 -- nothing was added yet
-pub shows_nothing : {R : Type 0} (turns : List Turned) (old new : SideShown R) → new.options ≡ old.options → new.events ≡ old.events → new.packets ≡ old.packets
+pub shows_nothing : {R : Type 0} (turns : List Transition) (old new : SideShown R) → new.options ≡ old.options → new.events ≡ old.events → new.packets ≡ old.packets
     → new.words ≡ old.words → new.pairs ≡ old.pairs → new.sent ≡ old.sent → new.read ≡ old.read → new.associations ≡ old.associations → ShowsFront turns old new
 shows_nothing turns old new options events packets words pairs sent read associations =
     record {
       options = options;
-      events = front_same (told old turns) events;
-      packets = front_same (packets_in (told old turns)) packets;
+      events = front_same (events_for_user old turns) events;
+      packets = front_same (packets_in (events_for_user old turns)) packets;
       words = front_same (words_of turns) words;
       pairs = front_same (pairs_of turns) pairs;
-      sent = front_same (sent_of old.socket.view.endpoint turns) sent;
+      sent = front_same (messages_sent_in old.socket.view.endpoint turns) sent;
       read = front_same (read_of old.socket.view.endpoint turns) read;
       associations = front_same (association_of (after_all old.socket.view.endpoint turns).core ∷ []) associations;
     }
 
 -- the socket itself was refused memory
-stops_before : {R : Type 0} (Turns : List Turned → Type 0) (old : SideShown R) (socket : SocketView R) → Stops Turns old (record old { socket = socket })
+stops_before : {R : Type 0} (Turns : List Transition → Type 0) (old : SideShown R) (socket : SocketView R) → StopsKeeping Turns old (record old { socket = socket })
 stops_before Turns old socket =
     let new = record old { socket = socket } in
     record { turns = []; are = inl refl; shows = shows_nothing [] old new refl refl refl refl refl refl refl refl }
 
 -- the call's turns were worked, and then what they brought was kept in part: messages first
-pub stops_after : {R : Type 0} (Turns : List Turned → Type 0) (old new : SideShown R) (socket : SocketView R) (sent read : List MessageContent) (turns : List Turned) → Turns turns
+pub stops_after : {R : Type 0} (Turns : List Transition → Type 0) (old new : SideShown R) (socket : SocketView R) (sent read : List MessageContent) (turns : List Transition) → Turns turns
     → old.socket.view.events ≡ [] → Follows (user_view_of old.socket) turns (user_view_of socket)
-    → AddsFront (sent_of old.socket.view.endpoint turns) old.sent sent → AddsFront (read_of old.socket.view.endpoint turns) old.read read
-    → CollectsFront (called_side old socket sent read) new → Stops Turns old new
+    → AppendsFirst (messages_sent_in old.socket.view.endpoint turns) old.sent sent → AppendsFirst (read_of old.socket.view.endpoint turns) old.read read
+    → CollectsFront (called_side old socket sent read) new → StopsKeeping Turns old new
 stops_after Turns old new socket sent read turns turned empty follows sends reads part =
-    let waiting : socket.view.events ≡ told old turns = follows.events ∙ ap (λ (l : List (Event (List ℕ))). l ++ told old turns) empty in
+    let waiting : socket.view.events ≡ events_for_user old turns = follows.events ∙ ap (λ (l : List (Event (List ℕ))). l ++ events_for_user old turns) empty in
     record {
       turns = turns;
       are = inr turned;
       shows = record {
         options = part.options;
-        events = subst (λ (l : List (Event (List ℕ))). AddsFront l old.events new.events) waiting part.events;
-        packets = subst (λ (l : List (Event (List ℕ))). AddsFront (packets_in l) old.packets new.packets) waiting part.packets;
-        words = subst (λ (l : List Word). AddsFront l old.words new.words) follows.words part.words;
-        pairs = subst (λ (l : List Pair). AddsFront l old.pairs new.pairs) follows.pairs part.pairs;
-        sent = subst (λ (l : List MessageContent). AddsFront (sent_of old.socket.view.endpoint turns) old.sent l) (sym part.sent) sends;
-        read = subst (λ (l : List MessageContent). AddsFront (read_of old.socket.view.endpoint turns) old.read l) (sym part.read) reads;
+        events = subst (λ (l : List (Event (List ℕ))). AppendsFirst l old.events new.events) waiting part.events;
+        packets = subst (λ (l : List (Event (List ℕ))). AppendsFirst (packets_in l) old.packets new.packets) waiting part.packets;
+        words = subst (λ (l : List Word). AppendsFirst l old.words new.words) follows.words part.words;
+        pairs = subst (λ (l : List Pair). AppendsFirst l old.pairs new.pairs) follows.pairs part.pairs;
+        sent = subst (λ (l : List MessageContent). AppendsFirst (messages_sent_in old.socket.view.endpoint turns) old.sent l) (sym part.sent) sends;
+        read = subst (λ (l : List MessageContent). AppendsFirst (read_of old.socket.view.endpoint turns) old.read l) (sym part.read) reads;
         associations = front_same (association_of (after_all old.socket.view.endpoint turns).core ∷ []) part.associations;
       };
     }
 
 -- ---- a call that failed in the socket, by its fault
 
-module _ {R : Type 0} (Turns : List Turned → Type 0) (old : SideShown R) (socket : SocketView R) where
-  stays_failed : old.socket.failed ≡ true → socket ≡ old.socket → Fails Turns old Failed (record old { socket = socket })
+module _ {R : Type 0} (Turns : List Transition → Type 0) (old : SideShown R) (socket : SocketView R) where
+  stays_failed : old.socket.failed ≡ true → socket ≡ old.socket → FailsAtSide Turns old Failed (record old { socket = socket })
   stays_failed had_failed same = (had_failed, ap (λ (s : SocketView R). let side : SideShown R = record old { socket = s } in side) same)
 
   pub call_fails : (IsIt : Reply → Type 0) (fault : SocketFault) → Called Turns IsIt (user_view_of old.socket) (Err fault) (user_view_of socket)
-      → (fault ≡ Failed → socket ≡ old.socket) → Fails Turns old fault (record old { socket = socket })
+      → (fault ≡ Failed → socket ≡ old.socket) → FailsAtSide Turns old fault (record old { socket = socket })
   call_fails IsIt OutOfMemory runs same = (runs, stops_before Turns old socket)
   call_fails IsIt Failed had_failed same = stays_failed had_failed (same refl)
 
   pub input_fails : (bytes : List ℕ) (fault : SocketFault) → HandlesInput (user_view_of old.socket) bytes (Err fault) (user_view_of socket)
-      → (fault ≡ Failed → socket ≡ old.socket) → Fails Turns old fault (record old { socket = socket })
+      → (fault ≡ Failed → socket ≡ old.socket) → FailsAtSide Turns old fault (record old { socket = socket })
   input_fails bytes OutOfMemory out same = (out.runs, stops_before Turns old socket)
   input_fails bytes Failed stays same = stays_failed stays.had_failed (same refl)
 
@@ -125,18 +125,18 @@ at_noted : {R : Type 0} (side new : SideShown R) → MaybeNoted side new → (P 
 at_noted side new (inl same) P h noted = subst P (sym same) h
 at_noted side new (inr same) P h noted = subst P (sym same) noted
 
-grows_in_part : {R : Type 0} {answer : Reply} (Turns : List Turned → Type 0) (old moved new : SideShown R) (grows : Grows Turns answer old moved) → MaybeNoted moved new → Stops Turns old new
+grows_in_part : {R : Type 0} {answer : Reply} (Turns : List Transition → Type 0) (old moved new : SideShown R) (grows : Grows Turns answer old moved) → MaybeNoted moved new → StopsKeeping Turns old new
 grows_in_part {R = R} Turns old moved new grows noted =
     let os = grows.turns in
     let now : List (Option Association) = association_of (after_all old.socket.view.endpoint os).core ∷ [] in
-    let shows : (l : List (Option Association)) → AddsFront now old.associations l → ShowsFront os old (record moved { associations = l }) =
+    let shows : (l : List (Option Association)) → AppendsFirst now old.associations l → ShowsFront os old (record moved { associations = l }) =
     λ l h. record {
       options = grows.options;
-      events = front_whole (told old os) grows.events;
-      packets = front_whole (packets_in (told old os)) grows.packets;
+      events = front_whole (events_for_user old os) grows.events;
+      packets = front_whole (packets_in (events_for_user old os)) grows.packets;
       words = front_whole (words_of os) grows.words;
       pairs = front_whole (pairs_of os) grows.pairs;
-      sent = front_whole (sent_of old.socket.view.endpoint os) grows.sent;
+      sent = front_whole (messages_sent_in old.socket.view.endpoint os) grows.sent;
       read = front_whole (read_of old.socket.view.endpoint os) grows.read;
       associations = h;
     } in
@@ -164,9 +164,9 @@ same_socket {R = R} old moved new stays noted =
     let same : MaybeNoted old new = subst (λ (side : SideShown R). MaybeNoted side new) stays noted in
     at_noted old new same (λ (side : SideShown R). side.socket ≡ old.socket) refl refl
 
-at_mover : {R : Type 0} {answer : Reply} (Turns : List Turned → Type 0) (mover : Side) (old moved new : Both (SideShown R)) → Grows Turns answer (of_side mover old) (of_side mover moved)
+at_mover : {R : Type 0} {answer : Reply} (Turns : List Transition → Type 0) (mover : Side) (old moved new : Both (SideShown R)) → Grows Turns answer (of_side mover old) (of_side mover moved)
     → of_other mover moved ≡ of_other mover old → MaybeNoted moved.a new.a → MaybeNoted moved.b new.b
-    → Stops Turns (of_side mover old) (of_side mover new) × ShowsFront [] (of_other mover old) (of_other mover new)
+    → StopsKeeping Turns (of_side mover old) (of_side mover new) × ShowsFront [] (of_other mover old) (of_other mover new)
     × ((of_other mover new).socket ≡ (of_other mover old).socket)
 at_mover Turns sides.A old moved new grows stays a b =
     (grows_in_part Turns old.a moved.a new.a grows a, other_in_part old.b moved.b new.b stays b, same_socket old.b moved.b new.b stays b)
@@ -175,11 +175,11 @@ at_mover Turns sides.B old moved new grows stays a b =
 
 -- the act failed at this side, and the other is as it was
 pub fails_at : {R : Type 0} (act : ActContent) (mover : Side) (fault : SocketFault) (old new : Both (SideShown R)) → side_of_act act ≡ mover
-    → Fails (TurnsOfAct (of_side mover old).socket.view.endpoint (of_other mover old).packets act) (of_side mover old) fault (of_side mover new)
+    → FailsAtSide (TurnsOfAct (of_side mover old).socket.view.endpoint (of_other mover old).packets act) (of_side mover old) fault (of_side mover new)
     → of_other mover new ≡ of_other mover old → MovesSide act old (Err fault) new
 fails_at {R = R} act mover fault old new is fails stays =
     let At : Side → Type 0 = λ side.
-    Fails (TurnsOfAct (of_side side old).socket.view.endpoint (of_other side old).packets act) (of_side side old) fault (of_side side new)
+    FailsAtSide (TurnsOfAct (of_side side old).socket.view.endpoint (of_other side old).packets act) (of_side side old) fault (of_side side new)
     × (of_other side new ≡ of_other side old) in
     subst At (sym is) (fails, stays)
 

@@ -10,9 +10,9 @@ use Rattle.dcsctp_core.specs.spec.endpoint.Endpoint.{Endpoint}
 use Rattle.dcsctp_core.specs.spec.endpoint.Outcome.{Outcome, still}
 use Rattle.dcsctp_core.specs.spec.endpoint.Turn.{user_takes}
 use Rattle.dcsctp_core.specs.spec.endpoint.DataOutcomes.{TakeWhere, TakeLeft, TakeTurn}
-use Rattle.dcsctp_core.specs.spec.endpoint.CallTurns.{turned}
+use Rattle.dcsctp_core.specs.spec.endpoint.CallTurns.{transition}
 use Rattle.dcsctp_core.specs.api.Calls.{UserView, Follows}
-use Rattle.dcsctp_core.specs.api.Messages.{TakesNext}
+use Rattle.dcsctp_core.specs.api.Messages.{TakesNextMessage}
 use Rattle.dcsctp_world.specs.declared.act.Reply.TheVariants.{Taken}
 use Rattle.dcsctp_world.specs.Growth.{Called, IsCallReply}
 
@@ -38,21 +38,21 @@ quiet e (Some transfer) o turn = quiet_where e transfer transfer.reassembly.inco
 after_taking : UserView → Outcome → UserView
 after_taking old o = record old { endpoint = o.after; words = []; pairs = [] }
 
-take_follows : (old : UserView) (o : Outcome) → old.failed ≡ false → o ≡ still o.after → Follows old (turned user_takes o ∷ []) (after_taking old o)
+take_follows : (old : UserView) (o : Outcome) → old.failed ≡ false → o ≡ still o.after → Follows old (transition user_takes o ∷ []) (after_taking old o)
 unfolding after_taking
 take_follows old o runs is =
-    subst (λ (x : Outcome). Follows old (turned user_takes x ∷ []) (after_taking old x)) (sym is)
+    subst (λ (x : Outcome). Follows old (transition user_takes x ∷ []) (after_taking old x)) (sym is)
     (record { runs = runs; goes_on = runs; endpoint = refl; events = sym (append-nil old.events); words = refl; pairs = refl })
 
-pub take_called : (old new : UserView) (result : Option Message) → old.failed ≡ false → TakesNext old result new
+pub take_called : (old new : UserView) (result : Option Message) → old.failed ≡ false → TakesNextMessage old result new
     → Called (UserTurns old.endpoint take_call) (IsCallReply old.endpoint take_call) old (Ok (Taken result)) new
 unfolding after_taking
 take_called old new result runs h =
     record {
       reply = h.first;
       called = tt;
-      turns = turned user_takes h.outcome ∷ [];
+      turns = transition user_takes h.outcome ∷ [];
       are = (record { is = refl; comes = h.turn }, tt);
-      follows = subst (λ (view : UserView). Follows old (turned user_takes h.outcome ∷ []) view) (sym h.is)
-          (take_follows old h.outcome runs (quiet old.endpoint old.endpoint.below.transfer h.outcome h.turn));
+      follows = subst (λ (view : UserView). Follows old (transition user_takes h.outcome ∷ []) view) (sym h.is)
+          (take_follows old h.outcome runs (quiet old.endpoint old.endpoint.queues.transfer h.outcome h.turn));
     }

@@ -7,9 +7,9 @@ use Rattle.dcsctp_core.specs.api.declared.errors.SocketFault.{SocketFault}
 use Rattle.dcsctp_core.specs.api.declared.errors.SocketFault.TheVariants.{OutOfMemory, Failed}
 use Rattle.dcsctp_world.specs.declared.act.Reply.{Reply}
 use Rattle.dcsctp_world.specs.Shown.{SideShown, WorldView, options_of}
-use Rattle.dcsctp_world.specs.Growth.{Extends, Fails, Grows, ShowsFront, Stops, SideExtends, with_association, IsReply}
+use Rattle.dcsctp_world.specs.Growth.{Extends, FailsAtSide, Grows, ShowsFront, StopsKeeping, SideExtends, with_association, IsReply}
 use Rattle.dcsctp_world.specs.Run.{IsRun}
-use Rattle.dcsctp_world.specs.Agreement.{Agrees, HandshakeConnects}
+use Rattle.dcsctp_world.specs.Agreement.{Agrees, ShownHandshakeConnects}
 use Rattle.dcsctp_world.specs.Drawing.{DrawOn, AreWhole}
 use Rattle.dcsctp_world.specs.Recording.{Recording, recorded_stream}
 
@@ -24,7 +24,7 @@ pub record ActMoves {R : Type 0} (act : ActContent) (answer : Reply) (old new : 
 abbrev pub MovesSide : {R : Type 0} → ActContent → Both (SideShown R) → Result Reply SocketFault → Both (SideShown R) → Type 0
 MovesSide act old (Ok reply) new = ActMoves act reply old new
 MovesSide act old (Err fault) new =
-    Fails (TurnsOfAct (of_side (side_of_act act) old).socket.view.endpoint (of_other (side_of_act act) old).packets act)
+    FailsAtSide (TurnsOfAct (of_side (side_of_act act) old).socket.view.endpoint (of_other (side_of_act act) old).packets act)
     (of_side (side_of_act act) old) fault (of_side (side_of_act act) new)
     × (of_other (side_of_act act) new ≡ of_other (side_of_act act) old)
 
@@ -53,7 +53,7 @@ pub record WorldExtends {R : Type 0} (old new : WorldView R) : Type 0 where
 -- An allocation failed in an act. What its own side shows grew at most by the first part of what the act's turns bring. The
 -- other's socket is unchanged, and at most its association was noted once more.
 pub record ActStops {R : Type 0} (act : ActContent) (old new : Both (SideShown R)) : Type 0 where
-  pub mover : Stops (TurnsOfAct (of_side (side_of_act act) old).socket.view.endpoint (of_other (side_of_act act) old).packets act)
+  pub mover : StopsKeeping (TurnsOfAct (of_side (side_of_act act) old).socket.view.endpoint (of_other (side_of_act act) old).packets act)
       (of_side (side_of_act act) old) (of_side (side_of_act act) new)
   pub other : ShowsFront [] (of_other (side_of_act act) old) (of_other (side_of_act act) new)
   pub other_socket : (of_other (side_of_act act) new).socket ≡ (of_other (side_of_act act) old).socket
@@ -66,21 +66,21 @@ WorksAct act old (Err OutOfMemory) new = ActStops act old.sides new.sides × (ne
 WorksAct act old (Err Failed) new = ((of_side (side_of_act act) old.sides).socket.failed ≡ true) × (new ≡ old)
 
 -- An allocation failed in an act, and the world has failed. The act isn't among its acts.
-pub record RanOut {R : Type 0} (act : ActContent) (old new : WorldView R) : Type 0 where
+pub record ActRanOutOfMemory {R : Type 0} (act : ActContent) (old new : WorldView R) : Type 0 where
   pub runs : old.failed ≡ false
   pub fails : new.failed ≡ true
   pub stops : ActStops act old.sides new.sides
   pub acts : new.acts ≡ old.acts
 
 -- The world had failed, and nothing changes.
-pub record StaysFailed {R : Type 0} (old new : WorldView R) : Type 0 where
+pub record WorldStaysFailed {R : Type 0} (old new : WorldView R) : Type 0 where
   pub had_failed : old.failed ≡ true
   pub same : new ≡ old
 
 abbrev pub Applies : {R : Type 0} → ActContent → WorldView R → Result Reply SocketFault → WorldView R → Type 0
 Applies act old (Ok reply) new = Applied act reply old new
-Applies act old (Err OutOfMemory) new = RanOut act old new
-Applies act old (Err Failed) new = StaysFailed old new
+Applies act old (Err OutOfMemory) new = ActRanOutOfMemory act old new
+Applies act old (Err Failed) new = WorldStaysFailed old new
 
 -- A step was applied, and the others to what it left.
 pub record AppliedFirst {R : Type 0} (step : StepContent) (Others : WorldView R → Type 0) (old : WorldView R) : Type 0 where
@@ -115,12 +115,12 @@ pub record RanOutAmong {R : Type 0} (stream : R → Stream) (steps : List StepCo
   pub before : WorldView (Recording R)
   pub ran : Ran done old before
   pub agrees : Agrees (options_of old) before
-  pub connects : HandshakeConnects (options_of old) before
+  pub connects : ShownHandshakeConnects (options_of old) before
   pub drawn : DrawOn (recorded_stream stream) old.sides before.sides
   pub whole : AreWhole before.sides
-  pub ran_out : RanOut (step_act refused) before new
+  pub ran_out : ActRanOutOfMemory (step_act refused) before new
 
-abbrev pub Runs : {R : Type 0} → (R → Stream) → List StepContent → WorldView (Recording R) → Result (Unit {0}) SocketFault → WorldView (Recording R) → Type 0
-Runs stream steps old (Ok done) new = Ran steps old new
-Runs stream steps old (Err OutOfMemory) new = RanOutAmong stream steps old new
-Runs stream steps old (Err Failed) new = StaysFailed old new
+abbrev pub RunsSteps : {R : Type 0} → (R → Stream) → List StepContent → WorldView (Recording R) → Result (Unit {0}) SocketFault → WorldView (Recording R) → Type 0
+RunsSteps stream steps old (Ok done) new = Ran steps old new
+RunsSteps stream steps old (Err OutOfMemory) new = RanOutAmong stream steps old new
+RunsSteps stream steps old (Err Failed) new = WorldStaysFailed old new

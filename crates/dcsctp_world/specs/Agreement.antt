@@ -13,7 +13,7 @@ use Rattle.dcsctp_spec_runs.specs.Past.{Each, InPlace}
 use Rattle.dcsctp_spec_runs.specs.Sockets.{Both, of_side, turns_after, acts_of}
 use Rattle.dcsctp_theorem_sockets.specs.Agreement.{AgreeThroughout, noted_past}
 use Rattle.dcsctp_theorem_sockets.specs.Deadlines.{RunsT1}
-use Rattle.dcsctp_theorem_sockets.specs.Handshake.{handshake_acts, AreFitting, ConnectThroughout, connections}
+use Rattle.dcsctp_theorem_sockets.specs.Handshake.{handshake_acts, AreFitting, ConnectThroughout, connections_of_events}
 use Rattle.dcsctp_theorem_sockets.specs.OneSocket.{EndsByAnswer, TellsEnd, IsWithinLimit, TurnKeepsBurst, TimeIsQuiet}
 use Rattle.dcsctp_theorem_sockets.specs.Telling.{TellsNoted, HoldsNoted, AreAnew}
 use Rattle.dcsctp_theorem_cookies.specs.Ages.{AgeThroughout}
@@ -57,7 +57,7 @@ pub record Agrees {R : Type 0} (options : Both Options) (world : WorldView R) : 
 -- The side is Established with this pair and peer, and was told OnConnected once.
 pub record ShowsConnected {R : Type 0} (mine theirs : Options) (side : SideShown R) (my peer : Pair) : Type 0 where
   pub core : side.socket.view.endpoint.core ≡ open_in established my (new_held my peer (negotiated (offer_of mine) (offer_of theirs)))
-  pub once : connections side.events ≡ 1
+  pub once : connections_of_events side.events ≡ 1
 
 -- Both are so, and crossed.
 pub record BothConnected {R : Type 0} (options : Both Options) (world : WorldView R) : Type 0 where
@@ -68,5 +68,5 @@ pub record BothConnected {R : Type 0} (options : Both Options) (world : WorldVie
 
 -- If the acts are connect at one side and the four packets of the handshake in turn, sockets that fit each other are connected
 -- (RFC 9260, section 5.1).
-abbrev pub HandshakeConnects : {R : Type 0} → Both Options → WorldView R → Type 0
-HandshakeConnects options world = (side : Side) → world.acts ≡ handshake_acts side → AreFitting options → BothConnected options world
+abbrev pub ShownHandshakeConnects : {R : Type 0} → Both Options → WorldView R → Type 0
+ShownHandshakeConnects options world = (side : Side) → world.acts ≡ handshake_acts side → AreFitting options → BothConnected options world

@@ -6,18 +6,18 @@ use Rattle.dcsctp_core.specs.spec.endpoint.Endpoint.{Endpoint, Core, association
 use Rattle.dcsctp_core.specs.spec.Handover.{readiness_of}
 use Rattle.dcsctp_core.specs.types.Snapshot.{is_valid_snapshot}
 use Rattle.dcsctp_core.specs.types.Settings.{ports_of}
-use Rattle.dcsctp_core.specs.spec.endpoint.CallTurns.{Turned, after_all, words_of, events_of, pairs_of}
-use Rattle.dcsctp_spec_runs.specs.Sockets.{numbered}
+use Rattle.dcsctp_core.specs.spec.endpoint.CallTurns.{Transition, after_all, words_of, events_of, pairs_of}
+use Rattle.dcsctp_spec_runs.specs.Sockets.{packet_at_number}
 use Rattle.dcsctp_core.specs.api.declared.errors.SocketFault.{SocketFault}
 use Rattle.dcsctp_core.specs.api.declared.errors.SocketFault.TheVariants.{OutOfMemory, Failed}
 use Rattle.dcsctp_core.specs.api.Calls.{UserView, user_event, Follows}
 use Rattle.dcsctp_core.specs.api.Handover.{IsHandoverAnswer, IsRestoreAnswer}
-use Rattle.dcsctp_core.specs.api.Messages.{refusal_in, IsBatchAnswer, ready_messages, IsFirst}
+use Rattle.dcsctp_core.specs.api.Messages.{refusal_in, IsBatchAnswer, ready_messages, IsFirstMessage}
 use Rattle.dcsctp_core.specs.api.Resets.{reset_refusal_in}
 use Rattle.dcsctp_core.specs.types.queues.Messages.{MessageContent}
 use Rattle.dcsctp_core.specs.spec.endpoint.MessageOutcomes.{MessageRefusal, message_refusal, sending_of, RefusedMessage, refused_from}
 use Rattle.dcsctp_core.specs.spec.endpoint.PreparedResets.{ResetRefusal, reset_refusal}
-use Rattle.dcsctp_delivery_sockets.specs.UserMessages.{sent_of, read_of}
+use Rattle.dcsctp_delivery_sockets.specs.UserMessages.{messages_sent_in, read_of}
 use Rattle.dcsctp_world.specs.declared.act.Reply.{Reply}
 use Rattle.dcsctp_world.specs.declared.act.Reply.TheVariants.{NoCall, Done, Sent, SentMany, Reset, Taken, HandedOver, Restored}
 use Rattle.dcsctp_world.specs.Shown.{SideShown}
@@ -28,7 +28,7 @@ pub record Extends {A : Type 0} (old new : List A) : Type 0 where
   pub behind : new ≡ old ++ added
 
 -- The new list is the old one with the first part of these after it.
-pub record AddsFront {A : Type 0} (all old new : List A) : Type 0 where
+pub record AppendsFirst {A : Type 0} (all old new : List A) : Type 0 where
   pub added : List A
   pub rest : List A
   pub behind : new ≡ old ++ added
@@ -47,13 +47,13 @@ with_events added kept = record { events = kept.events ++ added; packets = kept.
 -- The first of these events, and of their packets, were kept. A packet is kept before its event, so it may be there without its
 -- event if an allocation failed.
 pub record KeptFront (all : List (Event (List ℕ))) (old new : Kept) : Type 0 where
-  pub events : AddsFront all old.events new.events
-  pub packets : AddsFront (packets_in all) old.packets new.packets
+  pub events : AppendsFirst all old.events new.events
+  pub packets : AppendsFirst (packets_in all) old.packets new.packets
 
 -- These events were kept, with their packets; or an allocation failed, and they were kept in part.
-abbrev pub Keeps : {E : Type 0} → List (Event (List ℕ)) → Kept → Result (Unit {0}) E → Kept → Type 0
-Keeps added old (Ok done) new = new ≡ with_events added old
-Keeps added old (Err error) new = KeptFront added old new
+abbrev pub KeepsEvents : {E : Type 0} → List (Event (List ℕ)) → Kept → Result (Unit {0}) E → Kept → Type 0
+KeepsEvents added old (Ok done) new = new ≡ with_events added old
+KeepsEvents added old (Err error) new = KeptFront added old new
 
 -- All events that wait in a socket were taken and kept, and nothing else of it changed. Or an allocation failed, and they were
 -- kept in part.
@@ -65,7 +65,7 @@ TakesAll old kept_before (Err error) new kept_now = KeptFront old.events kept_be
 
 -- What waits in the socket is taken and kept, with the words and pairs of the last call; the endpoint, the generator and the
 -- messages are unchanged.
-pub record Collects {R : Type 0} (old new : SideShown R) : Type 0 where
+pub record CollectsWaiting {R : Type 0} (old new : SideShown R) : Type 0 where
   pub endpoint : new.socket.view.endpoint ≡ old.socket.view.endpoint
   pub generator : new.socket.view.generator ≡ old.socket.view.generator
   pub failed : new.socket.failed ≡ old.socket.failed
@@ -84,22 +84,22 @@ pub record Collects {R : Type 0} (old new : SideShown R) : Type 0 where
 -- The first of what waits in the socket, and of the words and pairs of the last call, were kept.
 pub record CollectsFront {R : Type 0} (old new : SideShown R) : Type 0 where
   pub options : new.options ≡ old.options
-  pub events : AddsFront old.socket.view.events old.events new.events
-  pub packets : AddsFront (packets_in old.socket.view.events) old.packets new.packets
-  pub words : AddsFront old.socket.view.words old.words new.words
-  pub pairs : AddsFront old.socket.view.pairs old.pairs new.pairs
+  pub events : AppendsFirst old.socket.view.events old.events new.events
+  pub packets : AppendsFirst (packets_in old.socket.view.events) old.packets new.packets
+  pub words : AppendsFirst old.socket.view.words old.words new.words
+  pub pairs : AppendsFirst old.socket.view.pairs old.pairs new.pairs
   pub sent : new.sent ≡ old.sent
   pub read : new.read ≡ old.read
   pub associations : new.associations ≡ old.associations
 
 -- What waited was collected; or an allocation failed, and it was collected in part.
 abbrev pub CollectsAll : {R E : Type 0} → SideShown R → Result (Unit {0}) E → SideShown R → Type 0
-CollectsAll old (Ok done) new = Collects old new
+CollectsAll old (Ok done) new = CollectsWaiting old new
 CollectsAll old (Err error) new = CollectsFront old new
 
 -- these turns' events as the user of this side sees them
-abbrev pub told : {R : Type 0} → SideShown R → List Turned → List (Event (List ℕ))
-told side turns = map (user_event (ports_of side.socket.view.endpoint.options)) (events_of turns)
+abbrev pub events_for_user : {R : Type 0} → SideShown R → List Transition → List (Event (List ℕ))
+events_for_user side turns = map (user_event (ports_of side.socket.view.endpoint.options)) (events_of turns)
 
 -- a call was made
 abbrev pub WasCalled : Reply → Type 0
@@ -114,18 +114,18 @@ WasCalled (Restored answer) = Unit {0}
 
 -- Turns of this kind move the socket, and each list grows by what they show; no event waits. If a call was made, its words and
 -- pairs are theirs; if none was, nothing changed.
-pub record Grows {R : Type 0} (Turns : List Turned → Type 0) (answer : Reply) (old new : SideShown R) : Type 0 where
-  pub turns : List Turned
+pub record Grows {R : Type 0} (Turns : List Transition → Type 0) (answer : Reply) (old new : SideShown R) : Type 0 where
+  pub turns : List Transition
   pub are : Turns turns
   pub endpoint : new.socket.view.endpoint ≡ after_all old.socket.view.endpoint turns
   pub failed : new.socket.failed ≡ old.socket.failed
   pub options : new.options ≡ old.options
   pub waiting : new.socket.view.events ≡ []
-  pub events : new.events ≡ old.events ++ told old turns
-  pub packets : new.packets ≡ old.packets ++ packets_in (told old turns)
+  pub events : new.events ≡ old.events ++ events_for_user old turns
+  pub packets : new.packets ≡ old.packets ++ packets_in (events_for_user old turns)
   pub words : new.words ≡ old.words ++ words_of turns
   pub pairs : new.pairs ≡ old.pairs ++ pairs_of turns
-  pub sent : new.sent ≡ old.sent ++ sent_of old.socket.view.endpoint turns
+  pub sent : new.sent ≡ old.sent ++ messages_sent_in old.socket.view.endpoint turns
   pub read : new.read ≡ old.read ++ read_of old.socket.view.endpoint turns
   pub associations : new.associations ≡ old.associations
   pub last_words : WasCalled answer → new.socket.view.words ≡ words_of turns
@@ -134,46 +134,46 @@ pub record Grows {R : Type 0} (Turns : List Turned → Type 0) (answer : Reply) 
 
 -- What a side shows grew by the first part of what these turns bring, and of its association after them. The options that its
 -- socket was made with are unchanged.
-pub record ShowsFront {R : Type 0} (turns : List Turned) (old new : SideShown R) : Type 0 where
+pub record ShowsFront {R : Type 0} (turns : List Transition) (old new : SideShown R) : Type 0 where
   pub options : new.options ≡ old.options
-  pub events : AddsFront (told old turns) old.events new.events
-  pub packets : AddsFront (packets_in (told old turns)) old.packets new.packets
-  pub words : AddsFront (words_of turns) old.words new.words
-  pub pairs : AddsFront (pairs_of turns) old.pairs new.pairs
-  pub sent : AddsFront (sent_of old.socket.view.endpoint turns) old.sent new.sent
-  pub read : AddsFront (read_of old.socket.view.endpoint turns) old.read new.read
-  pub associations : AddsFront (association_of (after_all old.socket.view.endpoint turns).core ∷ []) old.associations new.associations
+  pub events : AppendsFirst (events_for_user old turns) old.events new.events
+  pub packets : AppendsFirst (packets_in (events_for_user old turns)) old.packets new.packets
+  pub words : AppendsFirst (words_of turns) old.words new.words
+  pub pairs : AppendsFirst (pairs_of turns) old.pairs new.pairs
+  pub sent : AppendsFirst (messages_sent_in old.socket.view.endpoint turns) old.sent new.sent
+  pub read : AppendsFirst (read_of old.socket.view.endpoint turns) old.read new.read
+  pub associations : AppendsFirst (association_of (after_all old.socket.view.endpoint turns).core ∷ []) old.associations new.associations
 
 -- An allocation failed while what such turns brought was kept, or before.
-pub record Stops {R : Type 0} (Turns : List Turned → Type 0) (old new : SideShown R) : Type 0 where
-  pub turns : List Turned
+pub record StopsKeeping {R : Type 0} (Turns : List Transition → Type 0) (old new : SideShown R) : Type 0 where
+  pub turns : List Transition
   pub are : (turns ≡ []) ⊎ Turns turns
   pub shows : ShowsFront turns old new
 
 -- Turns failed at a side: an allocation failed, in its socket or in what it shows; or the socket had failed, and nothing has
 -- changed.
-abbrev pub Fails : {R : Type 0} → (List Turned → Type 0) → SideShown R → SocketFault → SideShown R → Type 0
-Fails Turns old OutOfMemory new = (old.socket.failed ≡ false) × Stops Turns old new
-Fails Turns old Failed new = (old.socket.failed ≡ true) × (new ≡ old)
+abbrev pub FailsAtSide : {R : Type 0} → (List Transition → Type 0) → SideShown R → SocketFault → SideShown R → Type 0
+FailsAtSide Turns old OutOfMemory new = (old.socket.failed ≡ false) × StopsKeeping Turns old new
+FailsAtSide Turns old Failed new = (old.socket.failed ≡ true) × (new ≡ old)
 
 -- A call of the user was made on a socket, by such turns, and its answer is such a reply.
-pub record CallMade (Turns : List Turned → Type 0) (IsIt : Reply → Type 0) (old : UserView) (answer : Reply) (new : UserView) : Type 0 where
+pub record CallMade (Turns : List Transition → Type 0) (IsIt : Reply → Type 0) (old : UserView) (answer : Reply) (new : UserView) : Type 0 where
   pub reply : IsIt answer
   pub called : WasCalled answer
-  pub turns : List Turned
+  pub turns : List Transition
   pub are : Turns turns
   pub follows : Follows old turns new
 
 -- It was made; or an allocation failed in it; or the socket had failed, and nothing has changed.
-abbrev pub Called : (List Turned → Type 0) → (Reply → Type 0) → UserView → Result Reply SocketFault → UserView → Type 0
+abbrev pub Called : (List Transition → Type 0) → (Reply → Type 0) → UserView → Result Reply SocketFault → UserView → Type 0
 Called Turns IsIt old (Ok answer) new = CallMade Turns IsIt old answer new
 Called Turns IsIt old (Err OutOfMemory) new = old.failed ≡ false
 Called Turns IsIt old (Err Failed) new = old.failed ≡ true
 
 -- An act was handled at its side, with such a reply; or it failed.
-abbrev pub Works : {R : Type 0} → (List Turned → Type 0) → (Reply → Type 0) → SideShown R → Result Reply SocketFault → SideShown R → Type 0
-Works Turns IsIt old (Ok answer) new = IsIt answer × Grows Turns answer old new
-Works Turns IsIt old (Err fault) new = Fails Turns old fault new
+abbrev pub HandlesAct : {R : Type 0} → (List Transition → Type 0) → (Reply → Type 0) → SideShown R → Result Reply SocketFault → SideShown R → Type 0
+HandlesAct Turns IsIt old (Ok answer) new = IsIt answer × Grows Turns answer old new
+HandlesAct Turns IsIt old (Err fault) new = FailsAtSide Turns old fault new
 
 -- Each list begins with what it held.
 pub record SideExtends {R : Type 0} (old new : SideShown R) : Type 0 where
@@ -218,7 +218,7 @@ IsReset refusal reply = ⊥
 
 -- It is what `get_next_message` answers if these are ready.
 abbrev pub IsTaken : List MessageContent → Reply → Type 0
-IsTaken ready (Taken message) = IsFirst ready message
+IsTaken ready (Taken message) = IsFirstMessage ready message
 IsTaken ready reply = ⊥
 
 -- It is what `get_handover_state_and_close` answers.
@@ -240,10 +240,10 @@ IsCallReply e take_call reply = IsTaken (ready_messages e) reply
 IsCallReply e hand_over_call reply = IsHandedOver e reply
 
 -- It is what `restore_from_state` answers if the snapshot is valid. Else no call is made.
-abbrev pub IsRestored : Bool → Core → Reply → Type 0
-IsRestored true core (Restored answer) = IsRestoreAnswer core answer
-IsRestored true core reply = ⊥
-IsRestored false core reply = reply ≡ NoCall
+abbrev pub IsRestoreReply : Bool → Core → Reply → Type 0
+IsRestoreReply true core (Restored answer) = IsRestoreAnswer core answer
+IsRestoreReply true core reply = ⊥
+IsRestoreReply false core reply = reply ≡ NoCall
 
 -- It is what is answered if a socket of this readiness is handed over, and restored from its snapshot.
 abbrev pub IsHandedOn : ℕ → Endpoint → Reply → Type 0
@@ -254,10 +254,10 @@ IsHandedOn (suc reasons) e reply = IsHandedOver e reply
 abbrev pub IsOutsideReply : Endpoint → OutsideContent → Reply → Type 0
 IsOutsideReply e (input_outside side bytes) reply = reply ≡ Done
 IsOutsideReply e (handover_outside side) reply = IsHandedOn (readiness_of e) e reply
-IsOutsideReply e (restore_outside side state) reply = IsRestored (is_valid_snapshot e.options state) e.core reply
+IsOutsideReply e (restore_outside side state) reply = IsRestoreReply (is_valid_snapshot e.options state) e.core reply
 
 -- It is what an act answers from this endpoint, where the other side has emitted these packets.
 abbrev pub IsReply : Endpoint → List (List ℕ) → ActContent → Reply → Type 0
 IsReply e packets (step_act (call_step side call)) reply = IsCallReply e call reply
-IsReply e packets (step_act (delivery_step side number)) reply = IsDeliveryReply (numbered number packets) reply
+IsReply e packets (step_act (delivery_step side number)) reply = IsDeliveryReply (packet_at_number number packets) reply
 IsReply e packets (outside_act outside) reply = IsOutsideReply e outside reply

@@ -8,7 +8,7 @@ use Rattle.dcsctp_core.specs.api.declared.errors.BatchSendError.{BatchSendError}
 use Rattle.dcsctp_core.specs.api.Messages.{refused_in}
 use Rattle.dcsctp_world.specs.declared.act.Reply.{Reply}
 use Rattle.dcsctp_world.specs.declared.act.Reply.TheVariants.{Sent, SentMany, Taken}
-use Rattle.dcsctp_world.specs.Growth.{AddsFront}
+use Rattle.dcsctp_world.specs.Growth.{AppendsFirst}
 
 -- ---- what an answer says
 
@@ -39,10 +39,10 @@ sent_among messages (SentMany answer) = others_from 0 (refused_by answer) messag
 sent_among messages reply = []
 
 -- the messages that a call sends, by what it answers
-abbrev pub sent_by : CallContent → Reply → List MessageContent
-sent_by (send_call message options) reply = sent_if message reply
-sent_by (send_many_call messages options) reply = sent_among messages reply
-sent_by call reply = []
+abbrev pub messages_of_call : CallContent → Reply → List MessageContent
+messages_of_call (send_call message options) reply = sent_if message reply
+messages_of_call (send_many_call messages options) reply = sent_among messages reply
+messages_of_call call reply = []
 
 abbrev pub taken_by : Reply → List MessageContent
 taken_by (Taken (Some message)) = message_content message ∷ []
@@ -56,6 +56,6 @@ read_by call reply = []
 -- ---- how they are kept
 
 -- All of these were added; or an allocation failed, and the first of them were.
-abbrev pub Adds : {A E : Type 0} → List A → List A → Result (Unit {0}) E → List A → Type 0
-Adds all old (Ok done) new = new ≡ old ++ all
-Adds all old (Err error) new = AddsFront all old new
+abbrev pub AddsAllOrFirst : {A E : Type 0} → List A → List A → Result (Unit {0}) E → List A → Type 0
+AddsAllOrFirst all old (Ok done) new = new ≡ old ++ all
+AddsAllOrFirst all old (Err error) new = AppendsFirst all old new

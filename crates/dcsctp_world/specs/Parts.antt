@@ -12,12 +12,12 @@ use Rattle.dcsctp_world.specs.Growth.{Kept}
 use Rattle.dcsctp_world.specs.Shown.{SideShown, WorldView}
 
 -- the bytes of packets
-abbrev pub packet_bytes : List (Vec ℕ Global) → List (List ℕ)
-packet_bytes packets = map (λ (packet : Vec ℕ Global). packet.items) packets
+abbrev pub bytes_of_packets : List (Vec ℕ Global) → List (List ℕ)
+bytes_of_packets packets = map (λ (packet : Vec ℕ Global). packet.items) packets
 
 -- events and packets that are kept
 abbrev pub kept : List SocketEvent → List (Vec ℕ Global) → Kept
-kept events packets = record { events = map event_content events; packets = packet_bytes packets }
+kept events packets = record { events = map event_content events; packets = bytes_of_packets packets }
 
 abbrev pub shown : {R : Type 0} → WatchedSocket R → SideShown R
 shown watched =
@@ -25,7 +25,7 @@ shown watched =
       socket = watched.socket;
       options = watched.options;
       events = map event_content watched.events.items;
-      packets = packet_bytes watched.packets.items;
+      packets = bytes_of_packets watched.packets.items;
       words = watched.words.items;
       pairs = watched.pairs.items;
       sent = map message_content watched.sent.items;

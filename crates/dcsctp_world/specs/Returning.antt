@@ -24,7 +24,7 @@ pub record GoesOnFrom (options : Options) (state : Snapshot) (new : Endpoint) : 
 
 -- A socket that was established goes on as it was: with both pairs, the tie tag, what both ends support, and the numbers of
 -- requests. No own request is outstanding, and the kept answer is 'nothing to do'.
-pub record GoesOn (old : Endpoint) (my : Pair) (held : Held) (new : Endpoint) : Type 0 where
+pub record ResumesEstablished (old : Endpoint) (my : Pair) (held : Held) (new : Endpoint) : Type 0 where
   pub core : new.core ≡ open_in established my (resumed_held held.peer held.capabilities held.own_next held.peer_last)
   pub tie : new.tie ≡ old.tie
 
@@ -36,5 +36,5 @@ BothSound world = (side : Side) → IsSound (of_side side world.sides).socket.vi
 abbrev pub RestoresBy : OutsideContent → Reply → Endpoint → Endpoint → Type 0
 RestoresBy (input_outside side bytes) reply old new = Unit {0}
 RestoresBy (handover_outside side) reply old new =
-    reply ≡ Restored (Ok tt) → (my : Pair) (held : Held) → old.core ≡ open_in established my held → GoesOn old my held new
+    reply ≡ Restored (Ok tt) → (my : Pair) (held : Held) → old.core ≡ open_in established my held → ResumesEstablished old my held new
 RestoresBy (restore_outside side state) reply old new = reply ≡ Restored (Ok tt) → state.socket_state ≡ Connected → GoesOnFrom old.options state new

@@ -33,14 +33,14 @@ pub record WorldView (R : Type 0) : Type 0 where
   pub failed : Bool
 
 -- a side with a socket that was just made
-abbrev pub fresh_side : {R : Type 0} → Options → R → SideShown R
-fresh_side options generator =
+abbrev pub fresh_side_shown : {R : Type 0} → Options → R → SideShown R
+fresh_side_shown options generator =
     record { socket = fresh_socket options generator; options = options; events = []; packets = []; words = []; pairs = []; sent = []; read = []; associations = None ∷ [] }
 
 -- a world that was just made
 abbrev pub fresh_world : {R : Type 0} → Both Options → Both R → WorldView R
 fresh_world options generators =
-    record { sides = record { a = fresh_side options.a generators.a; b = fresh_side options.b generators.b }; acts = []; failed = false }
+    record { sides = record { a = fresh_side_shown options.a generators.a; b = fresh_side_shown options.b generators.b }; acts = []; failed = false }
 
 -- the options that its sockets were made with
 abbrev pub options_of : {R : Type 0} → WorldView R → Both Options

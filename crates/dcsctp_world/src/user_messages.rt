@@ -4,7 +4,7 @@ ghost use Rattle.std.specs.Prelude.{◌≡◌, map};
 ghost use Rattle.dcsctp_core.specs.types.Schedule.{call_content};
 ghost use Rattle.dcsctp_core.specs.types.queues.Messages.{message_content};
 ghost use Rattle.dcsctp_core.specs.api.Messages.{refused_in};
-ghost use Rattle.dcsctp_world.specs.Messages.{refused_by, is_refused_at, other_at, others_from, sent_if, sent_among, sent_by, taken_by, read_by, Adds};
+ghost use Rattle.dcsctp_world.specs.Messages.{refused_by, is_refused_at, other_at, others_from, sent_if, sent_among, messages_of_call, taken_by, read_by, AddsAllOrFirst};
 
 use crate::act::Reply;
 use dcsctp_core::api::{BatchSendError, Message, SendError};
@@ -13,7 +13,7 @@ use std::alloc::AllocError;
 
 // Keeps a copy of a message that `send` accepted. `Err`: an allocation failed, and nothing was kept.
 fn keep_sent(sent: &mut Vec<Message>, message: &Message, reply: &Reply) -> Result<(), AllocError>
-    ensures { Adds (sent_if (message_content message.now) reply.now) (map message_content sent.old.items) result
+    ensures { AddsAllOrFirst (sent_if (message_content message.now) reply.now) (map message_content sent.old.items) result
         (map message_content sent.new.items) }
 {
     if let Reply::Sent(Ok(())) = reply {
@@ -52,7 +52,7 @@ fn keep_other(
     answer: &Result<(), BatchSendError>,
     place: usize,
 ) -> Result<(), AllocError>
-    ensures { Adds (other_at place (refused_by answer.now) (message_content message.now))
+    ensures { AddsAllOrFirst (other_at place (refused_by answer.now) (message_content message.now))
         (map message_content sent.old.items) result (map message_content sent.new.items) }
 {
     if !refuses(answer, place) {
@@ -68,7 +68,7 @@ fn keep_others(
     messages: &[Message],
     answer: &Result<(), BatchSendError>,
 ) -> Result<(), AllocError>
-    ensures { Adds (others_from 0 (refused_by answer.now) (map message_content messages.now))
+    ensures { AddsAllOrFirst (others_from 0 (refused_by answer.now) (map message_content messages.now))
         (map message_content sent.old.items) result (map message_content sent.new.items) }
 {
     for (place, message) in messages.iter().enumerate() {
@@ -84,7 +84,7 @@ fn keep_accepted(
     messages: &[Message],
     reply: &Reply,
 ) -> Result<(), AllocError>
-    ensures { Adds (sent_among (map message_content messages.now) reply.now) (map message_content sent.old.items)
+    ensures { AddsAllOrFirst (sent_among (map message_content messages.now) reply.now) (map message_content sent.old.items)
         result (map message_content sent.new.items) }
 {
     match reply {
@@ -95,7 +95,7 @@ fn keep_accepted(
 
 // Keeps a copy of the message that was read, if one was. `Err`: an allocation failed, and nothing was kept.
 fn keep_taken(read: &mut Vec<Message>, reply: &Reply) -> Result<(), AllocError>
-    ensures { Adds (taken_by reply.now) (map message_content read.old.items) result
+    ensures { AddsAllOrFirst (taken_by reply.now) (map message_content read.old.items) result
         (map message_content read.new.items) }
 {
     if let Reply::Taken(Some(message)) = reply {
@@ -112,9 +112,9 @@ pub(crate) fn keep_messages(
     call: &Call,
     reply: &Reply,
 ) -> Result<(), AllocError>
-    ensures sent { Adds (sent_by (call_content call.now) reply.now) (map message_content sent.old.items) result
+    ensures sent { AddsAllOrFirst (messages_of_call (call_content call.now) reply.now) (map message_content sent.old.items) result
         (map message_content sent.new.items) }
-    ensures read { Adds (read_by (call_content call.now) reply.now) (map message_content read.old.items) result
+    ensures read { AddsAllOrFirst (read_by (call_content call.now) reply.now) (map message_content read.old.items) result
         (map message_content read.new.items) }
 {
     match call {

@@ -8,16 +8,16 @@ ghost use Rattle.dcsctp_core.specs.types.Ids.{stream_numbers};
 ghost use Rattle.dcsctp_core.specs.types.queues.Messages.{message_content};
 ghost use Rattle.dcsctp_core.specs.spec.endpoint.CallTurns.{HandleInput};
 ghost use Rattle.dcsctp_core.specs.types.Snapshot.{snapshot, is_valid_snapshot};
-ghost use Rattle.dcsctp_spec_runs.specs.Sockets.{numbered, DeliveryTurns, TurnsOfAct};
+ghost use Rattle.dcsctp_spec_runs.specs.Sockets.{packet_at_number, DeliveryTurns, TurnsOfAct};
 ghost use Rattle.dcsctp_core.specs.spec.endpoint.UserTurns.{UserTurns};
 ghost use Rattle.dcsctp_core.specs.api.Events.{event_content};
 ghost use Rattle.dcsctp_world.specs.declared.act.Reply.TheVariants.{Done};
 ghost use Rattle.dcsctp_socket.specs.SocketView.{user_view_of};
 ghost use Rattle.dcsctp_world.specs.Drawing.{CallDraws, SideDraws};
-ghost use Rattle.dcsctp_world.specs.Shown.{fresh_side};
-ghost use Rattle.dcsctp_world.specs.Growth.{Keeps, TakesAll, CollectsAll, Called, Works, Notes, IsReply, IsDeliveryReply, IsCallReply};
-ghost use Rattle.dcsctp_world.specs.Outside.{HandoverTurns, IsHandedOnBy, ValidTurns, IsRestoredBy};
-ghost use Rattle.dcsctp_world.specs.Parts.{packet_bytes, kept, shown};
+ghost use Rattle.dcsctp_world.specs.Shown.{fresh_side_shown};
+ghost use Rattle.dcsctp_world.specs.Growth.{KeepsEvents, TakesAll, CollectsAll, Called, HandlesAct, Notes, IsReply, IsDeliveryReply, IsCallReply};
+ghost use Rattle.dcsctp_world.specs.Outside.{OutsideHandoverTurns, IsHandedOnBy, ValidTurns, IsRestoredBy};
+ghost use Rattle.dcsctp_world.specs.Parts.{bytes_of_packets, kept, shown};
 
 use crate::act::Reply;
 use crate::user_messages::keep_messages;
@@ -68,7 +68,7 @@ fn keep_event(
     packets: &mut Vec<Vec<u8>>,
     event: SocketEvent,
 ) -> Result<(), AllocError>
-    ensures { Keeps (event_content event ∷ []) (kept events.old.items packets.old.items) result
+    ensures { KeepsEvents (event_content event ∷ []) (kept events.old.items packets.old.items) result
         (kept events.new.items packets.new.items) }
 {
     if let SocketEvent::SendPacket(packet) = &event {
@@ -243,7 +243,7 @@ fn restore<R: Rng + Drop>(
 
 // Hands the socket over, and restores it from its snapshot. The errors are those of the calls.
 fn hand_over_and_restore<R: Rng + Drop>(socket: &mut Socket<R>) -> Result<Reply, SocketFault>
-    ensures call { Called (HandoverTurns socket.old.view.endpoint) (IsHandedOnBy socket.old.view.endpoint)
+    ensures call { Called (OutsideHandoverTurns socket.old.view.endpoint) (IsHandedOnBy socket.old.view.endpoint)
         (user_view_of socket.old) result (user_view_of socket.new) }
     ensures drawn { OnOk result (CallDraws R.stream socket.old socket.new) }
     ensures failed { IsErrOf result SocketFault.Failed → socket.new ≡ socket.old }
@@ -256,7 +256,7 @@ fn hand_over_and_restore<R: Rng + Drop>(socket: &mut Socket<R>) -> Result<Reply,
 
 // The packet of this number, counted from 1.
 fn packet_numbered(packets: &[Vec<u8>], number: usize) -> Option<&Vec<u8>>
-    ensures { numbered number (packet_bytes packets.now) ≡ option_map (λ packet. packet.now.items)
+    ensures { packet_at_number number (bytes_of_packets packets.now) ≡ option_map (λ packet. packet.now.items)
         result }
 {
     if number == 0 {
@@ -274,7 +274,7 @@ impl<R: Rng + Drop> WatchedSocket<R> {
         rng: R,
     ) -> Result<WatchedSocket<R>, SocketFault>
         requires { IsValid options.now }
-        ensures fresh { IfOk result (λ watched. shown watched ≡ fresh_side options.now rng) }
+        ensures fresh { IfOk result (λ watched. shown watched ≡ fresh_side_shown options.now rng) }
         ensures fault { IsOkUnless result SocketFault.OutOfMemory }
     {
         let socket = Socket::new(alloc, name, options, rng)?;
@@ -308,7 +308,7 @@ impl<R: Rng + Drop> WatchedSocket<R> {
     // can't be kept.
     fn call(&mut self, call: &Call) -> Result<Reply, SocketFault>
         requires { self.old.socket.view.events ≡ [] }
-        ensures call { Works (UserTurns self.old.socket.view.endpoint (call_content call.now))
+        ensures call { HandlesAct (UserTurns self.old.socket.view.endpoint (call_content call.now))
             (IsCallReply self.old.socket.view.endpoint (call_content call.now)) (shown self.old) result
             (shown self.new) }
         ensures drawn { OnOk result (SideDraws R.stream (shown self.old) (shown self.new)) }
@@ -322,7 +322,7 @@ impl<R: Rng + Drop> WatchedSocket<R> {
     // Hands over these bytes. The errors are as those of `call`.
     fn hand_in(&mut self, bytes: &[u8]) -> Result<Reply, SocketFault>
         requires { self.old.socket.view.events ≡ [] }
-        ensures call { Works (HandleInput self.old.socket.view.endpoint bytes.now) (λ reply. reply ≡ Done)
+        ensures call { HandlesAct (HandleInput self.old.socket.view.endpoint bytes.now) (λ reply. reply ≡ Done)
             (shown self.old) result (shown self.new) }
         ensures drawn { OnOk result (SideDraws R.stream (shown self.old) (shown self.new)) }
     {
@@ -334,8 +334,8 @@ impl<R: Rng + Drop> WatchedSocket<R> {
     // Hands over the packet of this number, if there is one. The errors are as those of `call`.
     fn deliver(&mut self, packets: &[Vec<u8>], number: usize) -> Result<Reply, SocketFault>
         requires { self.old.socket.view.events ≡ [] }
-        ensures call { Works (DeliveryTurns self.old.socket.view.endpoint (numbered number
-            (packet_bytes packets.now))) (IsDeliveryReply (numbered number (packet_bytes packets.now)))
+        ensures call { HandlesAct (DeliveryTurns self.old.socket.view.endpoint (packet_at_number number
+            (bytes_of_packets packets.now))) (IsDeliveryReply (packet_at_number number (bytes_of_packets packets.now)))
             (shown self.old) result (shown self.new) }
         ensures drawn { OnOk result (SideDraws R.stream (shown self.old) (shown self.new)) }
     {
@@ -348,7 +348,7 @@ impl<R: Rng + Drop> WatchedSocket<R> {
     // Hands the socket over, and restores it from its own snapshot. The errors are as those of `call`.
     fn hand_over_and_restore(&mut self) -> Result<Reply, SocketFault>
         requires { self.old.socket.view.events ≡ [] }
-        ensures call { Works (HandoverTurns self.old.socket.view.endpoint)
+        ensures call { HandlesAct (OutsideHandoverTurns self.old.socket.view.endpoint)
             (IsHandedOnBy self.old.socket.view.endpoint) (shown self.old) result (shown self.new) }
         ensures drawn { OnOk result (SideDraws R.stream (shown self.old) (shown self.new)) }
     {
@@ -360,7 +360,7 @@ impl<R: Rng + Drop> WatchedSocket<R> {
     // Restores the socket from this snapshot, if it is valid. The errors are as those of `call`.
     fn restore(&mut self, state: &SocketHandoverState) -> Result<Reply, SocketFault>
         requires { self.old.socket.view.events ≡ [] }
-        ensures call { Works (ValidTurns self.old.socket.view.endpoint (snapshot state.now))
+        ensures call { HandlesAct (ValidTurns self.old.socket.view.endpoint (snapshot state.now))
             (IsRestoredBy self.old.socket.view.endpoint (snapshot state.now)) (shown self.old) result
             (shown self.new) }
         ensures drawn { OnOk result (SideDraws R.stream (shown self.old) (shown self.new)) }
@@ -378,8 +378,8 @@ impl<R: Rng + Drop> WatchedSocket<R> {
     /// `SocketFault::Failed`: the socket had failed, and nothing has changed.
     pub fn perform(&mut self, packets: &[Vec<u8>], act: &Act) -> Result<Reply, SocketFault>
         requires { self.old.socket.view.events ≡ [] }
-        ensures call { Works (TurnsOfAct self.old.socket.view.endpoint (packet_bytes packets.now) (act_content act.now))
-            (IsReply self.old.socket.view.endpoint (packet_bytes packets.now) (act_content act.now)) (shown self.old) result (shown self.new) }
+        ensures call { HandlesAct (TurnsOfAct self.old.socket.view.endpoint (bytes_of_packets packets.now) (act_content act.now))
+            (IsReply self.old.socket.view.endpoint (bytes_of_packets packets.now) (act_content act.now)) (shown self.old) result (shown self.new) }
         ensures drawn { OnOk result (SideDraws R.stream (shown self.old) (shown self.new)) }
     {
         match act {

@@ -64,10 +64,10 @@ ghost use Rattle.dcsctp_world.specs.Shown.{fresh_world, options_of};
 ghost use Rattle.dcsctp_world.specs.Recording.{fresh_recording, recorded_stream};
 ghost use Rattle.dcsctp_world.specs.Drawing.{DrawOn, AreWhole};
 ghost use Rattle.dcsctp_world.specs.Run.{IsRun};
-ghost use Rattle.dcsctp_world.specs.Agreement.{Agrees, HandshakeConnects};
-ghost use Rattle.dcsctp_world.specs.Acts.{MovesSide, WorksAct, Applies, Runs};
+ghost use Rattle.dcsctp_world.specs.Agreement.{Agrees, ShownHandshakeConnects};
+ghost use Rattle.dcsctp_world.specs.Acts.{MovesSide, WorksAct, Applies, RunsSteps};
 ghost use Rattle.dcsctp_world.specs.Returning.{BothSound, RestoresBy};
-ghost use Rattle.dcsctp_world.specs.Parts.{packet_bytes, shown, both, world_of};
+ghost use Rattle.dcsctp_world.specs.Parts.{bytes_of_packets, shown, both, world_of};
 
 // Performs an act at its side. The errors are those of `WatchedSocket::perform`; the other side is unchanged.
 fn move_side<R: Rng + Drop>(
@@ -159,7 +159,7 @@ impl<R: Rng + Drop> World<R> {
     fn apply_act(&mut self, act: Act) -> Result<Reply, SocketFault>
         ensures call { Applies (act_content act) self.old result self.new }
         ensures agreement { OnOk result (Agrees (options_of self.old) self.new) }
-        ensures handshake { OnOk result (HandshakeConnects (options_of self.old) self.new) }
+        ensures handshake { OnOk result (ShownHandshakeConnects (options_of self.old) self.new) }
         ensures sound { OnOk result (BothSound self.old) }
         ensures drawn { OnOk result (DrawOn (recorded_stream R.stream) self.old.sides self.new.sides) }
         ensures whole { OnOk result (AreWhole self.new.sides) }
@@ -193,7 +193,7 @@ impl<R: Rng + Drop> World<R> {
     pub fn apply(&mut self, step: &Step) -> Result<Reply, SocketFault>
         ensures call { Applies (step_act (step_content step.now)) self.old result self.new }
         ensures agreement { OnOk result (Agrees (options_of self.old) self.new) }
-        ensures handshake { OnOk result (HandshakeConnects (options_of self.old) self.new) }
+        ensures handshake { OnOk result (ShownHandshakeConnects (options_of self.old) self.new) }
         ensures drawn { OnOk result (DrawOn (recorded_stream R.stream) self.old.sides self.new.sides) }
         ensures whole { OnOk result (AreWhole self.new.sides) }
         ensures options { OnOk result (options_of self.new ≡ options_of self.old) }
@@ -228,7 +228,7 @@ impl<R: Rng + Drop> World<R> {
             (of_side (side_of_outside (outside_content outside)) self.old.sides).socket.view.endpoint
             (of_side (side_of_outside (outside_content outside)) self.new.sides).socket.view.endpoint) }
         ensures agreement { OnOk result (Agrees (options_of self.old) self.new) }
-        ensures handshake { OnOk result (HandshakeConnects (options_of self.old) self.new) }
+        ensures handshake { OnOk result (ShownHandshakeConnects (options_of self.old) self.new) }
         ensures drawn { OnOk result (DrawOn (recorded_stream R.stream) self.old.sides self.new.sides) }
         ensures whole { OnOk result (AreWhole self.new.sides) }
         ensures options { OnOk result (options_of self.new ≡ options_of self.old) }
@@ -267,9 +267,9 @@ impl<R: Rng + Drop> World<R> {
     /// alone, but for a socket that awaits a COOKIE ACK. No packet is longer than the `mtu` of its side, rounded
     /// down to a multiple of 4, and no flush sends more than `max_burst` of them.
     pub fn run(&mut self, steps: &[Step]) -> Result<(), SocketFault>
-        ensures call { Runs R.stream (map step_content steps.now) self.old result self.new }
+        ensures call { RunsSteps R.stream (map step_content steps.now) self.old result self.new }
         ensures agreement { OnOk result (Agrees (options_of self.old) self.new) }
-        ensures handshake { OnOk result (HandshakeConnects (options_of self.old) self.new) }
+        ensures handshake { OnOk result (ShownHandshakeConnects (options_of self.old) self.new) }
         ensures drawn { OnOk result (DrawOn (recorded_stream R.stream) self.old.sides self.new.sides) }
         ensures whole { OnOk result (AreWhole self.new.sides) }
     {
@@ -312,7 +312,7 @@ impl<R: Rng + Drop> World<R> {
 
     /// The bytes of every packet that this side ever emitted, in order. Allocates nothing.
     pub fn packets(&self, side: Side) -> &[Vec<u8>]
-        ensures { packet_bytes result.now ≡ (of_side side self.now.sides).packets }
+        ensures { bytes_of_packets result.now ≡ (of_side side self.now.sides).packets }
     {
         &self.watched(side).packets
     }

@@ -2,7 +2,7 @@
 //! association after it.
 
 use crate::snapshot::fill;
-use dcsctp_refusal_testing::{Told, at, is_message, message};
+use dcsctp_refusal_testing::{ExpectedEvent, at, is_message, message};
 use dcsctp_testing::Counting;
 use dcsctp_world::socket::api::handover::SocketHandoverState;
 use dcsctp_world::socket::{Phase, SendOptions, SocketFault, StreamId};
@@ -50,7 +50,7 @@ pub enum Deed {
 }
 
 /// An act, with what its side tells in it, and the phase of that side's association after it.
-pub type Row = (Side, Deed, &'static [Told], Option<Phase>);
+pub type Row = (Side, Deed, &'static [ExpectedEvent], Option<Phase>);
 
 fn called(side: Side, call: Call) -> Act {
     Act::Step(Step::Call(side, call))

@@ -5,7 +5,7 @@ use crate::deeds::Deed::{Connects, Reads, Resets, Sends, ShutsDown, Takes};
 use crate::deeds::{Row, steps};
 use crate::taking::{has_run_out, is_well, new_world, stays_failed, takes};
 use crate::twins::{Twin, goes_first};
-use dcsctp_refusal_testing::Told::{Event, Packet};
+use dcsctp_refusal_testing::ExpectedEvent::{Event, Packet};
 use dcsctp_refusal_testing::{
     COOKIE_ACK, COOKIE_ECHO, DATA, INIT, INIT_ACK, RE_CONFIG, SACK, SHUTDOWN, SHUTDOWN_ACK,
     SHUTDOWN_COMPLETE, is_gone,

@@ -3,7 +3,7 @@
 ghost use Rattle.std.specs.Prelude.{◌≡◌, true, IsOk};
 ghost use Rattle.dcsctp_core.specs.spec.endpoint.MessageOutcomes.{is_shutting_down};
 ghost use Rattle.dcsctp_core.specs.api.Calls.{is_closed};
-ghost use Rattle.dcsctp_core.specs.Handling.{Takes};
+ghost use Rattle.dcsctp_core.specs.Handling.{TakesTurn};
 ghost use Rattle.dcsctp_core.specs.View.{core_of};
 ghost use Rattle.dcsctp_core_ends.specs.Shutdown.{pending_turn, shut_down_turn};
 
@@ -15,7 +15,7 @@ use std::alloc::AllocError;
 
 // The association is shut down from now on, once all that was sent is acknowledged.
 fn begin_shutdown<R: Rng>(context: &mut Context<R>) -> Result<(), AllocError>
-    ensures { Takes R.stream pending_turn context.old result context.new }
+    ensures { TakesTurn R.stream pending_turn context.old result context.new }
 {
     context.state.pend_shutdown();
     step_shutdown(context)
@@ -27,7 +27,7 @@ fn begin_shutdown<R: Rng>(context: &mut Context<R>) -> Result<(), AllocError>
 ///
 /// `Err`: an allocation failed; the first of the call's events may already have been added.
 pub fn do_shutdown<R: Rng>(context: &mut Context<R>) -> Result<(), AllocError>
-    ensures turn { Takes R.stream shut_down_turn context.old result context.new }
+    ensures turn { TakesTurn R.stream shut_down_turn context.old result context.new }
     ensures closed { is_closed (core_of context.old.state) ≡ true → IsOk result }
     ensures shutting { is_shutting_down (core_of context.old.state) ≡ true → IsOk result }
 {

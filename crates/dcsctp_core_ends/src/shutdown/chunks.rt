@@ -2,10 +2,10 @@
 
 ghost use Rattle.std.specs.Prelude.{◌≡◌, true, OnErr};
 ghost use Rattle.dcsctp_core.specs.spec.endpoint.Event.{closed};
-ghost use Rattle.dcsctp_core.specs.Handling.{Takes, Tries, Works, close_turn, following_of};
+ghost use Rattle.dcsctp_core.specs.Handling.{TakesTurn, Tries, HandlesTurn, close_turn, following_of};
 ghost use Rattle.dcsctp_core.specs.spec.endpoint.EndOutcomes.{after_reflected};
 ghost use Rattle.dcsctp_core.specs.View.{core_of, view_of};
-ghost use Rattle.dcsctp_core_ends.specs.Shutdown.{ack_turn, complete_turn, completed_turn, is_open, received_turn, reflected_turn, shutdown_turn};
+ghost use Rattle.dcsctp_core_ends.specs.Shutdown.{ack_turn, complete_turn, completed_turn, is_open_core, received_turn, reflected_turn, shutdown_turn};
 
 use crate::shutdown::sending::{emit_shutdown_complete, send_shutdown_complete};
 use crate::shutdown::stepping::{enter_shutdown_ack_sent, step_shutdown};
@@ -17,7 +17,7 @@ use std::alloc::AllocError;
 
 // The peer shuts the association down: SHUTDOWN ACK is sent once all that was sent is acknowledged.
 fn enter_shutdown_received<R: Rng>(context: &mut Context<R>) -> Result<(), AllocError>
-    ensures { Takes R.stream received_turn context.old result context.new }
+    ensures { TakesTurn R.stream received_turn context.old result context.new }
 {
     context.state.set_phase(OpenPhase::ShutdownReceived);
     step_shutdown(context)
@@ -29,7 +29,7 @@ fn enter_shutdown_received<R: Rng>(context: &mut Context<R>) -> Result<(), Alloc
 ///
 /// `Err`: an allocation failed; the first of its events may already have been added.
 pub fn receive_shutdown<R: Rng>(context: &mut Context<R>) -> Result<(), AllocError>
-    ensures { Takes R.stream shutdown_turn context.old result context.new }
+    ensures { TakesTurn R.stream shutdown_turn context.old result context.new }
 {
     match &context.state {
         State::Closed | State::CookieWait(_) | State::CookieEchoed(_) => Ok(()),
@@ -54,8 +54,8 @@ fn end_shutdown<R: Rng>(context: &mut Context<R>) -> Result<(), AllocError>
 
 // The SHUTDOWN ACK was awaited: SHUTDOWN COMPLETE is sent, and the association ends.
 fn complete_shutdown<R: Rng>(context: &mut Context<R>) -> Result<Following, AllocError>
-    requires { is_open (core_of context.old.state) ≡ true }
-    ensures { Works R.stream completed_turn context.old result context.new }
+    requires { is_open_core (core_of context.old.state) ≡ true }
+    ensures { HandlesTurn R.stream completed_turn context.old result context.new }
 {
     send_shutdown_complete(context)?;
     end_shutdown(context)?;
@@ -82,7 +82,7 @@ pub fn reflect_shutdown_ack<R: Rng>(
     context: &mut Context<R>,
     header_tag: u32,
 ) -> Result<Following, AllocError>
-    ensures turn { Works R.stream (reflected_turn header_tag) context.old result context.new }
+    ensures turn { HandlesTurn R.stream (reflected_turn header_tag) context.old result context.new }
     ensures err { OnErr result (view_of context.new ≡ view_of context.old) }
 {
     let following = after_reflected(&context.options);
@@ -99,7 +99,7 @@ pub fn handle_shutdown_ack<R: Rng>(
     context: &mut Context<R>,
     header_tag: u32,
 ) -> Result<Following, AllocError>
-    ensures { Works R.stream (ack_turn header_tag) context.old result context.new }
+    ensures { HandlesTurn R.stream (ack_turn header_tag) context.old result context.new }
 {
     match &context.state {
         State::Closed => reflect_shutdown_ack(context, header_tag),
@@ -120,7 +120,7 @@ pub fn handle_shutdown_ack<R: Rng>(
 ///
 /// `Err`: an allocation failed; nothing has changed.
 pub fn handle_shutdown_complete<R: Rng>(context: &mut Context<R>) -> Result<Following, AllocError>
-    ensures { Works R.stream complete_turn context.old result context.new }
+    ensures { HandlesTurn R.stream complete_turn context.old result context.new }
 {
     match &context.state {
         State::Closed | State::CookieWait(_) => Ok(Following::NextChunk),

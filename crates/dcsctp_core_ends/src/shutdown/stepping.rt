@@ -6,7 +6,7 @@ ghost use Rattle.dcsctp_core.specs.spec.endpoint.Timers.{started};
 ghost use Rattle.dcsctp_core.specs.spec.endpoint.ShutdownOutcomes.{t2_settings, waits_for_queue};
 ghost use Rattle.dcsctp_core.specs.Handling.{Tries};
 ghost use Rattle.dcsctp_core.specs.View.{core_of, endpoint_of};
-ghost use Rattle.dcsctp_core_ends.specs.Shutdown.{ack_sent_turn, is_open, shutdown_sent_turn, step_turn};
+ghost use Rattle.dcsctp_core_ends.specs.Shutdown.{ack_sent_turn, is_open_core, shutdown_sent_turn, step_turn};
 
 use crate::shutdown::sending::{send_shutdown, send_shutdown_ack};
 use dcsctp_core::send_timer::{BackoffAlgorithm, Timer};
@@ -36,7 +36,7 @@ fn started_t2(options: &Options, rto: Duration, now: SocketTime) -> ShutdownStat
 ///
 /// `Err`: an allocation failed; nothing has changed.
 pub(crate) fn enter_shutdown_sent<R: Rng>(context: &mut Context<R>) -> Result<(), AllocError>
-    requires { is_open (core_of context.old.state) ≡ true }
+    requires { is_open_core (core_of context.old.state) ≡ true }
     ensures { Tries R.stream shutdown_sent_turn context.old result context.new }
 {
     send_shutdown(context)?;
@@ -49,7 +49,7 @@ pub(crate) fn enter_shutdown_sent<R: Rng>(context: &mut Context<R>) -> Result<()
 ///
 /// `Err`: an allocation failed; nothing has changed.
 pub(crate) fn enter_shutdown_ack_sent<R: Rng>(context: &mut Context<R>) -> Result<(), AllocError>
-    requires { is_open (core_of context.old.state) ≡ true }
+    requires { is_open_core (core_of context.old.state) ≡ true }
     ensures { Tries R.stream ack_sent_turn context.old result context.new }
 {
     send_shutdown_ack(context)?;

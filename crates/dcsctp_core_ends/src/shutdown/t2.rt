@@ -4,7 +4,7 @@
 ghost use Rattle.dcsctp_core.specs.spec.endpoint.TimeTurns.{t2_timer};
 ghost use Rattle.dcsctp_core.specs.Handling.{Tries};
 ghost use Rattle.dcsctp_core.specs.Timing.{Expires};
-ghost use Rattle.dcsctp_core_ends.specs.Shutdown.{again_turn, answer_turn};
+ghost use Rattle.dcsctp_core_ends.specs.Shutdown.{again_turn, shutdown_answer_turn};
 
 use crate::abort_association;
 use crate::shutdown::sending::{send_shutdown, send_shutdown_ack};
@@ -55,7 +55,7 @@ pub fn handle_t2<R: Rng>(context: &mut Context<R>) -> Result<bool, AllocError>
 ///
 /// `Err`: an allocation failed; nothing has changed.
 pub fn answer_data<R: Rng>(context: &mut Context<R>) -> Result<(), AllocError>
-    ensures { Tries R.stream answer_turn context.old result context.new }
+    ensures { Tries R.stream shutdown_answer_turn context.old result context.new }
 {
     match &context.state {
         State::Closed | State::CookieWait(_) | State::CookieEchoed(_) => Ok(()),

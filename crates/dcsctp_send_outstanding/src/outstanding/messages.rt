@@ -13,7 +13,7 @@ use std::alloc::{AllocError, Global};
 impl Outstanding {
     ghost use Rattle.std.specs.Prelude.{◌⊎◌, ◌==◌, OnOk, OnErr, length};
     ghost use Rattle.dcsctp_send_outstanding.specs.Outstanding.{MayAddEnd};
-    ghost use Rattle.dcsctp_api.specs.spec.queues.ItemMessages.{AtPlace, StartsMessage, EndsMessage, IsMessage, DropsRest};
+    ghost use Rattle.dcsctp_api.specs.spec.queues.ItemMessages.{AtPlace, StartsMessage, EndsMessage, AreMessageItems, DropsRest};
     ghost use Rattle.dcsctp_send_streams.specs.Telling.{contents};
     ghost use Rattle.dcsctp_send_queue.specs.Calls.{StopsDiscarding};
 
@@ -51,7 +51,7 @@ impl Outstanding {
     /// lies on consecutive TSNs, since the send queue ends one before it begins another.
     pub fn message_places(&self, place: usize) -> (usize, usize)
         requires { place < length self.now.items }
-        ensures { IsMessage place result.0 result.1 self.now.items }
+        ensures { AreMessageItems place result.0 result.1 self.now.items }
     {
         (self.message_start(place), self.message_end(place))
     }

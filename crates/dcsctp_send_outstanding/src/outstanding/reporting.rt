@@ -11,13 +11,13 @@ impl Outstanding {
     ghost use Rattle.std.specs.Prelude.{true, length};
     ghost use Rattle.dcsctp_api.specs.spec.queues.Outstanding.{reported};
     ghost use Rattle.dcsctp_api.specs.types.queues.Progress.{is_unacknowledged};
-    ghost use Rattle.dcsctp_api.specs.spec.queues.Reports.{IsWithin, Names, IsNewlyAcknowledged, IsLast};
+    ghost use Rattle.dcsctp_api.specs.spec.queues.Reports.{IsPlaceWithin, NamesItem, IsNewlyAcknowledged, IsLastPlace};
     ghost use Rattle.dcsctp_send_outstanding.specs.NamedPlaces.{AreSettledBetween, BlocksAreSettled};
 
     // The place, if its item is neither acknowledged nor abandoned.
     fn unacknowledged_at(&self, place: usize) -> Option<usize>
         requires { place < length self.now.items }
-        ensures { IsLast (λ k item. IsWithin place (place + 1) k × (is_unacknowledged item.progress.state ≡ true)) self.now.items result }
+        ensures { IsLastPlace (λ k item. IsPlaceWithin place (place + 1) k × (is_unacknowledged item.progress.state ≡ true)) self.now.items result }
     {
         if self.item(place).progress.state.is_unacknowledged() {
             Some(place)
@@ -28,7 +28,7 @@ impl Outstanding {
 
     // The last place from `start` on and before `end` with an item that is neither acknowledged nor abandoned.
     fn last_unacknowledged(&self, start: usize, end: usize) -> Option<usize>
-        ensures { IsLast (λ place item. IsWithin start end place × (is_unacknowledged item.progress.state ≡ true)) self.now.items result }
+        ensures { IsLastPlace (λ place item. IsPlaceWithin start end place × (is_unacknowledged item.progress.state ≡ true)) self.now.items result }
     {
         let mut place = end.min(self.len());
         while start < place {
@@ -48,7 +48,7 @@ impl Outstanding {
         end: usize,
         row: usize,
     ) -> (Option<usize>, usize)
-        ensures { IsLast (λ place item. IsWithin start end place × (is_unacknowledged item.progress.state ≡ true)) self.now.items result.0 }
+        ensures { IsLastPlace (λ place item. IsPlaceWithin start end place × (is_unacknowledged item.progress.state ≡ true)) self.now.items result.0 }
     {
         let limit = end.min(self.len());
         let mut last = None;
@@ -69,7 +69,7 @@ impl Outstanding {
 
     // The last place from `start` on and before `end` with an item.
     fn last_within(&self, start: usize, end: usize) -> Option<usize>
-        ensures { IsLast (λ place item. IsWithin start end place) self.now.items result }
+        ensures { IsLastPlace (λ place item. IsPlaceWithin start end place) self.now.items result }
     {
         let limit = end.min(self.len());
         if start < limit { Some(limit - 1) } else { None }
@@ -79,7 +79,7 @@ impl Outstanding {
     /// and those that its blocks name.
     pub fn newest_reported(&self, count: usize, blocks: &[GapAckBlock]) -> Option<usize>
         requires { count ≤ length self.now.items }
-        ensures { IsLast (IsNewlyAcknowledged count blocks.now) self.now.items result }
+        ensures { IsLastPlace (IsNewlyAcknowledged count blocks.now) self.now.items result }
     {
         let _ = self.len();
         let mut newest = self.last_unacknowledged(0, count);
@@ -96,7 +96,7 @@ impl Outstanding {
     /// The last place with an item that the blocks name.
     pub fn last_named(&self, count: usize, blocks: &[GapAckBlock]) -> Option<usize>
         requires { count ≤ length self.now.items }
-        ensures { IsLast (λ place item. Names count blocks.now place) self.now.items result }
+        ensures { IsLastPlace (λ place item. NamesItem count blocks.now place) self.now.items result }
     {
         let _ = self.len();
         let mut last = None;

@@ -15,8 +15,8 @@ impl Backlog {
     ghost use Rattle.dcsctp_api.specs.types.queues.SendStreams.{Waiting, front_of, is_expired, stream_at};
     ghost use Rattle.dcsctp_send_streams.specs.Telling.{contents, TellsFront};
     ghost use Rattle.dcsctp_send_streams.specs.Fragment.{HasSize};
-    ghost use Rattle.dcsctp_api.specs.spec.queues.Sending.{next_turn, counting, fragment, after_part, part_events, after_last, last_events, DropsAll, size_produced, produced, produced_events, begun, TakesNext, DiscardsNamed};
-    ghost use Rattle.dcsctp_send_queue.specs.Leaving.{HasMore, HasRest, DropsSome, NextUnexpired};
+    ghost use Rattle.dcsctp_api.specs.spec.queues.Sending.{next_turn, begun_message_counted, fragment, after_part, part_events, after_last, last_events, DropsAll, size_produced, produced, produced_events, begun, TakesNextFragment, DiscardsNamed};
+    ghost use Rattle.dcsctp_send_queue.specs.Leaving.{HasMore, HasUnsentBytes, DropsSome, NextUnexpired};
     ghost use Rattle.dcsctp_send_queue.specs.Calls.{StopsTaking, StopsDiscarding};
 
     /// The oldest message of the stream as it is begun, before its first fragment.
@@ -125,7 +125,7 @@ impl Backlog {
         under_way: UnderWay,
         max: usize,
     ) -> Result<DataToSend, AllocError>
-        requires { HasRest self.old.streams place under_way.sent }
+        requires { HasUnsentBytes self.old.streams place under_way.sent }
         ensures ok { (message : Waiting) → front_of (stream_at self.old.streams place).messages ≡ Some message → IfOk result (λ part. part ≡ fragment under_way message (size_produced max message under_way)) }
         ensures some { (message : Waiting) → front_of (stream_at self.old.streams place).messages ≡ Some message → 0 < length message.payload }
         ensures left { (message : Waiting) → front_of (stream_at self.old.streams place).messages ≡ Some message → OnOk result (queue_of self.new ≡ produced place max message under_way (queue_of self.old)) }
@@ -194,7 +194,7 @@ impl Backlog {
         requires goes_on { self.old.under_way ≡ Some under_way }
         requires can { IsUnderWay self.old.streams under_way }
         requires some { 0 < max }
-        ensures ok { (now : ℕ) → IfOk result (λ next. TakesNext now max (queue_of self.old) (contents events.old) next (queue_of self.new) (contents events.new)) }
+        ensures ok { (now : ℕ) → IfOk result (λ next. TakesNextFragment now max (queue_of self.old) (contents events.old) next (queue_of self.new) (contents events.new)) }
         ensures size { IfOk result (λ next. IfSome next (HasSize max)) }
         ensures can { CanGoOn self.new.streams self.new.under_way }
         ensures err { OnErr result (self.new ≡ self.old) }
@@ -216,7 +216,7 @@ impl Backlog {
     ) -> Result<Option<DataToSend>, AllocError>
         requires idle { self.old.under_way ≡ None }
         requires some { 0 < max }
-        ensures ok { IfOk result (λ next. TakesNext now max (queue_of self.old) (contents events.old) next (queue_of self.new) (contents events.new)) }
+        ensures ok { IfOk result (λ next. TakesNextFragment now max (queue_of self.old) (contents events.old) next (queue_of self.new) (contents events.new)) }
         ensures size { IfOk result (λ next. IfSome next (HasSize max)) }
         ensures can { CanGoOn self.new.streams self.new.under_way }
         ensures err { OnErr result (DropsSome now (queue_of self.old) (queue_of self.new)) }
@@ -246,7 +246,7 @@ impl Backlog {
     #[inline(always)]
     fn count(&mut self, place: usize, is_unordered: bool)
         requires { place < length self.old.streams }
-        ensures { queue_of self.new ≡ counting place is_unordered (queue_of self.old) }
+        ensures { queue_of self.new ≡ begun_message_counted place is_unordered (queue_of self.old) }
     {
         let turn = self.next_turn();
         self.streams
@@ -297,7 +297,7 @@ impl Backlog {
         place: usize,
         under_way: UnderWay,
     ) -> Result<DataToSend, AllocError>
-        requires { HasRest self.old.streams place under_way.sent }
+        requires { HasUnsentBytes self.old.streams place under_way.sent }
         ensures ok { (message : Waiting) → front_of (stream_at self.old.streams place).messages ≡ Some message → IfOk result (λ part. part ≡ fragment under_way message (length message.payload - under_way.sent)) }
         ensures left { (message : Waiting) → front_of (stream_at self.old.streams place).messages ≡ Some message → OnOk result (queue_of self.new ≡ after_last place message under_way (queue_of self.old)) }
         ensures told { (message : Waiting) → front_of (stream_at self.old.streams place).messages ≡ Some message → OnOk result (contents events.new ≡ contents events.old ++ last_events place message under_way (queue_of self.old)) }

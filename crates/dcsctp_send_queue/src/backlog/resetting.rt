@@ -9,7 +9,7 @@ use std::alloc::AllocError;
 
 impl Backlog {
     ghost use Rattle.dcsctp_send_queue.specs.Backlog.{queue_of};
-    ghost use Rattle.dcsctp_api.specs.spec.queues.SendQueue.{CanGoOn, changed};
+    ghost use Rattle.dcsctp_api.specs.spec.queues.SendQueue.{CanGoOn, stream_changed};
     ghost use Rattle.std.specs.Prelude.{◌≡◌, ◌==◌, ◌+◌, ◌-◌, ◌<◌, ◌++◌, length, take, Ok, Err, OnOk, OnErr, IfOk, not};
     ghost use Rattle.dcsctp_api.specs.types.queues.SendStreams.{handed_out, stream_at, IsAscending};
     ghost use Rattle.dcsctp_api.specs.types.Ids.{stream_numbers};
@@ -90,7 +90,7 @@ impl Backlog {
 
     // Hands this stream out to be reset.
     fn hand_out_one(&mut self, id: StreamId)
-        ensures { queue_of self.new ≡ record (queue_of self.old) { streams = changed id.0 handed_out self.old.streams } }
+        ensures { queue_of self.new ≡ record (queue_of self.old) { streams = stream_changed id.0 handed_out self.old.streams } }
     {
         match self.streams.find(id) {
             Ok(place) => self.streams.hand_out(place),

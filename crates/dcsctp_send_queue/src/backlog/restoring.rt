@@ -30,9 +30,9 @@ impl Backlog {
     ghost use Rattle.dcsctp_api.specs.types.SnapshotItems.{queued_part};
     ghost use Rattle.dcsctp_api.specs.types.Snapshot.{is_valid_queued};
     ghost use Rattle.dcsctp_api.specs.spec.queues.OwnResets.{with_used};
-    ghost use Rattle.dcsctp_api.specs.spec.queues.SendQueue.{CanGoOn, changed, stream_of};
+    ghost use Rattle.dcsctp_api.specs.spec.queues.SendQueue.{CanGoOn, stream_changed, queue_stream};
     ghost use Rattle.dcsctp_api.specs.types.queues.SendStreams.{front_of};
-    ghost use Rattle.dcsctp_api.specs.spec.queues.QueuedParts.{queue_emptied, streams_restored, goes_on, with_rest, message_restored, messages_restored};
+    ghost use Rattle.dcsctp_api.specs.spec.queues.QueuedParts.{queue_emptied, streams_restored, is_part_continued, with_rest, message_restored, messages_restored};
 
     /// Drops all messages. The streams keep their priorities and their thresholds.
     pub fn empty(&mut self)
@@ -67,7 +67,7 @@ impl Backlog {
 
     // Does a message wait on the stream?
     fn has_message(&self, stream_id: StreamId) -> bool
-        ensures { result ≡ is_some (front_of (stream_of (queue_of self.now) stream_id.0).messages) }
+        ensures { result ≡ is_some (front_of (queue_stream (queue_of self.now) stream_id.0).messages) }
     {
         match self.streams.find(stream_id) {
             Ok(place) => self.streams.at(place).front().is_some(),
@@ -77,7 +77,7 @@ impl Backlog {
 
     // Does the message go on where it was?
     fn goes_on(&self, part: &HandoverStreamMessage) -> bool
-        ensures { result ≡ goes_on (queued_part part.now) (queue_of self.now) }
+        ensures { result ≡ is_part_continued (queued_part part.now) (queue_of self.now) }
     {
         part.remaining_offset > 0
             && self.under_way.is_none()
@@ -93,7 +93,7 @@ impl Backlog {
         rest: usize,
     ) -> Result<(), AllocError>
         ensures ok { OnOk result (queue_of self.new ≡ record (with_used stream_id.0 (queue_of self.old)) {
-          streams = changed stream_id.0 (with_rest message rest) (with_used stream_id.0 (queue_of self.old)).streams;
+          streams = stream_changed stream_id.0 (with_rest message rest) (with_used stream_id.0 (queue_of self.old)).streams;
           total_amount = min (self.old.total_amount + rest) (2 ^ 64 - 1);
         }) }
         ensures can { CanGoOn self.old.streams self.old.under_way → CanGoOn self.new.streams self.new.under_way }

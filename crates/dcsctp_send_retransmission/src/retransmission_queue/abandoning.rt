@@ -5,7 +5,7 @@ ghost use Rattle.std.specs.Option.{option_map};
 ghost use Rattle.dcsctp_api.specs.types.Ids.{lifecycle_number};
 ghost use Rattle.dcsctp_send_streams.specs.Telling.{contents, TellsFront};
 ghost use Rattle.dcsctp_api.specs.spec.queues.Filling.{maybe_expired};
-ghost use Rattle.dcsctp_api.specs.spec.queues.NextItem.{is_used_up, is_over, is_due};
+ghost use Rattle.dcsctp_api.specs.spec.queues.NextItem.{is_used_up, is_over, is_abandonment_due};
 
 use super::RetransmissionQueue;
 use dcsctp_api::types::Change;
@@ -18,17 +18,17 @@ impl RetransmissionQueue {
     ghost use Rattle.std.specs.Prelude.{ℕ, List, [], ◌&&◌, ◌+◌, ◌-◌, ◌/◌, ◌<◌, ◌≤◌, IfOk, length};
     ghost use Rattle.dcsctp_api.specs.spec.endpoint.Timers.{expires_at};
     ghost use Rattle.dcsctp_api.specs.spec.queues.Items.{is_first_abandoned};
-    ghost use Rattle.dcsctp_send_retransmission.specs.Queue.{MayGrow, GivesUp};
+    ghost use Rattle.dcsctp_send_retransmission.specs.Queue.{MayGrow, AbandonsItems};
     ghost use Rattle.dcsctp_api.specs.spec.queues.ItemMessages.{AtPlace};
     ghost use Rattle.dcsctp_api.specs.types.queues.Progress.{is_unacknowledged};
     ghost use Rattle.dcsctp_send_retransmission.specs.States.{RefusesUpAt, RefusesClosing, stage};
-    ghost use Rattle.dcsctp_api.specs.spec.queues.Filling.{GivesUpAt, Closes};
+    ghost use Rattle.dcsctp_api.specs.spec.queues.Filling.{GivesUpAt, ClosesMessage};
     ghost use Rattle.dcsctp_send_retransmission.specs.GivingUp.{GivesUpDue, GivesUpIf};
 
     // Is the message of the item at the place to be abandoned instead of being sent again?
     pub(super) fn is_to_be_given_up(&self, place: usize, now: SocketTime) -> bool
         requires { place < length self.now.outstanding.items }
-        ensures { AtPlace self.now.outstanding.items place (λ item. result ≡ is_due now self.now.partial_reliability item) }
+        ensures { AtPlace self.now.outstanding.items place (λ item. result ≡ is_abandonment_due now self.now.partial_reliability item) }
     {
         self.partial_reliability && is_lost_for_good(self.outstanding.item(place), now)
     }
@@ -42,7 +42,7 @@ impl RetransmissionQueue {
         place: usize,
     ) -> Result<(), AllocError>
         requires { place < length self.old.outstanding.items }
-        ensures ok { OnOk result (GivesUp place self.old self.new) }
+        ensures ok { OnOk result (AbandonsItems place self.old self.new) }
         ensures whole { OnOk result ((tsns : List ℕ) (room : ℕ) → GivesUpAt now place (stage self.old queue.old events.old tsns room) (stage self.new queue.new events.new tsns room)) }
         ensures err { OnErr result ((self.new ≡ self.old) × (queue.new ≡ queue.old)) }
         ensures front { OnErr result (RefusesUpAt place self.old.outstanding.items queue.old (contents events.old) (contents events.new)) }
@@ -64,7 +64,7 @@ impl RetransmissionQueue {
     ) -> Result<(), AllocError>
         requires { place < length self.old.outstanding.items }
         ensures may { MayGrow self.old self.new }
-        ensures ok { AtPlace self.old.outstanding.items place (λ last. OnOk result ((tsns : List ℕ) (room : ℕ) → Closes now last (stage self.old queue.old events.old tsns room) (stage self.new queue.new events.new tsns room) last.fragment.is_end)) }
+        ensures ok { AtPlace self.old.outstanding.items place (λ last. OnOk result ((tsns : List ℕ) (room : ℕ) → ClosesMessage now last (stage self.old queue.old events.old tsns room) (stage self.new queue.new events.new tsns room) last.fragment.is_end)) }
         ensures err { OnErr result ((self.new ≡ self.old) × (queue.new ≡ queue.old)) }
         ensures front { AtPlace self.old.outstanding.items place (λ last. OnErr result (RefusesClosing self.old.outstanding.items last queue.old (contents events.old) (contents events.new) last.fragment.is_end)) }
     {
@@ -127,7 +127,7 @@ impl RetransmissionQueue {
         place: usize,
     ) -> Result<(), AllocError>
         requires { place < length self.old.outstanding.items }
-        ensures { AtPlace self.old.outstanding.items place (λ item. GivesUpIf now place (stage self.old queue.old events.old [] 0) (stage self.new queue.new events.new [] 0) (is_due now self.old.partial_reliability item) result) }
+        ensures { AtPlace self.old.outstanding.items place (λ item. GivesUpIf now place (stage self.old queue.old events.old [] 0) (stage self.new queue.new events.new [] 0) (is_abandonment_due now self.old.partial_reliability item) result) }
     {
         if !self.is_to_be_given_up(place, now) {
             return Ok(());
@@ -158,7 +158,7 @@ impl RetransmissionQueue {
 
 // Was the item lost, and may it not be sent again?
 fn is_lost_for_good(item: &Item, now: SocketTime) -> bool
-    ensures { result ≡ is_due now true item.now }
+    ensures { result ≡ is_abandonment_due now true item.now }
 {
     item.progress.state.is_marked()
         && (is_used_up(

@@ -2,7 +2,7 @@
 
 ghost use Rattle.std.specs.Prelude.{◌≡◌, ◌++◌, Some, true, OnOk, OnErr};
 ghost use Rattle.dcsctp_api.specs.types.Ids.{lifecycle_number};
-ghost use Rattle.dcsctp_api.specs.spec.queues.Acknowledging.{ends_delivery, told_by, delivered};
+ghost use Rattle.dcsctp_api.specs.spec.queues.Acknowledging.{ends_delivery, lifecycle_events_by, delivered_events};
 ghost use Rattle.dcsctp_send_streams.specs.Telling.{contents, TellsFront};
 
 use super::RetransmissionQueue;
@@ -18,10 +18,10 @@ impl RetransmissionQueue {
     ghost use Rattle.std.specs.Prelude.{take, ◌<◌, ◌≤◌, ◌^◌, IfSome, length};
     ghost use Rattle.std.specs.Duration.{as_nanos};
     ghost use Rattle.std.specs.Option.{option_map};
-    ghost use Rattle.dcsctp_api.specs.spec.queues.Reports.{MissesUntil, IsNewlyAcknowledged, IsLast};
+    ghost use Rattle.dcsctp_api.specs.spec.queues.Reports.{MissesUntil, IsNewlyAcknowledged, IsLastPlace};
     ghost use Rattle.dcsctp_api.specs.spec.queues.Outstanding.{tsn_at};
-    ghost use Rattle.dcsctp_send_retransmission.specs.Queue.{HandlesSack};
-    ghost use Rattle.dcsctp_api.specs.spec.queues.Acknowledging.{acknowledged_until, missed_until, settled_at, is_recovering, is_sack_valid};
+    ghost use Rattle.dcsctp_send_retransmission.specs.Queue.{HandlesSackInQueue};
+    ghost use Rattle.dcsctp_api.specs.spec.queues.Acknowledging.{acknowledged_until, missed_until, window_settled_at, is_recovering, is_sack_valid};
     ghost use Rattle.dcsctp_api.specs.spec.queues.RoundTrip.{round_trip_at};
 
     /// Does a cumulative TSN ack count? One that is old doesn't, nor does one that was never sent (RFC 9260,
@@ -51,7 +51,7 @@ impl RetransmissionQueue {
         a_rwnd: u32,
         blocks: &[GapAckBlock],
     ) -> Result<HandleSackResult, AllocError>
-        ensures turn { HandlesSack now cumulative_tsn_ack a_rwnd blocks.now self.old (contents events.old) self.new (contents events.new) result }
+        ensures turn { HandlesSackInQueue now cumulative_tsn_ack a_rwnd blocks.now self.old (contents events.old) self.new (contents events.new) result }
         ensures start { self.old.outstanding.first_tsn < 2 ^ 32 }
     {
         let count = self
@@ -78,7 +78,7 @@ impl RetransmissionQueue {
     // Takes the peer's window from a SACK, and updates the timer; the cumulative TSN has passed that many
     // items (RFC 9260, section 6.3.2).
     fn settle(&mut self, now: SocketTime, a_rwnd: u32, count: usize)
-        ensures { self.new ≡ settled_at now a_rwnd count self.old }
+        ensures { self.new ≡ window_settled_at now a_rwnd count self.old }
     {
         self.peer_window = a_rwnd as usize;
         if 0 < count {
@@ -90,8 +90,8 @@ impl RetransmissionQueue {
     // Tells which messages the peer has, once that many first items are acknowledged.
     fn tell_delivered(&self, events: &mut Events, count: usize) -> Result<(), AllocError>
         requires { count ≤ length self.now.outstanding.items }
-        ensures ok { OnOk result (contents events.new ≡ contents events.old ++ delivered (take count self.now.outstanding.items)) }
-        ensures err { OnErr result (TellsFront (contents events.old) (delivered (take count self.now.outstanding.items)) (contents events.new)) }
+        ensures ok { OnOk result (contents events.new ≡ contents events.old ++ delivered_events (take count self.now.outstanding.items)) }
+        ensures err { OnErr result (TellsFront (contents events.old) (delivered_events (take count self.now.outstanding.items)) (contents events.new)) }
     {
         for place in 0..count {
             tell_of(events, self.outstanding.item(place))?;
@@ -179,7 +179,7 @@ impl RetransmissionQueue {
     // block names (RFC 9260, section 7.2.4).
     fn miss_limit(&self, count: usize, blocks: &[GapAckBlock], newest: Option<usize>) -> usize
         requires count { count ≤ length self.now.outstanding.items }
-        requires newest { IsLast (IsNewlyAcknowledged count blocks.now) self.now.outstanding.items newest }
+        requires newest { IsLastPlace (IsNewlyAcknowledged count blocks.now) self.now.outstanding.items newest }
         ensures { MissesUntil (is_recovering count self.now) count blocks.now self.now.outstanding.items result }
     {
         if self.is_recovering(count) {
@@ -192,8 +192,8 @@ impl RetransmissionQueue {
 
 // Tells of an item that the cumulative TSN passes.
 fn tell_of(events: &mut Events, item: &Item) -> Result<(), AllocError>
-    ensures ok { OnOk result (contents events.new ≡ contents events.old ++ told_by item.now.fragment.lifecycle (ends_delivery item.now)) }
-    ensures err { OnErr result (TellsFront (contents events.old) (told_by item.now.fragment.lifecycle (ends_delivery item.now)) (contents events.new)) }
+    ensures ok { OnOk result (contents events.new ≡ contents events.old ++ lifecycle_events_by item.now.fragment.lifecycle (ends_delivery item.now)) }
+    ensures err { OnErr result (TellsFront (contents events.old) (lifecycle_events_by item.now.fragment.lifecycle (ends_delivery item.now)) (contents events.new)) }
 {
     match item.fragment.lifecycle_id {
         None => Ok(()),
@@ -209,8 +209,8 @@ fn tell_of(events: &mut Events, item: &Item) -> Result<(), AllocError>
 
 // Tells that the peer has a message.
 fn tell_delivered(events: &mut Events, id: LifecycleId) -> Result<(), AllocError>
-    ensures ok { OnOk result (contents events.new ≡ contents events.old ++ told_by (Some (lifecycle_number id)) true) }
-    ensures err { OnErr result (TellsFront (contents events.old) (told_by (Some (lifecycle_number id)) true) (contents events.new)) }
+    ensures ok { OnOk result (contents events.new ≡ contents events.old ++ lifecycle_events_by (Some (lifecycle_number id)) true) }
+    ensures err { OnErr result (TellsFront (contents events.old) (lifecycle_events_by (Some (lifecycle_number id)) true) (contents events.new)) }
 {
     events.add(SocketEvent::OnLifecycleMessageDelivered(id))?;
     events.add(SocketEvent::OnLifecycleEnd(id))

@@ -21,16 +21,16 @@ pub(super) struct LastNumbers {
 }
 
 impl RetransmissionQueue {
-    ghost use Rattle.dcsctp_send_retransmission.specs.Forwarding.{Says};
-    ghost use Rattle.dcsctp_api.specs.spec.queues.Skipping.{goes_on, entry_limit};
-    ghost use Rattle.dcsctp_send_retransmission.specs.Skipping.{Collects, Skips, TakesIn};
+    ghost use Rattle.dcsctp_send_retransmission.specs.Forwarding.{SkipsAbandoned};
+    ghost use Rattle.dcsctp_api.specs.spec.queues.Skipping.{is_row_continued, entry_limit};
+    ghost use Rattle.dcsctp_send_retransmission.specs.Skipping.{CollectsLastNumbers, SkipsRow, TakesItemIn};
 
     /// What a FORWARD-TSN says, or with interleaving an I-FORWARD-TSN (RFC 3758, section 3.5; RFC 8260,
     /// section 2.3.1). It has the last TSN of the row of abandoned items at the front. For each stream it has
     /// the last message that is skipped. The row ends early if its streams fill a packet, or where streams
     /// were reset.
     pub fn create_forward_tsn(&self) -> Result<ForwardTsn, AllocError>
-        ensures { IfOk result (λ chunk. Says self.now chunk) }
+        ensures { IfOk result (λ chunk. SkipsAbandoned self.now chunk) }
     {
         let mut numbers = BTreeMap::new(self.alloc);
         let count = self.skip(&mut numbers)?;
@@ -49,7 +49,7 @@ impl RetransmissionQueue {
     // long the row is.
     fn skip(&self, numbers: &mut BTreeMap<(u16, bool), LastNumbers>) -> Result<usize, AllocError>
         requires { numbers.old.entries ≡ [] }
-        ensures { IfOk result (λ count. Skips self.now count numbers.new.entries) }
+        ensures { IfOk result (λ count. SkipsRow self.now count numbers.new.entries) }
     {
         let len = self.outstanding.len();
         for place in 0..len {
@@ -66,7 +66,7 @@ impl RetransmissionQueue {
     // Does the row go on with the item at the place?
     fn goes_on(&self, place: usize) -> bool
         requires { place < length self.now.outstanding.items }
-        ensures { (item : Item) → slice_get self.now.outstanding.items place ≡ Some item → result ≡ goes_on place item }
+        ensures { (item : Item) → slice_get self.now.outstanding.items place ≡ Some item → result ≡ is_row_continued place item }
     {
         let item = self.outstanding.item(place);
         item.progress.state.is_abandoned() && (place == 0 || !item.begins_after_reset)
@@ -94,8 +94,8 @@ impl RetransmissionQueue {
         place: usize,
     ) -> Result<bool, AllocError>
         requires place { place < length self.now.outstanding.items }
-        requires row { Collects self.now (take place self.now.outstanding.items) numbers.old.entries }
-        ensures { IfOk result (λ taken. TakesIn self.now place numbers.old.entries numbers.new.entries taken) }
+        requires row { CollectsLastNumbers self.now (take place self.now.outstanding.items) numbers.old.entries }
+        ensures { IfOk result (λ taken. TakesItemIn self.now place numbers.old.entries numbers.new.entries taken) }
     {
         let fragment = &self.outstanding.item(place).fragment;
         if !self.is_listed(fragment) {

@@ -12,13 +12,13 @@ impl RetransmissionQueue {
     ghost use Rattle.dcsctp_api.specs.declared.events.SocketEvent.{SocketEvent};
     ghost use Rattle.dcsctp_api.specs.spec.queues.Items.{marked_items};
     ghost use Rattle.dcsctp_api.specs.spec.queues.Retransmission.{has_fast_retransmit, timer_with};
-    ghost use Rattle.dcsctp_api.specs.spec.queues.NextItem.{IsNextMarked, IsMarkedAt, HaltsAgain, is_due};
+    ghost use Rattle.dcsctp_api.specs.spec.queues.NextItem.{IsNextMarked, IsMarkedAt, HaltsAgain, is_abandonment_due};
     ghost use Rattle.dcsctp_send_retransmission.specs.Halting.{SendsAgain, GoesAgain};
     ghost use Rattle.dcsctp_send_retransmission.specs.States.{TriesAtOnce, stage, Goes, SendsAt};
     ghost use Rattle.dcsctp_api.specs.spec.queues.Filling.{SendsMarked, StepAgain};
-    ghost use Rattle.dcsctp_api.specs.spec.queues.AtOnce.{HaltsAtOnce, SendsFirst, restarted};
+    ghost use Rattle.dcsctp_api.specs.spec.queues.AtOnce.{HaltsAtOnce, SendsFirst, timer_restarted};
     ghost use Rattle.dcsctp_api.specs.spec.queues.ItemMessages.{AtPlace};
-    ghost use Rattle.dcsctp_send_retransmission.specs.Sending.{Keeps, Fills, HandsOut};
+    ghost use Rattle.dcsctp_send_retransmission.specs.Sending.{KeepsAllFragments, ContinuesPacket, HandsOut};
 
     // Puts marked chunks into the packet, the first ones first, while they fit and the windows allow.
     pub(super) fn send_again(
@@ -28,7 +28,7 @@ impl RetransmissionQueue {
         now: SocketTime,
         packet: &mut Packet,
     ) -> Result<(), AllocError>
-        ensures fills { Fills self.old packet.old self.new packet.new }
+        ensures fills { ContinuesPacket self.old packet.old self.new packet.new }
         ensures halts { OnOk result (HaltsAgain now packet.new.room self.new) }
         ensures few { OnOk result (length packet.new.tsns.items + marked_items self.new.outstanding.items ≤ length packet.old.tsns.items + marked_items self.old.outstanding.items) }
         ensures steps { Goes now (StepAgain now) (stage self.old queue.old events.old packet.old.tsns.items packet.old.room) (stage self.new queue.new events.new packet.new.tsns.items packet.new.room) result }
@@ -49,7 +49,7 @@ impl RetransmissionQueue {
         now: SocketTime,
         packet: &mut Packet,
     ) -> Result<bool, AllocError>
-        ensures fills { Fills self.old packet.old self.new packet.new }
+        ensures fills { ContinuesPacket self.old packet.old self.new packet.new }
         ensures one { IfOk result (λ sent. length packet.new.tsns.items ≡ length packet.old.tsns.items + (if sent then 1 else 0)) }
         ensures again { IfOk result (GoesAgain now self.old self.new packet.new.room) }
         ensures steps { Goes now (StepAgain now) (stage self.old queue.old events.old packet.old.tsns.items packet.old.room) (stage self.new queue.new events.new packet.new.tsns.items packet.new.room) result }
@@ -68,7 +68,7 @@ impl RetransmissionQueue {
     // Sends the chunk at the place again, which waits for that, if it fits into the packet.
     fn send_again_at(&mut self, place: usize, packet: &mut Packet) -> Result<bool, AllocError>
         requires { IsMarkedAt place self.old.outstanding.items }
-        ensures fills { Fills self.old packet.old self.new packet.new }
+        ensures fills { ContinuesPacket self.old packet.old self.new packet.new }
         ensures one { IfOk result (λ sent. length packet.new.tsns.items ≡ length packet.old.tsns.items + (if sent then 1 else 0)) }
         ensures again { IfOk result (SendsAgain place self.old.outstanding packet.old.room self.new.outstanding packet.new.room) }
         ensures sends { AtPlace self.old.outstanding.items place (λ item. IfOk result (SendsAt place item self.old packet.old self.new packet.new)) }
@@ -104,11 +104,11 @@ impl RetransmissionQueue {
         queue: &mut SendQueue,
         now: SocketTime,
     ) -> Result<Option<usize>, AllocError>
-        ensures keeps { Keeps self.old self.new }
+        ensures keeps { KeepsAllFragments self.old self.new }
         ensures found { IfOk result (λ found. IfSome found (λ place. IsNextMarked place self.new.outstanding.items)) }
         ensures none { IfOk result (λ found. IfNone found (marked_items self.new.outstanding.items ≡ 0)) }
         ensures fewer { OnOk result (marked_items self.new.outstanding.items ≤ marked_items self.old.outstanding.items) }
-        ensures stays { IfOk result (λ found. IfSome found (λ place. AtPlace self.new.outstanding.items place (λ item. is_due now self.new.partial_reliability item ≡ false))) }
+        ensures stays { IfOk result (λ found. IfSome found (λ place. AtPlace self.new.outstanding.items place (λ item. is_abandonment_due now self.new.partial_reliability item ≡ false))) }
         ensures steps { (tsns : List ℕ) (room : ℕ) → Goes now (StepAgain now) (stage self.old queue.old events.old tsns room) (stage self.new queue.new events.new tsns room) result }
     {
         while let Some(place) = self.next_marked() {
@@ -156,7 +156,7 @@ impl RetransmissionQueue {
 
     // Restarts the timer if the first item was sent again.
     fn time_again(&mut self, now: SocketTime, restarts: bool)
-        ensures { self.new ≡ record self.old { timer = timer_with now self.old.outstanding.items (restarted restarts self.old.timer) } }
+        ensures { self.new ≡ record self.old { timer = timer_with now self.old.outstanding.items (timer_restarted restarts self.old.timer) } }
     {
         if restarts {
             self.timer.stop();
@@ -171,7 +171,7 @@ impl RetransmissionQueue {
         now: SocketTime,
         packet: &mut Packet,
     ) -> Result<bool, AllocError>
-        ensures fills { Fills self.old packet.old self.new packet.new }
+        ensures fills { ContinuesPacket self.old packet.old self.new packet.new }
         ensures steps { (waiting : SendQueueState) (events : List SocketEvent) → Goes now (SendsMarked now) (stage self.old waiting events packet.old.tsns.items packet.old.room) (stage self.new waiting events packet.new.tsns.items packet.new.room) result }
         ensures halts { OnOk result (HaltsAtOnce now packet.new.room self.new) }
         ensures first { IfOk result (SendsFirst self.old.outstanding.items self.new.outstanding.items) }

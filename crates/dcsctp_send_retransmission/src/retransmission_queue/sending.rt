@@ -19,7 +19,7 @@ impl RetransmissionQueue {
     ghost use Rattle.dcsctp_send_retransmission.specs.Halting.{FillsUp};
     ghost use Rattle.dcsctp_send_retransmission.specs.States.{stage, Goes, GoesFilling, TriesPacket, SendsPacket};
     ghost use Rattle.dcsctp_api.specs.spec.queues.Filling.{StepNew};
-    ghost use Rattle.dcsctp_send_retransmission.specs.Sending.{Keeps, Fills, Sends};
+    ghost use Rattle.dcsctp_send_retransmission.specs.Sending.{KeepsAllFragments, ContinuesPacket, SendsItems};
 
     /// The TSNs of the chunks that go into a packet with that many bytes of room. First come those that are
     /// sent again; then, if none of these is left, new ones from the queue. A chunk is sent if it fits and
@@ -37,7 +37,7 @@ impl RetransmissionQueue {
         now: SocketTime,
         bytes: usize,
     ) -> Result<Vec<u32>, AllocError>
-        ensures sends { Sends now self.old self.new }
+        ensures sends { SendsItems now self.old self.new }
         ensures fills { IfOk result (λ tsns. FillsUp now bytes self.new queue.new tsns.items) }
         ensures fresh { IfOk result (λ tsns. EndsFresh now self.old.outstanding self.new.outstanding tsns.items) }
         ensures steps { SendsPacket now bytes self.old queue.old events.old self.new queue.new events.new result }
@@ -67,7 +67,7 @@ impl RetransmissionQueue {
         packet: Packet,
     ) -> Result<Vec<u32>, AllocError>
         requires { packet.tsns.items ≡ [] }
-        ensures keeps { Keeps self.old self.new }
+        ensures keeps { KeepsAllFragments self.old self.new }
         ensures fills { IfOk result (λ tsns. FillsUp now packet.room self.new queue.new tsns.items) }
         ensures fresh { IfOk result (λ tsns. EndsFresh now self.old.outstanding self.new.outstanding tsns.items) }
         ensures steps { TriesPacket now packet.room self.old queue.old events.old self.new queue.new events.new result }
@@ -85,7 +85,7 @@ impl RetransmissionQueue {
         now: SocketTime,
         packet: &mut Packet,
     ) -> Result<(), AllocError>
-        ensures fills { Fills self.old packet.old self.new packet.new }
+        ensures fills { ContinuesPacket self.old packet.old self.new packet.new }
         ensures halts { OnOk result (Halts now packet.new.room self.new queue.new) }
         ensures fresh { packet.old.tsns.items ≡ [] → OnOk result (EndsFresh now self.old.outstanding self.new.outstanding packet.new.tsns.items) }
         ensures steps { GoesFilling now (stage self.old queue.old events.old packet.old.tsns.items packet.old.room) (stage self.new queue.new events.new packet.new.tsns.items packet.new.room) result }
@@ -107,7 +107,7 @@ impl RetransmissionQueue {
         now: SocketTime,
         packet: &mut Packet,
     ) -> Result<(), AllocError>
-        ensures fills { Fills self.old packet.old self.new packet.new }
+        ensures fills { ContinuesPacket self.old packet.old self.new packet.new }
         ensures fresh { OnOk result (SendsFresh now self.old.outstanding self.new.outstanding packet.old.tsns.items packet.new.tsns.items) }
         ensures halts { OnOk result (HaltsNew packet.new.room self.new queue.new) }
         ensures marks { marked_items self.new.outstanding.items ≡ marked_items self.old.outstanding.items }
@@ -140,7 +140,7 @@ impl RetransmissionQueue {
     ) -> Result<bool, AllocError>
         requires few { length self.old.outstanding.items + 1 < 2 ^ 31 }
         requires max { (0 < max) × (max ≡ (min packet.old.room 65532 - header self.old.outstanding) / 4 * 4) }
-        ensures fills { Fills self.old packet.old self.new packet.new }
+        ensures fills { ContinuesPacket self.old packet.old self.new packet.new }
         ensures less { IfOk result (λ sent. IsTrue sent → packet.new.room < packet.old.room) }
         ensures fresh { OnOk result (SendsFresh now self.old.outstanding self.new.outstanding packet.old.tsns.items packet.new.tsns.items) }
         ensures none { IfOk result (λ sent. sent ≡ false → HasNone queue.new) }

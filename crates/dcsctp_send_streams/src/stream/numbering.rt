@@ -4,7 +4,7 @@ use super::OutgoingStream;
 
 impl OutgoingStream {
     ghost use Rattle.std.specs.Prelude.{◌≡◌};
-    ghost use Rattle.dcsctp_api.specs.types.queues.SendStreams.{next_numbers, counted, served};
+    ghost use Rattle.dcsctp_api.specs.types.queues.SendStreams.{next_numbers, stream_counted, served};
 
     /// The numbers of an ordered or unordered message that is started next: SSN and MID. One of the two is
     /// sent, by whether messages are interleaved.
@@ -21,7 +21,7 @@ impl OutgoingStream {
     /// Counts a message that is started: with interleaving its MID, else its SSN, which an unordered message
     /// doesn't have (RFC 8260, section 2.1).
     pub fn count_begun(&mut self, is_interleaved: bool, is_unordered: bool)
-        ensures { self.new ≡ counted is_interleaved is_unordered self.old }
+        ensures { self.new ≡ stream_counted is_interleaved is_unordered self.old }
     {
         match (is_interleaved, is_unordered) {
             (false, false) => self.next_ssn = self.next_ssn.wrapping_add(1),

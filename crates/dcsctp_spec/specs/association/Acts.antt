@@ -45,17 +45,17 @@ pub data Act : Type 0 where
   request_renewed : RequestedReset → Act
 
 -- packets that don't concern the association, and then a flush
-abbrev pub sent_by : Held → Choices → Flushed
-sent_by held choices =
+abbrev pub sent_then_flushed : Held → Choices → Flushed
+sent_then_flushed held choices =
     let after : Flushed = flush held.peer.tag held [] choices.filling in
     record { held = after.held; effects = further_packets held.peer.tag choices.plain ++ after.effects }
 
 abbrev pub flush_change : Core → Choices → Change
 flush_change (cookie_echoed my held cookie) choices =
-    let after : Flushed = sent_by held choices in
+    let after : Flushed = sent_then_flushed held choices in
     record { core = cookie_echoed my after.held cookie; effects = after.effects; following = next_chunk }
 flush_change (open_in phase my held) choices =
-    let after : Flushed = sent_by held choices in
+    let after : Flushed = sent_then_flushed held choices in
     record { core = open_in phase my after.held; effects = after.effects; following = next_chunk }
 flush_change core choices = unchanged core
 

@@ -13,44 +13,44 @@ use Rattle.dcsctp_spec.specs.association.Choices.{Choices}
 use Rattle.dcsctp_spec.specs.association.Acts.{Act, act_change, ChunkChange}
 
 -- what of a turn its user sees and two sides have to agree on
-pub data Sign : Type 0 where
-  packet_sent : Packet → Sign
-  has_connected : Sign
-  has_ended : Sign
-  own_reset_performed : Sign
-  own_reset_failed : Sign
-  peer_reset_performed : Sign
+pub data Observation : Type 0 where
+  packet_sent : Packet → Observation
+  has_connected : Observation
+  has_ended : Observation
+  own_reset_performed : Observation
+  own_reset_failed : Observation
+  peer_reset_performed : Observation
 
-abbrev pub signs_of_events : List (Event Emission) → List Sign
-signs_of_events [] = []
-signs_of_events (sent emission ∷ events) = packet_sent emission.packet ∷ signs_of_events events
-signs_of_events (connected ∷ events) = has_connected ∷ signs_of_events events
-signs_of_events (closed ∷ events) = has_ended ∷ signs_of_events events
-signs_of_events (aborted kind text ∷ events) = has_ended ∷ signs_of_events events
-signs_of_events (streams_reset_performed streams ∷ events) = own_reset_performed ∷ signs_of_events events
-signs_of_events (streams_reset_failed streams ∷ events) = own_reset_failed ∷ signs_of_events events
-signs_of_events (incoming_stream_reset streams ∷ events) = peer_reset_performed ∷ signs_of_events events
-signs_of_events (event ∷ events) = signs_of_events events
+abbrev pub observations_of_events : List (Event Emission) → List Observation
+observations_of_events [] = []
+observations_of_events (sent emission ∷ events) = packet_sent emission.packet ∷ observations_of_events events
+observations_of_events (connected ∷ events) = has_connected ∷ observations_of_events events
+observations_of_events (closed ∷ events) = has_ended ∷ observations_of_events events
+observations_of_events (aborted kind text ∷ events) = has_ended ∷ observations_of_events events
+observations_of_events (streams_reset_performed streams ∷ events) = own_reset_performed ∷ observations_of_events events
+observations_of_events (streams_reset_failed streams ∷ events) = own_reset_failed ∷ observations_of_events events
+observations_of_events (incoming_stream_reset streams ∷ events) = peer_reset_performed ∷ observations_of_events events
+observations_of_events (event ∷ events) = observations_of_events events
 
-abbrev pub signs_of_effects : List Effect → List Sign
-signs_of_effects [] = []
-signs_of_effects (sends packet ∷ effects) = packet_sent packet ∷ signs_of_effects effects
-signs_of_effects (connects link ∷ effects) = has_connected ∷ signs_of_effects effects
-signs_of_effects (ends ∷ effects) = has_ended ∷ signs_of_effects effects
-signs_of_effects (completes my number ∷ effects) = own_reset_performed ∷ signs_of_effects effects
-signs_of_effects (fails number ∷ effects) = own_reset_failed ∷ signs_of_effects effects
-signs_of_effects (performs peer number ∷ effects) = peer_reset_performed ∷ signs_of_effects effects
-signs_of_effects (draws pair ∷ effects) = signs_of_effects effects
-signs_of_effects (holds link ∷ effects) = signs_of_effects effects
-signs_of_effects (begins number ∷ effects) = signs_of_effects effects
-signs_of_effects (gives_up number ∷ effects) = signs_of_effects effects
-signs_of_effects (accepts number ∷ effects) = signs_of_effects effects
-signs_of_effects (resumes link own last ∷ effects) = signs_of_effects effects
+abbrev pub observations_of_effects : List Effect → List Observation
+observations_of_effects [] = []
+observations_of_effects (sends packet ∷ effects) = packet_sent packet ∷ observations_of_effects effects
+observations_of_effects (connects link ∷ effects) = has_connected ∷ observations_of_effects effects
+observations_of_effects (ends ∷ effects) = has_ended ∷ observations_of_effects effects
+observations_of_effects (completes my number ∷ effects) = own_reset_performed ∷ observations_of_effects effects
+observations_of_effects (fails number ∷ effects) = own_reset_failed ∷ observations_of_effects effects
+observations_of_effects (performs peer number ∷ effects) = peer_reset_performed ∷ observations_of_effects effects
+observations_of_effects (draws pair ∷ effects) = observations_of_effects effects
+observations_of_effects (holds link ∷ effects) = observations_of_effects effects
+observations_of_effects (begins number ∷ effects) = observations_of_effects effects
+observations_of_effects (gives_up number ∷ effects) = observations_of_effects effects
+observations_of_effects (accepts number ∷ effects) = observations_of_effects effects
+observations_of_effects (resumes link own last ∷ effects) = observations_of_effects effects
 
 pub record IsControlled (e : Endpoint) (o : Outcome) (change : Change) : Type 0 where
   pub core : o.after.core ≡ change.core
   pub options : SameOptions e.options o.after.options
-  pub signs : signs_of_events o.events ≡ signs_of_effects change.effects
+  pub observations : observations_of_events o.events ≡ observations_of_effects change.effects
   pub effects : o.effects ≡ noted change.effects
   pub following : o.following ≡ change.following
 

@@ -9,7 +9,7 @@ use Rattle.dcsctp_spec.specs.endpoint.Cause.{cookie_received_while_shutting_down
 use Rattle.dcsctp_spec.specs.Packet.{Content, cookie_ack, shutdown_ack, plain, error_of}
 use Rattle.dcsctp_spec.specs.endpoint.Endpoint.{Core, closed, cookie_wait, cookie_echoed, open_in, OpenPhase, established, shutdown_ack_sent}
 use Rattle.dcsctp_spec.specs.endpoint.Following.{next_chunk, dropped_rest}
-use Rattle.dcsctp_spec.specs.association.Effect.{holds, connects, Change, unchanged, dropped, emitted, link_of}
+use Rattle.dcsctp_spec.specs.association.Effect.{holds, connects, Change, unchanged, rest_dropped, emitted, identity_of}
 use Rattle.dcsctp_spec.specs.association.Choices.{Choices}
 use Rattle.dcsctp_spec.specs.association.FlushChanges.{Flushed, flush}
 use Rattle.dcsctp_spec.specs.association.HandshakeChanges.{new_held}
@@ -77,7 +77,7 @@ new_association_change options cookie choices =
     let after : Flushed = flush cookie.addressee.tag held (cookie_ack ∷ []) choices.filling in
     record {
       core = open_in established cookie.maker after.held;
-      effects = holds (link_of cookie.maker held) ∷ connects (link_of cookie.maker held) ∷ after.effects;
+      effects = holds (identity_of cookie.maker held) ∷ connects (identity_of cookie.maker held) ∷ after.effects;
       following = next_chunk;
     }
 
@@ -99,7 +99,7 @@ restart_change options core cookie choices = new_association_change options cook
 abbrev pub maintain_change : Core → Cookie → Choices → Change
 maintain_change (cookie_echoed my held echoed) cookie choices =
     let after : Flushed = flush cookie.addressee.tag held (cookie_ack ∷ []) choices.filling in
-    record { core = open_in established my after.held; effects = connects (link_of my held) ∷ after.effects; following = next_chunk }
+    record { core = open_in established my after.held; effects = connects (identity_of my held) ∷ after.effects; following = next_chunk }
 maintain_change (open_in phase my held) cookie choices =
     let after : Flushed = flush cookie.addressee.tag held (cookie_ack ∷ []) choices.filling in
     record { core = open_in phase my after.held; effects = after.effects; following = next_chunk }
@@ -109,14 +109,14 @@ abbrev pub resolved_change : Options → Core → Cookie → Choices → Resolut
 resolved_change options core cookie choices establish_new = new_association_change options cookie choices
 resolved_change options core cookie choices restart = restart_change options core cookie choices
 resolved_change options core cookie choices simultaneous_init = new_association_change options cookie choices
-resolved_change options core cookie choices discard = dropped core
+resolved_change options core cookie choices discard = rest_dropped core
 resolved_change options core cookie choices maintain_existing = maintain_change core cookie choices
-resolved_change options core cookie choices invalid_tag = dropped core
-resolved_change options core cookie choices stale = dropped core
+resolved_change options core cookie choices invalid_tag = rest_dropped core
+resolved_change options core cookie choices stale = rest_dropped core
 
 -- Bytes that are no cookie change nothing.
 abbrev pub read_echo_change : Options → Core → ℕ → Result Cookie (List ℕ) → Choices → Change
-read_echo_change options core header (Err text) choices = dropped core
+read_echo_change options core header (Err text) choices = rest_dropped core
 read_echo_change options core header (Ok cookie) choices = resolved_change options core cookie choices (aged choices.is_stale (resolve core choices.tie header cookie))
 
 abbrev pub cookie_echo_change : Options → Core → ℕ → List ℕ → Choices → Change

@@ -8,7 +8,7 @@ use Rattle.dcsctp_spec.specs.endpoint.Endpoint.{Core, closed, cookie_wait, cooki
 use Rattle.dcsctp_spec.specs.endpoint.Following.{Following, next_chunk, dropped_rest}
 
 -- an association with a peer, as one side sees it
-pub record Link : Type 0 where
+pub record AssociationIdentity : Type 0 where
   pub my : Pair
   pub peer : Pair
   pub capabilities : Capabilities
@@ -19,9 +19,9 @@ pub data Effect : Type 0 where
   -- A packet was emitted.
   sends : Packet → Effect
   -- From here on this is the association, instead of the one before.
-  holds : Link → Effect
+  holds : AssociationIdentity → Effect
   -- OnConnected, of this association
-  connects : Link → Effect
+  connects : AssociationIdentity → Effect
   -- OnClosed or OnAborted
   ends : Effect
   -- Its own request to reset streams was begun, by its number.
@@ -38,7 +38,7 @@ pub data Effect : Type 0 where
   performs : Pair → ℕ → Effect
   -- From here on this is the association, restored from a snapshot. Its next own request has the first number, and the peer's
   -- last one that was accepted had the second.
-  resumes : Link → ℕ → ℕ → Effect
+  resumes : AssociationIdentity → ℕ → ℕ → Effect
 
 -- the pairs that were drawn
 abbrev pub drawn_in : List Effect → List Pair
@@ -83,8 +83,8 @@ abbrev pub unchanged : Core → Change
 unchanged core = record { core = core; effects = []; following = next_chunk }
 
 -- Nothing happens, and the rest of the packet is dropped.
-abbrev pub dropped : Core → Change
-dropped core = record { core = core; effects = []; following = dropped_rest }
+abbrev pub rest_dropped : Core → Change
+rest_dropped core = record { core = core; effects = []; following = dropped_rest }
 
 -- The association ends, and the rest of the packet is dropped.
 abbrev pub ended : List Effect → Change
@@ -100,12 +100,12 @@ abbrev pub emitted_alone : Bool → ℕ → Content → List Effect
 emitted_alone fits tag content = if fits then emitted tag (content ∷ []) else []
 
 -- the association with a peer that this is
-abbrev pub link_of : Pair → Held → Link
-link_of my held = record { my = my; peer = held.peer; capabilities = held.capabilities }
+abbrev pub identity_of : Pair → Held → AssociationIdentity
+identity_of my held = record { my = my; peer = held.peer; capabilities = held.capabilities }
 
 -- the existing association, outside CookieWait
-abbrev pub link_in : Core → Option Link
-link_in closed = None
-link_in (cookie_wait my) = None
-link_in (cookie_echoed my held cookie) = Some (link_of my held)
-link_in (open_in phase my held) = Some (link_of my held)
+abbrev pub identity_in : Core → Option AssociationIdentity
+identity_in closed = None
+identity_in (cookie_wait my) = None
+identity_in (cookie_echoed my held cookie) = Some (identity_of my held)
+identity_in (open_in phase my held) = Some (identity_of my held)

@@ -13,7 +13,7 @@ use Rattle.dcsctp_spec.specs.endpoint.Cause.{missing_mandatory_parameter}
 use Rattle.dcsctp_spec.specs.Packet.{Introduction, init, init_ack, cookie_echo, abort, shutdown_ack}
 use Rattle.dcsctp_spec.specs.endpoint.Endpoint.{Core, closed, cookie_wait, cookie_echoed, open_in, OpenPhase, established, shutdown_ack_sent}
 use Rattle.dcsctp_spec.specs.endpoint.Following.{next_chunk}
-use Rattle.dcsctp_spec.specs.association.Effect.{Effect, draws, holds, connects, Change, unchanged, ended, emitted, emitted_alone, link_of}
+use Rattle.dcsctp_spec.specs.association.Effect.{Effect, draws, holds, connects, Change, unchanged, ended, emitted, emitted_alone, identity_of}
 use Rattle.dcsctp_spec.specs.association.Choices.{Filling, Choices}
 use Rattle.dcsctp_spec.specs.association.FlushChanges.{Flushed, flush}
 
@@ -108,7 +108,7 @@ init_ack_change options (cookie_wait my) theirs None choices =
 init_ack_change options (cookie_wait my) theirs (Some cookie) choices =
     let held : Held = held_by_init_ack options my theirs in
     let echoed : Change = echo_change my held cookie choices.fits choices.filling in
-    record echoed { effects = holds (link_of my held) ∷ echoed.effects }
+    record echoed { effects = holds (identity_of my held) ∷ echoed.effects }
 init_ack_change options core theirs cookie choices = unchanged core
 
 -- ---- COOKIE ACK
@@ -117,7 +117,7 @@ init_ack_change options core theirs cookie choices = unchanged core
 abbrev pub cookie_ack_change : Core → Choices → Change
 cookie_ack_change (cookie_echoed my held cookie) choices =
     let after : Flushed = flush held.peer.tag held [] choices.filling in
-    record { core = open_in established my after.held; effects = connects (link_of my held) ∷ after.effects; following = next_chunk }
+    record { core = open_in established my after.held; effects = connects (identity_of my held) ∷ after.effects; following = next_chunk }
 cookie_ack_change core choices = unchanged core
 
 -- ---- T1

@@ -15,21 +15,21 @@ use Rattle.dcsctp_spec.specs.association.FlushChanges.{Flushed, flush, next_numb
 -- ---- which number
 
 -- where a request's number stands to the last one
-pub data Place : Type 0 where
+pub data RequestPlace : Type 0 where
   -- It is the last one again.
-  again : Place
+  again : RequestPlace
   -- It is the next one.
-  next : Place
+  next : RequestPlace
   -- It is neither.
-  astray : Place
+  astray : RequestPlace
 
-abbrev pub place_of : ℕ → ℕ → Place
-place_of last number = if number == last then again else (if number == next_number last then next else astray)
+abbrev pub request_place : ℕ → ℕ → RequestPlace
+request_place last number = if number == last then again else (if number == next_number last then next else astray)
 
 -- ---- a request of the peer
 
 -- what is known of the association after a request, how the request is answered, and its effects
-pub record Answered : Type 0 where
+pub record RequestOutcome : Type 0 where
   pub held : Held
   pub result : ReconfigurationResponseResult
   pub effects : List Effect
@@ -39,40 +39,40 @@ abbrev pub with_last : Held → ℕ → ReconfigurationResponseResult → Held
 with_last held number result = record held { peer_last = number; peer_result = result }
 
 -- An Outgoing SSN Reset Request is performed once all data sent before it is received, and is in progress until then.
-abbrev pub worked : Held → ℕ → Bool → Answered
-worked held number true = record { held = with_last held number SuccessPerformed; result = SuccessPerformed; effects = performs held.peer number ∷ [] }
-worked held number false = record { held = with_last held number InProgress; result = InProgress; effects = [] }
+abbrev pub performed_request : Held → ℕ → Bool → RequestOutcome
+performed_request held number true = record { held = with_last held number SuccessPerformed; result = SuccessPerformed; effects = performs held.peer number ∷ [] }
+performed_request held number false = record { held = with_last held number InProgress; result = InProgress; effects = [] }
 
 -- The last request again is answered as before; one in progress is handled again.
-abbrev pub repeated : Held → ReconfigurationResponseResult → Bool → Answered
+abbrev pub repeated : Held → ReconfigurationResponseResult → Bool → RequestOutcome
 repeated held SuccessNothingToDo is_reached = record { held = held; result = SuccessNothingToDo; effects = [] }
 repeated held SuccessPerformed is_reached = record { held = held; result = SuccessPerformed; effects = [] }
 repeated held Denied is_reached = record { held = held; result = Denied; effects = [] }
 repeated held ErrorWrongSSN is_reached = record { held = held; result = ErrorWrongSSN; effects = [] }
 repeated held ErrorRequestAlreadyInProgress is_reached = record { held = held; result = ErrorRequestAlreadyInProgress; effects = [] }
 repeated held ErrorBadSequenceNumber is_reached = record { held = held; result = ErrorBadSequenceNumber; effects = [] }
-repeated held InProgress is_reached = worked held held.peer_last is_reached
+repeated held InProgress is_reached = performed_request held held.peer_last is_reached
 
 -- a request whose number is neither the last nor the next
-abbrev pub refused : Held → Answered
+abbrev pub refused : Held → RequestOutcome
 refused held = record { held = held; result = ErrorBadSequenceNumber; effects = [] }
 
 -- the effects of an acceptance before those of the request
-abbrev pub accepted : ℕ → Answered → Answered
-accepted number after = record after { effects = accepts number ∷ after.effects }
+abbrev pub accepted_request : ℕ → RequestOutcome → RequestOutcome
+accepted_request number after = record after { effects = accepts number ∷ after.effects }
 
-abbrev pub outgoing_by : Held → ℕ → Bool → Place → Answered
+abbrev pub outgoing_by : Held → ℕ → Bool → RequestPlace → RequestOutcome
 outgoing_by held number is_reached again = repeated held held.peer_result is_reached
-outgoing_by held number is_reached next = accepted number (worked held number is_reached)
+outgoing_by held number is_reached next = accepted_request number (performed_request held number is_reached)
 outgoing_by held number is_reached astray = refused held
 
 -- No stream is reset for an Incoming SSN Reset Request: it is answered by this, even if the answer before was in progress.
-abbrev pub nothing_to_do : Held → ℕ → Answered
+abbrev pub nothing_to_do : Held → ℕ → RequestOutcome
 nothing_to_do held number = record { held = with_last held number SuccessNothingToDo; result = SuccessNothingToDo; effects = [] }
 
-abbrev pub incoming_by : Held → ℕ → Place → Answered
+abbrev pub incoming_by : Held → ℕ → RequestPlace → RequestOutcome
 incoming_by held number again = nothing_to_do held number
-incoming_by held number next = accepted number (nothing_to_do held number)
+incoming_by held number next = accepted_request number (nothing_to_do held number)
 incoming_by held number astray = refused held
 
 -- ---- an answer of the peer
@@ -114,29 +114,29 @@ informed_where my held number result false = record { held = held; effects = [] 
 -- ---- the parameters after one another
 
 -- What is left of them. A second Outgoing SSN Reset Request is an error, and nothing is sent.
-pub record WorkedParameters : Type 0 where
+pub record HandledParameters : Type 0 where
   pub held : Held
   pub effects : List Effect
   pub answers : List ResetParameter
   pub is_refused : Bool
 
-abbrev pub after_request : ℕ → Answered → WorkedParameters → WorkedParameters
+abbrev pub after_request : ℕ → RequestOutcome → HandledParameters → HandledParameters
 after_request number first rest =
     record rest { effects = first.effects ++ rest.effects; answers = reconfiguration_response number first.result ∷ rest.answers }
 
-abbrev pub after_answer : Informed → WorkedParameters → WorkedParameters
+abbrev pub after_answer : Informed → HandledParameters → HandledParameters
 after_answer first rest = record rest { effects = first.effects ++ rest.effects }
 
 -- its own pair, whether data has come that was sent before, and whether an outgoing request was handled so far
-abbrev pub work_parameters : Pair → Bool → Bool → Held → List ResetParameter → WorkedParameters
+abbrev pub work_parameters : Pair → Bool → Bool → Held → List ResetParameter → HandledParameters
 work_parameters my is_reached has_worked held [] = record { held = held; effects = []; answers = []; is_refused = false }
 work_parameters my is_reached true held (outgoing_reset_request number answered reset ∷ parameters) =
     record { held = held; effects = []; answers = []; is_refused = true }
 work_parameters my is_reached false held (outgoing_reset_request number answered reset ∷ parameters) =
-    let first : Answered = outgoing_by held number is_reached (place_of held.peer_last number) in
+    let first : RequestOutcome = outgoing_by held number is_reached (request_place held.peer_last number) in
     after_request number first (work_parameters my is_reached true first.held parameters)
 work_parameters my is_reached has_worked held (incoming_reset_request number streams ∷ parameters) =
-    let first : Answered = incoming_by held number (place_of held.peer_last number) in
+    let first : RequestOutcome = incoming_by held number (request_place held.peer_last number) in
     after_request number first (work_parameters my is_reached has_worked first.held parameters)
 work_parameters my is_reached has_worked held (reconfiguration_response number result ∷ parameters) =
     let first : Informed = informed_where my held number result (is_outstanding number held.own_outstanding) in
@@ -146,7 +146,7 @@ work_parameters my is_reached has_worked held (other_reset_parameter parameter �
 -- ---- the chunk
 
 -- A chunk without parameters is an error too.
-abbrev pub work_chunk : Pair → Bool → Held → List ResetParameter → WorkedParameters
+abbrev pub work_chunk : Pair → Bool → Held → List ResetParameter → HandledParameters
 work_chunk my is_reached held [] = record { held = held; effects = []; answers = []; is_refused = true }
 work_chunk my is_reached held (parameter ∷ parameters) = work_parameters my is_reached false held (parameter ∷ parameters)
 
@@ -163,17 +163,17 @@ reset_sent false held answers choices =
     record { held = after.held; effects = answers_emitted choices.fits held.peer.tag answers ++ after.effects }
 
 -- the peer part and effects after the chunk
-abbrev pub reset_worked : Pair → Held → List ResetParameter → Choices → Informed
-reset_worked my held parameters choices =
-    let worked : WorkedParameters = work_chunk my choices.is_reached held parameters in
-    let sent : Flushed = reset_sent worked.is_refused worked.held worked.answers choices in
-    record { held = sent.held; effects = worked.effects ++ sent.effects }
+abbrev pub peer_part_handled : Pair → Held → List ResetParameter → Choices → Informed
+peer_part_handled my held parameters choices =
+    let performed_request : HandledParameters = work_chunk my choices.is_reached held parameters in
+    let sent : Flushed = reset_sent performed_request.is_refused performed_request.held performed_request.answers choices in
+    record { held = sent.held; effects = performed_request.effects ++ sent.effects }
 
 abbrev pub re_config_change : Core → List ResetParameter → Choices → Change
 re_config_change (cookie_echoed my held cookie) parameters choices =
-    let after : Informed = reset_worked my held parameters choices in
+    let after : Informed = peer_part_handled my held parameters choices in
     record { core = cookie_echoed my after.held cookie; effects = after.effects; following = next_chunk }
 re_config_change (open_in phase my held) parameters choices =
-    let after : Informed = reset_worked my held parameters choices in
+    let after : Informed = peer_part_handled my held parameters choices in
     record { core = open_in phase my after.held; effects = after.effects; following = next_chunk }
 re_config_change core parameters choices = unchanged core

@@ -6,7 +6,7 @@ use Rattle.dcsctp_types.specs.declared.association.Held.{Held}
 use Rattle.dcsctp_types.specs.declared.capabilities.Capabilities.{Capabilities}
 use Rattle.dcsctp_spec.specs.endpoint.Endpoint.{open_in, established}
 use Rattle.dcsctp_spec.specs.endpoint.Following.{next_chunk}
-use Rattle.dcsctp_spec.specs.association.Effect.{connects, resumes, Change, link_of}
+use Rattle.dcsctp_spec.specs.association.Effect.{connects, resumes, Change, identity_of}
 
 -- What it has: no own request is outstanding, and the kept answer to the peer's last one is 'nothing to do'.
 abbrev pub resumed_held : Pair → Capabilities → ℕ → ℕ → Held
@@ -18,6 +18,6 @@ abbrev pub resume_change : Pair → Held → Change
 resume_change my held =
     record {
       core = open_in established my held;
-      effects = resumes (link_of my held) held.own_next held.peer_last ∷ connects (link_of my held) ∷ [];
+      effects = resumes (identity_of my held) held.own_next held.peer_last ∷ connects (identity_of my held) ∷ [];
       following = next_chunk;
     }

@@ -67,8 +67,8 @@ abbrev pub retransmission_begun : Option BegunReset → RetransmissionState → 
 retransmission_begun None state = state
 retransmission_begun (Some begun) state = with_reset_begun state
 
-abbrev pub transfer_begun : Option BegunReset → Transfer → Transfer
-transfer_begun begun transfer = record transfer { retransmission = retransmission_begun begun transfer.retransmission }
+abbrev pub transfer_reset_begun : Option BegunReset → Transfer → Transfer
+transfer_reset_begun begun transfer = record transfer { retransmission = retransmission_begun begun transfer.retransmission }
 
 -- the reconfiguration timer: each wait is twice the last one, without a limit, and it never stops by itself (RFC 6525, section
 -- 5.1.1)
@@ -96,5 +96,5 @@ after_begun (Some begun) e =
     record e {
       core = core_asking e.core;
       outstanding = Some (record { last_tsn = begun.reset.last_tsn; streams = begun.reset.streams; waits_for_retry = false });
-      timers = record e.timers { reconfiguration = started e.moment (reconfiguration_settings (rto_of e.below.transfer)) };
+      timers = record e.timers { reconfiguration = started e.moment (reconfiguration_settings (rto_of e.queues.transfer)) };
     }

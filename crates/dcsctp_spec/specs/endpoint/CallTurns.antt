@@ -15,48 +15,48 @@ use Rattle.dcsctp_types.specs.wire.Content.{PacketContent}
 use Rattle.dcsctp_types.specs.wire.Format.{IsPacket}
 
 -- a turn that took place: its input, and what came of it
-pub record Turned : Type 0 where
+pub record Transition : Type 0 where
   pub input : Input
   pub outcome : Outcome
 
-abbrev pub turned : Input → Outcome → Turned
-turned input outcome = record { input = input; outcome = outcome }
+abbrev pub transition : Input → Outcome → Transition
+transition input outcome = record { input = input; outcome = outcome }
 
 -- a turn of this input
-pub record IsTurn (e : Endpoint) (input : Input) (turn : Turned) : Type 0 where
+pub record IsTurn (e : Endpoint) (input : Input) (turn : Transition) : Type 0 where
   pub is : turn.input ≡ input
   pub comes : Turn e input turn.outcome
 
 -- the turns of these inputs, one after another
-abbrev pub Turns : Endpoint → List Input → List Turned → Type 0
+abbrev pub Turns : Endpoint → List Input → List Transition → Type 0
 Turns e [] [] = Unit {0}
 Turns e [] (turn ∷ turns) = ⊥
 Turns e (input ∷ inputs) [] = ⊥
 Turns e (input ∷ inputs) (turn ∷ turns) = IsTurn e input turn × Turns turn.outcome.after inputs turns
 
 -- what a list of turns leaves
-abbrev pub after_all : Endpoint → List Turned → Endpoint
+abbrev pub after_all : Endpoint → List Transition → Endpoint
 after_all e [] = e
 after_all e (turn ∷ turns) = after_all turn.outcome.after turns
 
-abbrev pub words_of : List Turned → List Word
+abbrev pub words_of : List Transition → List Word
 words_of [] = []
 words_of (turn ∷ turns) = turn.outcome.words ++ words_of turns
 
-abbrev pub effects_of : List Turned → List Effect
+abbrev pub effects_of : List Transition → List Effect
 effects_of [] = []
 effects_of (turn ∷ turns) = turn.outcome.effects ++ effects_of turns
 
 -- the pairs that were drawn
-abbrev pub pairs_of : List Turned → List Pair
+abbrev pub pairs_of : List Transition → List Pair
 pairs_of turns = drawn_in (effects_of turns)
 
-abbrev pub events_of : List Turned → List (Event Emission)
+abbrev pub events_of : List Transition → List (Event Emission)
 events_of [] = []
 events_of (turn ∷ turns) = turn.outcome.events ++ events_of turns
 
 -- This holds of each turn, at the endpoint that it starts from.
-abbrev pub AlongTurns : (Endpoint → Turned → Type 0) → Endpoint → List Turned → Type 0
+abbrev pub AlongTurns : (Endpoint → Transition → Type 0) → Endpoint → List Transition → Type 0
 AlongTurns Good e [] = Unit {0}
 AlongTurns Good e (turn ∷ turns) = Good e turn × AlongTurns Good turn.outcome.after turns
 
@@ -70,7 +70,7 @@ AfterChunk dropped_rest others end nothing = nothing
 
 -- The chunks of a packet have their turns one after another, as far as the outcomes say. Then come these inputs, unless the rest
 -- was dropped.
-abbrev pub ChunkTurns : Endpoint → ℕ → List Content → List Input → List Turned → Type 0
+abbrev pub ChunkTurns : Endpoint → ℕ → List Content → List Input → List Transition → Type 0
 ChunkTurns e tag [] ends turns = Turns e ends turns
 ChunkTurns e tag (content ∷ contents) ends [] = ⊥
 ChunkTurns e tag (content ∷ contents) ends (turn ∷ turns) =
@@ -78,24 +78,24 @@ ChunkTurns e tag (content ∷ contents) ends (turn ∷ turns) =
     × AfterChunk turn.outcome.following (ChunkTurns turn.outcome.after tag contents ends turns) (Turns turn.outcome.after ends turns) (turns ≡ [])
 
 -- A packet whose chunks are handled: what precedes them, its chunks, and its end.
-abbrev pub WholeTurns : Endpoint → Packet → List Turned → Type 0
+abbrev pub WholeTurns : Endpoint → Packet → List Transition → Type 0
 WholeTurns e packet [] = ⊥
 WholeTurns e packet (begun ∷ turns) =
     IsTurn e (packet_begins packet.contents) begun × ChunkTurns begun.outcome.after packet.tag packet.contents (packet_ends ∷ []) turns
 
 -- A packet that was read and counted. If its SHUTDOWN ACK chunks alone are handled, nothing else of it is.
-abbrev pub AdmittedTurns : Endpoint → Packet → Admission → List Turned → Type 0
+abbrev pub AdmittedTurns : Endpoint → Packet → Admission → List Transition → Type 0
 AdmittedTurns e packet all_chunks turns = WholeTurns e packet turns
 AdmittedTurns e packet shutdown_acks_alone turns = ChunkTurns e packet.tag (shutdown_acks_in packet.contents) [] turns
 AdmittedTurns e packet (refused text) turns = Turns e (refusal text ∷ []) turns
 
 -- The packet is counted; then it can't be read, or admission decides (RFC 9260, section 8.5).
-pub data HandleInput (e : Endpoint) (bytes : List ℕ) : List Turned → Type 0 where
-  unreadable : (turns : List Turned)
+pub data HandleInput (e : Endpoint) (bytes : List ℕ) : List Transition → Type 0 where
+  unreadable : (turns : List Transition)
       → ((packet : PacketContent) → IsPacket (wire_options e.options) packet bytes → ⊥)
       → Turns e (arrival ∷ refusal unreadable_text ∷ []) turns
       → HandleInput e bytes turns
-  readable : (packet : PacketContent) (counted : Turned) (turns : List Turned)
+  readable : (packet : PacketContent) (counted : Transition) (turns : List Transition)
       → IsPacket (wire_options e.options) packet bytes
       → IsTurn e arrival counted
       → AdmittedTurns counted.outcome.after (packet_in packet) (admits e.core (packet_in packet)) turns
@@ -104,12 +104,12 @@ pub data HandleInput (e : Endpoint) (bytes : List ℕ) : List Turned → Type 0 
 -- ---- handle_input when an allocation fails
 
 -- that many chunks of a packet had their turns, from the first on
-abbrev pub FirstTurns : Endpoint → ℕ → List Content → List Turned → Type 0
+abbrev pub FirstTurns : Endpoint → ℕ → List Content → List Transition → Type 0
 FirstTurns e tag contents turns = (count : ℕ) × ChunkTurns e tag (take count contents) [] turns
 
 -- The first turns of a packet whose chunks are handled: what precedes them, and that many of them. Or all of them, and its end,
 -- in which an allocation failed.
-abbrev pub FirstOfWhole : Endpoint → Packet → List Turned → Type 0
+abbrev pub FirstOfWhole : Endpoint → Packet → List Transition → Type 0
 FirstOfWhole e packet [] = Unit {0}
 FirstOfWhole e packet (begun ∷ turns) =
     IsTurn e (packet_begins packet.contents) begun
@@ -117,15 +117,15 @@ FirstOfWhole e packet (begun ∷ turns) =
     ⊎ ChunkTurns begun.outcome.after packet.tag packet.contents (packet_ends ∷ []) turns)
 
 -- the first turns after a packet was counted
-abbrev pub FirstAdmitted : Endpoint → Packet → Admission → List Turned → Type 0
+abbrev pub FirstAdmitted : Endpoint → Packet → Admission → List Transition → Type 0
 FirstAdmitted e packet all_chunks turns = FirstOfWhole e packet turns
 FirstAdmitted e packet shutdown_acks_alone turns = FirstTurns e packet.tag (shutdown_acks_in packet.contents) turns
 FirstAdmitted e packet (refused text) turns = turns ≡ []
 
 -- The call was cut: before the packet was known to be one, or after some of its turns.
-pub data CutInput (e : Endpoint) (bytes : List ℕ) : List Turned → Type 0 where
+pub data CutInput (e : Endpoint) (bytes : List ℕ) : List Transition → Type 0 where
   unread : CutInput e bytes []
-  read : (packet : PacketContent) (counted : Turned) (turns : List Turned)
+  read : (packet : PacketContent) (counted : Transition) (turns : List Transition)
       → IsPacket (wire_options e.options) packet bytes
       → IsTurn e arrival counted
       → FirstAdmitted counted.outcome.after (packet_in packet) (admits e.core (packet_in packet)) turns

@@ -11,10 +11,10 @@ use Rattle.dcsctp_spec.specs.Packet.{cookie_ack, shutdown_ack, Emission}
 use Rattle.dcsctp_spec.specs.queues.SendQueue.{SendQueueState, numbered_for}
 use Rattle.dcsctp_spec.specs.queues.Transfer.{new_transfer}
 use Rattle.dcsctp_spec.specs.endpoint.Endpoint.{Endpoint, Core, cookie_echoed, open_in, OpenPhase, established, shutdown_ack_sent, stopped_timers, heartbeats_begun}
-use Rattle.dcsctp_spec.specs.endpoint.Outcome.{Outcome, noting, still, counted}
+use Rattle.dcsctp_spec.specs.endpoint.Outcome.{Outcome, noting, still, packet_counted}
 use Rattle.dcsctp_spec.specs.endpoint.Following.{dropped_rest}
 use Rattle.dcsctp_spec.specs.association.CookieEchoChanges.{Resolution, establish_new, restart, simultaneous_init, discard, maintain_existing, invalid_tag, stale, aged, resolve, held_by_cookie, shutting_down_error}
-use Rattle.dcsctp_spec.specs.association.Effect.{holds, connects, link_of}
+use Rattle.dcsctp_spec.specs.association.Effect.{holds, connects, identity_of}
 use Rattle.dcsctp_spec.specs.endpoint.FlushOutcomes.{Answer, FlushAnswers, FlushKind, flush_answered, flush_outcome}
 use Rattle.dcsctp_spec.specs.endpoint.HandshakeOutcomes.{queue_anew, connected_after}
 
@@ -50,7 +50,7 @@ refused_restart_outcome e held =
     record {
       words = [];
       effects = [];
-      after = counted e;
+      after = packet_counted e;
       events = sent (shutting_down_emission held) ∷ error WrongSequence shutting_down_text ∷ [];
       following = dropped_rest;
     }
@@ -70,7 +70,7 @@ established_by e cookie queue tie =
       tie = tie;
       outstanding = None;
       timers = heartbeats_begun e (record stopped_timers { heartbeat_interval = e.timers.heartbeat_interval; heartbeat_timeout = e.timers.heartbeat_timeout });
-      below = record {
+      queues = record {
         queue = queue;
         transfer = Some (new_transfer e.options (held_by_cookie e.options cookie).capabilities cookie.maker.first_tsn cookie.addressee.first_tsn (window_by_cookie e.options cookie));
       };
@@ -78,15 +78,15 @@ established_by e cookie queue tie =
     }
 
 -- a packet that begins with COOKIE ACK to a cookie's addressee
-abbrev pub acknowledgement : Held → Cookie → Emission
-acknowledgement held cookie =
+abbrev pub cookie_ack_emission : Held → Cookie → Emission
+cookie_ack_emission held cookie =
     record { with_checksum = held.capabilities.zero_checksum_method.0 == 0; packet = record { tag = cookie.addressee.tag; contents = cookie_ack ∷ [] } }
 
 -- These events, and a flush that begins with COOKIE ACK.
 abbrev pub establish_by : FlushKind → Endpoint → Cookie → SendQueueState → ℕ → List (Event Emission) → Outcome
 establish_by flush e cookie queue tie events =
     let held : Held = held_by_cookie e.options cookie in
-    noting (holds (link_of cookie.maker held) ∷ connects (link_of cookie.maker held) ∷ [])
+    noting (holds (identity_of cookie.maker held) ∷ connects (identity_of cookie.maker held) ∷ [])
     (flush (established_by e cookie queue tie) (U64 tie ∷ []) events (held.capabilities.zero_checksum_method.0 == 0) cookie.addressee.tag (cookie_ack ∷ []))
 
 -- are messages of such an association numbered for interleaving?
@@ -95,12 +95,12 @@ interleaves e cookie = (held_by_cookie e.options cookie).capabilities.message_in
 
 -- What waits to be sent starts anew if there was a peer.
 abbrev pub queue_begun : Endpoint → Cookie → SendQueueState
-queue_begun e cookie = queue_anew e.below.queue (interleaves e cookie)
+queue_begun e cookie = queue_anew e.queues.queue (interleaves e cookie)
 
 -- Else it is unchanged; by the RFC its numbers start anew, too (RFC 9260, sections 5.1 and 6.5).
 abbrev pub queue_where : Bool → Endpoint → Cookie → SendQueueState
 queue_where true e cookie = queue_begun e cookie
-queue_where false e cookie = numbered_for (interleaves e cookie) e.below.queue
+queue_where false e cookie = numbered_for (interleaves e cookie) e.queues.queue
 
 abbrev pub queue_kept : Endpoint → Cookie → SendQueueState
 queue_kept e cookie = queue_where e.options.follow_rfc e cookie
@@ -129,7 +129,7 @@ acknowledge_by flush e held cookie events = flush e [] events (held.capabilities
 
 abbrev pub maintain_by : FlushKind → Endpoint → Cookie → Core → Outcome
 maintain_by flush e cookie (cookie_echoed mine held echoed) =
-    noting (connects (link_of mine held) ∷ []) (acknowledge_by flush (connected_after e mine held) held cookie (connected ∷ []))
+    noting (connects (identity_of mine held) ∷ []) (acknowledge_by flush (connected_after e mine held) held cookie (connected ∷ []))
 maintain_by flush e cookie (open_in phase mine held) = acknowledge_by flush e held cookie []
 maintain_by flush e cookie core = still e
 
@@ -159,7 +159,7 @@ cookie_echo_by flush e core header (Ok cookie) word = resolved_by flush e cookie
 
 abbrev pub EstablishAnswers : Endpoint → Cookie → SendQueueState → ℕ → List Answer → Type 0
 EstablishAnswers e cookie queue tie answers =
-    FlushAnswers (established_by e cookie queue tie) (acknowledgement (held_by_cookie e.options cookie) cookie) answers
+    FlushAnswers (established_by e cookie queue tie) (cookie_ack_emission (held_by_cookie e.options cookie) cookie) answers
 
 abbrev pub RestartAnswersIn : Endpoint → Cookie → ℕ → OpenPhase → List Answer → Type 0
 RestartAnswersIn e cookie tie shutdown_ack_sent answers = answers ≡ []
@@ -170,8 +170,8 @@ RestartAnswers e cookie tie (open_in phase mine held) answers = RestartAnswersIn
 RestartAnswers e cookie tie core answers = EstablishAnswers e cookie (queue_begun e cookie) tie answers
 
 abbrev pub MaintainAnswers : Endpoint → Cookie → Core → List Answer → Type 0
-MaintainAnswers e cookie (cookie_echoed mine held echoed) answers = FlushAnswers (connected_after e mine held) (acknowledgement held cookie) answers
-MaintainAnswers e cookie (open_in phase mine held) answers = FlushAnswers e (acknowledgement held cookie) answers
+MaintainAnswers e cookie (cookie_echoed mine held echoed) answers = FlushAnswers (connected_after e mine held) (cookie_ack_emission held cookie) answers
+MaintainAnswers e cookie (open_in phase mine held) answers = FlushAnswers e (cookie_ack_emission held cookie) answers
 MaintainAnswers e cookie core answers = answers ≡ []
 
 abbrev pub ResolvedAnswers : Endpoint → Cookie → Core → ℕ → Resolution → List Answer → Type 0

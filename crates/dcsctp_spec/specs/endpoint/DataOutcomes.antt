@@ -14,24 +14,24 @@ use Rattle.dcsctp_spec.specs.queues.Arrivals.{Arrival}
 use Rattle.dcsctp_spec.specs.queues.Reassembly.{with_ready}
 use Rattle.dcsctp_spec.specs.queues.Acknowledging.{is_sack_valid, has_acknowledged, delivered_by}
 use Rattle.dcsctp_spec.specs.queues.AtOnce.{SendsAtOnce}
-use Rattle.dcsctp_spec.specs.queues.Chunks.{AreChunks}
+use Rattle.dcsctp_spec.specs.queues.Chunks.{AreChunksOfTsns}
 use Rattle.dcsctp_spec.specs.queues.Retransmission.{RetransmissionState, has_fast_retransmit}
-use Rattle.dcsctp_spec.specs.queues.Transfer.{Transfer, window_told}
+use Rattle.dcsctp_spec.specs.queues.Transfer.{Transfer, advertised_window}
 use Rattle.dcsctp_spec.specs.queues.Tracker.{TrackerState, after_packet_end, is_acknowledgement_due, sacked, delay_over, hastened}
 use Rattle.dcsctp_spec.specs.endpoint.Endpoint.{Endpoint, held_in}
 use Rattle.dcsctp_spec.specs.endpoint.Outcome.{Outcome, still, reports, emits, behind, to_peer}
 use Rattle.dcsctp_spec.specs.association.Choices.{plain_contents}
-use Rattle.dcsctp_spec.specs.endpoint.FlushOutcomes.{Answer, goes_out, draft_to, flush_of, room_in, where_fits, IsWithin, own_sack, FitsPlain, filled, FlushAnswers}
+use Rattle.dcsctp_spec.specs.endpoint.FlushOutcomes.{Answer, goes_out, draft_to, flush_of, room_in, where_fits, IsWithinMtu, own_sack, FitsPlain, filled, FlushAnswers}
 use Rattle.dcsctp_spec.specs.endpoint.HeartbeatOutcomes.{error_counted}
 use Rattle.dcsctp_spec.specs.endpoint.ShutdownOutcomes.{step_outcome}
 use Rattle.dcsctp_spec.specs.endpoint.TransferMoves.{ReceivesData, MovesForward, TakesSack, lost_all}
 
 -- with this below its association
 abbrev pub with_transfer : Endpoint → Transfer → Endpoint
-with_transfer e transfer = record e { below = record e.below { transfer = Some transfer } }
+with_transfer e transfer = record e { queues = record e.queues { transfer = Some transfer } }
 
-abbrev pub with_tracker : Endpoint → Transfer → TrackerState → Endpoint
-with_tracker e transfer tracker = with_transfer e (record transfer { tracker = tracker })
+abbrev pub endpoint_with_tracker : Endpoint → Transfer → TrackerState → Endpoint
+endpoint_with_tracker e transfer tracker = with_transfer e (record transfer { tracker = tracker })
 
 -- ---- a flush by itself
 
@@ -69,7 +69,7 @@ ReceiveTurn e (Some transfer) arrival o = (left : Transfer) × ReceivesData arri
 -- by its payload
 abbrev pub DataWhere : Endpoint → Arrival → List ℕ → Outcome → Type 0
 DataWhere e arrival [] o = o ≡ no_user_data_outcome e (held_in e.core) arrival.tsn
-DataWhere e arrival (byte ∷ bytes) o = ReceiveTurn e e.below.transfer arrival o
+DataWhere e arrival (byte ∷ bytes) o = ReceiveTurn e e.queues.transfer arrival o
 
 -- DATA or I-DATA is received.
 abbrev pub DataTurn : Endpoint → Arrival → Outcome → Type 0
@@ -90,11 +90,11 @@ no_tcb_text = codes "No TCB"
 pub record SendsLost (e : Endpoint) (held : Held) (transfer : Transfer) (o : Outcome) : Type 0 where
   pub left : RetransmissionState
   pub tsns : List ℕ
-  pub sends : SendsAtOnce e.moment (room_in e (draft_to held)) e.below.queue transfer.retransmission left tsns
+  pub sends : SendsAtOnce e.moment (room_in e (draft_to held)) e.queues.queue transfer.retransmission left tsns
   pub chunks : List Plain
-  pub are : AreChunks left.outstanding tsns chunks
+  pub are : AreChunksOfTsns left.outstanding tsns chunks
   pub fit : AllByRecursion FitsPlain chunks
-  pub within : IsWithin e (draft_to held) → IsWithin e (filled (draft_to held) (plain_contents chunks))
+  pub within : IsWithinMtu e (draft_to held) → IsWithinMtu e (filled (draft_to held) (plain_contents chunks))
   pub is : o
       ≡ goes_out (with_transfer e (record transfer { retransmission = left })) [] (draft_to held).with_checksum (draft_to held).packet.tag (plain_contents chunks)
 
@@ -150,13 +150,13 @@ acknowledging e held sack = filled (draft_to held) (plain_contents (where_fits (
 -- Its data is acknowledged at once: a flush that begins with a SACK, if that fits.
 pub record AnswersPacket (e : Endpoint) (held : Held) (transfer : Transfer) (tracker : TrackerState) (o : Outcome) : Type 0 where
   pub answers : List Answer
-  pub allowed : FlushAnswers (with_tracker e transfer (sacked tracker)) (acknowledging e held (own_sack (record transfer { tracker = tracker }))) answers
-  pub is : o ≡ flush_of (with_tracker e transfer (sacked tracker)) (acknowledging e held (own_sack (record transfer { tracker = tracker }))) answers
+  pub allowed : FlushAnswers (endpoint_with_tracker e transfer (sacked tracker)) (acknowledging e held (own_sack (record transfer { tracker = tracker }))) answers
+  pub is : o ≡ flush_of (endpoint_with_tracker e transfer (sacked tracker)) (acknowledging e held (own_sack (record transfer { tracker = tracker }))) answers
 
 abbrev pub EndWhere : Bool → Endpoint → Option Held → Transfer → TrackerState → Outcome → Type 0
 EndWhere true e (Some held) transfer tracker o = AnswersPacket e held transfer tracker o
-EndWhere true e None transfer tracker o = o ≡ still (with_tracker e transfer tracker)
-EndWhere false e held transfer tracker o = o ≡ still (with_tracker e transfer tracker)
+EndWhere true e None transfer tracker o = o ≡ still (endpoint_with_tracker e transfer tracker)
+EndWhere false e held transfer tracker o = o ≡ still (endpoint_with_tracker e transfer tracker)
 
 -- All of a packet was handled: its data is acknowledged now or after a delay (RFC 9260, section 6.2).
 abbrev pub EndsBy : Endpoint → Option Transfer → Outcome → Type 0
@@ -178,12 +178,12 @@ open_window options = min (packet_size_limit options) (options.max_receiver_wind
 -- Does the window open that a SACK tells? By the RFC the peer is told (RFC 9260, section 6.2).
 abbrev pub opens_window : Options → Transfer → Transfer → Bool
 opens_window options old new =
-    old.tracker.follows_rfc && (nat_lt (window_told old) (open_window options) && nat_le (open_window options) (window_told new))
+    old.tracker.follows_rfc && (nat_lt (advertised_window old) (open_window options) && nat_le (open_window options) (advertised_window new))
 
 -- An acknowledgement is due at this moment if the window opens.
-abbrev pub told_open : Bool → ℕ → Transfer → Transfer
-told_open true moment transfer = record transfer { tracker = hastened moment transfer.tracker }
-told_open false moment transfer = transfer
+abbrev pub hastened_where_open : Bool → ℕ → Transfer → Transfer
+hastened_where_open true moment transfer = record transfer { tracker = hastened moment transfer.tracker }
+hastened_where_open false moment transfer = transfer
 
 -- with these messages ready
 abbrev pub with_messages : List MessageContent → Transfer → Transfer
@@ -191,7 +191,7 @@ with_messages messages transfer = record transfer { reassembly = with_ready mess
 
 -- once a message was taken, and these are left
 abbrev pub taken_to : Options → ℕ → List MessageContent → Transfer → Transfer
-taken_to options moment messages transfer = told_open (opens_window options transfer (with_messages messages transfer)) moment (with_messages messages transfer)
+taken_to options moment messages transfer = hastened_where_open (opens_window options transfer (with_messages messages transfer)) moment (with_messages messages transfer)
 
 -- The first message that is ready is taken. Its bytes count no more.
 abbrev pub TakeWhere : Endpoint → Transfer → List MessageContent → Outcome → Type 0
@@ -213,7 +213,7 @@ TakeTurn e (Some transfer) o = TakeWhere e transfer transfer.reassembly.incoming
 -- The delay of an acknowledgement is over: it is due.
 abbrev pub delay_outcome : Endpoint → Option Transfer → Outcome
 delay_outcome e None = still e
-delay_outcome e (Some transfer) = still (with_tracker e transfer (delay_over transfer.tracker))
+delay_outcome e (Some transfer) = still (endpoint_with_tracker e transfer (delay_over transfer.tracker))
 
 -- What is in flight is lost: an error is counted, and it is sent again in the flush after the timers (RFC 9260, section 6.3.3).
 abbrev pub LossTurn : Endpoint → Option Transfer → Outcome → Type 0

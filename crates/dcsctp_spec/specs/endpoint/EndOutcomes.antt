@@ -31,8 +31,8 @@ closed_after e =
       tie = 0;
       outstanding = None;
       timers = stopped_timers;
-      below = record e.below { transfer = None };
-      left = left_by e.options e.below.transfer e.left;
+      queues = record e.queues { transfer = None };
+      left = left_by e.options e.queues.transfer e.left;
     }
 
 -- After this outcome the association ends with this event, and the rest of the packet is dropped.

@@ -2,7 +2,7 @@
 use Rattle.std.specs.Prelude.{◌==◌, ℕ, Bool, if◌then◌else◌, Option, None, Some, List, []}
 use Rattle.std.specs.Duration.{as_nanos}
 use Rattle.dcsctp_spec.specs.endpoint.Timers.{TimerSettings, RunningTimer, started}
-use Rattle.dcsctp_spec.specs.queues.Transfer.{Below, nothing_below}
+use Rattle.dcsctp_spec.specs.queues.Transfer.{EndpointQueues, empty_queues}
 use Rattle.dcsctp_types.specs.declared.association.Pair.{Pair}
 use Rattle.dcsctp_types.specs.declared.association.Held.{Held}
 use Rattle.dcsctp_types.specs.declared.association.Association.{Association}
@@ -109,7 +109,7 @@ pub record Endpoint : Type 0 where
   pub no_forward_tsn_before : ℕ
   pub counts : Counts
   pub peer_implementation : SctpImplementation
-  pub below : Below
+  pub queues : EndpointQueues
   -- the messages that were ready when the last association ended, and aren't taken yet
   pub left : List MessageContent
 
@@ -134,6 +134,6 @@ fresh_endpoint options =
       no_forward_tsn_before = 0;
       counts = record { packets_received = 0; packets_sent = 0; messages_queued = 0 };
       peer_implementation = Unknown;
-      below = nothing_below options;
+      queues = empty_queues options;
       left = [];
     }

@@ -7,14 +7,14 @@ use Rattle.dcsctp_types.specs.declared.word.Word.{Word}
 use Rattle.dcsctp_types.specs.Settings.{packet_size_limit}
 use Rattle.dcsctp_spec.specs.endpoint.Event.{Event, sent, packets_in, buffered_amount_low, total_buffered_amount_low, lifecycle_message_fully_sent, lifecycle_message_maybe_expired, lifecycle_message_expired, lifecycle_end}
 use Rattle.dcsctp_spec.specs.Packet.{Plain, unworked, plain_out, Content, Emission}
-use Rattle.dcsctp_spec.specs.queues.SendQueue.{SendQueueState, has_data}
+use Rattle.dcsctp_spec.specs.queues.SendQueue.{SendQueueState, has_queued_data}
 use Rattle.dcsctp_spec.specs.queues.Abandoning.{GivesUpAll}
-use Rattle.dcsctp_spec.specs.queues.Chunks.{AreChunks}
+use Rattle.dcsctp_spec.specs.queues.Chunks.{AreChunksOfTsns}
 use Rattle.dcsctp_spec.specs.queues.Filling.{Stage, FillsPacket}
 use Rattle.dcsctp_spec.specs.queues.Items.{is_first_abandoned}
 use Rattle.dcsctp_spec.specs.queues.Retransmission.{RetransmissionState, outstanding_count, can_send}
 use Rattle.dcsctp_spec.specs.queues.Skipping.{SaysForward}
-use Rattle.dcsctp_spec.specs.queues.Transfer.{Transfer, window_told, may_give, is_idle}
+use Rattle.dcsctp_spec.specs.queues.Transfer.{Transfer, advertised_window, may_give, is_idle}
 use Rattle.dcsctp_spec.specs.queues.Tracker.{TrackerState, is_acknowledgement_due, owes_acknowledgement, sack_of, sacked}
 use Rattle.dcsctp_spec.specs.endpoint.BegunResets.{BegunReset, streams_within, last_assigned_tsn, begun_in, request_contents, begun_effects, queue_requesting, retransmission_begun, after_begun}
 use Rattle.dcsctp_spec.specs.endpoint.Endpoint.{Endpoint, Core, closed, cookie_wait, cookie_echoed, open_in, Timers, heartbeats_begun, held_in}
@@ -28,30 +28,30 @@ use Rattle.dcsctp_types.specs.wire.Spelling.{chunk_bytes}
 -- ---- one packet
 
 -- The only events while a packet is filled: an amount that fell to its threshold, and what became of a message.
-pub data Told : Type 0 where
-  amount_is_low : ℕ → Told
-  total_amount_is_low : Told
-  message_is_sent : ℕ → Told
-  message_may_have_expired : ℕ → Told
-  message_has_expired : ℕ → Told
-  message_ends : ℕ → Told
+pub data FillingEvent : Type 0 where
+  amount_is_low : ℕ → FillingEvent
+  total_amount_is_low : FillingEvent
+  message_is_sent : ℕ → FillingEvent
+  message_may_have_expired : ℕ → FillingEvent
+  message_has_expired : ℕ → FillingEvent
+  message_ends : ℕ → FillingEvent
 
-abbrev pub told_event : Told → Event Emission
-told_event (amount_is_low stream) = buffered_amount_low stream
-told_event total_amount_is_low = total_buffered_amount_low
-told_event (message_is_sent id) = lifecycle_message_fully_sent id
-told_event (message_may_have_expired id) = lifecycle_message_maybe_expired id
-told_event (message_has_expired id) = lifecycle_message_expired id
-told_event (message_ends id) = lifecycle_end id
+abbrev pub filling_event : FillingEvent → Event Emission
+filling_event (amount_is_low stream) = buffered_amount_low stream
+filling_event total_amount_is_low = total_buffered_amount_low
+filling_event (message_is_sent id) = lifecycle_message_fully_sent id
+filling_event (message_may_have_expired id) = lifecycle_message_maybe_expired id
+filling_event (message_has_expired id) = lifecycle_message_expired id
+filling_event (message_ends id) = lifecycle_end id
 
 -- the same, as it is told to a user
-abbrev pub told_content : Told → Event (List ℕ)
-told_content (amount_is_low stream) = buffered_amount_low stream
-told_content total_amount_is_low = total_buffered_amount_low
-told_content (message_is_sent id) = lifecycle_message_fully_sent id
-told_content (message_may_have_expired id) = lifecycle_message_maybe_expired id
-told_content (message_has_expired id) = lifecycle_message_expired id
-told_content (message_ends id) = lifecycle_end id
+abbrev pub filling_event_content : FillingEvent → Event (List ℕ)
+filling_event_content (amount_is_low stream) = buffered_amount_low stream
+filling_event_content total_amount_is_low = total_buffered_amount_low
+filling_event_content (message_is_sent id) = lifecycle_message_fully_sent id
+filling_event_content (message_may_have_expired id) = lifecycle_message_maybe_expired id
+filling_event_content (message_has_expired id) = lifecycle_message_expired id
+filling_event_content (message_ends id) = lifecycle_end id
 
 -- The answer if a packet is to be filled: what goes after the chunks that it holds, the events, and the endpoint after that.
 pub record Answer : Type 0 where
@@ -59,7 +59,7 @@ pub record Answer : Type 0 where
   pub acknowledgements : List Plain
   pub begun : Option BegunReset
   pub data_chunks : List Plain
-  pub told : List Told
+  pub told : List FillingEvent
   pub after : Endpoint
 
 abbrev pub answer_contents : Answer → List Content
@@ -78,7 +78,7 @@ goes_out e told with_checksum tag (content ∷ contents) =
 -- the outcome of one packet that is asked to be filled
 abbrev pub asked : Endpoint → Emission → Answer → Outcome
 asked e draft answer =
-    noting (begun_effects answer.begun) (goes_out answer.after (map told_event answer.told) draft.with_checksum draft.packet.tag (filled draft (answer_contents answer)).packet.contents)
+    noting (begun_effects answer.begun) (goes_out answer.after (map filling_event answer.told) draft.with_checksum draft.packet.tag (filled draft (answer_contents answer)).packet.contents)
 
 -- ---- a list of them
 
@@ -109,8 +109,8 @@ packets_allowed (negsuc below) core = 0
 -- ---- what an ask may be answered
 
 -- no longer than `mtu`
-abbrev pub IsWithin : Endpoint → Emission → Type 0
-IsWithin e emission = 12 + contents_len emission.packet.contents ≤ packet_size_limit e.options
+abbrev pub IsWithinMtu : Endpoint → Emission → Type 0
+IsWithinMtu e emission = 12 + contents_len emission.packet.contents ≤ packet_size_limit e.options
 
 -- what is answered if nothing waits
 abbrev pub nothing_waits : Endpoint → Answer
@@ -134,11 +134,11 @@ abbrev pub wants_sack : Ask → SendQueueState → Transfer → Bool
 wants_sack later_ask queue transfer = false
 wants_sack first_ask queue transfer =
     is_acknowledgement_due transfer.tracker
-    || (owes_acknowledgement transfer.tracker && (has_data queue || can_send transfer.retransmission))
+    || (owes_acknowledgement transfer.tracker && (has_queued_data queue || can_send transfer.retransmission))
 
 -- the SACK of what was received, with what is left of the receive window (RFC 9260, section 3.3.4)
 abbrev pub own_sack : Transfer → Plain
-own_sack transfer = unworked (sack_chunk (sack_of transfer.tracker (window_told transfer)))
+own_sack transfer = unworked (sack_chunk (sack_of transfer.tracker (advertised_window transfer)))
 
 -- It is sent if it is asked for and fits. Then all received data counts as acknowledged.
 abbrev pub Acknowledges : Bool → ℕ → Transfer → TrackerState → List Plain → Type 0
@@ -209,12 +209,12 @@ pub record Gives (ask : Ask) (e : Endpoint) (draft : Emission) (transfer : Trans
   pub forwards : List Plain
   pub parts : answer.acknowledgements ≡ sacks ++ forwards
   pub tracker : TrackerState
-  pub acknowledges : Acknowledges (wants_sack ask e.below.queue transfer) (room_in e draft) transfer tracker sacks
+  pub acknowledges : Acknowledges (wants_sack ask e.queues.queue transfer) (room_in e draft) transfer tracker sacks
   -- once messages were abandoned
   pub gave_up : Stage
   pub next : Option ℕ
   pub gives_up : GivesUpWhere (may_forward ask e transfer.retransmission) e.moment transfer (room_in e (filled draft (plain_contents sacks)))
-      (stage_of e.below.queue transfer.retransmission [] 0) gave_up next forwards
+      (stage_of e.queues.queue transfer.retransmission [] 0) gave_up next forwards
   pub later : answer.after.no_forward_tsn_before ≡ forward_where next e.no_forward_tsn_before
   pub begins : answer.begun
       ≡ begun_at ask (held_in e.core) (room_in e (filled draft (plain_contents answer.acknowledgements))) (last_assigned_tsn gave_up.queue) gave_up.waiting
@@ -225,11 +225,11 @@ pub record Gives (ask : Ask) (e : Endpoint) (draft : Emission) (transfer : Trans
       let begun : RetransmissionState = retransmission_begun answer.begun gave_up.queue in
       FillsWhere (may_give left begun) e.moment
       (stage_of left begun gave_up.told (room_in e (filled draft (plain_contents answer.acknowledgements ++ request_contents answer.begun)))) sent
-  pub chunks : AreChunks sent.queue.outstanding sent.tsns answer.data_chunks
+  pub chunks : AreChunksOfTsns sent.queue.outstanding sent.tsns answer.data_chunks
   pub forwards_fit : AllByRecursion FitsPlain forwards
   pub data_fit : AllByRecursion FitsPlain answer.data_chunks
-  pub told : map told_content answer.told ≡ sent.told
-  pub below : answer.after.below
+  pub told : map filling_event_content answer.told ≡ sent.told
+  pub below : answer.after.queues
       ≡ record { queue = sent.waiting; transfer = Some (record transfer { retransmission = sent.queue; tracker = tracker }) }
 
 -- If the association is idle, nothing happens.
@@ -237,9 +237,9 @@ abbrev pub GivesWhere : Bool → Ask → Endpoint → Emission → Transfer → 
 GivesWhere true ask e draft transfer answer = answer ≡ nothing_waits e
 GivesWhere false ask e draft transfer answer = Gives ask e draft transfer answer
 
-abbrev pub AnsweredBelow : Ask → Endpoint → Emission → Answer → Option Transfer → Type 0
-AnsweredBelow ask e draft answer None = answer ≡ nothing_waits e
-AnsweredBelow ask e draft answer (Some transfer) = GivesWhere (is_idle e.below.queue transfer) ask e draft transfer answer
+abbrev pub IsAnswerOfQueues : Ask → Endpoint → Emission → Answer → Option Transfer → Type 0
+IsAnswerOfQueues ask e draft answer None = answer ≡ nothing_waits e
+IsAnswerOfQueues ask e draft answer (Some transfer) = GivesWhere (is_idle e.queues.queue transfer) ask e draft transfer answer
 
 -- The heartbeat interval starts anew with data.
 abbrev pub timers_with : Endpoint → List Plain → Timers
@@ -247,31 +247,31 @@ timers_with e [] = e.timers
 timers_with e (chunk ∷ chunks) = heartbeats_begun e e.timers
 
 -- The answers that are allowed to this ask.
-pub record Answered (ask : Ask) (e : Endpoint) (draft : Emission) (answer : Answer) : Type 0 where
+pub record IsFlushAnswer (ask : Ask) (e : Endpoint) (draft : Emission) (answer : Answer) : Type 0 where
   pub kept : answer.after
       ≡ record (after_begun answer.begun e) {
         timers = timers_with (after_begun answer.begun e) answer.data_chunks;
         no_forward_tsn_before = answer.after.no_forward_tsn_before;
-        below = answer.after.below;
+        queues = answer.after.queues;
       }
-  pub within : IsWithin e draft → IsWithin e (filled draft (answer_contents answer))
-  pub by_transfer : AnsweredBelow ask e draft answer e.below.transfer
+  pub within : IsWithinMtu e draft → IsWithinMtu e (filled draft (answer_contents answer))
+  pub by_transfer : IsAnswerOfQueues ask e draft answer e.queues.transfer
 
 -- The lists of answers that end a flush of at most that many packets. It ends at its limit, or at a packet that is empty after
 -- its ask.
-pub data Answers : Ask → ℕ → Endpoint → Emission → List Answer → Type 0 where
-  at_limit : (ask : Ask) (e : Endpoint) (draft : Emission) → Answers ask 0 e draft []
-  at_empty : (ask : Ask) (more : ℕ) (e : Endpoint) (draft : Emission) (answer : Answer) → Answered ask e draft answer
-      → (filled draft (answer_contents answer)).packet.contents ≡ [] → Answers ask (suc more) e draft (answer ∷ [])
+pub data AreFlushAnswers : Ask → ℕ → Endpoint → Emission → List Answer → Type 0 where
+  at_limit : (ask : Ask) (e : Endpoint) (draft : Emission) → AreFlushAnswers ask 0 e draft []
+  at_empty : (ask : Ask) (more : ℕ) (e : Endpoint) (draft : Emission) (answer : Answer) → IsFlushAnswer ask e draft answer
+      → (filled draft (answer_contents answer)).packet.contents ≡ [] → AreFlushAnswers ask (suc more) e draft (answer ∷ [])
   after_packet : (ask : Ask) (more : ℕ) (e : Endpoint) (draft : Emission) (answer : Answer) (answers : List Answer)
-      → Answered ask e draft answer
+      → IsFlushAnswer ask e draft answer
       → ((filled draft (answer_contents answer)).packet.contents ≡ [] → ⊥)
-      → Answers later_ask more (asked e draft answer).after (next_draft e.core draft) answers
-      → Answers ask (suc more) e draft (answer ∷ answers)
+      → AreFlushAnswers later_ask more (asked e draft answer).after (next_draft e.core draft) answers
+      → AreFlushAnswers ask (suc more) e draft (answer ∷ answers)
 
 -- the answers that a flush whose first packet is this may get
 abbrev pub FlushAnswers : Endpoint → Emission → List Answer → Type 0
-FlushAnswers e draft answers = Answers first_ask (packets_allowed e.options.max_burst e.core) e draft answers
+FlushAnswers e draft answers = AreFlushAnswers first_ask (packets_allowed e.options.max_burst e.core) e draft answers
 
 -- ---- as a part of a turn
 
@@ -314,15 +314,15 @@ IsFlushEvent event = ⊥
 -- At most that many packets, none longer than `mtu`, and nothing else but what the user may be told.
 pub record KeepsLimits (e : Endpoint) (events : List (Event Emission)) : Type 0 where
   pub packets : length (packets_in events) ≤ packets_allowed e.options.max_burst e.core
-  pub sizes : AllByRecursion (IsWithin e) (packets_in events)
+  pub sizes : AllByRecursion (IsWithinMtu e) (packets_in events)
   pub others : AllByRecursion IsFlushEvent events
 
 -- ---- if nothing waits
 
-abbrev pub IdleBelow : SendQueueState → Option Transfer → Type 0
-IdleBelow queue None = Unit {0}
-IdleBelow queue (Some transfer) = is_idle queue transfer ≡ true
+abbrev pub AreQueuesIdle : SendQueueState → Option Transfer → Type 0
+AreQueuesIdle queue None = Unit {0}
+AreQueuesIdle queue (Some transfer) = is_idle queue transfer ≡ true
 
 -- Nothing waits, nothing is in flight, and nothing is to be acknowledged.
 abbrev pub IsIdle : Endpoint → Type 0
-IsIdle e = IdleBelow e.below.queue e.below.transfer
+IsIdle e = AreQueuesIdle e.queues.queue e.queues.transfer

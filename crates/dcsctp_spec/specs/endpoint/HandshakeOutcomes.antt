@@ -15,12 +15,12 @@ use Rattle.dcsctp_spec.specs.Cookie.{Cookie, cookie_bytes, cut}
 use Rattle.dcsctp_spec.specs.endpoint.Cause.{missing_mandatory_parameter}
 use Rattle.dcsctp_spec.specs.endpoint.Event.{aborted, connected}
 use Rattle.dcsctp_spec.specs.Packet.{Introduction, Content, init, init_ack, cookie_echo, abort, shutdown_ack, Emission}
-use Rattle.dcsctp_spec.specs.queues.SendQueue.{SendQueueState, restarted, numbered_for}
+use Rattle.dcsctp_spec.specs.queues.SendQueue.{SendQueueState, queue_restarted, numbered_for}
 use Rattle.dcsctp_spec.specs.queues.Transfer.{new_transfer, next_tsn_of}
 use Rattle.dcsctp_spec.specs.endpoint.Endpoint.{Endpoint, Core, closed, cookie_wait, cookie_echoed, open_in, OpenPhase, established, shutdown_ack_sent, heartbeats_begun, t1_settings}
 use Rattle.dcsctp_spec.specs.endpoint.Timers.{started}
 use Rattle.dcsctp_spec.specs.endpoint.Outcome.{Outcome, still, quiet, fits, to_peer, emits, noting, drawing}
-use Rattle.dcsctp_spec.specs.association.Effect.{holds, connects, link_of}
+use Rattle.dcsctp_spec.specs.association.Effect.{holds, connects, identity_of}
 use Rattle.dcsctp_spec.specs.association.HandshakeChanges.{introduction_of, held_by_init_ack}
 use Rattle.dcsctp_spec.specs.endpoint.FlushOutcomes.{Answer, FlushAnswers, FlushKind, draft_to, flush_answered, flush_outcome}
 use Rattle.dcsctp_spec.specs.endpoint.EndOutcomes.{ended_outcome}
@@ -69,16 +69,16 @@ tsn_gap = 1000000
 
 -- a fresh tag, and a first TSN far from those in use (RFC 9260, section 5.2.2)
 abbrev pub renewed_pair : Endpoint → ℕ → Pair
-renewed_pair e word = record { tag = tag_from word; first_tsn = (next_tsn_of e.below.transfer + tsn_gap) % 2 ^ 32 }
+renewed_pair e word = record { tag = tag_from word; first_tsn = (next_tsn_of e.queues.transfer + tsn_gap) % 2 ^ 32 }
 
 -- An INIT is answered with a pair that is drawn for it.
-abbrev pub renewed_outcome : Endpoint → Introduction → ℕ → Outcome
-renewed_outcome e theirs word = drawing (renewed_pair e word) (answer_outcome e theirs (U32 word ∷ []) (renewed_pair e word) e.tie)
+abbrev pub renewed_pair_outcome : Endpoint → Introduction → ℕ → Outcome
+renewed_pair_outcome e theirs word = drawing (renewed_pair e word) (answer_outcome e theirs (U32 word ∷ []) (renewed_pair e word) e.tie)
 
 -- where an association is open
 abbrev pub init_outcome_where_open : Endpoint → Introduction → OpenPhase → Held → ℕ → Outcome
 init_outcome_where_open e theirs shutdown_ack_sent held word = emits e [] (to_peer held shutdown_ack)
-init_outcome_where_open e theirs phase held word = renewed_outcome e theirs word
+init_outcome_where_open e theirs phase held word = renewed_pair_outcome e theirs word
 
 -- An INIT is answered with its own pair during a handshake, else with a drawn tag. A closed socket also draws the first TSN; an
 -- open association takes one far from its own. Neither is kept. The association is unchanged in every phase. The words are those
@@ -145,7 +145,7 @@ implementation_of cookie = if nat_le (length cookie) 8 then Unknown else named_i
 
 -- the queue as a new association finds it, with its numbers anew
 abbrev pub queue_anew : SendQueueState → Bool → SendQueueState
-queue_anew queue is_interleaved = numbered_for is_interleaved (restarted queue)
+queue_anew queue is_interleaved = numbered_for is_interleaved (queue_restarted queue)
 
 -- the peer that an INIT ACK shows: a COOKIE ACK is awaited
 abbrev pub awaits_cookie_ack : Endpoint → Pair → Introduction → List ℕ → ℕ → Endpoint
@@ -157,8 +157,8 @@ awaits_cookie_ack e mine theirs cookie tie =
       outstanding = None;
       timers = record e.timers { t1 = started e.moment (t1_settings e.options (as_nanos e.options.t1_cookie_timeout)); reconfiguration = None };
       peer_implementation = implementation_of cookie;
-      below = record {
-        queue = queue_anew e.below.queue held.capabilities.message_interleaving;
+      queues = record {
+        queue = queue_anew e.queues.queue held.capabilities.message_interleaving;
         transfer = Some (new_transfer e.options held.capabilities mine.first_tsn theirs.pair.first_tsn theirs.window);
       };
       left = [];
@@ -178,7 +178,7 @@ send_echo_outcome e words tag cookie = send_echo_by flush_outcome e words tag co
 abbrev pub accepted_init_ack_by : FlushKind → Endpoint → Pair → Introduction → Option (List ℕ) → ℕ → Outcome
 accepted_init_ack_by flush e mine theirs None tie = refused_init_ack_outcome e theirs.pair.tag
 accepted_init_ack_by flush e mine theirs (Some cookie) tie =
-    noting (holds (link_of mine (held_by_init_ack e.options mine theirs)) ∷ [])
+    noting (holds (identity_of mine (held_by_init_ack e.options mine theirs)) ∷ [])
     (send_echo_by flush (awaits_cookie_ack e mine theirs cookie tie) (U64 tie ∷ []) theirs.pair.tag cookie)
 
 abbrev pub accepted_init_ack_outcome : Endpoint → Pair → Introduction → Option (List ℕ) → ℕ → Outcome
@@ -219,7 +219,7 @@ connected_after e mine held = record e { core = open_in established mine held; t
 -- COOKIE ACK counts only in CookieEchoed (RFC 9260, section 5.2.5). A flush follows. Its change is `cookie_ack_change`.
 abbrev pub cookie_ack_by : FlushKind → Endpoint → Core → Outcome
 cookie_ack_by flush e (cookie_echoed mine held cookie) =
-    noting (connects (link_of mine held) ∷ [])
+    noting (connects (identity_of mine held) ∷ [])
     (flush (connected_after e mine held) [] (connected ∷ []) (held.capabilities.zero_checksum_method.0 == 0) held.peer.tag [])
 cookie_ack_by flush e core = still e
 

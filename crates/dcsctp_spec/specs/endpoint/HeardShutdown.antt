@@ -40,5 +40,5 @@ ShutdownBy e phase my held (Some transfer) tsn o = ShutdownWhere (heeds_shutdown
 
 -- A SHUTDOWN with this cumulative TSN ack is received.
 abbrev pub ShutdownTurn : Endpoint → Core → ℕ → Outcome → Type 0
-ShutdownTurn e (open_in phase my held) tsn o = ShutdownBy e phase my held e.below.transfer tsn o
+ShutdownTurn e (open_in phase my held) tsn o = ShutdownBy e phase my held e.queues.transfer tsn o
 ShutdownTurn e core tsn o = o ≡ shutdown_outcome e core

@@ -9,7 +9,7 @@ use Rattle.dcsctp_spec.specs.endpoint.Event.{Event, error, lifecycle_end}
 use Rattle.dcsctp_spec.specs.Packet.{Emission}
 use Rattle.dcsctp_types.specs.Ids.{lifecycle_number}
 use Rattle.dcsctp_types.specs.queues.Messages.{MessageContent}
-use Rattle.dcsctp_spec.specs.queues.SendQueue.{SendQueueState, stream_of, queued, with_added}
+use Rattle.dcsctp_spec.specs.queues.SendQueue.{SendQueueState, queue_stream, queued, with_added}
 use Rattle.dcsctp_spec.specs.endpoint.Endpoint.{Endpoint, Core, closed, cookie_wait, cookie_echoed, open_in, held_in, OpenPhase, established, shutdown_pending, shutdown_sent, shutdown_received, shutdown_ack_sent}
 use Rattle.dcsctp_spec.specs.endpoint.Outcome.{Outcome, count_up, still, quiet, then_outcome}
 use Rattle.dcsctp_spec.specs.endpoint.FlushOutcomes.{Answer}
@@ -39,7 +39,7 @@ is_shutting_down (open_in phase my held) = is_shutting_in phase
 -- Is the send buffer full, in all or for this stream?
 abbrev pub is_full : Options → SendQueueState → ℕ → Bool
 is_full options queue id =
-    nat_le options.max_send_buffer_size queue.total_amount || nat_le options.per_stream_send_queue_limit (stream_of queue id).amount
+    nat_le options.max_send_buffer_size queue.total_amount || nat_le options.per_stream_send_queue_limit (queue_stream queue id).amount
 
 -- Why a message of that many bytes is refused on this stream: the first of these that holds.
 abbrev pub message_refusal : Endpoint → ℕ → ℕ → Option MessageRefusal
@@ -47,7 +47,7 @@ message_refusal e id bytes =
     if bytes == 0 then Some empty_payload
     else if nat_lt e.options.max_message_size bytes then Some (message_too_large bytes e.options.max_message_size)
     else if is_shutting_down e.core then Some shutting_down
-    else if is_full e.options e.below.queue id then Some resource_exhaustion
+    else if is_full e.options e.queues.queue id then Some resource_exhaustion
     else None
 
 abbrev pub refusal_kind : MessageRefusal → ErrorKind
@@ -56,16 +56,16 @@ refusal_kind (message_too_large bytes limit) = ProtocolViolation
 refusal_kind shutting_down = WrongSequence
 refusal_kind resource_exhaustion = ResourceExhaustion
 
-abbrev pub refusal_text : MessageRefusal → List ℕ
-refusal_text empty_payload = codes "Unable to send empty message"
-refusal_text (message_too_large bytes limit) = codes "Unable to send too large message"
-refusal_text shutting_down = codes "Unable to send message as the socket is shutting down"
-refusal_text resource_exhaustion = codes "Unable to send message as the send queue is full"
+abbrev pub message_refusal_text : MessageRefusal → List ℕ
+message_refusal_text empty_payload = codes "Unable to send empty message"
+message_refusal_text (message_too_large bytes limit) = codes "Unable to send too large message"
+message_refusal_text shutting_down = codes "Unable to send message as the socket is shutting down"
+message_refusal_text resource_exhaustion = codes "Unable to send message as the send queue is full"
 
 -- the events about a message of this name that is refused
 abbrev pub refusal_events : MessageRefusal → Option ℕ → List (Event Emission)
-refusal_events refusal None = error (refusal_kind refusal) (refusal_text refusal) ∷ []
-refusal_events refusal (Some id) = lifecycle_end id ∷ error (refusal_kind refusal) (refusal_text refusal) ∷ []
+refusal_events refusal None = error (refusal_kind refusal) (message_refusal_text refusal) ∷ []
+refusal_events refusal (Some id) = lifecycle_end id ∷ error (refusal_kind refusal) (message_refusal_text refusal) ∷ []
 
 -- ---- what the user sends
 
@@ -82,8 +82,8 @@ abbrev pub sending_refusal : Endpoint → Sending → Option MessageRefusal
 sending_refusal e sending = message_refusal e sending.message.stream (length sending.message.payload)
 
 -- the number of its name
-abbrev pub name_of : Sending → Option ℕ
-name_of sending = option_map lifecycle_number sending.options.lifecycle_id
+abbrev pub lifecycle_name : Sending → Option ℕ
+lifecycle_name sending = option_map lifecycle_number sending.options.lifecycle_id
 
 -- the queue once it was taken at this moment
 abbrev pub sending_queued : ℕ → Sending → SendQueueState → SendQueueState
@@ -94,12 +94,12 @@ abbrev pub message_queued : Endpoint → Sending → Endpoint
 message_queued e message =
     record e {
       counts = record e.counts { messages_queued = count_up e.counts.messages_queued };
-      below = record e.below { queue = sending_queued e.moment message e.below.queue };
+      queues = record e.queues { queue = sending_queued e.moment message e.queues.queue };
     }
 
 abbrev pub queue_by : Endpoint → Sending → Option MessageRefusal → Outcome
 queue_by e message None = still (message_queued e message)
-queue_by e message (Some refusal) = quiet e [] (refusal_events refusal (name_of message))
+queue_by e message (Some refusal) = quiet e [] (refusal_events refusal (lifecycle_name message))
 
 -- The message is taken or refused.
 abbrev pub queue_one : Endpoint → Sending → Outcome

@@ -52,8 +52,8 @@ abbrev pub fits : Endpoint → Emission → Bool
 fits e emission = nat_le (12 + contents_len emission.packet.contents) (packet_size_limit e.options)
 
 -- the endpoint once a packet has gone out
-abbrev pub counted : Endpoint → Endpoint
-counted e = record e { counts = record e.counts { packets_sent = count_up e.counts.packets_sent } }
+abbrev pub packet_counted : Endpoint → Endpoint
+packet_counted e = record e { counts = record e.counts { packets_sent = count_up e.counts.packets_sent } }
 
 -- these words and events, and no packet after them
 abbrev pub quiet : Endpoint → List Word → List (Event Emission) → Outcome
@@ -61,7 +61,7 @@ quiet e words events = record { words = words; effects = []; after = e; events =
 
 -- these words and events, and then a packet
 abbrev pub sends : Endpoint → List Word → List (Event Emission) → Emission → Outcome
-sends e words events emission = record { words = words; effects = []; after = counted e; events = events ++ sent emission ∷ []; following = next_chunk }
+sends e words events emission = record { words = words; effects = []; after = packet_counted e; events = events ++ sent emission ∷ []; following = next_chunk }
 
 -- The words that were drawn, and then a packet, if it fits: one that doesn't is neither emitted nor counted.
 abbrev pub emits : Endpoint → List Word → Emission → Outcome

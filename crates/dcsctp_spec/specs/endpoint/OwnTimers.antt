@@ -20,8 +20,8 @@ pub data OwnTimer : Type 0 where
   reconfiguration : OwnTimer
 
 abbrev pub TimerTurn : Endpoint → OwnTimer → Outcome → Type 0
-TimerTurn e acknowledgement_delay o = o ≡ delay_outcome e e.below.transfer
-TimerTurn e retransmission o = LossTurn e e.below.transfer o
+TimerTurn e acknowledgement_delay o = o ≡ delay_outcome e e.queues.transfer
+TimerTurn e retransmission o = LossTurn e e.queues.transfer o
 TimerTurn e heartbeat_interval o = o ≡ interval_outcome e e.core
 TimerTurn e heartbeat_timeout o = o ≡ timeout_outcome e
 TimerTurn e reconfiguration o = o ≡ reconfiguration_outcome e (held_in e.core) e.outstanding

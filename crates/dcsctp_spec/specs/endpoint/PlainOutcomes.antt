@@ -82,14 +82,14 @@ abbrev pub unknown_report : Endpoint → Held → List ℕ → Emission
 unknown_report e held chunk = to_peer held (plain (unknown_error e chunk))
 
 -- The user is told, and so is the peer, if it is known.
-abbrev pub unknown_told : Endpoint → Core → ℕ → List ℕ → Outcome
-unknown_told e (cookie_echoed my held cookie) type chunk = sends e [] (error ParseFailed (unknown_text type) ∷ []) (unknown_report e held chunk)
-unknown_told e (open_in phase my held) type chunk = sends e [] (error ParseFailed (unknown_text type) ∷ []) (unknown_report e held chunk)
-unknown_told e core type chunk = reports e ParseFailed (unknown_text type)
+abbrev pub unknown_chunk_outcome : Endpoint → Core → ℕ → List ℕ → Outcome
+unknown_chunk_outcome e (cookie_echoed my held cookie) type chunk = sends e [] (error ParseFailed (unknown_text type) ∷ []) (unknown_report e held chunk)
+unknown_chunk_outcome e (open_in phase my held) type chunk = sends e [] (error ParseFailed (unknown_text type) ∷ []) (unknown_report e held chunk)
+unknown_chunk_outcome e core type chunk = reports e ParseFailed (unknown_text type)
 
 abbrev pub unknown_outcome : Endpoint → Core → ℕ → ℕ → List ℕ → Outcome
 unknown_outcome e core type flags value =
-    record (if is_reported type then unknown_told e core type (unknown_bytes type flags value) else still e) { following = after_unknown type }
+    record (if is_reported type then unknown_chunk_outcome e core type (unknown_bytes type flags value) else still e) { following = after_unknown type }
 
 -- ---- an ERROR (RFC 9260, section 3.3.10)
 
@@ -110,9 +110,9 @@ PlainTurnBy e (heartbeat parameters) None o = o ≡ heartbeat_outcome e e.core p
 PlainTurnBy e (heartbeat_ack parameters) None o = o ≡ heartbeat_ack_outcome e (counter_of (info_in parameters))
 PlainTurnBy e (unworked (data_chunk chunk)) None o = DataTurn e (data_arrival chunk) o
 PlainTurnBy e (unworked (i_data_chunk chunk)) None o = DataTurn e (i_data_arrival chunk) o
-PlainTurnBy e (unworked (sack_chunk chunk)) None o = SackTurn e e.below.transfer chunk o
-PlainTurnBy e (unworked (forward_tsn_chunk tsn streams)) None o = ForwardTurn e e.below.transfer tsn (skipped_in streams) o
-PlainTurnBy e (unworked (i_forward_tsn_chunk tsn streams)) None o = ForwardTurn e e.below.transfer tsn (messages_skipped_in streams) o
+PlainTurnBy e (unworked (sack_chunk chunk)) None o = SackTurn e e.queues.transfer chunk o
+PlainTurnBy e (unworked (forward_tsn_chunk tsn streams)) None o = ForwardTurn e e.queues.transfer tsn (skipped_in streams) o
+PlainTurnBy e (unworked (i_forward_tsn_chunk tsn streams)) None o = ForwardTurn e e.queues.transfer tsn (messages_skipped_in streams) o
 PlainTurnBy e (unworked (error_chunk causes)) None o = o ≡ error_outcome e e.core causes
 PlainTurnBy e (unworked chunk) None o = o ≡ still e
 

@@ -27,14 +27,14 @@ reset_refusal e = refusal_by (held_in e.core)
 -- ---- the turn
 
 -- with this queue below
-abbrev pub with_queue : Endpoint → SendQueueState → Endpoint
-with_queue e queue = record e { below = record e.below { queue = queue } }
+abbrev pub endpoint_with_queue : Endpoint → SendQueueState → Endpoint
+endpoint_with_queue e queue = record e { queues = record e.queues { queue = queue } }
 
 -- The streams are prepared, and then what waits is sent.
 pub record PreparesResets (e : Endpoint) (ids : List ℕ) (o : Outcome) : Type 0 where
   pub flushed : Outcome
-  pub flushes : FlushTurn (with_queue e (prepared_all ids e.below.queue)) flushed
-  pub is : o ≡ behind [] (prepare_all_events ids e.below.queue) flushed
+  pub flushes : FlushTurn (endpoint_with_queue e (prepared_all ids e.queues.queue)) flushed
+  pub is : o ≡ behind [] (prepare_all_events ids e.queues.queue) flushed
 
 -- If it is refused, nothing happens.
 abbrev pub OwnResetsWhere : Option ResetRefusal → Endpoint → List ℕ → Outcome → Type 0

@@ -23,16 +23,16 @@ request_emitted e held None reset = still e
 request_emitted e held (Some number) reset = emits e [] (to_peer held (reset_request number reset))
 
 -- The next number takes the place of its number, if the packet fits.
-abbrev pub renewed_where : Bool → Endpoint → Held → ℕ → Content → Outcome
-renewed_where false e held number request = still e
-renewed_where true e held number request =
+abbrev pub renewed_request_where : Bool → Endpoint → Held → ℕ → Content → Outcome
+renewed_request_where false e held number request = still e
+renewed_request_where true e held number request =
     noting (gives_up number ∷ begins held.own_next ∷ []) (sends (record e { core = core_asking e.core }) [] [] (to_peer held request))
 
 abbrev pub request_renewed : Endpoint → Held → Option ℕ → RequestedReset → Outcome
 request_renewed e held None reset = still e
 request_renewed e held (Some number) reset =
     let request : Content = reset_request held.own_next reset in
-    renewed_where (fits e (to_peer held request)) e held number request
+    renewed_request_where (fits e (to_peer held request)) e held number request
 
 -- With `follow_rfc` a request that the peer has answered as in progress (RFC 6525, section 5.2.7) is sent under the next number,
 -- as dcsctp in C++ does: a peer that repeats its answer to a number that it knows may then perform it.

@@ -10,7 +10,7 @@ use Rattle.dcsctp_types.specs.declared.kinds.ErrorKind.TheVariants.{ProtocolViol
 use Rattle.dcsctp_spec.specs.endpoint.Event.{Event, error, incoming_stream_reset, streams_reset_failed, streams_reset_performed}
 use Rattle.dcsctp_spec.specs.Packet.{re_config, Emission}
 use Rattle.dcsctp_spec.specs.Reconfiguration.{RequestedReset, ResetParameter, outgoing_reset_request, incoming_reset_request, reconfiguration_response, other_reset_parameter}
-use Rattle.dcsctp_spec.specs.queues.Reassembly.{deferring, Leaves}
+use Rattle.dcsctp_spec.specs.queues.Reassembly.{deferring, EndsDeferral}
 use Rattle.dcsctp_spec.specs.queues.Tracker.{cumulative_tsn}
 use Rattle.dcsctp_spec.specs.queues.OwnResets.{queue_committed, queue_rolled_back}
 use Rattle.dcsctp_spec.specs.queues.SendQueue.{SendQueueState}
@@ -19,7 +19,7 @@ use Rattle.dcsctp_spec.specs.endpoint.Endpoint.{Endpoint, Core, cookie_echoed, o
 use Rattle.dcsctp_spec.specs.endpoint.Timers.{started}
 use Rattle.dcsctp_spec.specs.endpoint.Outcome.{Outcome, still, quiet, emits, behind, noting, to_peer}
 use Rattle.dcsctp_spec.specs.association.Effect.{Effect, completes, fails, performs}
-use Rattle.dcsctp_spec.specs.association.ResetChanges.{WorkedParameters, work_chunk}
+use Rattle.dcsctp_spec.specs.association.ResetChanges.{HandledParameters, work_chunk}
 use Rattle.dcsctp_spec.specs.endpoint.FlushOutcomes.{Answer, draft_to, flush_of, FlushAnswers}
 use Rattle.dcsctp_spec.specs.queues.Numbers.{is_tsn_beyond}
 use Rattle.dcsctp_spec.specs.endpoint.BegunResets.{reconfiguration_settings, rto_of}
@@ -35,13 +35,13 @@ requested_in (reconfiguration_response number result ∷ parameters) = requested
 requested_in (other_reset_parameter parameter ∷ parameters) = requested_in parameters
 
 -- Was everything received that was sent before the reset was requested? Else it is in progress (RFC 6525, section 5.2.2, E2).
-abbrev pub is_reached : Option Transfer → Option RequestedReset → Bool
-is_reached (Some transfer) (Some reset) = not (is_tsn_beyond reset.last_tsn (cumulative_tsn transfer.tracker))
-is_reached transfer reset = true
+abbrev pub is_request_reached : Option Transfer → Option RequestedReset → Bool
+is_request_reached (Some transfer) (Some reset) = not (is_tsn_beyond reset.last_tsn (cumulative_tsn transfer.tracker))
+is_request_reached transfer reset = true
 
 -- what the parameters of a chunk make of the numbers, and how they are answered
-abbrev pub worked_in : Endpoint → Pair → Held → List ResetParameter → WorkedParameters
-worked_in e my held parameters = work_chunk my (is_reached e.below.transfer (requested_in parameters)) held parameters
+abbrev pub parameters_handled_in : Endpoint → Pair → Held → List ResetParameter → HandledParameters
+parameters_handled_in e my held parameters = work_chunk my (is_request_reached e.queues.transfer (requested_in parameters)) held parameters
 
 -- ---- the peer's request
 
@@ -58,8 +58,8 @@ answers_in_progress (reconfiguration_response number InProgress ∷ answers) = t
 answers_in_progress (answer ∷ answers) = answers_in_progress answers
 
 -- These streams were reset: messages that waited for that may be ready (RFC 6525, section 5.2.2, E4).
-pub record ResetsStreams (streams : List ℕ) (old new : Transfer) : Type 0 where
-  pub reassembly : Leaves streams old.reassembly new.reassembly
+pub record ResetsTransferStreams (streams : List ℕ) (old new : Transfer) : Type 0 where
+  pub reassembly : EndsDeferral streams old.reassembly new.reassembly
   pub rest : new ≡ record old { reassembly = new.reassembly }
 
 -- What comes on them beyond the peer's last TSN waits from now on (RFC 6525, section 5.2.2, E2).
@@ -67,19 +67,19 @@ abbrev pub defers_reset : RequestedReset → Transfer → Transfer
 defers_reset reset transfer = record transfer { reassembly = deferring reset.last_tsn reset.streams transfer.reassembly }
 
 -- by the request, and whether it is performed, or in progress
-abbrev pub ResetsBelow : Bool → Bool → Option RequestedReset → Option Transfer → Option Transfer → Type 0
-ResetsBelow true in_progress (Some reset) (Some old) new = (left : Transfer) × (new ≡ Some left) × ResetsStreams reset.streams old left
-ResetsBelow false true (Some reset) (Some old) new = new ≡ Some (defers_reset reset old)
-ResetsBelow is_performed in_progress reset old new = new ≡ old
+abbrev pub ResetsInQueues : Bool → Bool → Option RequestedReset → Option Transfer → Option Transfer → Type 0
+ResetsInQueues true in_progress (Some reset) (Some old) new = (left : Transfer) × (new ≡ Some left) × ResetsTransferStreams reset.streams old left
+ResetsInQueues false true (Some reset) (Some old) new = new ≡ Some (defers_reset reset old)
+ResetsInQueues is_performed in_progress reset old new = new ≡ old
 
 -- ---- its own request
 
 -- the parameters that are handled: those in front of a second Outgoing SSN Reset Request
-abbrev pub worked_part : Bool → List ResetParameter → List ResetParameter
-worked_part has_worked [] = []
-worked_part true (outgoing_reset_request number answered reset ∷ parameters) = []
-worked_part false (outgoing_reset_request number answered reset ∷ parameters) = outgoing_reset_request number answered reset ∷ worked_part true parameters
-worked_part has_worked (parameter ∷ parameters) = parameter ∷ worked_part has_worked parameters
+abbrev pub handled_part : Bool → List ResetParameter → List ResetParameter
+handled_part has_worked [] = []
+handled_part true (outgoing_reset_request number answered reset ∷ parameters) = []
+handled_part false (outgoing_reset_request number answered reset ∷ parameters) = outgoing_reset_request number answered reset ∷ handled_part true parameters
+handled_part has_worked (parameter ∷ parameters) = parameter ∷ handled_part has_worked parameters
 
 -- does it answer that the request of this number is in progress?
 abbrev pub is_in_progress : ℕ → ResetParameter → Bool
@@ -115,9 +115,9 @@ has_completed [] = false
 has_completed (completes my number ∷ effects) = true
 has_completed (effect ∷ effects) = has_completed effects
 
-abbrev pub answered_in : Held → WorkedParameters → List ResetParameter → OwnAnswer
+abbrev pub answered_in : Held → HandledParameters → List ResetParameter → OwnAnswer
 answered_in held worked parameters =
-    own_answer held.own_outstanding worked.held.own_outstanding (in_progress_among held.own_outstanding (worked_part false parameters)) (has_completed worked.effects)
+    own_answer held.own_outstanding worked.held.own_outstanding (in_progress_among held.own_outstanding (handled_part false parameters)) (has_completed worked.effects)
 
 -- the streams that its own request resets
 abbrev pub own_streams : Option OutstandingRequest → List ℕ
@@ -134,12 +134,12 @@ abbrev pub errors_heeded : Endpoint → ℕ
 errors_heeded e = if e.options.follow_rfc then 0 else e.error_count
 
 -- Its own request has ended, and this waits to be sent.
-abbrev pub own_ended : SendQueueState → Endpoint → Endpoint
-own_ended queue e =
+abbrev pub own_request_ended : SendQueueState → Endpoint → Endpoint
+own_request_ended queue e =
     record e {
       outstanding = None;
       timers = record e.timers { reconfiguration = None };
-      below = record e.below { queue = queue };
+      queues = record e.queues { queue = queue };
       error_count = errors_heeded e;
     }
 
@@ -149,11 +149,11 @@ own_moved unanswered e = e
 own_moved retried e =
     record e {
       outstanding = option_map waiting e.outstanding;
-      timers = record e.timers { reconfiguration = started e.moment (reconfiguration_settings (rto_of e.below.transfer)) };
+      timers = record e.timers { reconfiguration = started e.moment (reconfiguration_settings (rto_of e.queues.transfer)) };
       error_count = errors_heeded e;
     }
-own_moved was_performed e = own_ended (queue_committed e.below.queue) e
-own_moved has_failed e = own_ended (queue_rolled_back e.below.queue) e
+own_moved was_performed e = own_request_ended (queue_committed e.queues.queue) e
+own_moved has_failed e = own_request_ended (queue_rolled_back e.queues.queue) e
 
 -- ---- its outcome
 
@@ -169,8 +169,8 @@ abbrev pub their_streams : Option RequestedReset → List ℕ
 their_streams None = []
 their_streams (Some reset) = reset.streams
 
-abbrev pub told_of : Endpoint → List ResetParameter → List Effect → List (Event Emission)
-told_of e parameters effects = reset_events (their_streams (requested_in parameters)) (own_streams e.outstanding) effects
+abbrev pub reset_events_of : Endpoint → List ResetParameter → List Effect → List (Event Emission)
+reset_events_of e parameters effects = reset_events (their_streams (requested_in parameters)) (own_streams e.outstanding) effects
 
 -- the association with this known of its peer
 abbrev pub core_with : Core → Held → Core
@@ -179,10 +179,10 @@ core_with (open_in phase my old) held = open_in phase my held
 core_with core held = core
 
 -- the endpoint once the parameters were handled, with this below its association
-abbrev pub resets_worked : Endpoint → OwnAnswer → Held → Option Transfer → Endpoint
-resets_worked e answer held left =
+abbrev pub resets_handled : Endpoint → OwnAnswer → Held → Option Transfer → Endpoint
+resets_handled e answer held left =
     let moved : Endpoint = own_moved answer e in
-    record moved { core = core_with e.core held; below = record moved.below { transfer = left } }
+    record moved { core = core_with e.core held; queues = record moved.queues { transfer = left } }
 
 -- why a chunk is an error: it has no parameter, or a second Outgoing SSN Reset Request
 abbrev pub reset_refusal_text : List ResetParameter → List ℕ
@@ -206,20 +206,20 @@ ResponseAnswers true e held responses answers = answers ≡ []
 ResponseAnswers false e held responses answers = FlushAnswers (responses_outcome e held responses).after (draft_to held) answers
 
 -- by what the parameters make of the numbers, and with this below the association
-abbrev pub resets_by : Endpoint → Held → WorkedParameters → List ResetParameter → Option Transfer → List Answer → Outcome
+abbrev pub resets_by : Endpoint → Held → HandledParameters → List ResetParameter → Option Transfer → List Answer → Outcome
 resets_by e held worked parameters left answers =
-    noting worked.effects (responses_by worked.is_refused (resets_worked e (answered_in held worked parameters) worked.held left) (told_of e parameters worked.effects) worked.held parameters worked.answers answers)
+    noting worked.effects (responses_by worked.is_refused (resets_handled e (answered_in held worked parameters) worked.held left) (reset_events_of e parameters worked.effects) worked.held parameters worked.answers answers)
 
 -- Its change is `re_config_change`.
 pub record WorksResets (e : Endpoint) (my : Pair) (held : Held) (parameters : List ResetParameter) (o : Outcome) : Type 0 where
   pub left : Option Transfer
-  pub below : ResetsBelow (has_reset (worked_in e my held parameters).effects) (answers_in_progress (worked_in e my held parameters).answers)
-      (requested_in parameters) e.below.transfer left
+  pub below : ResetsInQueues (has_reset (parameters_handled_in e my held parameters).effects) (answers_in_progress (parameters_handled_in e my held parameters).answers)
+      (requested_in parameters) e.queues.transfer left
   pub answers : List Answer
-  pub allowed : ResponseAnswers (worked_in e my held parameters).is_refused
-      (resets_worked e (answered_in held (worked_in e my held parameters) parameters) (worked_in e my held parameters).held left) (worked_in e my held parameters).held
-      (worked_in e my held parameters).answers answers
-  pub is : o ≡ resets_by e held (worked_in e my held parameters) parameters left answers
+  pub allowed : ResponseAnswers (parameters_handled_in e my held parameters).is_refused
+      (resets_handled e (answered_in held (parameters_handled_in e my held parameters) parameters) (parameters_handled_in e my held parameters).held left) (parameters_handled_in e my held parameters).held
+      (parameters_handled_in e my held parameters).answers answers
+  pub is : o ≡ resets_by e held (parameters_handled_in e my held parameters) parameters left answers
 
 -- A RE-CONFIG with these parameters is received; without a peer nothing happens.
 abbrev pub ResetTurn : Endpoint → Core → List ResetParameter → Outcome → Type 0

@@ -10,7 +10,7 @@ use Rattle.dcsctp_spec.specs.endpoint.Endpoint.{Endpoint, Core, closed, open_in,
 use Rattle.dcsctp_spec.specs.endpoint.Following.{next_chunk}
 use Rattle.dcsctp_spec.specs.endpoint.Outcome.{Outcome, still}
 use Rattle.dcsctp_types.specs.Snapshot.{SendPart, ReceivePart, Snapshot}
-use Rattle.dcsctp_spec.specs.association.Effect.{connects, resumes, link_of}
+use Rattle.dcsctp_spec.specs.association.Effect.{connects, resumes, identity_of}
 use Rattle.dcsctp_spec.specs.association.ResumeChanges.{resumed_held}
 use Rattle.dcsctp_spec.specs.queues.OutstandingParts.{retransmission_restored}
 use Rattle.dcsctp_spec.specs.queues.QueuedParts.{queue_restored}
@@ -47,8 +47,8 @@ held_restored options state =
 -- ---- the transfer layer
 
 -- that of a new association with these pairs and capabilities
-abbrev pub transfer_begun : Options → Snapshot → Transfer
-transfer_begun options state =
+abbrev pub restored_transfer_begun : Options → Snapshot → Transfer
+restored_transfer_begun options state =
     new_transfer options (capabilities_restored options state.capabilities) state.my_initial_tsn state.peer_initial_tsn state.tx.rwnd
 
 -- Was an own request to reset streams begun? The number of the first is that of the own first TSN.
@@ -74,8 +74,8 @@ restored_endpoint e state transfer =
       core = open_in established (own_pair state) (held_restored e.options state);
       tie = state.tie_tag;
       outstanding = None;
-      below = record {
-        queue = queue_restored e.moment state.tx (numbered_for state.capabilities.message_interleaving e.below.queue);
+      queues = record {
+        queue = queue_restored e.moment state.tx (numbered_for state.capabilities.message_interleaving e.queues.queue);
         transfer = Some transfer;
       };
       left = [];
@@ -87,8 +87,8 @@ restored_outcome e state transfer =
     record {
       words = [];
       effects =
-          resumes (link_of (own_pair state) (held_restored e.options state)) state.tx.next_reset_req_sn state.rx.last_completed_reset_req_sn
-          ∷ connects (link_of (own_pair state) (held_restored e.options state))
+          resumes (identity_of (own_pair state) (held_restored e.options state)) state.tx.next_reset_req_sn state.rx.last_completed_reset_req_sn
+          ∷ connects (identity_of (own_pair state) (held_restored e.options state))
           ∷ [];
       after = restored_endpoint e state transfer;
       events = events.connected ∷ [];
@@ -98,5 +98,5 @@ restored_outcome e state transfer =
 -- Only a closed socket is restored.
 abbrev pub RestoreTurn : Endpoint → Core → Snapshot → Outcome → Type 0
 RestoreTurn e closed state o =
-    (transfer : Transfer) × RestoresTransfer e.moment (was_reset state) state.tx state.rx (transfer_begun e.options state) transfer × (o ≡ restored_outcome e state transfer)
+    (transfer : Transfer) × RestoresTransfer e.moment (was_reset state) state.tx state.rx (restored_transfer_begun e.options state) transfer × (o ≡ restored_outcome e state transfer)
 RestoreTurn e core state o = o ≡ still e

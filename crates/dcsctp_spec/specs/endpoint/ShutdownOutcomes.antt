@@ -26,7 +26,7 @@ t2_settings options rto = record { duration = rto; terms = record { backoff = Ex
 
 -- It starts anew, with the present retransmission timeout.
 abbrev pub t2_begun : Endpoint → Endpoint
-t2_begun e = record e { timers = record e.timers { t2 = started e.moment (t2_settings e.options (rto_of e.below.transfer)) } }
+t2_begun e = record e { timers = record e.timers { t2 = started e.moment (t2_settings e.options (rto_of e.queues.transfer)) } }
 
 -- It goes on from the present moment.
 abbrev pub t2_goes_on : Endpoint → Endpoint
@@ -41,7 +41,7 @@ received_tsn (Some transfer) = cumulative_tsn transfer.tracker
 
 -- SHUTDOWN tells it (RFC 9260, section 3.3.8).
 abbrev pub sends_shutdown : Endpoint → Held → Outcome
-sends_shutdown e held = sends e [] [] (to_peer held (shutdown (received_tsn e.below.transfer)))
+sends_shutdown e held = sends e [] [] (to_peer held (shutdown (received_tsn e.queues.transfer)))
 
 abbrev pub sends_shutdown_ack : Endpoint → Held → Outcome
 sends_shutdown_ack e held = sends e [] [] (to_peer held shutdown_ack)
@@ -67,11 +67,11 @@ is_all_acknowledged (Some transfer) = unacknowledged_items transfer.retransmissi
 -- By the RFC a shutdown waits for what is queued, too (RFC 9260, section 9.2): while packets may be sent, and a message waits that
 -- can be.
 abbrev pub waits_for_queue : Endpoint → Bool
-waits_for_queue e = e.options.follow_rfc && (allows_packet e.options.max_burst && waits_at e.moment e.below.queue)
+waits_for_queue e = e.options.follow_rfc && (allows_packet e.options.max_burst && waits_at e.moment e.queues.queue)
 
 -- May a shutdown go on?
 abbrev pub may_go_on : Endpoint → Bool
-may_go_on e = is_all_acknowledged e.below.transfer && not (waits_for_queue e)
+may_go_on e = is_all_acknowledged e.queues.transfer && not (waits_for_queue e)
 
 abbrev pub step_by : Bool → Endpoint → OpenPhase → Pair → Held → Outcome
 step_by true e shutdown_pending my held = shutdown_is_sent e my held
@@ -151,13 +151,13 @@ sent_again_in e shutdown_sent held = sends_shutdown e held
 sent_again_in e shutdown_ack_sent held = sends_shutdown_ack e held
 sent_again_in e phase held = still e
 
-abbrev pub sent_again : Endpoint → Core → Outcome
-sent_again e (open_in phase my held) = sent_again_in e phase held
-sent_again e core = still e
+abbrev pub shutdown_sent_again : Endpoint → Core → Outcome
+shutdown_sent_again e (open_in phase my held) = sent_again_in e phase held
+shutdown_sent_again e core = still e
 
 -- T2 has expired with a restart left: SHUTDOWN or SHUTDOWN ACK is sent again. Its change is `shutdown_again_change`.
 abbrev pub t2_again_outcome : Endpoint → Outcome
-t2_again_outcome e = sent_again (t2_goes_on e) e.core
+t2_again_outcome e = shutdown_sent_again (t2_goes_on e) e.core
 
 -- Data comes while a SHUTDOWN waits for its answer: another one is sent, and T2 starts anew.
 abbrev pub shutdown_repeated : Endpoint → Held → Outcome

@@ -11,7 +11,7 @@ use Rattle.dcsctp_spec.specs.queues.Retransmission.{retransmission_deadline}
 use Rattle.dcsctp_spec.specs.endpoint.HeartbeatOutcomes.{is_exhausted}
 use Rattle.dcsctp_spec.specs.endpoint.OwnTimers.{OwnTimer, acknowledgement_delay, retransmission, heartbeat_interval, heartbeat_timeout, reconfiguration}
 use Rattle.dcsctp_spec.specs.endpoint.Turn.{Input, act_input, timer_expires, time_passes, clock_at}
-use Rattle.dcsctp_spec.specs.endpoint.CallTurns.{Turned, IsTurn, Turns, after_all, words_of, effects_of, events_of}
+use Rattle.dcsctp_spec.specs.endpoint.CallTurns.{Transition, IsTurn, Turns, after_all, words_of, effects_of, events_of}
 
 -- ---- deadlines
 
@@ -31,11 +31,11 @@ timers_in (open_in phase mine held) =
     ∷ own_timer reconfiguration ∷ t2_timer ∷ []
 
 -- Those whose deadlines count. While the COOKIE ECHO isn't answered it is T1 alone.
-abbrev pub timers_told : Core → List Timer
-timers_told closed = []
-timers_told (cookie_wait mine) = t1_timer ∷ []
-timers_told (cookie_echoed mine held cookie) = t1_timer ∷ []
-timers_told (open_in phase mine held) = timers_in (open_in phase mine held)
+abbrev pub timers_counted : Core → List Timer
+timers_counted closed = []
+timers_counted (cookie_wait mine) = t1_timer ∷ []
+timers_counted (cookie_echoed mine held cookie) = t1_timer ∷ []
+timers_counted (open_in phase mine held) = timers_in (open_in phase mine held)
 
 -- when a timer expires next, if it runs
 abbrev pub deadline_of : Option RunningTimer → Option ℕ
@@ -53,8 +53,8 @@ loss_deadline (Some transfer) = retransmission_deadline transfer.retransmission
 
 abbrev pub deadline : Endpoint → Timer → Option ℕ
 deadline e t1_timer = deadline_of e.timers.t1
-deadline e (own_timer acknowledgement_delay) = delay_deadline e.below.transfer
-deadline e (own_timer retransmission) = loss_deadline e.below.transfer
+deadline e (own_timer acknowledgement_delay) = delay_deadline e.queues.transfer
+deadline e (own_timer retransmission) = loss_deadline e.queues.transfer
 deadline e (own_timer heartbeat_interval) = deadline_of e.timers.heartbeat_interval
 deadline e (own_timer heartbeat_timeout) = deadline_of e.timers.heartbeat_timeout
 deadline e (own_timer reconfiguration) = deadline_of e.timers.reconfiguration
@@ -71,7 +71,7 @@ deadlines_of e (timer ∷ timers) = with_deadline (deadline e timer) (deadlines_
 
 -- the running deadlines that count
 abbrev pub deadlines : Endpoint → List ℕ
-deadlines e = deadlines_of e (timers_told e.core)
+deadlines e = deadlines_of e (timers_counted e.core)
 
 -- the least of these
 abbrev pub earliest : ℕ → List ℕ → ℕ
@@ -127,38 +127,38 @@ after_expiries e false = []
 after_expiries e true = inputs_behind e e.core
 
 -- This input has its turn, and then come these.
-abbrev pub FirstThen : (Endpoint → List Turned → Type 0) → Endpoint → Input → List Turned → Type 0
+abbrev pub FirstThen : (Endpoint → List Transition → Type 0) → Endpoint → Input → List Transition → Type 0
 FirstThen Rest e input [] = ⊥
 FirstThen Rest e input (first ∷ turns) = IsTurn e input first × Rest first.outcome.after turns
 
 -- A timer that is due has its turn before these.
-abbrev pub ExpiryThen : Bool → (Bool → Endpoint → List Turned → Type 0) → Endpoint → Bool → Timer → List Turned → Type 0
+abbrev pub ExpiryThen : Bool → (Bool → Endpoint → List Transition → Type 0) → Endpoint → Bool → Timer → List Transition → Type 0
 ExpiryThen true Rest e has_expired timer turns = FirstThen (Rest true) e (expiry_input e timer) turns
 ExpiryThen false Rest e has_expired timer turns = Rest has_expired e turns
 
 -- The turns of the timers that are due, each in the state that it is in at its turn, and what follows them. A flag says whether
 -- one has expired before.
-abbrev pub ExpiryTurns : List Timer → Bool → Endpoint → List Turned → Type 0
+abbrev pub ExpiryTurns : List Timer → Bool → Endpoint → List Transition → Type 0
 ExpiryTurns [] has_expired e turns = Turns e (after_expiries e has_expired) turns
 ExpiryTurns (timer ∷ timers) has_expired e turns =
     ExpiryThen (has_come e.moment (deadline e timer)) (ExpiryTurns timers) e has_expired timer turns
 
 -- All that is due.
-abbrev pub DueTurns : Endpoint → List Turned → Type 0
+abbrev pub DueTurns : Endpoint → List Transition → Type 0
 DueTurns e turns = ExpiryTurns (timers_in e.core) false e turns
 
 -- The clock is moved, and then the timers that are due have their turns.
-abbrev pub MomentTurns : Endpoint → ℕ → List Turned → Type 0
+abbrev pub MomentTurns : Endpoint → ℕ → List Transition → Type 0
 MomentTurns e moment [] = ⊥
 MomentTurns e moment (moved ∷ turns) = IsTurn e (time_passes moment) moved × DueTurns moved.outcome.after turns
 
 -- A moment that isn't earlier than the present one moves the clock; an earlier one changes nothing.
-abbrev pub TimeTurns : Bool → Endpoint → ℕ → List Turned → Type 0
+abbrev pub TimeTurns : Bool → Endpoint → ℕ → List Transition → Type 0
 TimeTurns true e moment turns = MomentTurns e moment turns
 TimeTurns false e moment turns = turns ≡ []
 
 -- `advance_time` is called.
-abbrev pub AdvanceTurns : Endpoint → ℕ → List Turned → Type 0
+abbrev pub AdvanceTurns : Endpoint → ℕ → List Transition → Type 0
 AdvanceTurns e moment turns = TimeTurns (nat_le e.moment moment) e moment turns
 
 -- ---- if nothing is due
@@ -182,7 +182,7 @@ pub record Waits (e : Endpoint) (moment : ℕ) : Type 0 where
   pub next : moment < next_moment e
 
 -- The clock has moved, and nothing else happened.
-pub record MoveClock (e : Endpoint) (moment : ℕ) (turns : List Turned) : Type 0 where
+pub record MoveClock (e : Endpoint) (moment : ℕ) (turns : List Transition) : Type 0 where
   pub endpoint : after_all e turns ≡ clock_at moment e
   pub events : events_of turns ≡ []
   pub words : words_of turns ≡ []
@@ -190,4 +190,4 @@ pub record MoveClock (e : Endpoint) (moment : ℕ) (turns : List Turned) : Type 
 
 -- Time that passes before the next moment only moves the clock.
 abbrev pub TimePassesQuietly : Type 0
-TimePassesQuietly = (e : Endpoint) (moment : ℕ) (turns : List Turned) → AdvanceTurns e moment turns → Waits e moment → MoveClock e moment turns
+TimePassesQuietly = (e : Endpoint) (moment : ℕ) (turns : List Transition) → AdvanceTurns e moment turns → Waits e moment → MoveClock e moment turns

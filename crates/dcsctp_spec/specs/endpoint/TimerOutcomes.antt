@@ -23,8 +23,8 @@ again_by flush e (cookie_wait mine) = emits e [] (init_emission e mine)
 again_by flush e (cookie_echoed mine held cookie) = send_echo_by flush e [] held.peer.tag cookie
 again_by flush e (open_in phase mine held) = still e
 
-abbrev pub again_outcome : Endpoint → Core → Outcome
-again_outcome e core = again_by flush_outcome e core
+abbrev pub phase_again_outcome : Endpoint → Core → Outcome
+phase_again_outcome e core = again_by flush_outcome e core
 
 -- T1 goes on, and the packet is sent. Its change is `t1_again_change`.
 abbrev pub t1_again_by : FlushKind → Endpoint → Core → Outcome

@@ -47,9 +47,9 @@ bounded None wait = wait
 bounded (Some bound) wait = min wait bound
 
 -- May a timer go on that has expired that often?
-abbrev pub goes_on : Option ℕ → ℕ → Bool
-goes_on None expiries = true
-goes_on (Some restarts) expiries = nat_le expiries restarts
+abbrev pub may_restart : Option ℕ → ℕ → Bool
+may_restart None expiries = true
+may_restart (Some restarts) expiries = nat_le expiries restarts
 
 -- how often it has expired, with this time; the count stops at the greatest number of 64 bits
 abbrev pub next_expiries : ℕ → ℕ
@@ -62,12 +62,12 @@ going_on moment timer =
     record timer { deadline = moment_after moment (bounded timer.terms.max_backoff wait); wait = wait; expiries = next_expiries timer.expiries }
 
 -- Its deadline has come: a timer expires at no earlier moment.
-abbrev pub is_due : ℕ → RunningTimer → Bool
-is_due moment timer = nat_le timer.deadline moment
+abbrev pub is_timer_expired : ℕ → RunningTimer → Bool
+is_timer_expired moment timer = nat_le timer.deadline moment
 
 -- Does it go on once it expires?
 abbrev pub is_restarted : RunningTimer → Bool
-is_restarted timer = goes_on timer.terms.max_restarts (next_expiries timer.expiries)
+is_restarted timer = may_restart timer.terms.max_restarts (next_expiries timer.expiries)
 
 -- What is left of a timer that expires at this moment: it goes on, or, if its restarts are used up, it stops.
 abbrev pub expired : ℕ → RunningTimer → Option RunningTimer
@@ -89,9 +89,9 @@ running_deadline (Some timer) = Some timer.deadline
 -- Does it expire at this moment?
 abbrev pub expires_at : ℕ → Option RunningTimer → Bool
 expires_at moment None = false
-expires_at moment (Some timer) = is_due moment timer
+expires_at moment (Some timer) = is_timer_expired moment timer
 
 -- what is left of it once this moment has come
 abbrev pub running_after : ℕ → Option RunningTimer → Option RunningTimer
 running_after moment None = None
-running_after moment (Some timer) = if is_due moment timer then expired moment timer else Some timer
+running_after moment (Some timer) = if is_timer_expired moment timer then expired moment timer else Some timer

@@ -8,7 +8,7 @@ use Rattle.dcsctp_spec.specs.queues.Acknowledging.{AcknowledgesItems}
 use Rattle.dcsctp_spec.specs.queues.Arrivals.{Arrival}
 use Rattle.dcsctp_spec.specs.queues.IncomingStreams.{ChunkModel}
 use Rattle.dcsctp_spec.specs.queues.Reassembly.{ReassemblyState, is_above_watermark, remaining_bytes, AddsData, SkipsData}
-use Rattle.dcsctp_spec.specs.queues.Outstanding.{acknowledged_by}
+use Rattle.dcsctp_spec.specs.queues.Outstanding.{acknowledged_count}
 use Rattle.dcsctp_spec.specs.queues.Retransmission.{RetransmissionState, with_duration, after_expiry}
 use Rattle.dcsctp_spec.specs.queues.RoundTrip.{MeasuresRoundTrip}
 use Rattle.dcsctp_spec.specs.queues.Timeout.{TimeoutState, timeout_after}
@@ -88,7 +88,7 @@ pub record TakesSack (now : ℕ) (sack : SackContent) (old new : Transfer) : Typ
   pub left : RetransmissionState
   pub acknowledges : AcknowledgesItems now sack.cumulative_tsn_ack sack.a_rwnd blocks old.retransmission left
   pub round_trip : Option ℕ
-  pub measures : MeasuresRoundTrip now (acknowledged_by old.retransmission.outstanding sack.cumulative_tsn_ack) blocks old.retransmission.outstanding.items round_trip
+  pub measures : MeasuresRoundTrip now (acknowledged_count old.retransmission.outstanding sack.cumulative_tsn_ack) blocks old.retransmission.outstanding.items round_trip
   pub is : new ≡ timed_by round_trip (record old { retransmission = left })
 
 -- ---- what is lost

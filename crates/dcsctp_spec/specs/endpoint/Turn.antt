@@ -63,10 +63,10 @@ abbrev pub refusal_outcome : Endpoint → List ℕ → Outcome
 refusal_outcome e text = reports e ParseFailed text
 
 -- is there a DATA chunk among these?
-abbrev pub has_data : List Content → Bool
-has_data [] = false
-has_data (plain chunk ∷ contents) = if is_data chunk then true else has_data contents
-has_data (content ∷ contents) = has_data contents
+abbrev pub has_data_chunk : List Content → Bool
+has_data_chunk [] = false
+has_data_chunk (plain chunk ∷ contents) = if is_data chunk then true else has_data_chunk contents
+has_data_chunk (content ∷ contents) = has_data_chunk contents
 
 -- Data that comes while a SHUTDOWN waits for its answer is answered by another, before the chunks (RFC 9260, section 9.2).
 abbrev pub BeginTurn : Endpoint → Core → Bool → Outcome → Type 0
@@ -75,7 +75,7 @@ BeginTurn e core has o = o ≡ still e
 
 -- The end of a packet: what came with it is acknowledged.
 abbrev pub EndTurn : Endpoint → Outcome → Type 0
-EndTurn e o = EndsBy e e.below.transfer o
+EndTurn e o = EndsBy e e.queues.transfer o
 
 -- What a chunk does.
 abbrev pub ContentTurn : Endpoint → ℕ → Content → Outcome → Type 0
@@ -111,14 +111,14 @@ clock_at moment e = record e { moment = moment }
 abbrev pub Turn : Endpoint → Input → Outcome → Type 0
 Turn e arrival o = o ≡ arrival_outcome e
 Turn e (refusal text) o = o ≡ refusal_outcome e text
-Turn e (packet_begins contents) o = BeginTurn e e.core (has_data contents) o
+Turn e (packet_begins contents) o = BeginTurn e e.core (has_data_chunk contents) o
 Turn e (chunk_input tag content) o = ContentTurn e tag content o
 Turn e packet_ends o = EndTurn e o
 Turn e (act_input act) o = ActTurn e act o
 Turn e (user_sets setting) o = o ≡ setting_outcome e setting
 Turn e (user_sends messages) o = SendTurn e messages o
 Turn e (user_resets ids) o = OwnResetsTurn e ids o
-Turn e user_takes o = TakeTurn e e.below.transfer o
+Turn e user_takes o = TakeTurn e e.queues.transfer o
 Turn e (timer_expires timer) o = TimerTurn e timer o
 Turn e (time_passes moment) o = o ≡ still (clock_at moment e)
 Turn e (restores state) o = RestoreTurn e e.core state o

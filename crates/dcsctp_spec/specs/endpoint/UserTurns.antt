@@ -8,11 +8,11 @@ use Rattle.dcsctp_spec.specs.endpoint.Turn.{act_input, user_sets, user_sends, us
 use Rattle.dcsctp_spec.specs.endpoint.MessageOutcomes.{sending_of}
 use Rattle.dcsctp_spec.specs.association.Acts.{connect, shut_down, abort_with}
 use Rattle.dcsctp_spec.specs.endpoint.TimeTurns.{AdvanceTurns}
-use Rattle.dcsctp_spec.specs.endpoint.CallTurns.{Turned, Turns}
+use Rattle.dcsctp_spec.specs.endpoint.CallTurns.{Transition, Turns}
 use Rattle.dcsctp_spec.specs.HandoverInputs.{inputs_of_handover}
 
 -- the outcome of a user's call
-abbrev pub UserTurns : Endpoint → CallContent → List Turned → Type 0
+abbrev pub UserTurns : Endpoint → CallContent → List Transition → Type 0
 UserTurns e connect_call turns = Turns e (act_input connect ∷ []) turns
 UserTurns e close_call turns = Turns e (act_input (abort_with CloseCalled) ∷ []) turns
 UserTurns e shutdown_call turns = Turns e (act_input shut_down ∷ []) turns

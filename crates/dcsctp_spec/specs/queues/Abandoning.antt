@@ -1,7 +1,7 @@
 -- Which messages are abandoned before a FORWARD-TSN (RFC 3758, sections 3.5 and 4.1).
 use Rattle.std.specs.Prelude.{◌≡◌, ◌<◌, ℕ, true, false, Some, List, slice_get}
-use Rattle.dcsctp_spec.specs.queues.Filling.{Stage, GivesUpAt, Steps}
-use Rattle.dcsctp_spec.specs.queues.NextItem.{is_due}
+use Rattle.dcsctp_spec.specs.queues.Filling.{Stage, GivesUpAt, StageSteps}
+use Rattle.dcsctp_spec.specs.queues.NextItem.{is_abandonment_due}
 use Rattle.dcsctp_spec.specs.queues.Items.{Item}
 use Rattle.dcsctp_types.specs.queues.Progress.{is_unacknowledged}
 use Rattle.dcsctp_spec.specs.queues.Retransmission.{RetransmissionState}
@@ -15,7 +15,7 @@ pub record IsDueAt (now place : ℕ) (queue : RetransmissionState) : Type 0 wher
   pub none_awaited : NoneAwaitedBefore place queue.outstanding.items
   pub item : Item
   pub at : slice_get queue.outstanding.items place ≡ Some item
-  pub due : is_due now queue.partial_reliability item ≡ true
+  pub due : is_abandonment_due now queue.partial_reliability item ≡ true
 
 -- No such item is left.
 abbrev pub NoneDue : ℕ → RetransmissionState → Type 0
@@ -29,5 +29,5 @@ pub record GivesUpFirst (now : ℕ) (old new : Stage) : Type 0 where
 
 -- Messages are abandoned one after the other, until none is due.
 pub record GivesUpAll (now : ℕ) (old new : Stage) : Type 0 where
-  pub steps : Steps (GivesUpFirst now) old new
+  pub steps : StageSteps (GivesUpFirst now) old new
   pub none_left : NoneDue now new.queue

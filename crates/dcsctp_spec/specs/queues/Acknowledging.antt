@@ -8,14 +8,14 @@ use Rattle.dcsctp_spec.specs.endpoint.Event.{Event, lifecycle_message_delivered,
 use Rattle.dcsctp_spec.specs.endpoint.Timers.{TimerModel}
 use Rattle.dcsctp_types.specs.queues.Congestion.{after_loss, after_acknowledgement, exit_after}
 use Rattle.dcsctp_spec.specs.queues.Items.{Item, unacknowledged_bytes, unacknowledged_items, never_acknowledged_items, marked_items, changed_between}
-use Rattle.dcsctp_spec.specs.queues.Outstanding.{header, tsn_at, next_tsn, acknowledged_by, reported}
+use Rattle.dcsctp_spec.specs.queues.Outstanding.{header, tsn_at, next_tsn, acknowledged_count, reported}
 use Rattle.dcsctp_types.specs.queues.Progress.{is_abandoned}
-use Rattle.dcsctp_spec.specs.queues.Reports.{IsNewlyAcknowledged, IsLast, MissesUntil}
-use Rattle.dcsctp_spec.specs.queues.Retransmission.{RetransmissionState, outstanding_count, in_flight, with_items, timer_with}
+use Rattle.dcsctp_spec.specs.queues.Reports.{IsNewlyAcknowledged, IsLastPlace, MissesUntil}
+use Rattle.dcsctp_spec.specs.queues.Retransmission.{RetransmissionState, outstanding_count, chunk_bytes_in_flight, with_items, timer_with}
 
 -- Is its cumulative TSN ack neither old nor of a TSN that was never sent (RFC 9260, section 6.2.1)?
 abbrev pub is_sack_valid : RetransmissionState → ℕ → Bool
-is_sack_valid state cumulative = nat_le (acknowledged_by state.outstanding cumulative) (outstanding_count state)
+is_sack_valid state cumulative = nat_le (acknowledged_count state.outstanding cumulative) (outstanding_count state)
 
 -- the items with those acknowledged that the SACK covers: that many first ones and those that its blocks name
 abbrev pub covered : ℕ → List GapAckBlock → List Item → List Item
@@ -37,18 +37,18 @@ missed_until count limit newest state =
     if nat_lt (marked_items state.outstanding.items) (marked_items items) then lossy (with_items items state) else with_items items state
 
 -- what the SACK says for the congestion window: of what was in flight before it, and of the same with what it covers removed
-abbrev pub acknowledgement : ℕ → RetransmissionState → RetransmissionState → Acknowledged
-acknowledgement count old new =
+abbrev pub congestion_acknowledgement : ℕ → RetransmissionState → RetransmissionState → Acknowledged
+congestion_acknowledgement count old new =
     record {
       bytes = unacknowledged_bytes (header old.outstanding) old.outstanding.items - unacknowledged_bytes (header new.outstanding) new.outstanding.items;
       advances = nat_lt 0 count;
-      was_full = nat_le old.congestion.cwnd (in_flight old);
+      was_full = nat_le old.congestion.cwnd (chunk_bytes_in_flight old);
       is_last = unacknowledged_items new.outstanding.items == 0;
     }
 
 -- without that many first items
-abbrev pub without_first : ℕ → RetransmissionState → RetransmissionState
-without_first count state =
+abbrev pub without_first_items : ℕ → RetransmissionState → RetransmissionState
+without_first_items count state =
     record state {
       outstanding = record {
         first_tsn = (state.outstanding.first_tsn + count) % 2 ^ 32;
@@ -64,8 +64,8 @@ grown_by ack state = record state { congestion = after_acknowledgement ack state
 -- The SACK's items are acknowledged; misses count before the place `limit`.
 abbrev pub acknowledged_until : ℕ → List GapAckBlock → ℕ → Option ℕ → RetransmissionState → RetransmissionState
 acknowledged_until count blocks limit newest old =
-    let left = without_first count (missed_until count limit newest (with_items (covered count blocks old.outstanding.items) old)) in
-    grown_by (acknowledgement count old left) left
+    let left = without_first_items count (missed_until count limit newest (with_items (covered count blocks old.outstanding.items) old)) in
+    grown_by (congestion_acknowledgement count old left) left
 
 -- fast recovery may end with this cumulative TSN
 abbrev pub exiting : ℕ → RetransmissionState → RetransmissionState
@@ -77,8 +77,8 @@ abbrev pub rewound : ℕ → TimerModel → TimerModel
 rewound count timer = if nat_lt 0 count then record timer { running = None } else timer
 
 -- The peer's window is this now, and the timer runs while something is outstanding.
-abbrev pub settled_at : ℕ → ℕ → ℕ → RetransmissionState → RetransmissionState
-settled_at now window count state =
+abbrev pub window_settled_at : ℕ → ℕ → ℕ → RetransmissionState → RetransmissionState
+window_settled_at now window count state =
     record state { peer_window = window; timer = timer_with now state.outstanding.items (rewound count state.timer) }
 
 -- Is fast recovery under way, and does the cumulative TSN move?
@@ -89,14 +89,14 @@ is_recovering count state = is_some state.congestion.recovery_exit && nat_lt 0 c
 pub record AcknowledgesItems (now cumulative window : ℕ) (blocks : List GapAckBlock) (old new : RetransmissionState) : Type 0 where
   -- up to where misses count
   pub limit : ℕ
-  pub missing : let count = acknowledged_by old.outstanding cumulative in
+  pub missing : let count = acknowledged_count old.outstanding cumulative in
       MissesUntil (is_recovering count (exiting cumulative old)) count blocks old.outstanding.items limit
   -- the place of the last item that it acknowledges and none before did
   pub newest : Option ℕ
-  pub is_newest : let count = acknowledged_by old.outstanding cumulative in
-      IsLast (IsNewlyAcknowledged count blocks) old.outstanding.items newest
-  pub is : let count = acknowledged_by old.outstanding cumulative in
-      new ≡ settled_at now window count (acknowledged_until count blocks limit (option_map (tsn_at old.outstanding) newest) (exiting cumulative old))
+  pub is_newest : let count = acknowledged_count old.outstanding cumulative in
+      IsLastPlace (IsNewlyAcknowledged count blocks) old.outstanding.items newest
+  pub is : let count = acknowledged_count old.outstanding cumulative in
+      new ≡ window_settled_at now window count (acknowledged_until count blocks limit (option_map (tsn_at old.outstanding) newest) (exiting cumulative old))
 
 -- Does it acknowledge an item that no SACK has acknowledged before? One that was abandoned counts, too: whoever acknowledges a
 -- FORWARD-TSN is there (RFC 9260, section 8.1).
@@ -109,16 +109,16 @@ has_acknowledged old new = nat_lt (never_acknowledged_items new.outstanding.item
 abbrev pub ends_delivery : Item → Bool
 ends_delivery item = item.fragment.is_end && not (is_abandoned item.progress.state)
 
-abbrev pub told_by : {P : Type 0} → Option ℕ → Bool → List (Event P)
-told_by None ends = []
-told_by (Some id) true = lifecycle_message_delivered id ∷ lifecycle_end id ∷ []
-told_by (Some id) false = []
+abbrev pub lifecycle_events_by : {P : Type 0} → Option ℕ → Bool → List (Event P)
+lifecycle_events_by None ends = []
+lifecycle_events_by (Some id) true = lifecycle_message_delivered id ∷ lifecycle_end id ∷ []
+lifecycle_events_by (Some id) false = []
 
 -- what is told once the cumulative TSN passes these
-abbrev pub delivered : {P : Type 0} → List Item → List (Event P)
-delivered [] = []
-delivered (item ∷ items) = told_by item.fragment.lifecycle (ends_delivery item) ++ delivered items
+abbrev pub delivered_events : {P : Type 0} → List Item → List (Event P)
+delivered_events [] = []
+delivered_events (item ∷ items) = lifecycle_events_by item.fragment.lifecycle (ends_delivery item) ++ delivered_events items
 
 -- what is told once the cumulative TSN is this
 abbrev pub delivered_by : {P : Type 0} → ℕ → RetransmissionState → List (Event P)
-delivered_by cumulative state = delivered (take (acknowledged_by state.outstanding cumulative) state.outstanding.items)
+delivered_by cumulative state = delivered_events (take (acknowledged_count state.outstanding cumulative) state.outstanding.items)

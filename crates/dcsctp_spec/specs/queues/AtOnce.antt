@@ -1,8 +1,8 @@
 -- A fast retransmission (RFC 9260, section 7.2.4).
 use Rattle.std.specs.Prelude.{◌≡◌, ◌⊎◌, ◌-◌, ℕ, Bool, true, false, None, List, [], ◌∷◌}
 use Rattle.dcsctp_spec.specs.endpoint.Timers.{TimerModel}
-use Rattle.dcsctp_spec.specs.queues.Filling.{Stage, SendsMarked, Steps}
-use Rattle.dcsctp_spec.specs.queues.NextItem.{is_due, IsNextMarked, WaitsForRoom}
+use Rattle.dcsctp_spec.specs.queues.Filling.{Stage, SendsMarked, StageSteps}
+use Rattle.dcsctp_spec.specs.queues.NextItem.{is_abandonment_due, IsNextMarked, WaitsForRoom}
 use Rattle.dcsctp_spec.specs.queues.Items.{Item, marked_items}
 use Rattle.dcsctp_types.specs.queues.Progress.{is_marked}
 use Rattle.dcsctp_spec.specs.queues.Retransmission.{RetransmissionState, timer_with, counted_again}
@@ -12,7 +12,7 @@ use Rattle.dcsctp_spec.specs.queues.SendQueue.{SendQueueState}
 pub record IsFirstDue (now : ℕ) (queue : RetransmissionState) : Type 0 where
   pub place : ℕ
   pub next : IsNextMarked place queue.outstanding.items
-  pub due : is_due now queue.partial_reliability next.marked.item ≡ true
+  pub due : is_abandonment_due now queue.partial_reliability next.marked.item ≡ true
 
 -- Why no more chunks are sent at once. None waits to be sent again, or the first that does is due to be abandoned or doesn't fit.
 abbrev pub HaltsAtOnce : ℕ → ℕ → RetransmissionState → Type 0
@@ -29,9 +29,9 @@ SendsFirst old new true = (is_first_marked old ≡ true) × (is_first_marked new
 SendsFirst old new false = is_first_marked new ≡ is_first_marked old
 
 -- the timer starts anew if the first item is sent again
-abbrev pub restarted : Bool → TimerModel → TimerModel
-restarted true timer = record timer { running = None }
-restarted false timer = timer
+abbrev pub timer_restarted : Bool → TimerModel → TimerModel
+timer_restarted true timer = record timer { running = None }
+timer_restarted false timer = timer
 
 -- a packet of that many bytes, before anything is in it
 abbrev pub empty_stage : RetransmissionState → SendQueueState → ℕ → Stage
@@ -41,9 +41,9 @@ empty_stage state waiting bytes = record { queue = state; waiting = waiting; tol
 pub record SendsAtOnce (now bytes : ℕ) (waiting : SendQueueState) (old new : RetransmissionState) (tsns : List ℕ) : Type 0 where
   pub resent : RetransmissionState
   pub room : ℕ
-  pub steps : Steps (SendsMarked now) (empty_stage (record old { fast_retransmit_due = false }) waiting bytes) (record (empty_stage resent waiting room) { tsns = tsns })
+  pub steps : StageSteps (SendsMarked now) (empty_stage (record old { fast_retransmit_due = false }) waiting bytes) (record (empty_stage resent waiting room) { tsns = tsns })
   pub halts : HaltsAtOnce now room resent
   pub sends_first : Bool
   pub first : SendsFirst old.outstanding.items resent.outstanding.items sends_first
   pub is : let state = counted_again (bytes - room) resent in
-      new ≡ record state { timer = timer_with now state.outstanding.items (restarted sends_first state.timer) }
+      new ≡ record state { timer = timer_with now state.outstanding.items (timer_restarted sends_first state.timer) }

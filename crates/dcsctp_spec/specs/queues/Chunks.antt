@@ -48,7 +48,7 @@ chunk_said true tsn part = i_data_chunk (i_data_said tsn part)
 chunk_said false tsn part = data_chunk (data_said tsn part)
 
 -- It is the chunk of the item under this TSN.
-pub record IsChunkOf (outstanding : OutstandingState) (tsn : ℕ) (chunk : Plain) : Type 0 where
+pub record IsChunkOfItem (outstanding : OutstandingState) (tsn : ℕ) (chunk : Plain) : Type 0 where
   pub place : ℕ
   pub item : Item
   pub at : slice_get outstanding.items place ≡ Some item
@@ -56,8 +56,8 @@ pub record IsChunkOf (outstanding : OutstandingState) (tsn : ℕ) (chunk : Plain
   pub says : chunk ≡ unworked (chunk_said outstanding.is_interleaved tsn item.fragment)
 
 -- They are the chunks of these TSNs.
-abbrev pub AreChunks : OutstandingState → List ℕ → List Plain → Type 0
-AreChunks outstanding [] [] = Unit {0}
-AreChunks outstanding [] (chunk ∷ chunks) = ⊥
-AreChunks outstanding (tsn ∷ tsns) [] = ⊥
-AreChunks outstanding (tsn ∷ tsns) (chunk ∷ chunks) = IsChunkOf outstanding tsn chunk × AreChunks outstanding tsns chunks
+abbrev pub AreChunksOfTsns : OutstandingState → List ℕ → List Plain → Type 0
+AreChunksOfTsns outstanding [] [] = Unit {0}
+AreChunksOfTsns outstanding [] (chunk ∷ chunks) = ⊥
+AreChunksOfTsns outstanding (tsn ∷ tsns) [] = ⊥
+AreChunksOfTsns outstanding (tsn ∷ tsns) (chunk ∷ chunks) = IsChunkOfItem outstanding tsn chunk × AreChunksOfTsns outstanding tsns chunks

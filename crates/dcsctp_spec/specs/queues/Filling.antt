@@ -3,14 +3,14 @@
 use Rattle.std.specs.Prelude.{◌≡◌, ◌⊎◌, ◌+◌, ◌-◌, ◌*◌, ◌/◌, ◌^◌, ◌<◌, ◌≤◌, min, ℕ, Bool, true, false, Option, None, Some, List, [], ◌∷◌, ◌++◌, length, slice_get}
 use Rattle.dcsctp_types.specs.declared.progress.Change.TheVariants.{SendAgain, Abandon}
 use Rattle.dcsctp_spec.specs.endpoint.Event.{Event, lifecycle_message_maybe_expired, lifecycle_end}
-use Rattle.dcsctp_spec.specs.queues.ItemMessages.{IsMessage, DropsRest}
-use Rattle.dcsctp_spec.specs.queues.Items.{Item, size_of, marked_items, changed_between}
-use Rattle.dcsctp_spec.specs.queues.NextItem.{IsNextMarked, Halts, is_due}
+use Rattle.dcsctp_spec.specs.queues.ItemMessages.{AreMessageItems, DropsRest}
+use Rattle.dcsctp_spec.specs.queues.Items.{Item, item_size, marked_items, changed_between}
+use Rattle.dcsctp_spec.specs.queues.NextItem.{IsNextMarked, Halts, is_abandonment_due}
 use Rattle.dcsctp_spec.specs.queues.Outstanding.{OutstandingState, header, tsn_at, next_tsn}
 use Rattle.dcsctp_types.specs.queues.Progress.{just_sent}
 use Rattle.dcsctp_spec.specs.queues.Retransmission.{RetransmissionState, can_send, with_items, timer_with, counted_again}
 use Rattle.dcsctp_spec.specs.queues.SendQueue.{SendQueueState}
-use Rattle.dcsctp_spec.specs.queues.Sending.{Takes, TakesNone}
+use Rattle.dcsctp_spec.specs.queues.Sending.{TakesFragment, TakesNone}
 
 -- what changes while a packet is filled
 pub record Stage : Type 0 where
@@ -37,9 +37,9 @@ pub record DropsRestAt (now : ℕ) (last : Item) (old new : Stage) : Type 0 wher
   pub is : new ≡ record old { queue = record old.queue { outstanding = outstanding }; waiting = new.waiting; told = new.told }
 
 -- It is told that a message is abandoned which was fully sent; or what waits of it is dropped, if TSNs are left.
-abbrev pub Closes : ℕ → Item → Stage → Stage → Bool → Type 0
-Closes now last old new true = new ≡ record old { told = old.told ++ maybe_expired last.fragment.lifecycle }
-Closes now last old new false =
+abbrev pub ClosesMessage : ℕ → Item → Stage → Stage → Bool → Type 0
+ClosesMessage now last old new true = new ≡ record old { told = old.told ++ maybe_expired last.fragment.lifecycle }
+ClosesMessage now last old new false =
     ((length old.queue.outstanding.items + 1 < 2 ^ 31) × DropsRestAt now last old new)
     ⊎ ((2 ^ 31 ≤ length old.queue.outstanding.items + 1) × (new ≡ old))
 
@@ -47,11 +47,11 @@ Closes now last old new false =
 pub record GivesUpAt (now place : ℕ) (old new : Stage) : Type 0 where
   pub start : ℕ
   pub last_place : ℕ
-  pub message : IsMessage place start (last_place + 1) old.queue.outstanding.items
+  pub message : AreMessageItems place start (last_place + 1) old.queue.outstanding.items
   pub last : Item
   pub at : slice_get old.queue.outstanding.items last_place ≡ Some last
   pub closed : Stage
-  pub closes : Closes now last old closed last.fragment.is_end
+  pub closes : ClosesMessage now last old closed last.fragment.is_end
   pub is : new ≡ record closed { queue = with_items (changed_between Abandon start (last_place + 1) closed.queue.outstanding.items) closed.queue }
 
 -- ---- the steps
@@ -60,19 +60,19 @@ pub record GivesUpAt (now place : ℕ) (old new : Stage) : Type 0 where
 pub record SendsMarked (now : ℕ) (old new : Stage) : Type 0 where
   pub place : ℕ
   pub next : IsNextMarked place old.queue.outstanding.items
-  pub stays : is_due now old.queue.partial_reliability next.marked.item ≡ false
-  pub fits : size_of (header old.queue.outstanding) next.marked.item ≤ old.room
+  pub stays : is_abandonment_due now old.queue.partial_reliability next.marked.item ≡ false
+  pub fits : item_size (header old.queue.outstanding) next.marked.item ≤ old.room
   pub is : new ≡ record old {
     queue = with_items (changed_between (SendAgain (next_tsn old.queue.outstanding)) place (place + 1) old.queue.outstanding.items) old.queue;
     tsns = old.tsns ++ tsn_at old.queue.outstanding place ∷ [];
-    room = old.room - size_of (header old.queue.outstanding) next.marked.item;
+    room = old.room - item_size (header old.queue.outstanding) next.marked.item;
   }
 
 -- The first item that waits to be sent again is due to be abandoned, and is.
 pub record GivesUpMarked (now : ℕ) (old new : Stage) : Type 0 where
   pub place : ℕ
   pub next : IsNextMarked place old.queue.outstanding.items
-  pub due : is_due now old.queue.partial_reliability next.marked.item ≡ true
+  pub due : is_abandonment_due now old.queue.partial_reliability next.marked.item ≡ true
   pub gives_up : GivesUpAt now place old new
 
 -- the greatest payload of a chunk with this header that fits into that much room (RFC 9260, section 3.2)
@@ -80,22 +80,22 @@ abbrev pub payload_room : ℕ → ℕ → ℕ
 payload_room header room = (min room 65532 - header) / 4 * 4
 
 -- It is sent for the first time at this moment.
-pub record IsFresh (now : ℕ) (item : Item) : Type 0 where
+pub record IsSentFirstNow (now : ℕ) (item : Item) : Type 0 where
   pub progress : item.progress ≡ just_sent
   pub sent_at : item.sent_at ≡ now
 
 -- A new item is sent, with what the send queue gives.
 pub record SendsNew (now : ℕ) (old new : Stage) : Type 0 where
   pub item : Item
-  pub is_fresh : IsFresh now item
+  pub is_fresh : IsSentFirstNow now item
   pub begins : item.begins_after_reset ≡ old.queue.reset_begun
-  pub takes : Takes now (payload_room (header old.queue.outstanding) old.room) old.waiting old.told item.fragment new.waiting new.told
+  pub takes : TakesFragment now (payload_room (header old.queue.outstanding) old.room) old.waiting old.told item.fragment new.waiting new.told
   pub is : new ≡ record old {
     queue = record old.queue { outstanding = record old.queue.outstanding { items = old.queue.outstanding.items ++ item ∷ [] }; reset_begun = false };
     waiting = new.waiting;
     told = new.told;
     tsns = old.tsns ++ next_tsn old.queue.outstanding ∷ [];
-    room = old.room - size_of (header old.queue.outstanding) item;
+    room = old.room - item_size (header old.queue.outstanding) item;
   }
 
 -- The send queue gives nothing.
@@ -119,21 +119,21 @@ abbrev pub StepNew : ℕ → Stage → Stage → Type 0
 StepNew now old new = MayAdd old × (SendsNew now old new ⊎ FindsNone now old new)
 
 -- some such steps, one after the other
-pub data Steps (Step : Stage → Stage → Type 0) (old : Stage) : Stage → Type 0 where
-  none : Steps Step old old
-  more : (between new : Stage) → Steps Step old between → Step between new → Steps Step old new
+pub data StageSteps (Step : Stage → Stage → Type 0) (old : Stage) : Stage → Type 0 where
+  none : StageSteps Step old old
+  more : (between new : Stage) → StageSteps Step old between → Step between new → StageSteps Step old new
 
 -- ---- the whole
 
 -- The packet that had that much room is counted, if it has chunks that were sent again.
-abbrev pub counting : ℕ → Stage → Stage
-counting room old = record old { queue = counted_again (room - old.room) old.queue }
+abbrev pub resent_packet_counted : ℕ → Stage → Stage
+resent_packet_counted room old = record old { queue = counted_again (room - old.room) old.queue }
 
 -- First goes what waits to be sent again, and then what is new.
 pub record FillsStage (now : ℕ) (old new : Stage) : Type 0 where
   pub resent : Stage
-  pub again : Steps (StepAgain now) old resent
-  pub anew : Steps (StepNew now) (counting old.room resent) new
+  pub again : StageSteps (StepAgain now) old resent
+  pub anew : StageSteps (StepNew now) (resent_packet_counted old.room resent) new
 
 -- The same, as far as possible: then the timer runs while something is outstanding (RFC 9260, section 6.3.2).
 pub record FillsPacket (now : ℕ) (old new : Stage) : Type 0 where

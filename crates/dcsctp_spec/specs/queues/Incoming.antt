@@ -85,7 +85,7 @@ TakesChunk tsn_number (InterleavedOrdered mid fsn) chunk old new = TakesStreamDa
 TakesChunk tsn_number (InterleavedUnordered mid fsn) chunk old new = TakesStreamData tsn_number chunk old new
 
 -- A chunk with this TSN was received.
-pub record TakesData (tsn : ℕ) (chunk : ChunkModel) (old new : IncomingModel) : Type 0 where
+pub record TakesIncomingChunk (tsn : ℕ) (chunk : ChunkModel) (old new : IncomingModel) : Type 0 where
   pub takes : TakesChunk (number_near old.last_tsn_number tsn) chunk.numbering chunk old new
   pub last : new.last_tsn_number ≡ number_near old.last_tsn_number tsn
 
@@ -152,12 +152,12 @@ pub record ResetsEach (resets : List ℕ) (old new : IncomingModel) : Type 0 whe
   pub unordered : new.unordered ≡ parts_left resets old.unordered
   pub kept : KeepsReady old new
 
-pub record ResetsAll (old new : IncomingModel) : Type 0 where
+pub record ResetsEveryStream (old new : IncomingModel) : Type 0 where
   pub streams : (id : ℕ) → stream_on id new.streams ≡ new_stream id
   pub unordered : new.unordered ≡ []
   pub kept : KeepsReady old new
 
 -- The streams of the list start anew; an empty list names all.
 abbrev pub ResetsStreams : List ℕ → IncomingModel → IncomingModel → Type 0
-ResetsStreams [] old new = ResetsAll old new
+ResetsStreams [] old new = ResetsEveryStream old new
 ResetsStreams (reset ∷ resets) old new = ResetsEach (reset ∷ resets) old new

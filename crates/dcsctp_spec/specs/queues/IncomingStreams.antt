@@ -75,14 +75,14 @@ abbrev pub ready_with : StreamModel → WholeModel → List MessageContent
 ready_with stream whole = delivered_as stream.id whole ∷ deliveries_from (next_after stream.next whole) stream
 
 -- Does a message of this number wait?
-abbrev pub is_waiting : ℕ → List WholeModel → Bool
-is_waiting number [] = false
-is_waiting number (whole ∷ waiting) = (whole.number == number) || is_waiting number waiting
+abbrev pub is_number_waiting : ℕ → List WholeModel → Bool
+is_number_waiting number [] = false
+is_number_waiting number (whole ∷ waiting) = (whole.number == number) || is_number_waiting number waiting
 
 -- Does a message wait, and is the first of them numbered up to this number?
-abbrev pub is_due : ℕ → List WholeModel → Bool
-is_due next [] = false
-is_due next (whole ∷ waiting) = nat_le whole.number next
+abbrev pub is_message_due : ℕ → List WholeModel → Bool
+is_message_due next [] = false
+is_message_due next (whole ∷ waiting) = nat_le whole.number next
 
 -- Is the message, if there is one, numbered below the number, or not?
 abbrev pub NumberedBelow : ℕ → Option WholeModel → Type 0
@@ -94,7 +94,7 @@ NumberedFrom number None = Unit {0}
 NumberedFrom number (Some whole) = number ≤ whole.number
 
 -- Where a number belongs among the messages that wait: the one before is numbered below it, the next one is not.
-pub record IsTurn (at number : ℕ) (waiting : List WholeModel) : Type 0 where
+pub record IsNumberPlace (at number : ℕ) (waiting : List WholeModel) : Type 0 where
   pub within : at ≤ length waiting
   pub before : 0 < at → NumberedBelow number (slice_get waiting (at - 1))
   pub behind : NumberedFrom number (slice_get waiting at)
@@ -102,7 +102,7 @@ pub record IsTurn (at number : ℕ) (waiting : List WholeModel) : Type 0 where
 -- A message waits among others, which keep their order.
 pub record WaitsAmong (whole : WholeModel) (old new : List WholeModel) : Type 0 where
   pub at : ℕ
-  pub turn : IsTurn at whole.number old
+  pub turn : IsNumberPlace at whole.number old
   pub waiting : new ≡ take at old ++ whole ∷ drop at old
 
 -- A whole ordered message: it is next, and becomes ready with those that waited for it; or it waits.
@@ -151,8 +151,8 @@ pub record TakesRepeated (part : PartModel) (old : StreamModel) (before : List M
 
 -- A part of an ordered message, or a whole one, that isn't before the next: does a message of its number wait already?
 pub record TakesAhead (part : PartModel) (old : StreamModel) (before : List MessageContent) (taken : Taken) (new : StreamModel) (after : List MessageContent) : Type 0 where
-  pub repeated : is_waiting part.number old.waiting ≡ true → TakesRepeated part old before taken new after
-  pub fresh : is_waiting part.number old.waiting ≡ false → TakesOrdered part old before taken new after
+  pub repeated : is_number_waiting part.number old.waiting ≡ true → TakesRepeated part old before taken new after
+  pub fresh : is_number_waiting part.number old.waiting ≡ false → TakesOrdered part old before taken new after
 
 -- ---- chunks of data
 
@@ -251,11 +251,11 @@ skip_bytes (Mid id true mid) stream = runs_bytes (runs_up_to (number_near stream
 -- ---- how many bytes they hold
 
 -- what is kept on a stream
-abbrev pub stream_bytes : StreamModel → ℕ
-stream_bytes stream = wholes_bytes stream.waiting + runs_bytes stream.ordered + runs_bytes stream.unordered
+abbrev pub kept_stream_bytes : StreamModel → ℕ
+kept_stream_bytes stream = wholes_bytes stream.waiting + runs_bytes stream.ordered + runs_bytes stream.unordered
 
 abbrev pub streams_bytes : List (ℕ × StreamModel) → ℕ
-streams_bytes streams = sum_by (λ entry. stream_bytes entry.1) streams
+streams_bytes streams = sum_by (λ entry. kept_stream_bytes entry.1) streams
 
 abbrev pub ready_bytes : List MessageContent → ℕ
 ready_bytes messages = sum_by (λ message. length message.payload) messages

@@ -30,8 +30,8 @@ pub record EndsMessage (place end : ℕ) (items : List Item) : Type 0 where
       → (item.fragment.message_id ≡ own.fragment.message_id → ⊥)
 
 -- The items round this place that carry the same message: from `start` to before `end`.
-abbrev pub IsMessage : ℕ → ℕ → ℕ → List Item → Type 0
-IsMessage place start end items = StartsMessage place start items × EndsMessage place end items
+abbrev pub AreMessageItems : ℕ → ℕ → ℕ → List Item → Type 0
+AreMessageItems place start end items = StartsMessage place start items × EndsMessage place end items
 
 -- the end of a message, whose last item is this one so far: it is abandoned, was never sent, and has no payload
 pub record IsEndOf (now : ℕ) (begins : Bool) (last item : Item) : Type 0 where

@@ -3,7 +3,7 @@ use Rattle.std.specs.Prelude.{false, not, ℕ, zero, suc, ◌+◌, ◌*◌, ◌/
 use Rattle.dcsctp_types.specs.declared.progress.Change.{Change}
 use Rattle.dcsctp_types.specs.declared.progress.Progress.{Progress}
 use Rattle.dcsctp_spec.specs.queues.Sending.{Fragment}
-use Rattle.dcsctp_types.specs.queues.Progress.{is_in_flight, is_marked, is_unacknowledged, is_abandoned, changed}
+use Rattle.dcsctp_types.specs.queues.Progress.{is_in_flight, is_marked, is_unacknowledged, is_abandoned, progress_changed}
 
 -- what was sent under one TSN
 pub record Item : Type 0 where
@@ -17,8 +17,8 @@ pub record Item : Type 0 where
   pub begins_after_reset : Bool
 
 -- the number if the test holds, else nothing
-abbrev pub counted : Bool → ℕ → ℕ
-counted test number = if test then number else 0
+abbrev pub number_where : Bool → ℕ → ℕ
+number_where test number = if test then number else 0
 
 -- A payload with its chunk's header and padding (RFC 9260, section 3.2). A chunk's length has 16 bits, so no payload is
 -- above 65,535 bytes.
@@ -26,24 +26,24 @@ abbrev pub chunk_size : ℕ → ℕ → ℕ
 chunk_size header len = header + (min len 65535 + 3) / 4 * 4
 
 -- how long the item's chunk is
-abbrev pub size_of : ℕ → Item → ℕ
-size_of header item = chunk_size header (length item.fragment.payload)
+abbrev pub item_size : ℕ → Item → ℕ
+item_size header item = chunk_size header (length item.fragment.payload)
 
 -- what an item adds to each sum
 abbrev pub in_flight_size : ℕ → Item → ℕ
-in_flight_size header item = counted (is_in_flight item.progress.state) (size_of header item)
+in_flight_size header item = number_where (is_in_flight item.progress.state) (item_size header item)
 
 abbrev pub unacknowledged_size : ℕ → Item → ℕ
-unacknowledged_size header item = counted (is_unacknowledged item.progress.state) (size_of header item)
+unacknowledged_size header item = number_where (is_unacknowledged item.progress.state) (item_size header item)
 
 abbrev pub unacknowledged_count : Item → ℕ
-unacknowledged_count item = counted (is_unacknowledged item.progress.state) 1
+unacknowledged_count item = number_where (is_unacknowledged item.progress.state) 1
 
 abbrev pub never_acknowledged_count : Item → ℕ
-never_acknowledged_count item = counted (not item.progress.was_acknowledged) 1
+never_acknowledged_count item = number_where (not item.progress.was_acknowledged) 1
 
 abbrev pub marked_count : Item → ℕ
-marked_count item = counted (is_marked item.progress.state) 1
+marked_count item = number_where (is_marked item.progress.state) 1
 
 -- the bytes in flight, chunk headers and padding included
 abbrev pub bytes_in_flight : ℕ → List Item → ℕ
@@ -67,7 +67,7 @@ marked_items items = sum_by marked_count items
 
 -- the item after the change
 abbrev pub changed_item : Change → Item → Item
-changed_item change item = record item { progress = changed change item.progress }
+changed_item change item = record item { progress = progress_changed change item.progress }
 
 -- the items, with the change made to those from place `start` to before place `end`
 abbrev pub changed_between : Change → ℕ → ℕ → List Item → List Item

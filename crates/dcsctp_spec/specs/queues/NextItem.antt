@@ -1,7 +1,7 @@
 -- Which item is sent again next, and when no new one can be sent.
 use Rattle.std.specs.Prelude.{◌≡◌, ◌⊎◌, ◌+◌, ◌^◌, ◌<◌, ◌≤◌, ◌&&◌, ◌||◌, nat_lt, nat_le, ℕ, Bool, true, false, Option, None, Some, List, [], length, slice_get}
 use Rattle.dcsctp_types.specs.declared.sending.UnderWay.{UnderWay}
-use Rattle.dcsctp_spec.specs.queues.Items.{Item, size_of, marked_items}
+use Rattle.dcsctp_spec.specs.queues.Items.{Item, item_size, marked_items}
 use Rattle.dcsctp_spec.specs.queues.Outstanding.{OutstandingState, header}
 use Rattle.dcsctp_types.specs.queues.Progress.{is_marked}
 use Rattle.dcsctp_spec.specs.queues.Retransmission.{RetransmissionState, can_send}
@@ -38,8 +38,8 @@ is_over (Some moment) now = nat_lt moment now
 
 -- Is the message of the item to be abandoned, if partial reliability was negotiated? The item was lost, and its message may not
 -- be sent again.
-abbrev pub is_due : ℕ → Bool → Item → Bool
-is_due now negotiated item =
+abbrev pub is_abandonment_due : ℕ → Bool → Item → Bool
+is_abandonment_due now negotiated item =
     negotiated && is_marked item.progress.state
     && (is_used_up item.fragment.max_retransmissions item.progress.times_sent_again || is_over item.fragment.expires_at now)
 
@@ -47,7 +47,7 @@ is_due now negotiated item =
 pub record FirstStays (now : ℕ) (queue : RetransmissionState) : Type 0 where
   pub place : ℕ
   pub next : IsNextMarked place queue.outstanding.items
-  pub stays : is_due now queue.partial_reliability next.marked.item ≡ false
+  pub stays : is_abandonment_due now queue.partial_reliability next.marked.item ≡ false
 
 -- ---- a send queue that gives nothing
 
@@ -57,7 +57,7 @@ pub record HasNone (waiting : SendQueueState) : Type 0 where
   pub none_left : turns_of waiting.streams ≡ []
 
 -- The stream of the message under way has a message.
-pub record GoesOn (streams : List Stream) (under_way : UnderWay) : Type 0 where
+pub record HasMessageUnderWay (streams : List Stream) (under_way : UnderWay) : Type 0 where
   pub place : ℕ
   pub within : place < length streams
   pub is : (stream_at streams place).id ≡ under_way.stream_id.0
@@ -67,7 +67,7 @@ pub record GoesOn (streams : List Stream) (under_way : UnderWay) : Type 0 where
 -- No stream has the message under way. No call leads there.
 abbrev pub IsStuck : Option UnderWay → List Stream → Type 0
 IsStuck None streams = ⊥
-IsStuck (Some under_way) streams = GoesOn streams under_way → ⊥
+IsStuck (Some under_way) streams = HasMessageUnderWay streams under_way → ⊥
 
 -- None can be taken from it.
 abbrev pub GivesNone : SendQueueState → Type 0
@@ -81,7 +81,7 @@ pub record WaitsForRoom (room : ℕ) (outstanding : OutstandingState) : Type 0 w
   pub next : IsNextMarked place outstanding.items
   pub item : Item
   pub at : slice_get outstanding.items place ≡ Some item
-  pub longer : room < size_of (header outstanding) item
+  pub longer : room < item_size (header outstanding) item
 
 -- Why none of the chunks that wait is sent again: the first isn't due to be abandoned, and the windows don't allow it or it doesn't
 -- fit.

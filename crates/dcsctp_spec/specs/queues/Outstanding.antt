@@ -32,8 +32,8 @@ abbrev pub distance_to : OutstandingState → ℕ → ℕ
 distance_to outstanding tsn = (tsn + (2 ^ 32 - outstanding.first_tsn)) % 2 ^ 32
 
 -- how many items the cumulative TSN acknowledges: 0 for the one before the first
-abbrev pub acknowledged_by : OutstandingState → ℕ → ℕ
-acknowledged_by outstanding cumulative = distance_to outstanding ((cumulative + 1) % 2 ^ 32)
+abbrev pub acknowledged_count : OutstandingState → ℕ → ℕ
+acknowledged_count outstanding cumulative = distance_to outstanding ((cumulative + 1) % 2 ^ 32)
 
 -- the items with those acknowledged that the blocks name, from the place `count` on, which is the first TSN after the cumulative
 -- one

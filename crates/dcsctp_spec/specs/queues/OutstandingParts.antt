@@ -9,7 +9,7 @@ use Rattle.dcsctp_types.specs.SnapshotItems.{OutstandingPart}
 use Rattle.dcsctp_spec.specs.queues.Items.{Item}
 use Rattle.dcsctp_spec.specs.queues.Outstanding.{next_tsn}
 use Rattle.dcsctp_types.specs.queues.Progress.{is_marked, is_abandoned}
-use Rattle.dcsctp_spec.specs.queues.QueuedParts.{no_limit, limit_of, name_of}
+use Rattle.dcsctp_spec.specs.queues.QueuedParts.{no_part_limit, limit_in_part, name_in_part}
 use Rattle.dcsctp_spec.specs.queues.Retransmission.{RetransmissionState, timer_with}
 use Rattle.dcsctp_spec.specs.queues.Sending.{Fragment}
 
@@ -30,7 +30,7 @@ outstanding_given now item =
       message_id = item.fragment.message_id;
       lifecycle_id = unwrap_or item.fragment.lifecycle 0;
       expires_in_ms = option_map (millis_ahead now) item.fragment.expires_at;
-      max_retransmissions = unwrap_or item.fragment.max_retransmissions no_limit;
+      max_retransmissions = unwrap_or item.fragment.max_retransmissions no_part_limit;
       retransmission_count = item.progress.times_sent_again;
       time_since_sent_ms = millis_since now item.sent_at;
       acked = item.progress.was_acknowledged;
@@ -78,9 +78,9 @@ fragment_again now part =
       is_beginning = part.is_beginning;
       is_end = part.is_end;
       payload = part.payload;
-      max_retransmissions = limit_of part.max_retransmissions;
+      max_retransmissions = limit_in_part part.max_retransmissions;
       expires_at = option_map (moment_at now) part.expires_in_ms;
-      lifecycle = name_of part.lifecycle_id;
+      lifecycle = name_in_part part.lifecycle_id;
     }
 
 -- Its misses count anew, and each SACK tells of it. `was_reset`: streams were reset before. Which items were sent before that isn't

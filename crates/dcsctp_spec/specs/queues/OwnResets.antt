@@ -5,16 +5,16 @@ use Rattle.dcsctp_spec.specs.endpoint.Event.{Event}
 use Rattle.dcsctp_types.specs.declared.sending.UnderWay.{UnderWay}
 use Rattle.dcsctp_types.specs.declared.sending.Pause.{Pause}
 use Rattle.dcsctp_types.specs.declared.sending.Pause.TheVariants.{Open, Pausing, HandedOut}
-use Rattle.dcsctp_types.specs.queues.SendStreams.{Waiting, Stream, size_of, is_pausing, paused, handed_out, committed, rolled_back}
+use Rattle.dcsctp_types.specs.queues.SendStreams.{Waiting, Stream, payload_size, is_pausing, paused, handed_out, committed, rolled_back}
 use Rattle.dcsctp_spec.specs.queues.SendEvents.{low_events, expiries}
-use Rattle.dcsctp_spec.specs.queues.SendQueue.{SendQueueState, changed, used, stream_of}
+use Rattle.dcsctp_spec.specs.queues.SendQueue.{SendQueueState, stream_changed, used, queue_stream}
 
 -- ---- a stream that is prepared
 
-abbrev pub is_open : Pause → Bool
-is_open Open = true
-is_open Pausing = false
-is_open HandedOut = false
+abbrev pub is_open_pause : Pause → Bool
+is_open_pause Open = true
+is_open_pause Pausing = false
+is_open_pause HandedOut = false
 
 -- is the message under way one of this stream?
 abbrev pub is_under_way : ℕ → Option UnderWay → Bool
@@ -27,10 +27,10 @@ count_under_way id under_way = if is_under_way id under_way then 1 else 0
 
 -- what leaves a stream that is to be reset
 abbrev pub dropped_of : ℕ → SendQueueState → List Waiting
-dropped_of id queue = drop (count_under_way id queue.under_way) (stream_of queue id).messages
+dropped_of id queue = drop (count_under_way id queue.under_way) (queue_stream queue id).messages
 
 abbrev pub dropped_size : ℕ → SendQueueState → ℕ
-dropped_size id queue = min (size_of (dropped_of id queue)) (2 ^ 64 - 1)
+dropped_size id queue = min (payload_size (dropped_of id queue)) (2 ^ 64 - 1)
 
 -- a stream that is to be reset, without that many payload bytes and with that many messages
 abbrev pub prepared_stream : ℕ → ℕ → Stream → Stream
@@ -44,12 +44,12 @@ with_used id queue = record queue { streams = used queue id }
 abbrev pub prepared_open : ℕ → SendQueueState → SendQueueState
 prepared_open id queue =
     record queue {
-      streams = changed id (prepared_stream (dropped_size id queue) (count_under_way id queue.under_way)) queue.streams;
+      streams = stream_changed id (prepared_stream (dropped_size id queue) (count_under_way id queue.under_way)) queue.streams;
       total_amount = queue.total_amount - dropped_size id queue;
     }
 
 abbrev pub prepared_in : ℕ → SendQueueState → SendQueueState
-prepared_in id queue = if is_open (stream_of queue id).pause then prepared_open id queue else queue
+prepared_in id queue = if is_open_pause (queue_stream queue id).pause then prepared_open id queue else queue
 
 -- A stream that isn't paused is prepared to be reset; it counts as used from now on.
 abbrev pub prepared : ℕ → SendQueueState → SendQueueState
@@ -57,8 +57,8 @@ prepared id queue = prepared_in id (with_used id queue)
 
 abbrev pub prepare_events_in : {P : Type 0} → ℕ → SendQueueState → List (Event P)
 prepare_events_in id queue =
-    if is_open (stream_of queue id).pause
-    then low_events (stream_of queue id) queue.total_threshold queue.total_amount (dropped_size id queue) ++ expiries (dropped_of id queue)
+    if is_open_pause (queue_stream queue id).pause
+    then low_events (queue_stream queue id) queue.total_threshold queue.total_amount (dropped_size id queue) ++ expiries (dropped_of id queue)
     else []
 
 abbrev pub prepare_events : {P : Type 0} → ℕ → SendQueueState → List (Event P)
@@ -86,7 +86,7 @@ ready_streams queue = map (λ stream. stream.id) (filter (is_ready queue.under_w
 -- each of these streams is handed out
 abbrev pub handing_out : List ℕ → List Stream → List Stream
 handing_out [] streams = streams
-handing_out (id ∷ ids) streams = handing_out ids (changed id handed_out streams)
+handing_out (id ∷ ids) streams = handing_out ids (stream_changed id handed_out streams)
 
 -- That many of the streams that are ready, the first ones, are handed out. They stay paused, and are no longer ready.
 abbrev pub queue_handing_out : ℕ → SendQueueState → SendQueueState

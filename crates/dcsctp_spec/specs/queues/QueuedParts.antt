@@ -8,21 +8,21 @@ use Rattle.dcsctp_types.specs.Lifetimes.{millis_ahead, moment_at}
 use Rattle.dcsctp_types.specs.Snapshot.{SendPart}
 use Rattle.dcsctp_types.specs.SnapshotItems.{QueuedPart}
 use Rattle.dcsctp_spec.specs.queues.OwnResets.{with_used}
-use Rattle.dcsctp_spec.specs.queues.SendQueue.{SendQueueState, changed, stream_of}
+use Rattle.dcsctp_spec.specs.queues.SendQueue.{SendQueueState, stream_changed, queue_stream}
 use Rattle.dcsctp_types.specs.queues.SendStreams.{Waiting, Stream, front_of, unused}
 
 -- ---- numbers that stand for nothing
 
 -- 65,535 stands for no limit
-abbrev pub no_limit : ℕ
-no_limit = 65535
+abbrev pub no_part_limit : ℕ
+no_part_limit = 65535
 
-abbrev pub limit_of : ℕ → Option ℕ
-limit_of count = if count == no_limit then None else Some count
+abbrev pub limit_in_part : ℕ → Option ℕ
+limit_in_part count = if count == no_part_limit then None else Some count
 
 -- 0 stands for no name
-abbrev pub name_of : ℕ → Option ℕ
-name_of number = if number == 0 then None else Some number
+abbrev pub name_in_part : ℕ → Option ℕ
+name_in_part number = if number == 0 then None else Some number
 
 -- ---- what is given
 
@@ -35,7 +35,7 @@ whole_message now id message =
       payload = message.payload;
       unordered = message.is_unordered;
       expires_in_ms = option_map (millis_ahead now) message.expires_at;
-      max_retransmissions = unwrap_or message.max_retransmissions no_limit;
+      max_retransmissions = unwrap_or message.max_retransmissions no_part_limit;
       lifecycle_id = unwrap_or message.lifecycle 0;
       message_id = message.message_id;
       remaining_offset = 0;
@@ -69,8 +69,8 @@ stream_given stream =
     }
 
 -- The part with the numbers of all streams, and the messages if they are to go along.
-abbrev pub with_queue : ℕ → Bool → SendQueueState → SendPart → SendPart
-with_queue now with_data queue tx =
+abbrev pub part_with_queue : ℕ → Bool → SendQueueState → SendPart → SendPart
+part_with_queue now with_data queue tx =
     record tx {
       next_outgoing_message_id = queue.next_message_id;
       streams = map stream_given queue.streams;
@@ -101,7 +101,7 @@ stream_restored named stream =
 abbrev pub streams_restored : List HandoverOutgoingStream → SendQueueState → SendQueueState
 streams_restored [] queue = queue
 streams_restored (named ∷ rest) queue =
-    streams_restored rest (record (with_used named.id queue) { streams = changed named.id (stream_restored named) (with_used named.id queue).streams })
+    streams_restored rest (record (with_used named.id queue) { streams = stream_changed named.id (stream_restored named) (with_used named.id queue).streams })
 
 -- a message waits again
 abbrev pub waiting_again : ℕ → QueuedPart → Waiting
@@ -111,14 +111,14 @@ waiting_again now part =
       ppid = part.ppid;
       is_unordered = part.unordered;
       payload = part.payload;
-      max_retransmissions = limit_of part.max_retransmissions;
+      max_retransmissions = limit_in_part part.max_retransmissions;
       expires_at = option_map (moment_at now) part.expires_in_ms;
-      lifecycle = name_of part.lifecycle_id;
+      lifecycle = name_in_part part.lifecycle_id;
     }
 
 -- Does it go on where it was? It does if a part of it was sent, it is the first of its stream, and no other goes on.
-abbrev pub goes_on : QueuedPart → SendQueueState → Bool
-goes_on part queue = nat_lt 0 part.remaining_offset && not (is_some queue.under_way) && not (is_some (front_of (stream_of queue part.stream_id).messages))
+abbrev pub is_part_continued : QueuedPart → SendQueueState → Bool
+is_part_continued part queue = nat_lt 0 part.remaining_offset && not (is_some queue.under_way) && not (is_some (front_of (queue_stream queue part.stream_id).messages))
 
 -- how far it has come then
 abbrev pub progress_again : QueuedPart → UnderWay
@@ -139,14 +139,14 @@ with_rest message rest stream =
 abbrev pub with_message_rest : ℕ → QueuedPart → ℕ → SendQueueState → SendQueueState
 with_message_rest now part rest queue =
     record (with_used part.stream_id queue) {
-      streams = changed part.stream_id (with_rest (waiting_again now part) rest) (with_used part.stream_id queue).streams;
+      streams = stream_changed part.stream_id (with_rest (waiting_again now part) rest) (with_used part.stream_id queue).streams;
       total_amount = min (queue.total_amount + rest) (2 ^ 64 - 1);
     }
 
 -- the queue with that message behind the others of its stream
 abbrev pub message_restored : ℕ → QueuedPart → SendQueueState → SendQueueState
 message_restored now part queue =
-    if goes_on part queue
+    if is_part_continued part queue
     then record (with_message_rest now part (length part.payload - part.remaining_offset) queue) { under_way = Some (progress_again part) }
     else with_message_rest now part (length part.payload) queue
 

@@ -24,25 +24,25 @@ pub record Received : Type 0 where
 abbrev pub all_to : ℕ → List TsnRange → Received
 all_to cumulative ranges = record { cumulative = cumulative; ranges = ranges }
 
-abbrev pub run_of : ℕ → ℕ → TsnRange
-run_of first last = record { first = first; last = last }
+abbrev pub tsn_range_of : ℕ → ℕ → TsnRange
+tsn_range_of first last = record { first = first; last = last }
 
 -- A range is put in front of ranges that lie behind it.
 abbrev pub put_before : TsnRange → List TsnRange → List TsnRange
 -- No other range is there.
 put_before range [] = range ∷ []
 -- If the next range begins right after it, the two become one. Else it stands alone.
-put_before range (next ∷ ranges) = cond (next.first == range.last + 1) (run_of range.first next.last ∷ ranges) (range ∷ (next ∷ ranges))
+put_before range (next ∷ ranges) = cond (next.first == range.last + 1) (tsn_range_of range.first next.last ∷ ranges) (range ∷ (next ∷ ranges))
 
 -- A number that is in none of the ranges is put among them.
 abbrev pub put_among : ℕ → List TsnRange → List TsnRange
 -- Behind all of them, it is a range of its own.
-put_among number [] = run_of number number ∷ []
+put_among number [] = tsn_range_of number number ∷ []
 -- If it lies before the first range, it is put in front. If it lies right after that range, it extends it. Else it lies
 -- farther behind.
 put_among number (range ∷ ranges) =
-    cond (nat_lt number range.first) (put_before (run_of number number) (range ∷ ranges))
-    (cond (number == range.last + 1) (put_before (run_of range.first number) ranges)
+    cond (nat_lt number range.first) (put_before (tsn_range_of number number) (range ∷ ranges))
+    (cond (number == range.last + 1) (put_before (tsn_range_of range.first number) ranges)
     (range ∷ put_among number ranges))
 
 -- All up to the number are received, and what is in the ranges.

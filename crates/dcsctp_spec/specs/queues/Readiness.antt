@@ -5,7 +5,7 @@ use Rattle.dcsctp_types.specs.Readiness.{reason_where, send_queue_not_empty, dat
 use Rattle.dcsctp_spec.specs.queues.Incoming.{IncomingModel}
 use Rattle.dcsctp_spec.specs.queues.IncomingStreams.{StreamModel}
 use Rattle.dcsctp_spec.specs.queues.Items.{marked_items}
-use Rattle.dcsctp_spec.specs.queues.OwnResets.{is_open}
+use Rattle.dcsctp_spec.specs.queues.OwnResets.{is_open_pause}
 use Rattle.dcsctp_spec.specs.queues.Reassembly.{ReassemblyState}
 use Rattle.dcsctp_spec.specs.queues.Retransmission.{RetransmissionState, outstanding_count}
 use Rattle.dcsctp_spec.specs.queues.SendQueue.{SendQueueState}
@@ -21,7 +21,7 @@ has_messages stream = is_some (front_of stream.messages)
 
 -- is the stream to be reset, or was its reset requested?
 abbrev pub is_paused : Stream → Bool
-is_paused stream = not (is_open stream.pause)
+is_paused stream = not (is_open_pause stream.pause)
 
 abbrev pub queue_readiness : Bool → SendQueueState → ℕ
 queue_readiness with_data queue =

@@ -9,7 +9,7 @@ use Rattle.dcsctp_types.specs.declared.arrivals.SkippedTo.TheVariants.{Ssn, Mid}
 use Rattle.dcsctp_types.specs.queues.Messages.{MessageContent}
 use Rattle.dcsctp_spec.specs.queues.Numbers.{is_tsn_beyond}
 use Rattle.dcsctp_spec.specs.queues.IncomingStreams.{ChunkModel, skipped_stream}
-use Rattle.dcsctp_spec.specs.queues.Incoming.{MovesOn, ResetsStreams, IncomingModel, SameIncoming, TakesData, nothing, held_bytes}
+use Rattle.dcsctp_spec.specs.queues.Incoming.{MovesOn, ResetsStreams, IncomingModel, SameIncoming, TakesIncomingChunk, nothing, held_bytes}
 
 -- a chunk of a message that waits for the end of a deferred reset, with its TSN
 pub record WaitingModel : Type 0 where
@@ -46,24 +46,24 @@ deferred_bytes None = 0
 deferred_bytes (Some deferral) = sum_by waiting_bytes deferral.waiting
 
 -- how many bytes are held: of messages and parts that were received, and of what waits for the end of a deferred reset
-abbrev pub queued_bytes : ReassemblyState → ℕ
-queued_bytes queue = held_bytes queue.incoming + deferred_bytes queue.deferral
+abbrev pub reassembly_bytes : ReassemblyState → ℕ
+reassembly_bytes queue = held_bytes queue.incoming + deferred_bytes queue.deferral
 
 -- Can the bytes be counted with that many more?
 abbrev pub can_count : ℕ → ReassemblyState → Bool
-can_count size queue = nat_lt (queued_bytes queue + size) (2 ^ 64)
+can_count size queue = nat_lt (reassembly_bytes queue + size) (2 ^ 64)
 
 -- the bytes that are left of the receive window
 abbrev pub remaining_bytes : ReassemblyState → ℕ
-remaining_bytes queue = queue.max_size - queued_bytes queue
+remaining_bytes queue = queue.max_size - reassembly_bytes queue
 
 -- Is nine tenths of the receive window in use, or more? Then data is dropped.
 abbrev pub is_above_watermark : ReassemblyState → Bool
-is_above_watermark queue = nat_le (9 * queue.max_size) (10 * queued_bytes queue)
+is_above_watermark queue = nat_le (9 * queue.max_size) (10 * reassembly_bytes queue)
 
 -- the bytes that are left of nine tenths of it
 abbrev pub bytes_to_watermark : ReassemblyState → ℕ
-bytes_to_watermark queue = (9 * queue.max_size + 9) / 10 - queued_bytes queue
+bytes_to_watermark queue = (9 * queue.max_size + 9) / 10 - reassembly_bytes queue
 
 -- nothing was received yet
 abbrev pub new_reassembly : ℕ → ReassemblyState
@@ -79,9 +79,9 @@ names_stream [] id = true
 names_stream (first ∷ streams) id = list_any (λ stream. stream == id) (first ∷ streams)
 
 -- Does what comes with this TSN on this stream wait for the end of a deferred reset?
-abbrev pub is_deferred : ℕ → ℕ → Option DeferralModel → Bool
-is_deferred tsn id None = false
-is_deferred tsn id (Some deferral) = is_tsn_beyond tsn deferral.last_tsn && names_stream deferral.streams id
+abbrev pub is_data_deferred : ℕ → ℕ → Option DeferralModel → Bool
+is_data_deferred tsn id None = false
+is_data_deferred tsn id (Some deferral) = is_tsn_beyond tsn deferral.last_tsn && names_stream deferral.streams id
 
 abbrev pub is_forward_deferred : ℕ → Option DeferralModel → Bool
 is_forward_deferred tsn None = false
@@ -97,20 +97,20 @@ abbrev pub with_deferred : ℕ → ChunkModel → ReassemblyState → Reassembly
 with_deferred tsn chunk queue = record queue { deferral = with_waiting (record { tsn = tsn; chunk = chunk }) queue.deferral }
 
 -- Data was handled.
-pub record Takes (tsn : ℕ) (chunk : ChunkModel) (old new : ReassemblyState) : Type 0 where
-  pub incoming : TakesData tsn chunk old.incoming new.incoming
+pub record TakesReceivedChunk (tsn : ℕ) (chunk : ChunkModel) (old new : ReassemblyState) : Type 0 where
+  pub incoming : TakesIncomingChunk tsn chunk old.incoming new.incoming
   pub window : new.max_size ≡ old.max_size
   pub deferral : new.deferral ≡ old.deferral
 
 -- Data whose TSN is new is added: it is handled, or it waits for the end of a deferred reset. If its bytes can't be counted it is
 -- dropped.
 pub record AddsData (tsn : ℕ) (chunk : ChunkModel) (old new : ReassemblyState) : Type 0 where
-  pub taken : can_count (length chunk.payload) old ≡ true → is_deferred tsn chunk.stream old.deferral ≡ false → Takes tsn chunk old new
-  pub deferred : can_count (length chunk.payload) old ≡ true → is_deferred tsn chunk.stream old.deferral ≡ true → new ≡ with_deferred tsn chunk old
+  pub taken : can_count (length chunk.payload) old ≡ true → is_data_deferred tsn chunk.stream old.deferral ≡ false → TakesReceivedChunk tsn chunk old new
+  pub deferred : can_count (length chunk.payload) old ≡ true → is_data_deferred tsn chunk.stream old.deferral ≡ true → new ≡ with_deferred tsn chunk old
   pub too_much : can_count (length chunk.payload) old ≡ false → new ≡ old
 
 -- A FORWARD TSN or I-FORWARD-TSN was handled.
-pub record Forwards (tsn : ℕ) (entries : List SkippedTo) (old new : ReassemblyState) : Type 0 where
+pub record HandlesForwardTsn (tsn : ℕ) (entries : List SkippedTo) (old new : ReassemblyState) : Type 0 where
   pub incoming : MovesOn tsn entries old.incoming new.incoming
   pub window : new.max_size ≡ old.max_size
   pub deferral : new.deferral ≡ old.deferral
@@ -151,7 +151,7 @@ pub record ForwardsBeside (tsn : ℕ) (entries : List SkippedTo) (waits : Deferr
 
 -- A FORWARD TSN or I-FORWARD-TSN is handled, or it waits where a reset is deferred.
 pub record SkipsData (tsn : ℕ) (entries : List SkippedTo) (old new : ReassemblyState) : Type 0 where
-  pub moved : is_forward_deferred tsn old.deferral ≡ false → Forwards tsn entries old new
+  pub moved : is_forward_deferred tsn old.deferral ≡ false → HandlesForwardTsn tsn entries old new
   pub deferred : is_forward_deferred tsn old.deferral ≡ true → (waits : DeferralModel) → old.deferral ≡ Some waits → ForwardsBeside tsn entries waits old new
 
 -- the deferral that begins, if there is none
@@ -166,12 +166,12 @@ deferring last_tsn streams queue = record queue { deferral = entered last_tsn st
 -- ---- the end of a deferred reset
 
 -- Data that waited is handled, one chunk or all in turn.
-abbrev pub Handles : WaitingModel → IncomingModel → IncomingModel → Type 0
-Handles one old new = TakesData one.tsn one.chunk old new
+abbrev pub HandlesWaiting : WaitingModel → IncomingModel → IncomingModel → Type 0
+HandlesWaiting one old new = TakesIncomingChunk one.tsn one.chunk old new
 
 abbrev pub HandlesAll : List WaitingModel → IncomingModel → IncomingModel → Type 0
 HandlesAll [] old new = new ≡ old
-HandlesAll (action ∷ actions) old new = (between : IncomingModel) × Handles action old between × HandlesAll actions between new
+HandlesAll (action ∷ actions) old new = (between : IncomingModel) × HandlesWaiting action old between × HandlesAll actions between new
 
 -- Some of it is handled, and the rest waits on.
 pub record HandlesFront (actions : List WaitingModel) (old new : IncomingModel) (left : List WaitingModel) : Type 0 where
@@ -195,7 +195,7 @@ SkipsThen None old new = new ≡ old
 SkipsThen (Some skips) old new = MovesOn skips.tsn (map (λ entry. entry.1) skips.entries) old new
 
 -- The streams are reset, and then all is handled that waited for this: the data, and then what is to be skipped.
-pub record Leaves (streams : List ℕ) (old new : ReassemblyState) : Type 0 where
+pub record EndsDeferral (streams : List ℕ) (old new : ReassemblyState) : Type 0 where
   pub between : IncomingModel
   pub handled : IncomingModel
   pub resets : ResetsStreams streams old.incoming between

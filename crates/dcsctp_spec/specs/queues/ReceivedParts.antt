@@ -11,8 +11,8 @@ use Rattle.dcsctp_spec.specs.queues.Tracker.{TrackerState, cumulative_tsn}
 -- ---- which TSNs were received
 
 -- the part with the last TSN that is acknowledged, and whether data came at all
-abbrev pub with_tracker : TrackerState → ReceivePart → ReceivePart
-with_tracker tracker rx = record rx { seen_packet = tracker.has_seen_data; last_cumulative_acked_tsn = cumulative_tsn tracker }
+abbrev pub part_with_tracker : TrackerState → ReceivePart → ReceivePart
+part_with_tracker tracker rx = record rx { seen_packet = tracker.has_seen_data; last_cumulative_acked_tsn = cumulative_tsn tracker }
 
 -- A tracker that was just made goes on behind that TSN. Nothing is to be acknowledged.
 abbrev pub tracker_restored : ReceivePart → TrackerState → TrackerState

@@ -6,17 +6,17 @@ use Rattle.dcsctp_spec.specs.queues.Items.{Item}
 use Rattle.dcsctp_types.specs.queues.Progress.{is_unacknowledged}
 
 -- the place is from `start` on and before `end`
-abbrev pub IsWithin : ℕ → ℕ → ℕ → Type 0
-IsWithin start end place = (start ≤ place) × (place < end)
+abbrev pub IsPlaceWithin : ℕ → ℕ → ℕ → Type 0
+IsPlaceWithin start end place = (start ≤ place) × (place < end)
 
 -- A block names the item at this place: the one after the cumulative TSN has the offset 1.
-abbrev pub Names : ℕ → List GapAckBlock → ℕ → Type 0
-Names count [] place = ⊥
-Names count (block ∷ blocks) place = ((count + block.start ≤ place + 1) × (place + 1 ≤ count + block.end)) ⊎ Names count blocks place
+abbrev pub NamesItem : ℕ → List GapAckBlock → ℕ → Type 0
+NamesItem count [] place = ⊥
+NamesItem count (block ∷ blocks) place = ((count + block.start ≤ place + 1) × (place + 1 ≤ count + block.end)) ⊎ NamesItem count blocks place
 
 -- The SACK acknowledges the item at this place, and none before did.
 abbrev pub IsNewlyAcknowledged : ℕ → List GapAckBlock → ℕ → Item → Type 0
-IsNewlyAcknowledged count blocks place item = ((place < count) ⊎ Names count blocks place) × (is_unacknowledged item.progress.state ≡ true)
+IsNewlyAcknowledged count blocks place item = ((place < count) ⊎ NamesItem count blocks place) × (is_unacknowledged item.progress.state ≡ true)
 
 -- The item at this place is the last of which that holds.
 pub record IsLastAt (Holds : ℕ → Item → Type 0) (items : List Item) (place : ℕ) : Type 0 where
@@ -26,17 +26,17 @@ pub record IsLastAt (Holds : ℕ → Item → Type 0) (items : List Item) (place
   pub last : (k : ℕ) (other : Item) → place < k → slice_get items k ≡ Some other → Holds k other → ⊥
 
 -- the place of the last item of which that holds; none if it holds of none
-abbrev pub IsLast : (ℕ → Item → Type 0) → List Item → Option ℕ → Type 0
-IsLast Holds items None = (k : ℕ) (item : Item) → slice_get items k ≡ Some item → Holds k item → ⊥
-IsLast Holds items (Some place) = IsLastAt Holds items place
+abbrev pub IsLastPlace : (ℕ → Item → Type 0) → List Item → Option ℕ → Type 0
+IsLastPlace Holds items None = (k : ℕ) (item : Item) → slice_get items k ≡ Some item → Holds k item → ⊥
+IsLastPlace Holds items (Some place) = IsLastAt Holds items place
 
 -- ---- which items are missing (RFC 9260, section 7.2.4)
 
 -- The item at this place shows that those before it are missing, if they are still in flight. A newly acknowledged item does. In
 -- fast recovery, once the cumulative TSN moves, any item does that a block names.
-abbrev pub Shows : Bool → ℕ → List GapAckBlock → ℕ → Item → Type 0
-Shows false count blocks place item = IsNewlyAcknowledged count blocks place item
-Shows true count blocks place item = Names count blocks place
+abbrev pub ShowsMissing : Bool → ℕ → List GapAckBlock → ℕ → Item → Type 0
+ShowsMissing false count blocks place item = IsNewlyAcknowledged count blocks place item
+ShowsMissing true count blocks place item = NamesItem count blocks place
 
 -- An item behind this place shows it.
 pub record IsMissing (recovering : Bool) (count : ℕ) (blocks : List GapAckBlock) (items : List Item) (place : ℕ) : Type 0 where
@@ -44,7 +44,7 @@ pub record IsMissing (recovering : Bool) (count : ℕ) (blocks : List GapAckBloc
   pub item : Item
   pub behind : place < shown_by
   pub at : slice_get items shown_by ≡ Some item
-  pub shows : Shows recovering count blocks shown_by item
+  pub shows : ShowsMissing recovering count blocks shown_by item
 
 -- The places before this one are those that the SACK reports missing.
 abbrev pub MissesUntil : Bool → ℕ → List GapAckBlock → List Item → ℕ → Type 0

@@ -64,12 +64,12 @@ abbrev pub outstanding_count : RetransmissionState → ℕ
 outstanding_count state = length state.outstanding.items
 
 -- what is in flight, chunk headers and padding included
-abbrev pub in_flight : RetransmissionState → ℕ
-in_flight state = bytes_in_flight (header state.outstanding) state.outstanding.items
+abbrev pub chunk_bytes_in_flight : RetransmissionState → ℕ
+chunk_bytes_in_flight state = bytes_in_flight (header state.outstanding) state.outstanding.items
 
 -- what is left of the peer's window
 abbrev pub window_left : RetransmissionState → ℕ
-window_left state = state.peer_window - in_flight state
+window_left state = state.peer_window - chunk_bytes_in_flight state
 
 -- Do lost items wait that are to be sent at once (RFC 9260, section 7.2.4)?
 abbrev pub has_fast_retransmit : RetransmissionState → Bool
@@ -82,7 +82,7 @@ retransmission_deadline state = running_deadline state.timer.running
 -- May data be sent? Yes if less than both windows is in flight. Yes if nothing is: a probe may always go (RFC 9260, section 6.1).
 abbrev pub can_send : RetransmissionState → Bool
 can_send state =
-    (in_flight state == 0) || (nat_lt (in_flight state) state.congestion.cwnd && nat_lt (in_flight state) state.peer_window)
+    (chunk_bytes_in_flight state == 0) || (nat_lt (chunk_bytes_in_flight state) state.congestion.cwnd && nat_lt (chunk_bytes_in_flight state) state.peer_window)
 
 -- ---- moves
 

@@ -3,7 +3,7 @@ use Rattle.std.specs.Prelude.{◌≡◌, ℕ, ◌-◌, ◌==◌, ◌&&◌, not, 
 use Rattle.dcsctp_types.specs.wire.declared.chunk.sack.GapAckBlock.{GapAckBlock}
 use Rattle.dcsctp_spec.specs.queues.Items.{Item}
 use Rattle.dcsctp_types.specs.queues.Progress.{is_marked}
-use Rattle.dcsctp_spec.specs.queues.Reports.{IsNewlyAcknowledged, IsLast}
+use Rattle.dcsctp_spec.specs.queues.Reports.{IsNewlyAcknowledged, IsLastPlace}
 
 -- The round trip of an item that is acknowledged now: none if it was sent again, or was to be.
 abbrev pub round_trip_of : ℕ → Item → Option ℕ
@@ -23,5 +23,5 @@ round_trip_at now items (Some place) = round_trip_of_any now (slice_get items pl
 -- A SACK measures the round trip of the newest item that it acknowledges and none before did.
 pub record MeasuresRoundTrip (now count : ℕ) (blocks : List GapAckBlock) (items : List Item) (round_trip : Option ℕ) : Type 0 where
   pub newest : Option ℕ
-  pub is_newest : IsLast (IsNewlyAcknowledged count blocks) items newest
+  pub is_newest : IsLastPlace (IsNewlyAcknowledged count blocks) items newest
   pub is : round_trip ≡ round_trip_at now items newest

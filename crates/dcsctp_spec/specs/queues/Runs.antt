@@ -62,7 +62,7 @@ StartsBehind place None = Unit {0}
 StartsBehind place (Some run) = place < run.first
 
 -- Where a place belongs among the runs: the run before begins at it or before it, the next one after it.
-pub record IsPlace (at place : ℕ) (runs : List RunModel) : Type 0 where
+pub record IsRunPlace (at place : ℕ) (runs : List RunModel) : Type 0 where
   pub within : at ≤ length runs
   pub before : StartsUpTo place (entry_before at runs)
   pub behind : StartsBehind place (slice_get runs at)
@@ -184,7 +184,7 @@ PassesAlone part old (message_whole message) new = (new ≡ old) × (message ≡
 -- A part was received.
 pub record AddsPart (part : PartModel) (old : List RunModel) (outcome : Assembled) (new : List RunModel) : Type 0 where
   pub at : ℕ
-  pub place : IsPlace at part.place old
+  pub place : IsRunPlace at part.place old
   pub adds : AddsAt at part old outcome new
   pub alone : part.is_beginning ≡ true → part.is_end ≡ true → PassesAlone part old outcome new
 

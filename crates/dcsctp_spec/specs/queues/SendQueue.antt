@@ -8,7 +8,7 @@ use Rattle.dcsctp_types.specs.declared.message.SendOptions.{SendOptions}
 use Rattle.dcsctp_types.specs.Ids.{lifecycle_number}
 use Rattle.dcsctp_types.specs.queues.Messages.{MessageContent}
 use Rattle.dcsctp_types.specs.declared.sending.UnderWay.{UnderWay}
-use Rattle.dcsctp_types.specs.queues.SendStreams.{Waiting, Stream, IsAscending, front_of, is_expired, stream_at, unused, with_message, next_numbers, counted, begun_anew, raised, turn_of}
+use Rattle.dcsctp_types.specs.queues.SendStreams.{Waiting, Stream, IsAscending, front_of, is_expired, stream_at, unused, with_message, next_numbers, stream_counted, begun_anew, amount_raised, turn_of}
 
 -- What waits to be sent, of all streams.
 pub record SendQueueState : Type 0 where
@@ -78,8 +78,8 @@ pub record IsWellFormed (queue : SendQueueState) : Type 0 where
 -- ---- a stream of it
 
 -- the streams, if that of the number is changed
-abbrev pub changed : ℕ → (Stream → Stream) → List Stream → List Stream
-changed id f streams = map (λ stream. if stream.id == id then f stream else stream) streams
+abbrev pub stream_changed : ℕ → (Stream → Stream) → List Stream → List Stream
+stream_changed id f streams = map (λ stream. if stream.id == id then f stream else stream) streams
 
 -- the streams with one more, by its number
 abbrev pub with_stream : Stream → List Stream → List Stream
@@ -100,8 +100,8 @@ abbrev pub found_in : Stream → ℕ → List Stream → Stream
 found_in default id [] = default
 found_in default id (stream ∷ streams) = if stream.id == id then stream else found_in default id streams
 
-abbrev pub stream_of : SendQueueState → ℕ → Stream
-stream_of queue id = found_in (unused id queue.default_priority queue.default_threshold) id queue.streams
+abbrev pub queue_stream : SendQueueState → ℕ → Stream
+queue_stream queue id = found_in (unused id queue.default_priority queue.default_threshold) id queue.streams
 
 abbrev pub with_threshold : ℕ → Stream → Stream
 with_threshold bytes stream = record stream { threshold = bytes }
@@ -128,7 +128,7 @@ queued now message options queue =
 abbrev pub with_added : ℕ → Waiting → SendQueueState → SendQueueState
 with_added id message queue =
     record queue {
-      streams = changed id (with_message message) (used queue id);
+      streams = stream_changed id (with_message message) (used queue id);
       total_amount = min (queue.total_amount + length message.payload) (2 ^ 64 - 1);
       next_message_id = (queue.next_message_id + 1) % 2 ^ 64;
     }
@@ -139,8 +139,8 @@ may_send None streams = list_any (λ stream. is_some (turn_of stream)) streams
 may_send (Some under_way) streams = true
 
 -- Is there data to send: a message under way, or one that may be started? Its age isn't looked at.
-abbrev pub has_data : SendQueueState → Bool
-has_data queue = may_send queue.under_way queue.streams
+abbrev pub has_queued_data : SendQueueState → Bool
+has_queued_data queue = may_send queue.under_way queue.streams
 
 -- Is there a message at this moment whose lifetime isn't over?
 abbrev pub has_live : ℕ → List Waiting → Bool
@@ -159,11 +159,11 @@ is_front_unordered (message ∷ messages) = message.is_unordered
 
 -- the stream, once its oldest message has the next number
 abbrev pub front_counted : Bool → Stream → Stream
-front_counted is_interleaved stream = counted is_interleaved (is_front_unordered stream.messages) stream
+front_counted is_interleaved stream = stream_counted is_interleaved (is_front_unordered stream.messages) stream
 
 -- the message under way, as its stream would number it if it were begun now
-abbrev pub renumbered : UnderWay → Stream → UnderWay
-renumbered under_way stream =
+abbrev pub message_renumbered : UnderWay → Stream → UnderWay
+message_renumbered under_way stream =
     record under_way {
       ssn = (next_numbers (is_front_unordered stream.messages) stream).0;
       mid = (next_numbers (is_front_unordered stream.messages) stream).1;
@@ -174,8 +174,8 @@ abbrev pub numbered_anew : Option UnderWay → SendQueueState → SendQueueState
 numbered_anew None queue = queue
 numbered_anew (Some under_way) queue =
     record queue {
-      streams = changed under_way.stream_id.0 (front_counted queue.is_interleaved) queue.streams;
-      under_way = Some (renumbered under_way (stream_of queue under_way.stream_id.0));
+      streams = stream_changed under_way.stream_id.0 (front_counted queue.is_interleaved) queue.streams;
+      under_way = Some (message_renumbered under_way (queue_stream queue under_way.stream_id.0));
     }
 
 -- is the first another one than the second?
@@ -200,11 +200,11 @@ abbrev pub put_back : Option UnderWay → SendQueueState → SendQueueState
 put_back None queue = queue
 put_back (Some under_way) queue =
     record queue {
-      streams = changed under_way.stream_id.0 (raised under_way.sent) queue.streams;
+      streams = stream_changed under_way.stream_id.0 (amount_raised under_way.sent) queue.streams;
       total_amount = min (queue.total_amount + under_way.sent) (2 ^ 64 - 1);
       under_way = None;
     }
 
 -- ready for another association
-abbrev pub restarted : SendQueueState → SendQueueState
-restarted queue = record (put_back queue.under_way queue) { streams = map begun_anew (put_back queue.under_way queue).streams }
+abbrev pub queue_restarted : SendQueueState → SendQueueState
+queue_restarted queue = record (put_back queue.under_way queue) { streams = map begun_anew (put_back queue.under_way queue).streams }

@@ -2,7 +2,7 @@
 use Rattle.std.specs.Prelude.{◌≡◌, ◌<◌, ℕ, ◌+◌, ◌-◌, ◌^◌, ◌%◌, ◌==◌, min, nat_le, Bool, true, false, Option, None, Some, List, [], ◌++◌, length, take, drop, slice_set, if◌then◌else◌}
 use Rattle.dcsctp_spec.specs.endpoint.Event.{Event}
 use Rattle.dcsctp_types.specs.declared.sending.UnderWay.{UnderWay}
-use Rattle.dcsctp_types.specs.queues.SendStreams.{Waiting, Stream, front_of, is_expired, without_front, next_numbers, counted, served, stream_at, turns_of, IsNext}
+use Rattle.dcsctp_types.specs.queues.SendStreams.{Waiting, Stream, front_of, is_expired, without_front, next_numbers, stream_counted, served, stream_at, turns_of, IsNext}
 use Rattle.dcsctp_spec.specs.queues.SendEvents.{low_events, expiry_events, sent_events}
 use Rattle.dcsctp_spec.specs.queues.SendQueue.{SendQueueState}
 
@@ -80,21 +80,21 @@ abbrev pub next_turn : SendQueueState → ℕ
 next_turn queue = if queue.takes_turns then (queue.turns_taken + 1) % 2 ^ 64 else queue.turns_taken
 
 -- A message of the stream at the place is begun: its numbers are used up, and the stream has had its turn.
-abbrev pub counting : ℕ → Bool → SendQueueState → SendQueueState
-counting place is_unordered queue =
+abbrev pub begun_message_counted : ℕ → Bool → SendQueueState → SendQueueState
+begun_message_counted place is_unordered queue =
     record queue {
-      streams = slice_set queue.streams place (served (next_turn queue) (counted queue.is_interleaved is_unordered (stream_at queue.streams place)));
+      streams = slice_set queue.streams place (served (next_turn queue) (stream_counted queue.is_interleaved is_unordered (stream_at queue.streams place)));
       turns_taken = next_turn queue;
     }
 
 -- It is counted, if it is begun.
-abbrev pub numbered : ℕ → Waiting → UnderWay → SendQueueState → SendQueueState
-numbered place message under_way queue = if under_way.sent == 0 then counting place message.is_unordered queue else queue
+abbrev pub begun_numbered : ℕ → Waiting → UnderWay → SendQueueState → SendQueueState
+begun_numbered place message under_way queue = if under_way.sent == 0 then begun_message_counted place message.is_unordered queue else queue
 
 -- after a fragment of that many bytes that isn't the last
 abbrev pub after_part : ℕ → ℕ → Waiting → UnderWay → SendQueueState → SendQueueState
 after_part place size message under_way queue =
-    record (numbered place message under_way (reduced place size queue)) {
+    record (begun_numbered place message under_way (reduced place size queue)) {
       under_way = Some (record under_way { next_fsn = (under_way.next_fsn + 1) % 2 ^ 32; sent = under_way.sent + size });
     }
 
@@ -104,7 +104,7 @@ part_events place size queue = low_events (stream_at queue.streams place) queue.
 -- after the last fragment
 abbrev pub after_last : ℕ → Waiting → UnderWay → SendQueueState → SendQueueState
 after_last place message under_way queue =
-    record (without_oldest place (numbered place message under_way (reduced place (length message.payload - under_way.sent) queue))) {
+    record (without_oldest place (begun_numbered place message under_way (reduced place (length message.payload - under_way.sent) queue))) {
       under_way = None;
     }
 
@@ -157,7 +157,7 @@ Chooses now old (Some going) queue place message under_way =
     (queue ≡ old) × (under_way ≡ going) × ((stream_at queue.streams place).id ≡ going.stream_id.0)
 
 -- A fragment is taken.
-pub record Takes {P : Type 0} (now max : ℕ) (old : SendQueueState) (told_before : List (Event P)) (part : Fragment) (new : SendQueueState) (told_after : List (Event P)) : Type 0 where
+pub record TakesFragment {P : Type 0} (now max : ℕ) (old : SendQueueState) (told_before : List (Event P)) (part : Fragment) (new : SendQueueState) (told_after : List (Event P)) : Type 0 where
   -- what is left once messages were dropped
   pub queue : SendQueueState
   pub told : List (Event P)
@@ -177,14 +177,14 @@ pub record TakesNone {P : Type 0} (now : ℕ) (old : SendQueueState) (told_befor
   pub drops : DropsAll now old told_before new told_after
   pub none_left : turns_of new.streams ≡ []
 
-abbrev pub TakesNext : {P : Type 0} → ℕ → ℕ → SendQueueState → List (Event P) → Option Fragment → SendQueueState → List (Event P) → Type 0
-TakesNext now max old told_before None new told_after = TakesNone now old told_before new told_after
-TakesNext now max old told_before (Some part) new told_after = Takes now max old told_before part new told_after
+abbrev pub TakesNextFragment : {P : Type 0} → ℕ → ℕ → SendQueueState → List (Event P) → Option Fragment → SendQueueState → List (Event P) → Type 0
+TakesNextFragment now max old told_before None new told_after = TakesNone now old told_before new told_after
+TakesNextFragment now max old told_before (Some part) new told_after = TakesFragment now max old told_before part new told_after
 
 -- ---- a message that is given up
 
 -- The message under way is this one of this stream.
-pub record IsNamed (queue : SendQueueState) (stream message_id : ℕ) : Type 0 where
+pub record IsMessageUnderWay (queue : SendQueueState) (stream message_id : ℕ) : Type 0 where
   pub under_way : UnderWay
   pub goes_on : queue.under_way ≡ Some under_way
   pub place : ℕ
@@ -197,11 +197,11 @@ pub record IsNamed (queue : SendQueueState) (stream message_id : ℕ) : Type 0 w
 
 -- What is left of the message under way is dropped.
 pub record Discards {P : Type 0} (old : SendQueueState) (stream message_id : ℕ) (told_before : List (Event P)) (new : SendQueueState) (told_after : List (Event P)) : Type 0 where
-  pub named : IsNamed old stream message_id
+  pub named : IsMessageUnderWay old stream message_id
   pub left : new ≡ record (without_rest named.place named.under_way.sent named.message old) { under_way = None }
   pub events : told_after ≡ told_before ++ drop_events named.place named.under_way.sent named.message old
 
 abbrev pub DiscardsNamed : {P : Type 0} → SendQueueState → ℕ → ℕ → List (Event P) → Bool → SendQueueState → List (Event P) → Type 0
 DiscardsNamed old stream message_id told_before true new told_after = Discards old stream message_id told_before new told_after
 DiscardsNamed old stream message_id told_before false new told_after =
-    (IsNamed old stream message_id → ⊥) × (new ≡ old) × (told_after ≡ told_before)
+    (IsMessageUnderWay old stream message_id → ⊥) × (new ≡ old) × (told_after ≡ told_before)

@@ -12,8 +12,8 @@ use Rattle.dcsctp_spec.specs.queues.Retransmission.{RetransmissionState}
 -- ---- the row of items that is skipped
 
 -- Was the item at this place abandoned, so that the row goes on? It ends where streams were reset.
-abbrev pub goes_on : ℕ → Item → Bool
-goes_on place item = is_abandoned item.progress.state && ((place == 0) || not item.begins_after_reset)
+abbrev pub is_row_continued : ℕ → Item → Bool
+is_row_continued place item = is_abandoned item.progress.state && ((place == 0) || not item.begins_after_reset)
 
 -- Is the item's message listed? A FORWARD-TSN lists ordered messages alone.
 abbrev pub is_listed : Bool → Item → Bool
@@ -26,14 +26,14 @@ entry_limit interleaving mtu = max ((mtu - 20) / (if interleaving then 8 else 4)
 -- ---- streams
 
 -- Is the one stream the other, among ordered or unordered messages?
-abbrev pub is_same : ℕ → Bool → ℕ → Bool → Bool
-is_same stream unordered other is_unordered = (stream == other) && (if unordered then is_unordered else not is_unordered)
+abbrev pub is_same_stream : ℕ → Bool → ℕ → Bool → Bool
+is_same_stream stream unordered other is_unordered = (stream == other) && (if unordered then is_unordered else not is_unordered)
 
 -- the last of the items on a stream, among ordered or unordered messages
 abbrev pub last_on : ℕ → Bool → List Item → Option Item
 last_on stream unordered [] = None
 last_on stream unordered (item ∷ items) =
-    option_or (last_on stream unordered items) (if is_same stream unordered item.fragment.stream item.fragment.is_unordered then Some item else None)
+    option_or (last_on stream unordered items) (if is_same_stream stream unordered item.fragment.stream item.fragment.is_unordered then Some item else None)
 
 -- the last of those that are listed
 abbrev pub last_listed : Bool → ℕ → Bool → List Item → Option Item
@@ -42,7 +42,7 @@ last_listed interleaving stream unordered row = if interleaving || not unordered
 -- what a list of entries has for a stream
 abbrev pub entry_for : {V : Type 0} → ℕ → Bool → List ((ℕ × Bool) × V) → Option V
 entry_for stream unordered [] = None
-entry_for stream unordered (entry ∷ entries) = if is_same stream unordered entry.0.0 entry.0.1 then Some entry.1 else entry_for stream unordered entries
+entry_for stream unordered (entry ∷ entries) = if is_same_stream stream unordered entry.0.0 entry.0.1 then Some entry.1 else entry_for stream unordered entries
 
 -- No stream has two entries.
 abbrev pub NoneTwice : {V : Type 0} → List ((ℕ × Bool) × V) → Type 0
@@ -52,12 +52,12 @@ NoneTwice (entry ∷ entries) = (entry_for entry.0.0 entry.0.1 entries ≡ None)
 -- ---- which row it is, and its entries
 
 -- the number up to which messages are skipped
-abbrev pub number_of : Bool → Item → ℕ
-number_of interleaving item = if interleaving then item.fragment.mid else item.fragment.ssn
+abbrev pub skipped_number : Bool → Item → ℕ
+skipped_number interleaving item = if interleaving then item.fragment.mid else item.fragment.ssn
 
 -- For each stream on which messages of the row are listed there is one entry, with the number of the last, and no other entry.
 pub record ListsEntries (interleaving : Bool) (row : List Item) (entries : List ((ℕ × Bool) × ℕ)) : Type 0 where
-  pub numbers : (stream : ℕ) (unordered : Bool) → entry_for stream unordered entries ≡ option_map (number_of interleaving) (last_listed interleaving stream unordered row)
+  pub numbers : (stream : ℕ) (unordered : Bool) → entry_for stream unordered entries ≡ option_map (skipped_number interleaving) (last_listed interleaving stream unordered row)
   pub none_twice : NoneTwice entries
 
 -- There is no room for the item's message behind this row, which has that many entries.
@@ -70,12 +70,12 @@ pub record LacksRoom (interleaving : Bool) (limit entries : ℕ) (row : List Ite
 pub record StopsBefore (interleaving : Bool) (limit entries place : ℕ) (items : List Item) : Type 0 where
   pub item : Item
   pub at : slice_get items place ≡ Some item
-  pub why : (goes_on place item ≡ false) ⊎ LacksRoom interleaving limit entries (take place items) item
+  pub why : (is_row_continued place item ≡ false) ⊎ LacksRoom interleaving limit entries (take place items) item
 
 -- that many first items, all of which are skipped; no more can be
-pub record IsRow (interleaving : Bool) (limit entries count : ℕ) (items : List Item) : Type 0 where
+pub record IsSkippedRow (interleaving : Bool) (limit entries count : ℕ) (items : List Item) : Type 0 where
   pub within : count ≤ length items
-  pub each : (place : ℕ) (item : Item) → place < count → slice_get items place ≡ Some item → goes_on place item ≡ true
+  pub each : (place : ℕ) (item : Item) → place < count → slice_get items place ≡ Some item → is_row_continued place item ≡ true
   pub fits : entries ≤ limit
   pub ends : (count ≡ length items) ⊎ StopsBefore interleaving limit entries count items
 
@@ -96,6 +96,6 @@ forward_chunk true tsn entries = i_forward_tsn_chunk tsn (flat_map (entry_bytes 
 pub record SaysForward (state : RetransmissionState) (chunk : ChunkContent) : Type 0 where
   pub count : ℕ
   pub entries : List ((ℕ × Bool) × ℕ)
-  pub row : IsRow state.outstanding.is_interleaved (entry_limit state.outstanding.is_interleaved state.congestion.mtu) (length entries) count state.outstanding.items
+  pub row : IsSkippedRow state.outstanding.is_interleaved (entry_limit state.outstanding.is_interleaved state.congestion.mtu) (length entries) count state.outstanding.items
   pub lists : ListsEntries state.outstanding.is_interleaved (take count state.outstanding.items) entries
   pub is : chunk ≡ forward_chunk state.outstanding.is_interleaved ((state.outstanding.first_tsn + count + (2 ^ 32 - 1)) % 2 ^ 32) entries

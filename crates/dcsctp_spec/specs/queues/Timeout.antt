@@ -38,8 +38,8 @@ new_timeout options =
     }
 
 -- |a - b|
-abbrev pub distance : ℕ → ℕ → ℕ
-distance a b = max a b - min a b
+abbrev pub absolute_difference : ℕ → ℕ → ℕ
+absolute_difference a b = max a b - min a b
 
 -- SRTT with one more round trip: the first as it is, later ones with weight 1/8
 abbrev pub smoothed : Option ℕ → ℕ → ℕ → ℕ
@@ -49,7 +49,7 @@ smoothed (Some variance) srtt rtt = (7 * srtt + rtt) / 8
 -- RTTVAR with one more round trip: half the first, later ones with weight 1/4
 abbrev pub variance_with : Option ℕ → ℕ → ℕ → ℕ
 variance_with None srtt rtt = rtt / 2
-variance_with (Some variance) srtt rtt = (3 * variance + distance srtt rtt) / 4
+variance_with (Some variance) srtt rtt = (3 * variance + absolute_difference srtt rtt) / 4
 
 -- RTO = SRTT + 4 * RTTVAR, raised to the least and then cut to the greatest
 abbrev pub timeout_for : TimeoutBounds → ℕ → ℕ → ℕ

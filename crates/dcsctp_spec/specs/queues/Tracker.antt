@@ -42,14 +42,14 @@ has_received tracker number = is_received tracker.cumulative number tracker.rang
 -- ---- numbers of TSNs
 
 -- how far ahead of the cumulative number a TSN is, modulo 2^32
-abbrev pub distance : ℕ → ℕ → ℕ
-distance cumulative tsn = (tsn + (2 ^ 32 - cumulative % 2 ^ 32)) % 2 ^ 32
+abbrev pub tsn_distance : ℕ → ℕ → ℕ
+tsn_distance cumulative tsn = (tsn + (2 ^ 32 - cumulative % 2 ^ 32)) % 2 ^ 32
 
 -- The number of a TSN by serial number arithmetic (RFC 9260, section 1.6): the nearest to the cumulative one. One half of the
 -- TSNs is after it, the other before.
-abbrev pub number_of : ℕ → ℕ → ℕ
-number_of cumulative tsn =
-    if nat_lt (distance cumulative tsn) (2 ^ 31) then cumulative + distance cumulative tsn else cumulative - (2 ^ 32 - distance cumulative tsn)
+abbrev pub nearest_number : ℕ → ℕ → ℕ
+nearest_number cumulative tsn =
+    if nat_lt (tsn_distance cumulative tsn) (2 ^ 31) then cumulative + tsn_distance cumulative tsn else cumulative - (2 ^ 32 - tsn_distance cumulative tsn)
 
 -- Are there numbers left? No association uses that many TSNs.
 abbrev pub has_numbers_left : ℕ → Bool
@@ -57,7 +57,7 @@ has_numbers_left cumulative = nat_lt cumulative (2 ^ 64 - 2 ^ 32)
 
 -- Is the TSN at most 65,535 ahead?
 abbrev pub is_valid_tsn : ℕ → ℕ → Bool
-is_valid_tsn cumulative tsn = has_numbers_left cumulative && nat_le (number_of cumulative tsn) (cumulative + 65535)
+is_valid_tsn cumulative tsn = has_numbers_left cumulative && nat_le (nearest_number cumulative tsn) (cumulative + 65535)
 
 -- ---- when it is acknowledged
 
@@ -77,11 +77,11 @@ after_arrival Delayed false = Immediate
 after_arrival Immediate false = Immediate
 
 -- Is a SACK due, or may it go along with other chunks?
-abbrev pub is_due : AckState → Bool → Bool
-is_due Idle along = false
-is_due BecomingDelayed along = along
-is_due Delayed along = along
-is_due Immediate along = true
+abbrev pub is_sack_due : AckState → Bool → Bool
+is_sack_due Idle along = false
+is_sack_due BecomingDelayed along = along
+is_sack_due Delayed along = along
+is_sack_due Immediate along = true
 
 -- what a socket's user and the rest of a socket see of it
 abbrev pub cumulative_tsn : TrackerState → ℕ
@@ -93,11 +93,11 @@ delayed_acknowledgement tracker = running_deadline tracker.delay.running
 
 -- Is a SACK due at once?
 abbrev pub is_acknowledgement_due : TrackerState → Bool
-is_acknowledgement_due tracker = is_due tracker.acknowledgement false
+is_acknowledgement_due tracker = is_sack_due tracker.acknowledgement false
 
 -- Was data received that isn't acknowledged yet? Then a SACK may go along with other chunks (RFC 9260, section 6.1).
 abbrev pub owes_acknowledgement : TrackerState → Bool
-owes_acknowledgement tracker = is_due tracker.acknowledgement true
+owes_acknowledgement tracker = is_sack_due tracker.acknowledgement true
 
 abbrev pub stopped : TimerModel → TimerModel
 stopped timer = record timer { running = None }
@@ -135,7 +135,7 @@ with_duplicate tsn false duplicates = if nat_lt (length duplicates) 20 then dupl
 
 -- is the TSN new?
 abbrev pub is_new_tsn : ℕ → TrackerState → Bool
-is_new_tsn tsn tracker = not (has_received tracker (number_of tracker.cumulative tsn))
+is_new_tsn tsn tracker = not (has_received tracker (nearest_number tracker.cumulative tsn))
 
 -- Does data that comes while these ranges are there come into a gap? By the RFC that counts (RFC 9260, section 6.7).
 abbrev pub heeds_gap : Bool → List TsnRange → Bool
@@ -150,7 +150,7 @@ is_urgent is_new immediate tracker ranges =
 -- data with this TSN and I flag was received
 abbrev pub observed : ℕ → Bool → TrackerState → TrackerState
 observed tsn immediate tracker =
-    let left = received (number_of tracker.cumulative tsn) tracker.cumulative tracker.ranges in
+    let left = received (nearest_number tracker.cumulative tsn) tracker.cumulative tracker.ranges in
     let is_new = is_new_tsn tsn tracker in
     record tracker {
       cumulative = left.cumulative;
@@ -163,16 +163,16 @@ observed tsn immediate tracker =
 
 -- Was a later TSN received than this one?
 abbrev pub is_below_highest : ℕ → TrackerState → Bool
-is_below_highest tsn tracker = nat_lt (number_of tracker.cumulative tsn) (highest tracker.cumulative tracker.ranges)
+is_below_highest tsn tracker = nat_lt (nearest_number tracker.cumulative tsn) (highest tracker.cumulative tracker.ranges)
 
 -- Does a FORWARD TSN with this TSN move the cumulative one?
 abbrev pub is_forward : ℕ → ℕ → Bool
-is_forward cumulative tsn = has_numbers_left cumulative && nat_lt cumulative (number_of cumulative tsn)
+is_forward cumulative tsn = has_numbers_left cumulative && nat_lt cumulative (nearest_number cumulative tsn)
 
 -- All up to this TSN count as received.
 abbrev pub moved_forward : ℕ → TrackerState → TrackerState
 moved_forward tsn tracker =
-    let left = forwarded (number_of tracker.cumulative tsn) tracker.cumulative tracker.ranges in
+    let left = forwarded (nearest_number tracker.cumulative tsn) tracker.cumulative tracker.ranges in
     record tracker {
       cumulative = left.cumulative;
       ranges = left.ranges;
@@ -212,8 +212,8 @@ abbrev pub all_acknowledged : TrackerState → TrackerState
 all_acknowledged tracker = record tracker { acknowledgement = Idle; delay = stopped tracker.delay }
 
 -- asked for an acknowledgement, which may go along with other chunks
-abbrev pub acknowledged : Bool → TrackerState → TrackerState
-acknowledged along tracker = if is_due tracker.acknowledgement along then all_acknowledged tracker else tracker
+abbrev pub acknowledgement_asked : Bool → TrackerState → TrackerState
+acknowledgement_asked along tracker = if is_sack_due tracker.acknowledgement along then all_acknowledged tracker else tracker
 
 -- a moment has come
 abbrev pub after_moment : ℕ → TrackerState → TrackerState

@@ -7,7 +7,7 @@ use Rattle.dcsctp_spec.specs.queues.Outstanding.{next_tsn}
 use Rattle.dcsctp_spec.specs.queues.OwnResets.{ready_streams}
 use Rattle.dcsctp_spec.specs.queues.Reassembly.{ReassemblyState, new_reassembly, remaining_bytes, bytes_to_watermark}
 use Rattle.dcsctp_spec.specs.queues.Retransmission.{RetransmissionState, new_retransmission, outstanding_count, can_send}
-use Rattle.dcsctp_spec.specs.queues.SendQueue.{SendQueueState, empty_queue, has_data}
+use Rattle.dcsctp_spec.specs.queues.SendQueue.{SendQueueState, empty_queue, has_queued_data}
 use Rattle.dcsctp_spec.specs.queues.Timeout.{TimeoutState, new_timeout}
 use Rattle.dcsctp_spec.specs.queues.Tracker.{TrackerState, new_tracker, owes_acknowledgement, is_acknowledgement_due}
 
@@ -28,8 +28,8 @@ new_transfer options capabilities first_tsn peer_first_tsn window =
     }
 
 -- What a SACK says is left of the receive window. By the RFC it is what is left for new data.
-abbrev pub window_told : Transfer → ℕ
-window_told transfer = if transfer.tracker.follows_rfc then bytes_to_watermark transfer.reassembly else remaining_bytes transfer.reassembly
+abbrev pub advertised_window : Transfer → ℕ
+advertised_window transfer = if transfer.tracker.follows_rfc then bytes_to_watermark transfer.reassembly else remaining_bytes transfer.reassembly
 
 -- the TSN that is sent next, if there is an association
 abbrev pub next_tsn_of : Option Transfer → ℕ
@@ -38,14 +38,14 @@ next_tsn_of (Some transfer) = next_tsn transfer.retransmission.outstanding
 
 -- ---- both
 
-pub record Below : Type 0 where
+pub record EndpointQueues : Type 0 where
   pub queue : SendQueueState
   -- None: the peer isn't known
   pub transfer : Option Transfer
 
 -- May data be sent: what waits to be sent again, or a message if the windows allow more?
 abbrev pub may_give : SendQueueState → RetransmissionState → Bool
-may_give queue state = nat_lt 0 (marked_items state.outstanding.items) || (has_data queue && can_send state)
+may_give queue state = nat_lt 0 (marked_items state.outstanding.items) || (has_queued_data queue && can_send state)
 
 -- is no stream to be reset?
 abbrev pub is_none_ready : List ℕ → Bool
@@ -55,9 +55,9 @@ is_none_ready (stream ∷ streams) = false
 -- Nothing waits, nothing is in flight, nothing is to be acknowledged, and no stream is to be reset.
 abbrev pub is_idle : SendQueueState → Transfer → Bool
 is_idle queue transfer =
-    not (has_data queue) && is_none_ready (ready_streams queue) && outstanding_count transfer.retransmission == 0
+    not (has_queued_data queue) && is_none_ready (ready_streams queue) && outstanding_count transfer.retransmission == 0
     && not (owes_acknowledgement transfer.tracker) && not (is_acknowledgement_due transfer.tracker)
 
 -- as it is before any association or message
-abbrev pub nothing_below : Options → Below
-nothing_below options = record { queue = empty_queue options; transfer = None }
+abbrev pub empty_queues : Options → EndpointQueues
+empty_queues options = record { queue = empty_queue options; transfer = None }

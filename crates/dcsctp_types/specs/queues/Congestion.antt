@@ -6,19 +6,19 @@ use Rattle.dcsctp_types.specs.declared.congestion.Acknowledged.{Acknowledged}
 use Rattle.dcsctp_types.specs.declared.congestion.CongestionControl.{CongestionControl}
 
 -- no greater than a number of 64 bits can be
-abbrev pub capped : ℕ → ℕ
-capped size = min size (2 ^ 64 - 1)
+abbrev pub capped_u64 : ℕ → ℕ
+capped_u64 size = min size (2 ^ 64 - 1)
 
 -- Nothing was sent yet: the threshold is the peer's window (section 7.2.1).
 abbrev pub new_congestion : Options → ℕ → CongestionControl
 new_congestion options window =
     record {
-      cwnd = capped (options.cwnd_mtus_initial * options.mtu);
+      cwnd = capped_u64 (options.cwnd_mtus_initial * options.mtu);
       ssthresh = window;
       partial_bytes_acked = 0;
       recovery_exit = None;
       mtu = options.mtu;
-      least_ssthresh = capped (options.cwnd_mtus_min * options.mtu);
+      least_ssthresh = capped_u64 (options.cwnd_mtus_min * options.mtu);
     }
 
 -- the slow start threshold after a loss (section 7.2.3)
@@ -58,26 +58,26 @@ exit_after cumulative (Some exit) = if is_passed cumulative exit then None else 
 -- slow start (section 7.2.1): by what was acknowledged, at most one MTU
 abbrev pub slow_start : Acknowledged → CongestionControl → CongestionControl
 slow_start ack control =
-    if ack.advances then (if ack.was_full then record control { cwnd = capped (control.cwnd + min ack.bytes control.mtu) } else control) else control
+    if ack.advances then (if ack.was_full then record control { cwnd = capped_u64 (control.cwnd + min ack.bytes control.mtu) } else control) else control
 
 -- congestion avoidance (section 7.2.2): by one MTU each time that a whole window was acknowledged while it was full
 abbrev pub with_partial : Acknowledged → ℕ → CongestionControl → CongestionControl
 with_partial ack partial control =
     if nat_lt partial control.cwnd then record control { partial_bytes_acked = partial }
-    else if ack.was_full then record control { cwnd = capped (control.cwnd + control.mtu); partial_bytes_acked = partial - control.cwnd }
+    else if ack.was_full then record control { cwnd = capped_u64 (control.cwnd + control.mtu); partial_bytes_acked = partial - control.cwnd }
     else record control { partial_bytes_acked = control.cwnd }
 
 abbrev pub avoidance : Acknowledged → CongestionControl → CongestionControl
-avoidance ack control = with_partial ack (capped (control.partial_bytes_acked + ack.bytes)) control
+avoidance ack control = with_partial ack (capped_u64 (control.partial_bytes_acked + ack.bytes)) control
 
 -- nothing counts across a pause in which all was acknowledged
 abbrev pub settled : Acknowledged → CongestionControl → CongestionControl
 settled ack control = if ack.is_last then record control { partial_bytes_acked = 0 } else control
 
 -- outside fast recovery the window grows
-abbrev pub grown : Acknowledged → CongestionControl → CongestionControl
-grown ack control = if nat_le control.cwnd control.ssthresh then slow_start ack control else avoidance ack control
+abbrev pub window_grown : Acknowledged → CongestionControl → CongestionControl
+window_grown ack control = if nat_le control.cwnd control.ssthresh then slow_start ack control else avoidance ack control
 
 abbrev pub after_acknowledgement : Acknowledged → Option ℕ → CongestionControl → CongestionControl
-after_acknowledgement ack None control = settled ack (grown ack control)
+after_acknowledgement ack None control = settled ack (window_grown ack control)
 after_acknowledgement ack (Some exit) control = control

@@ -33,8 +33,8 @@ is_abandoned Acknowledged = false
 is_abandoned Abandoned = true
 
 -- in flight, once more, before the TSN that is sent next for the first time; its misses count anew
-abbrev pub sent_again : ℕ → Progress → Progress
-sent_again next progress =
+abbrev pub item_sent_again : ℕ → Progress → Progress
+item_sent_again next progress =
     record progress {
       state = InFlight;
       times_sent_again = min (progress.times_sent_again + 1) 65535;
@@ -70,11 +70,11 @@ missed_where true progress = missed progress.state progress
 missed_where false progress = progress
 
 -- what was in flight is lost
-abbrev pub marked : ItemState → Progress → Progress
-marked InFlight progress = record progress { state = Marked }
-marked Marked progress = progress
-marked Acknowledged progress = progress
-marked Abandoned progress = progress
+abbrev pub marked_lost : ItemState → Progress → Progress
+marked_lost InFlight progress = record progress { state = Marked }
+marked_lost Marked progress = progress
+marked_lost Acknowledged progress = progress
+marked_lost Abandoned progress = progress
 
 -- A SACK has acknowledged it. What was abandoned stays so.
 abbrev pub acknowledged : ItemState → Progress → Progress
@@ -83,12 +83,12 @@ acknowledged Marked progress = record progress { state = Acknowledged; was_ackno
 acknowledged Acknowledged progress = record progress { was_acknowledged = true }
 acknowledged Abandoned progress = record progress { was_acknowledged = true }
 
-abbrev pub changed : Change → Progress → Progress
-changed (SendAgain next) progress = sent_again next progress
-changed (Miss newest) progress = missed_where (tells_of progress.sent_before newest) progress
-changed Mark progress = marked progress.state progress
-changed Acknowledge progress = acknowledged progress.state progress
-changed Abandon progress = record progress { state = Abandoned }
+abbrev pub progress_changed : Change → Progress → Progress
+progress_changed (SendAgain next) progress = item_sent_again next progress
+progress_changed (Miss newest) progress = missed_where (tells_of progress.sent_before newest) progress
+progress_changed Mark progress = marked_lost progress.state progress
+progress_changed Acknowledge progress = acknowledged progress.state progress
+progress_changed Abandon progress = record progress { state = Abandoned }
 
 -- that of an item that was just sent
 abbrev pub just_sent : Progress

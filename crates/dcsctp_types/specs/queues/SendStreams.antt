@@ -78,8 +78,8 @@ abbrev pub resumed : Stream → Stream
 resumed stream = record stream { pause = Open }
 
 -- with that much more; the amount stops at the greatest `usize`
-abbrev pub raised : ℕ → Stream → Stream
-raised size stream = record stream { amount = min (stream.amount + size) (2 ^ 64 - 1) }
+abbrev pub amount_raised : ℕ → Stream → Stream
+amount_raised size stream = record stream { amount = min (stream.amount + size) (2 ^ 64 - 1) }
 
 -- the SSN and the MID of the message that is started next, by whether it is unordered
 abbrev pub next_numbers : Bool → Stream → ℕ × ℕ
@@ -93,11 +93,11 @@ begun_anew stream = record stream { next_ssn = 0; next_mid = 0; next_unordered_m
 -- The numbers after a message was started, by whether messages are interleaved and whether it is unordered. Without interleaving
 -- SSNs count, which unordered messages don't have (RFC 9260, section 3.3.1). With it MIDs count, of ordered and of unordered
 -- messages apart (RFC 8260, section 2.1). Running numbers wrap.
-abbrev pub counted : Bool → Bool → Stream → Stream
-counted false false stream = record stream { next_ssn = (stream.next_ssn + 1) % 2 ^ 16 }
-counted false true stream = stream
-counted true false stream = record stream { next_mid = (stream.next_mid + 1) % 2 ^ 32 }
-counted true true stream = record stream { next_unordered_mid = (stream.next_unordered_mid + 1) % 2 ^ 32 }
+abbrev pub stream_counted : Bool → Bool → Stream → Stream
+stream_counted false false stream = record stream { next_ssn = (stream.next_ssn + 1) % 2 ^ 16 }
+stream_counted false true stream = stream
+stream_counted true false stream = record stream { next_mid = (stream.next_mid + 1) % 2 ^ 32 }
+stream_counted true true stream = record stream { next_unordered_mid = (stream.next_unordered_mid + 1) % 2 ^ 32 }
 
 -- it had this turn
 abbrev pub served : ℕ → Stream → Stream
@@ -122,9 +122,9 @@ rolled_back stream = rolled_back_if stream.pause stream
     rolled_back_if HandedOut stream = resumed stream
 
 -- the payload bytes of messages together
-abbrev pub size_of : List Waiting → ℕ
-size_of [] = 0
-size_of (message ∷ messages) = length message.payload + size_of messages
+abbrev pub payload_size : List Waiting → ℕ
+payload_size [] = 0
+payload_size (message ∷ messages) = length message.payload + payload_size messages
 
 -- ---- streams in order
 
@@ -142,22 +142,22 @@ IsAscending (stream ∷ streams) = IsBelow stream.id streams × IsAscending stre
 -- number, the least first
 
 -- Of two streams of equal priority, is the first asked after the other?
-abbrev pub is_later : Turn → Turn → Bool
-is_later first other =
+abbrev pub is_asked_later : Turn → Turn → Bool
+is_asked_later first other =
     nat_lt other.last_turn first.last_turn || (first.last_turn == other.last_turn && nat_lt other.stream_id.0 first.stream_id.0)
 
 -- Is the first asked after the other?
 abbrev pub comes_after : Turn → Turn → Bool
-comes_after first other = nat_lt first.priority other.priority || (first.priority == other.priority && is_later first other)
+comes_after first other = nat_lt first.priority other.priority || (first.priority == other.priority && is_asked_later first other)
 
 -- the turns with one more; the last is the first to be asked
 abbrev pub with_turn : Turn → List Turn → List Turn
 with_turn turn [] = turn ∷ []
 with_turn turn (first ∷ turns) = if comes_after first turn then first ∷ with_turn turn turns else turn ∷ first ∷ turns
 
-abbrev pub with_turns : Option Turn → List Turn → List Turn
-with_turns None turns = turns
-with_turns (Some turn) turns = with_turn turn turns
+abbrev pub with_optional_turn : Option Turn → List Turn → List Turn
+with_optional_turn None turns = turns
+with_optional_turn (Some turn) turns = with_turn turn turns
 
 -- the stream at the place
 abbrev pub stream_at : List Stream → ℕ → Stream
@@ -177,7 +177,7 @@ turn_of stream = turn_if stream.priority stream.last_turn stream.id stream.pause
 -- the turns of all streams
 abbrev pub turns_of : List Stream → List Turn
 turns_of [] = []
-turns_of (stream ∷ streams) = with_turns (turn_of stream) (turns_of streams)
+turns_of (stream ∷ streams) = with_optional_turn (turn_of stream) (turns_of streams)
 
 -- It is this stream's turn: it may begin a message, and none that may is asked before it.
 pub record IsNext (streams : List Stream) (place : ℕ) : Type 0 where

@@ -3,7 +3,7 @@
 ghost use Rattle.std.specs.Prelude.{◌≡◌, ◌≤◌, ◌+◌, ◌↔◌, [], ◌∷◌, ◌++◌, IfOk, OnOk, IsTrue};
 ghost use Rattle.std.specs.List.{filter, All};
 ghost use Rattle.std.specs.List.Sorted.{IsNonDecreasingBy};
-ghost use Rattle.dcsctp_wire.specs.CleanBlocks.{blocks_in, is_range, IsRange, BeginsBefore, Adds, AreJoined, AreCleaned};
+ghost use Rattle.dcsctp_wire.specs.CleanBlocks.{blocks_in, is_range, IsRange, BeginsBefore, AddsGapBlock, AreJoined, AreCleaned};
 
 use super::{GapAckBlock, SackChunk};
 use std::alloc::{AllocError, Global};
@@ -51,7 +51,7 @@ fn add_block(
     block: GapAckBlock,
 ) -> Result<GapAckBlock, AllocError>
     requires { BeginsBefore current block }
-    ensures added { IfOk result (λ last. Adds (joined.old.items ++ current ∷ []) block (joined.new.items ++ last ∷ [])) }
+    ensures added { IfOk result (λ last. AddsGapBlock (joined.old.items ++ current ∷ []) block (joined.new.items ++ last ∷ [])) }
     ensures range { IfOk result IsRange }
     ensures start { IfOk result (λ last. last.start ≤ block.start) }
 {

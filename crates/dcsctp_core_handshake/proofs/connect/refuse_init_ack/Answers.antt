@@ -10,7 +10,7 @@ use Rattle.dcsctp_core.specs.spec.endpoint.HandshakeOutcomes.{abort_emission, no
 use Rattle.dcsctp_core.specs.View.{View, view_of, endpoint_of}
 use Rattle.dcsctp_core.proofs.Composing.{cut_after}
 use Rattle.dcsctp_core.proofs.EndLemmas.{ends_after_packet}
-use Rattle.dcsctp_core_handshake.specs.Handshake.{refusal_turn}
+use Rattle.dcsctp_core_handshake.specs.Handshake.{init_ack_refusal_turn}
 use Rattle.dcsctp_core_handshake.proofs.connect.refuse_init_ack.Goals as goal
 
 -- A packet leaves the association as it is.
@@ -23,7 +23,7 @@ pub returns-in_err-internal_close : goal.returns-in_err-internal_close
 returns-in_err-internal_close g c =
     let old = c.args.context.now in
     rw (err_from_is_err_and c.from_residual-in_err-internal_close.result c.from_residual-in_err-internal_close.ensures.1).1
-    (cut_after (view_of old) (refusal_turn c.args.tag (view_of old)) _
+    (cut_after (view_of old) (init_ack_refusal_turn c.args.tag (view_of old)) _
     (emits (endpoint_of old) [] (abort_emission c.args.tag)).events (aborted ProtocolViolation no_cookie_text ∷ []) refl
     (ap (λ (v : View g.row.R.Denot). v.events) c.in_err-internal_close.ensures ∙ c.in_ok-send_missing_cookie.ensures.events))
 

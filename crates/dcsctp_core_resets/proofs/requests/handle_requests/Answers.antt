@@ -3,7 +3,7 @@ use Rattle.std.proofs.lemmas.List.{take_all}
 use Rattle.dcsctp_core.specs.spec.Reconfiguration.{ResetParameter}
 use Rattle.dcsctp_core.specs.wire.declared.parameter.Parameter.{Parameter}
 use Rattle.dcsctp_core_resets.specs.declared.requests.HandledRequests.{HandledRequests}
-use Rattle.dcsctp_core_resets.specs.Requests.{WorksChunk, reset_parameters}
+use Rattle.dcsctp_core_resets.specs.Requests.{HandlesParameters, reset_parameters}
 use Rattle.dcsctp_core_resets.proofs.RequestLemmas.{Progress, none_so_far, one_more, none_if, none_yet, parameters_more, parameters_split, second_worked, ends_worked}
 use Rattle.dcsctp_core_resets.proofs.requests.handle_requests.Goals.{else-worked-via-then-worked+else-is_outgoing, else-worked-via-else-worked}
 use Rattle.dcsctp_core_resets.proofs.requests.handle_requests.Goals as goal
@@ -17,7 +17,7 @@ returns-then-is_outgoing c =
     let i = c.loop-parameter.parameter-index in
     let parameters = c.args.parameters.now in
     let refused : HandledRequests = record c.loop-parameter.worked { is_refused = true } in
-    subst (λ (ps : List ResetParameter). WorksChunk c.args.is_reached c.args.last c.args.outstanding ps refused) (sym (parameters_split parameters i _ c.loop-parameter-test.true))
+    subst (λ (ps : List ResetParameter). HandlesParameters c.args.is_reached c.args.last c.args.outstanding ps refused) (sym (parameters_split parameters i _ c.loop-parameter-test.true))
     (second_worked c.args.is_reached c.args.last c.args.outstanding (reset_parameters (take i parameters)) (reset_parameters (drop (i + 1) parameters)) _ c.loop-parameter.worked refused
     c.loop-parameter.invariant.done c.if-worked.true (sym c.is_outgoing.ensures ∙ c.if-is_outgoing.true) refl)
 

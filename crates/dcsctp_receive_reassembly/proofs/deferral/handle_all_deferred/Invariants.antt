@@ -4,7 +4,7 @@ use Rattle.std.specs.VecDeque.{deque_len}
 use Rattle.dcsctp_receive_reassembly.specs.Reassembly.{incoming_of}
 use Rattle.dcsctp_api.specs.spec.queues.Incoming.{held_bytes}
 use Rattle.dcsctp_api.specs.spec.queues.Reassembly.{WaitingModel, waiting_bytes, HandlesAll}
-use Rattle.dcsctp_receive_reassembly.specs.Queue.{waits_as}
+use Rattle.dcsctp_receive_reassembly.specs.Queue.{waiting_model}
 use Rattle.dcsctp_receive_reassembly.proofs.deferral.handle_all_deferred.Given as goal
 
 -- What was handled so far stood in front of what still waits.
@@ -12,9 +12,9 @@ abbrev pub invariant-loop-incoming : goal.invariant-loop-incoming
 invariant-loop-incoming l =
     record {
       done : List WaitingModel;
-      all : map waits_as l.initial.waiting.items ≡ done ++ map waits_as l.waiting.items;
+      all : map waiting_model l.initial.waiting.items ≡ done ++ map waiting_model l.waiting.items;
       works : HandlesAll done (incoming_of l.initial.incoming) (incoming_of l.incoming);
-      bytes : l.incoming.queued_bytes ≡ held_bytes (incoming_of l.incoming) + sum_by waiting_bytes (map waits_as l.waiting.items);
+      bytes : l.incoming.queued_bytes ≡ held_bytes (incoming_of l.incoming) + sum_by waiting_bytes (map waiting_model l.waiting.items);
     }
 
 abbrev pub decreases-loop-incoming : goal.decreases-loop-incoming

@@ -2,7 +2,7 @@
 use Rattle.std.proofs.Common.{◌++◌, ◌∷◌, map, take, drop, ap, ◌∙◌}
 use Rattle.dcsctp_receive_ordered_map.specs.Entries.{count_up_to}
 use Rattle.dcsctp_api.specs.spec.queues.Runs.{RunModel}
-use Rattle.dcsctp_receive_reassembly.specs.Runs.{run_of}
+use Rattle.dcsctp_receive_reassembly.specs.Runs.{run_model}
 use Rattle.dcsctp_receive_reassembly.proofs.ResultFacts.{ok_then}
 use Rattle.dcsctp_receive_reassembly.proofs.RunMapLemmas.{absent, put_run}
 use Rattle.dcsctp_receive_reassembly.proofs.joining.keep_alone.Goals as goal
@@ -15,4 +15,4 @@ pub returns-clause-ok : goal.returns-clause-ok
 returns-clause-ok c =
     ok_then c.put_entry.result c.put_entry.ensures.ok (λ put.
     put_run (count_up_to c.args.part.place c.args.runs.now.entries) c.args.part.place c.single.result c.args.runs.now.entries c.put_entry.new.entries.entries put
-    ∙ ap (λ (run : RunModel). take (count_up_to c.args.part.place c.args.runs.now.entries) (map run_of c.args.runs.now.entries) ++ run ∷ drop (count_up_to c.args.part.place c.args.runs.now.entries) (map run_of c.args.runs.now.entries)) c.single.ensures)
+    ∙ ap (λ (run : RunModel). take (count_up_to c.args.part.place c.args.runs.now.entries) (map run_model c.args.runs.now.entries) ++ run ∷ drop (count_up_to c.args.part.place c.args.runs.now.entries) (map run_model c.args.runs.now.entries)) c.single.ensures)

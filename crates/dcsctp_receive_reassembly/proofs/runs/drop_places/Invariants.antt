@@ -1,8 +1,8 @@
 use Rattle.std.proofs.Common.{◌≡◌, ◌+◌, map}
 use Rattle.std.specs.BTreeMap.{btree_map_len}
-use Rattle.dcsctp_receive_reassembly.specs.Runs.{run_of, up_to_place}
+use Rattle.dcsctp_receive_reassembly.specs.Runs.{run_model, up_to_place}
 use Rattle.dcsctp_api.specs.spec.queues.Runs.{behind_place}
-use Rattle.dcsctp_receive_reassembly.specs.Held.{capped}
+use Rattle.dcsctp_receive_reassembly.specs.Held.{capped_usize}
 use Rattle.dcsctp_api.specs.spec.queues.Runs.{runs_bytes}
 use Rattle.dcsctp_receive_reassembly.proofs.runs.drop_places.Given as goal
 
@@ -10,9 +10,9 @@ use Rattle.dcsctp_receive_reassembly.proofs.runs.drop_places.Given as goal
 abbrev pub invariant-loop-runs : goal.invariant-loop-runs
 invariant-loop-runs l =
     record {
-      kept : behind_place l.place (map run_of l.runs.entries) ≡ behind_place l.place (map run_of l.initial.runs.entries);
-      size : capped (l.dropped + runs_bytes (up_to_place l.place (map run_of l.runs.entries))) ≡ capped (runs_bytes (up_to_place l.place (map run_of l.initial.runs.entries)));
-      bound : l.dropped ≡ capped l.dropped;
+      kept : behind_place l.place (map run_model l.runs.entries) ≡ behind_place l.place (map run_model l.initial.runs.entries);
+      size : capped_usize (l.dropped + runs_bytes (up_to_place l.place (map run_model l.runs.entries))) ≡ capped_usize (runs_bytes (up_to_place l.place (map run_model l.initial.runs.entries)));
+      bound : l.dropped ≡ capped_usize l.dropped;
     }
 
 abbrev pub decreases-loop-runs : goal.decreases-loop-runs

@@ -1,6 +1,6 @@
 use Rattle.std.proofs.Common.{◌≡◌, ◌+◌, map}
-use Rattle.dcsctp_receive_reassembly.specs.Runs.{run_of}
-use Rattle.dcsctp_receive_reassembly.specs.Held.{capped}
+use Rattle.dcsctp_receive_reassembly.specs.Runs.{run_model}
+use Rattle.dcsctp_receive_reassembly.specs.Held.{capped_usize}
 use Rattle.dcsctp_api.specs.spec.queues.Runs.{runs_bytes}
 use Rattle.dcsctp_receive_reassembly.proofs.runs.size_of_runs.Given as goal
 
@@ -8,6 +8,6 @@ use Rattle.dcsctp_receive_reassembly.proofs.runs.size_of_runs.Given as goal
 abbrev pub invariant-loop-run : goal.invariant-loop-run
 invariant-loop-run l =
     record {
-      size : capped (l.size + runs_bytes (map run_of l.run-iterator)) ≡ capped (runs_bytes (map run_of l.runs.entries));
-      bound : l.size ≡ capped l.size;
+      size : capped_usize (l.size + runs_bytes (map run_model l.run-iterator)) ≡ capped_usize (runs_bytes (map run_model l.runs.entries));
+      bound : l.size ≡ capped_usize l.size;
     }

@@ -1,7 +1,7 @@
 -- The stream that is removed is the one at the identifier.
 use Rattle.std.proofs.Common.{Some, None, ap, sym, ◌∙◌}
-use Rattle.dcsctp_receive_reassembly.specs.Held.{capped}
-use Rattle.dcsctp_api.specs.spec.queues.IncomingStreams.{stream_bytes}
+use Rattle.dcsctp_receive_reassembly.specs.Held.{capped_usize}
+use Rattle.dcsctp_api.specs.spec.queues.IncomingStreams.{kept_stream_bytes}
 use Rattle.dcsctp_api.specs.spec.queues.IncomingStreams.{StreamModel}
 use Rattle.dcsctp_receive_reassembly.proofs.ReassemblyLemmas.{stream_on-get}
 use Rattle.dcsctp_receive_reassembly.proofs.StreamSums.{streams_bytes-removed}
@@ -22,8 +22,8 @@ returns-in-None-clause-bytes c = streams_bytes-removed c.args.id.0 c.args.stream
 
 pub returns-in-Some-clause-size : goal.returns-in-Some-clause-size
 returns-in-Some-clause-size c =
-    c.size.ensures ∙ ap (λ (stream : StreamModel). capped (stream_bytes stream)) (sym (stream_on-get c.args.id.0 c.args.streams.now (Some c.in-Some.stream) (sym c.in-Some.ensures.value)))
+    c.size.ensures ∙ ap (λ (stream : StreamModel). capped_usize (kept_stream_bytes stream)) (sym (stream_on-get c.args.id.0 c.args.streams.now (Some c.in-Some.stream) (sym c.in-Some.ensures.value)))
 
 pub returns-in-None-clause-size : goal.returns-in-None-clause-size
 returns-in-None-clause-size c =
-    ap (λ (stream : StreamModel). capped (stream_bytes stream)) (sym (stream_on-get c.args.id.0 c.args.streams.now None (sym c.in-None.ensures.value)))
+    ap (λ (stream : StreamModel). capped_usize (kept_stream_bytes stream)) (sym (stream_on-get c.args.id.0 c.args.streams.now None (sym c.in-None.ensures.value)))

@@ -6,10 +6,10 @@ use Rattle.std.specs.Ordering.{nat_cmp}
 use Rattle.std.proofs.lemmas.List.{length-map}
 use Rattle.std.proofs.lemmas.List.Sums.{sum_by-append}
 use Rattle.dcsctp_api.specs.types.queues.Messages.{MessageContent, message_content}
-use Rattle.dcsctp_receive_reassembly.specs.Held.{capped}
-use Rattle.dcsctp_api.specs.spec.queues.IncomingStreams.{stream_bytes, ready_bytes}
+use Rattle.dcsctp_receive_reassembly.specs.Held.{capped_usize}
+use Rattle.dcsctp_api.specs.spec.queues.IncomingStreams.{kept_stream_bytes, ready_bytes}
 use Rattle.dcsctp_api.specs.spec.queues.IncomingStreams.{StreamModel, skipped_stream, skip_deliveries, skip_bytes}
-use Rattle.dcsctp_receive_reassembly.specs.Streams.{waits_as, stream_of}
+use Rattle.dcsctp_receive_reassembly.specs.Streams.{waiting_whole, stream_model}
 use Rattle.dcsctp_receive_reassembly.proofs.ReassemblyLemmas.{stream_on-get}
 use Rattle.dcsctp_receive_reassembly.proofs.StreamBytes.{skipped_bytes}
 use Rattle.dcsctp_receive_reassembly.proofs.StreamSums.{Written, stream_written}
@@ -19,7 +19,7 @@ use Rattle.dcsctp_receive_reassembly.proofs.skipping.skip_on.Goals as goal
 pub skip-requires : goal.skip-requires
 skip-requires c =
     let found : get nat_cmp c.args.streams.now (skipped_stream c.args.entry.now) ≡ Some c.unwrap-stream.result.now = ap (λ (id : ℕ). get nat_cmp c.args.streams.now id) (sym c.stream_of.ensures) ∙ sym (subst (λ o. option_copied_mut o ≡ get nat_cmp c.args.streams.now c.stream_of.result.0) c.unwrap-stream.ensures c.get_mut.ensures.value) in
-    omega (arith, c.requires.room, length-map c.unwrap-stream.result.now.waiting.entries waits_as, ap (λ (stream : StreamModel). length stream.waiting) (stream_on-get (skipped_stream c.args.entry.now) c.args.streams.now (Some c.unwrap-stream.result.now) found))
+    omega (arith, c.requires.room, length-map c.unwrap-stream.result.now.waiting.entries waiting_whole, ap (λ (stream : StreamModel). length stream.waiting) (stream_on-get (skipped_stream c.args.entry.now) c.args.streams.now (Some c.unwrap-stream.result.now) found))
 
 pub returns-clause-streams : goal.returns-clause-streams
 returns-clause-streams c =
@@ -40,7 +40,7 @@ returns-clause-ready c =
 pub returns-clause-size : goal.returns-clause-size
 returns-clause-size c =
     let found : get nat_cmp c.args.streams.now (skipped_stream c.args.entry.now) ≡ Some c.unwrap-stream.result.now = ap (λ (id : ℕ). get nat_cmp c.args.streams.now id) (sym c.stream_of.ensures) ∙ sym (subst (λ o. option_copied_mut o ≡ get nat_cmp c.args.streams.now c.stream_of.result.0) c.unwrap-stream.ensures c.get_mut.ensures.value) in
-    c.skip.ensures.size ∙ ap (λ (stream : StreamModel). capped (skip_bytes c.args.entry.now stream)) (sym (stream_on-get (skipped_stream c.args.entry.now) c.args.streams.now (Some c.unwrap-stream.result.now) found))
+    c.skip.ensures.size ∙ ap (λ (stream : StreamModel). capped_usize (skip_bytes c.args.entry.now stream)) (sym (stream_on-get (skipped_stream c.args.entry.now) c.args.streams.now (Some c.unwrap-stream.result.now) found))
 
 pub returns-clause-bytes : goal.returns-clause-bytes
 returns-clause-bytes c =
@@ -49,9 +49,9 @@ returns-clause-bytes c =
     omega (
       arith,
       written.bytes,
-      ap stream_bytes c.skip.ensures.stream,
+      ap kept_stream_bytes c.skip.ensures.stream,
       ap ready_bytes c.skip.ensures.ready,
-      sum_by-append (λ (message : MessageContent). length message.payload) (map message_content c.args.ready.now.items) (skip_deliveries c.args.entry.now (stream_of c.unwrap-stream.result.now)),
-      skipped_bytes c.args.entry.now (stream_of c.unwrap-stream.result.now),
+      sum_by-append (λ (message : MessageContent). length message.payload) (map message_content c.args.ready.now.items) (skip_deliveries c.args.entry.now (stream_model c.unwrap-stream.result.now)),
+      skipped_bytes c.args.entry.now (stream_model c.unwrap-stream.result.now),
       ap (λ (stream : StreamModel). skip_bytes c.args.entry.now stream) written.was,
     )

@@ -6,7 +6,7 @@ use Rattle.dcsctp_core.specs.types.Settings.{ports_of}
 use Rattle.dcsctp_core.specs.spec.endpoint.Endpoint.{Endpoint}
 use Rattle.dcsctp_core.specs.spec.Packet.{Content, content_in}
 use Rattle.dcsctp_core.specs.spec.endpoint.Turn.{packet_ends}
-use Rattle.dcsctp_core.specs.spec.endpoint.CallTurns.{Turned, ChunkTurns, FirstTurns}
+use Rattle.dcsctp_core.specs.spec.endpoint.CallTurns.{Transition, ChunkTurns, FirstTurns}
 use Rattle.dcsctp_core.specs.declared.following.Following.{Following}
 use Rattle.dcsctp_core.specs.View.{view_of}
 use Rattle.dcsctp_core.specs.Handling.{following_of}
@@ -27,7 +27,7 @@ loop-chunk-preserved g c =
     let next = view_of c.handle_chunk.new.context in
     let tag = c.args.packet.now.common_header.verification_tag in
     let chunks = c.deref-chunk-items.result.now in
-    let last : Turned = worked_as tag (content_in (chunk_content c.chunk-item.result)) step.outcome in
+    let last : Transition = worked_as tag (content_in (chunk_content c.chunk-item.result)) step.outcome in
     record {
       turns = done.turns ++ last ∷ [];
       goes_on = GoOn-push done.turns last done.goes_on (step.following ∙ ap (λ (f : Following). following_of f) c.in-NextChunk.is);
@@ -51,7 +51,7 @@ returns-in-DroppedRest g c =
     let contents : List Content = contents_of c.args.packet.now.chunks.items in
     let all : chunks ≡ c.args.packet.now.chunks.items = c.deref-chunk-items.ensures.value in
     let content : Content = content_in (chunk_content c.chunk-item.result) in
-    let last : Turned = worked_as tag content step.outcome in
+    let last : Transition = worked_as tag content step.outcome in
     let ports = chunk_turns_keep_ports start.endpoint tag (contents_of (take c.loop-chunk.chunk-index chunks)) done.turns done.goes_on done.are in
     let are : ChunkTurns start.endpoint tag contents (packet_ends ∷ []) (done.turns ++ last ∷ []) =
     subst (λ (cs : List Chunk). ChunkTurns start.endpoint tag (contents_of cs) (packet_ends ∷ []) (done.turns ++ last ∷ [])) all
@@ -78,11 +78,11 @@ returns-in-PacketEnd g c =
     let contents : List Content = contents_of c.args.packet.now.chunks.items in
     let all : chunks ≡ c.args.packet.now.chunks.items = c.deref-chunk-items.ensures.value in
     let content : Content = content_in (chunk_content c.chunk-item.result) in
-    let last : Turned = worked_as tag content step.outcome in
+    let last : Transition = worked_as tag content step.outcome in
     let ports = chunk_turns_keep_ports start.endpoint tag (contents_of (take c.loop-chunk.chunk-index chunks)) done.turns done.goes_on done.are in
     record {
       turns = done.turns ++ last ∷ [];
-      are = λ (end : Turned) is. subst (λ (cs : List Chunk). ChunkTurns start.endpoint tag (contents_of cs) (packet_ends ∷ []) ((done.turns ++ last ∷ []) ++ end ∷ [])) all
+      are = λ (end : Transition) is. subst (λ (cs : List Chunk). ChunkTurns start.endpoint tag (contents_of cs) (packet_ends ∷ []) ((done.turns ++ last ∷ []) ++ end ∷ [])) all
           (turns_cut start.endpoint here.endpoint tag chunks c.loop-chunk.chunk-index c.chunk-item.result done.turns step.outcome end
           c.loop-chunk-test.true c.chunk-item.is done.goes_on done.are done.moves.endpoint step.turn
           (step.following ∙ ap (λ (f : Following). following_of f) c.in-PacketEnd.is) is);
@@ -104,7 +104,7 @@ returns g c =
     let worked : ChunkTurns start.endpoint tag contents [] done.turns = subst (λ (cs : List Content). ChunkTurns start.endpoint tag cs [] done.turns) all done.are in
     record {
       turns = done.turns;
-      are = λ (end : Turned) is. turns_whole start.endpoint tag contents done.turns done.goes_on worked end is;
+      are = λ (end : Transition) is. turns_whole start.endpoint tag contents done.turns done.goes_on worked end is;
       moves = done.moves;
       ports = chunk_turns_keep_ports start.endpoint tag contents done.turns done.goes_on worked;
     }
@@ -120,7 +120,7 @@ returns-in_err-handle_chunk g c =
     let chunks = c.deref-chunk-items.result.now in
     let contents : List Content = contents_of c.args.packet.now.chunks.items in
     let all : chunks ≡ c.args.packet.now.chunks.items = c.deref-chunk-items.ensures.value in
-    let last : Turned = worked_as tag (content_in (chunk_content c.chunk-item.result)) step.outcome in
+    let last : Transition = worked_as tag (content_in (chunk_content c.chunk-item.result)) step.outcome in
     let ports : ports_of here.endpoint.options ≡ ports_of start.endpoint.options = ap (λ (e : Endpoint). ports_of e.options) done.moves.endpoint
     ∙ chunk_turns_keep_ports start.endpoint tag (contents_of (take c.loop-chunk.chunk-index chunks)) done.turns done.goes_on done.are in
     let first : FirstTurns start.endpoint tag contents (done.turns ++ last ∷ []) =

@@ -6,7 +6,7 @@ use Rattle.dcsctp_core.specs.spec.Packet.{Content}
 use Rattle.dcsctp_core.specs.spec.endpoint.CallTurns.{ChunkTurns, FirstTurns}
 use Rattle.dcsctp_core.specs.View.{View, view_of}
 use Rattle.dcsctp_core.proofs.Moving.{moves_then}
-use Rattle.dcsctp_core_ends.specs.Shutdown.{is_open}
+use Rattle.dcsctp_core_ends.specs.Shutdown.{is_open_core}
 use Rattle.dcsctp_core.specs.wire.declared.chunk.Chunk.{Chunk}
 use Rattle.dcsctp_core.specs.wire.Content.{packet_content}
 use Rattle.dcsctp_socket_calls.specs.Parts.{AcksCut}
@@ -32,7 +32,7 @@ loop-chunk-preserved g c =
       moves = moves_then g.R.Rng.stream start here next done.turns step.turns
           (chunk_turns_keep_ports start.endpoint tag (acks_of (take c.loop-chunk.chunk-index chunks)) done.turns done.goes_on done.are)
           done.moves step.moves;
-      shut = ap is_open step.core ∙ done.shut;
+      shut = ap is_open_core step.core ∙ done.shut;
     }
 
 pub returns : goal.returns

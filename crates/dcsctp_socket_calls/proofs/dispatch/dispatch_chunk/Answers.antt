@@ -7,7 +7,7 @@ use Rattle.dcsctp_core.specs.wire.Content.{init_content, data_content, i_data_co
 use Rattle.dcsctp_core.specs.spec.Packet.{introduction_in, cookie_in, init_ack, cookie_echo, cookie_ack, re_config, shutdown, shutdown_ack, plain, unworked}
 use Rattle.dcsctp_core.specs.spec.Packet as machine
 use Rattle.dcsctp_core.specs.spec.queues.Arrivals.{Arrival, data_arrival, i_data_arrival, skipped_in, messages_skipped_in}
-use Rattle.dcsctp_core.specs.Handling.{TakesIn, CutIn}
+use Rattle.dcsctp_core.specs.Handling.{TakesPossibleTurn, CutIn}
 use Rattle.dcsctp_core.specs.View.{core_of, view_of, endpoint_of}
 use Rattle.dcsctp_core_handshake.specs.Handshake.{InitAckAt, CookieAckAt, CookieEchoAt}
 use Rattle.dcsctp_core_ends.specs.Ends.{abort_turn, error_turn}
@@ -155,7 +155,7 @@ returns-in_ok-handle_data-in-Data g c =
     (takes_worked g.R.Rng.stream (view_of old) (view_of new) c.args.header_tag (plain (unworked (data_chunk d))) (DataAt (data_arrival d))
     (λ o turn. plain_at (endpoint_of old) (unworked (data_chunk d)) o (none_for (core_of old.state) _ _ c.in-Data.is c.requires) turn)
     (λ o turn. data_goes (endpoint_of old) (data_arrival d) o turn)
-    (subst (λ (x : Arrival). TakesIn g.R.Rng.stream (DataAt x) (view_of old) (view_of new)) c.of_data.ensures c.in_ok-handle_data-in-Data.ensures))
+    (subst (λ (x : Arrival). TakesPossibleTurn g.R.Rng.stream (DataAt x) (view_of old) (view_of new)) c.of_data.ensures c.in_ok-handle_data-in-Data.ensures))
 
 pub returns-in_err-handle_data-in-Data : goal.returns-in_err-handle_data-in-Data
 returns-in_err-handle_data-in-Data g c =
@@ -177,7 +177,7 @@ returns-in_ok-handle_data-in-IData g c =
     (takes_worked g.R.Rng.stream (view_of old) (view_of new) c.args.header_tag (plain (unworked (i_data_chunk d))) (DataAt (i_data_arrival d))
     (λ o turn. plain_at (endpoint_of old) (unworked (i_data_chunk d)) o (none_for (core_of old.state) _ _ c.in-IData.is c.requires) turn)
     (λ o turn. data_goes (endpoint_of old) (i_data_arrival d) o turn)
-    (subst (λ (x : Arrival). TakesIn g.R.Rng.stream (DataAt x) (view_of old) (view_of new)) c.of_i_data.ensures c.in_ok-handle_data-in-IData.ensures))
+    (subst (λ (x : Arrival). TakesPossibleTurn g.R.Rng.stream (DataAt x) (view_of old) (view_of new)) c.of_i_data.ensures c.in_ok-handle_data-in-IData.ensures))
 
 pub returns-in_err-handle_data-in-IData : goal.returns-in_err-handle_data-in-IData
 returns-in_err-handle_data-in-IData g c =
@@ -197,7 +197,7 @@ returns-in_ok-handle_sack-in-Sack g c =
     rw c.in-Sack.is
     (takes_worked g.R.Rng.stream (view_of old) (view_of c.handle_sack.new.context) c.args.header_tag (plain (unworked (sack_chunk d))) (SackAt d)
     (λ o turn. plain_at (endpoint_of old) (unworked (sack_chunk d)) o (none_for (core_of old.state) _ _ c.in-Sack.is c.requires) turn)
-    (λ o turn. sack_goes (endpoint_of old) (endpoint_of old).below.transfer d o turn) c.in_ok-handle_sack-in-Sack.ensures)
+    (λ o turn. sack_goes (endpoint_of old) (endpoint_of old).queues.transfer d o turn) c.in_ok-handle_sack-in-Sack.ensures)
 
 pub returns-in_err-handle_sack-in-Sack : goal.returns-in_err-handle_sack-in-Sack
 returns-in_err-handle_sack-in-Sack g c =
@@ -216,7 +216,7 @@ returns-in_ok-handle_forward_tsn-in-ForwardTsn g c =
     rw c.in-ForwardTsn.is
     (takes_worked g.R.Rng.stream (view_of old) (view_of c.handle_forward_tsn.new.context) c.args.header_tag (plain (unworked (forward_tsn_chunk d.new_cumulative_tsn d.skipped_streams.now))) (ForwardAt d.new_cumulative_tsn (skipped_in d.skipped_streams.now))
     (λ o turn. plain_at (endpoint_of old) (unworked (forward_tsn_chunk d.new_cumulative_tsn d.skipped_streams.now)) o (none_for (core_of old.state) _ _ c.in-ForwardTsn.is c.requires) turn)
-    (λ o turn. forward_goes (endpoint_of old) (endpoint_of old).below.transfer d.new_cumulative_tsn (skipped_in d.skipped_streams.now) o turn) c.in_ok-handle_forward_tsn-in-ForwardTsn.ensures)
+    (λ o turn. forward_goes (endpoint_of old) (endpoint_of old).queues.transfer d.new_cumulative_tsn (skipped_in d.skipped_streams.now) o turn) c.in_ok-handle_forward_tsn-in-ForwardTsn.ensures)
 
 pub returns-in_err-handle_forward_tsn-in-ForwardTsn : goal.returns-in_err-handle_forward_tsn-in-ForwardTsn
 returns-in_err-handle_forward_tsn-in-ForwardTsn g c =
@@ -235,7 +235,7 @@ returns-in_ok-handle_i_forward_tsn-in-IForwardTsn g c =
     rw c.in-IForwardTsn.is
     (takes_worked g.R.Rng.stream (view_of old) (view_of c.handle_i_forward_tsn.new.context) c.args.header_tag (plain (unworked (i_forward_tsn_chunk d.new_cumulative_tsn d.skipped_streams.now))) (ForwardAt d.new_cumulative_tsn (messages_skipped_in d.skipped_streams.now))
     (λ o turn. plain_at (endpoint_of old) (unworked (i_forward_tsn_chunk d.new_cumulative_tsn d.skipped_streams.now)) o (none_for (core_of old.state) _ _ c.in-IForwardTsn.is c.requires) turn)
-    (λ o turn. forward_goes (endpoint_of old) (endpoint_of old).below.transfer d.new_cumulative_tsn (messages_skipped_in d.skipped_streams.now) o turn) c.in_ok-handle_i_forward_tsn-in-IForwardTsn.ensures)
+    (λ o turn. forward_goes (endpoint_of old) (endpoint_of old).queues.transfer d.new_cumulative_tsn (messages_skipped_in d.skipped_streams.now) o turn) c.in_ok-handle_i_forward_tsn-in-IForwardTsn.ensures)
 
 pub returns-in_err-handle_i_forward_tsn-in-IForwardTsn : goal.returns-in_err-handle_i_forward_tsn-in-IForwardTsn
 returns-in_err-handle_i_forward_tsn-in-IForwardTsn g c =

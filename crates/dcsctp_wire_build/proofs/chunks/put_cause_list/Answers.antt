@@ -1,7 +1,7 @@
 use Rattle.std.proofs.Common.{◌≡◌, ◌+◌, List, [], ◌++◌, ℕ, map, refl, ap, ◌∙◌, append_assoc, arith, length}
 use Rattle.std.specs.List.{flat_map}
 use Rattle.dcsctp_wire.specs.Content.{cause_content}
-use Rattle.dcsctp_wire.specs.Spelling.{parameter_bytes, parameters_len, as_parameter, list_bytes}
+use Rattle.dcsctp_wire.specs.Spelling.{parameter_bytes, parameters_len, as_parameter, parameter_chunk_bytes}
 use Rattle.dcsctp_wire.proofs.Lengths.{length-list_bytes, padded_parameters}
 use Rattle.dcsctp_wire_build.proofs.chunks.put_cause_list.Goals as goal
 
@@ -26,7 +26,7 @@ put_causes-requires-clause-room c =
     omega (arith, ap length c.chunk_head-head.ensures, length-list_bytes c.args.chunk_type c.args.flags [] causes)
 
 pub returns-clause-items : goal.returns-clause-items
-unfolding list_bytes
+unfolding parameter_chunk_bytes
 returns-clause-items c =
     let causes = map as_parameter (map cause_content c.args.causes.now) in
     let len : c.saturating_add-len.result ≡ 4 + parameters_len causes = omega (arith, length-list_bytes c.args.chunk_type c.args.flags [] causes, padded_parameters causes) in

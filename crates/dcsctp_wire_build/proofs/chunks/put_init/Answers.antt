@@ -2,7 +2,7 @@ use Rattle.std.proofs.Common.{◌≡◌, ◌+◌, List, ◌++◌, ℕ, length, m
 use Rattle.std.specs.List.{flat_map}
 use Rattle.dcsctp_wire.specs.declared.parameter.Parameter.{Parameter}
 use Rattle.dcsctp_wire.specs.Content.{parameter_content, init_content}
-use Rattle.dcsctp_wire.specs.Spelling.{parameter_bytes, parameters_len, init_fields, list_bytes}
+use Rattle.dcsctp_wire.specs.Spelling.{parameter_bytes, parameters_len, init_fields, parameter_chunk_bytes}
 use Rattle.dcsctp_wire.proofs.Lengths.{length-list_bytes, length-init_fields, padded_parameters}
 use Rattle.dcsctp_wire_build.proofs.Appending.{three_put}
 use Rattle.dcsctp_wire_build.proofs.chunks.put_init.Goals as goal
@@ -39,7 +39,7 @@ put_parameters-requires-clause-room c =
     omega (arith, ap length c.chunk_head-head.ensures, ap length c.init_fields.ensures, ap (λ (ps : List Parameter). length (bytes_of ps)) c.deref-2.ensures.value, length-list_bytes c.args.chunk_type 0 (init_fields init) init.parameters, length-init_fields init, padded_parameters init.parameters)
 
 pub returns-clause-items : goal.returns-clause-items
-unfolding list_bytes
+unfolding parameter_chunk_bytes
 returns-clause-items c =
     let init = init_content c.args.init.now in
     let parameters = init.parameters in

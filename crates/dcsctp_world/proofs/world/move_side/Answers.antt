@@ -4,8 +4,8 @@ use Rattle.std.specs.declared.alloc.Global.{Global}
 use Rattle.dcsctp_core.specs.types.declared.schedule.Side.TheVariants as sides
 use Rattle.dcsctp_core.specs.types.Schedule.{act_content}
 use Rattle.dcsctp_spec_runs.specs.Sockets.{TurnsOfAct}
-use Rattle.dcsctp_world.specs.Growth.{Fails}
-use Rattle.dcsctp_world.specs.Parts.{packet_bytes, shown, both}
+use Rattle.dcsctp_world.specs.Growth.{FailsAtSide}
+use Rattle.dcsctp_world.specs.Parts.{bytes_of_packets, shown, both}
 use Rattle.dcsctp_world.proofs.Drawing.{draw_on_at}
 use Rattle.dcsctp_world.proofs.Stopping.{fails_at}
 use Rattle.dcsctp_world.proofs.world.move_side.Goals as goal
@@ -16,7 +16,7 @@ returns-in_err-reply-in-A-clause-call g c =
     let p = err_from_is_err_and c.from_residual.result c.from_residual.ensures.1 in
     rw (p.1, p.2)
     (fails_at (act_content c.args.act.now) sides.A fault (both c.args.a.now c.args.b.now) (both c.perform.new.self c.args.b.now) (sym c.side_of.ensures ∙ c.in-A.is)
-    (subst (λ (bytes : List (Vec ℕ Global)). Fails (TurnsOfAct c.args.a.now.socket.view.endpoint (packet_bytes bytes) (act_content c.args.act.now)) (shown c.args.a.now) fault (shown c.perform.new.self))
+    (subst (λ (bytes : List (Vec ℕ Global)). FailsAtSide (TurnsOfAct c.args.a.now.socket.view.endpoint (bytes_of_packets bytes) (act_content c.args.act.now)) (shown c.args.a.now) fault (shown c.perform.new.self))
     c.deref.ensures.value c.in_err-reply-in-A.ensures.call) refl)
 
 pub returns-in_err-reply-in-B-clause-call : goal.returns-in_err-reply-in-B-clause-call
@@ -25,7 +25,7 @@ returns-in_err-reply-in-B-clause-call g c =
     let p = err_from_is_err_and c.from_residual-in_err-reply-in-B.result c.from_residual-in_err-reply-in-B.ensures.1 in
     rw (p.1, p.2)
     (fails_at (act_content c.args.act.now) sides.B fault (both c.args.a.now c.args.b.now) (both c.args.a.now c.perform-in-B.new.self) (sym c.side_of.ensures ∙ c.in-B.is)
-    (subst (λ (bytes : List (Vec ℕ Global)). Fails (TurnsOfAct c.args.b.now.socket.view.endpoint (packet_bytes bytes) (act_content c.args.act.now)) (shown c.args.b.now) fault (shown c.perform-in-B.new.self))
+    (subst (λ (bytes : List (Vec ℕ Global)). FailsAtSide (TurnsOfAct c.args.b.now.socket.view.endpoint (bytes_of_packets bytes) (act_content c.args.act.now)) (shown c.args.b.now) fault (shown c.perform-in-B.new.self))
     c.deref-in-B.ensures.value c.in_err-reply-in-B.ensures.call) refl)
 
 pub returns-in_ok-reply-in-A-clause-drawn : goal.returns-in_ok-reply-in-A-clause-drawn

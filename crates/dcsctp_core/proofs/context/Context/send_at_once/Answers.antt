@@ -2,8 +2,8 @@ use Rattle.std.proofs.Common.{Option, ◌∙◌, ap, sym, refl, subst}
 use Rattle.std.proofs.lemmas.Result.{err_from_is_err_and}
 use Rattle.dcsctp_transfer.specs.spec.queues.Transfer.{Transfer}
 use Rattle.dcsctp_core.specs.declared.state.State.{State}
-use Rattle.dcsctp_core.specs.Handling.{TakesIn}
-use Rattle.dcsctp_core.specs.Below.{at_once_below, AtOnceAt, FillsAtOnceBelow}
+use Rattle.dcsctp_core.specs.Handling.{TakesPossibleTurn}
+use Rattle.dcsctp_core.specs.Below.{has_lost_data, AtOnceAt, FillsLostAtOnce}
 use Rattle.dcsctp_core.specs.View.{View, view_of}
 use Rattle.dcsctp_core.proofs.AtOnceLemmas.{at_once_sent, none_at_once, at_once_no_peer, at_once_cut}
 use Rattle.dcsctp_core.proofs.LendingLemmas.{found, kept, lent, left_with}
@@ -14,8 +14,8 @@ returns-then-not-has_data_at_once g c =
     let old = c.args.self.now in
     let tcb = c.in-Some.tcb.now in
     let holds = c.in-Some.ensures.tcb in
-    subst (λ (s : State). TakesIn g.R.Rng.stream AtOnceAt (view_of old) (view_of (record old { state = s }))) (sym (kept old.state tcb holds))
-    (none_at_once g.R.Rng.stream old (ap at_once_below (found old.state tcb holds) ∙ sym c.has_data_at_once.ensures ∙ c.if-not-has_data_at_once.true))
+    subst (λ (s : State). TakesPossibleTurn g.R.Rng.stream AtOnceAt (view_of old) (view_of (record old { state = s }))) (sym (kept old.state tcb holds))
+    (none_at_once g.R.Rng.stream old (ap has_lost_data (found old.state tcb holds) ∙ sym c.has_data_at_once.ensures ∙ c.if-not-has_data_at_once.true))
 
 pub returns-in_default : goal.returns-in_default
 returns-in_default g c = at_once_no_peer g.R.Rng.stream c.args.self.now c.in_default.ensures.tcb
@@ -42,6 +42,6 @@ returns g c =
     let after = c.fill_at_once.new.self in
     let is = found old.state tcb c.in-Some.ensures.tcb in
     at_once_sent g.R.Rng.stream old tcb (left_with old.state tcb after) _ c.fill_at_once.new.packet _ (view_of c.send_unless_empty.new.self)
-    (ap at_once_below is ∙ sym c.has_data_at_once.ensures ∙ c.if-not-has_data_at_once.false) c.in-Some.ensures.tcb c.in_ok-packet.ensures
-    (subst (λ (f : Option Transfer). FillsAtOnceBelow old.moment f old.state c.in_ok-packet.packet (left_with old.state tcb after) c.fill_at_once.new.packet) (sym is) (after, lent old.state tcb after c.in-Some.ensures.tcb, c.in_ok-fill_at_once.ensures))
+    (ap has_lost_data is ∙ sym c.has_data_at_once.ensures ∙ c.if-not-has_data_at_once.false) c.in-Some.ensures.tcb c.in_ok-packet.ensures
+    (subst (λ (f : Option Transfer). FillsLostAtOnce old.moment f old.state c.in_ok-packet.packet (left_with old.state tcb after) c.fill_at_once.new.packet) (sym is) (after, lent old.state tcb after c.in-Some.ensures.tcb, c.in_ok-fill_at_once.ensures))
     c.send_unless_empty.ensures.size c.in_ok-send_unless_empty.ensures.sends.0 c.in_ok-send_unless_empty.ensures.sends.1

@@ -2,8 +2,8 @@
 use Rattle.std.proofs.Common.{◌≡◌, ℕ, List, map, sym, ◌∙◌, ap, subst}
 use Rattle.dcsctp_api.specs.spec.queues.IncomingStreams.{runs_up_to, runs_behind}
 use Rattle.dcsctp_api.specs.spec.queues.Runs.{RunModel, behind_place, runs_bytes}
-use Rattle.dcsctp_receive_reassembly.specs.Held.{capped}
-use Rattle.dcsctp_receive_reassembly.specs.Runs.{run_of, up_to_place, AreInPlace}
+use Rattle.dcsctp_receive_reassembly.specs.Held.{capped_usize}
+use Rattle.dcsctp_receive_reassembly.specs.Runs.{run_model, up_to_place, AreInPlace}
 use Rattle.std.specs.Prelude.{nat_le, not}
 use Rattle.dcsctp_receive_reassembly.proofs.FragmentLemmas.{front_dropped, filtered_in_place}
 use Rattle.dcsctp_receive_reassembly.proofs.fragments.Fragments.drop_up_to.Goals as goal
@@ -11,15 +11,15 @@ use Rattle.dcsctp_receive_reassembly.proofs.fragments.Fragments.drop_up_to.Goals
 pub invariant_of-self : goal.invariant_of-self
 invariant_of-self c =
     let front = front_dropped c.args.number c.self.inside.runs.entries c.len.ensures.ordered c.self.invariant in
-    let kept : map run_of c.drop_places.new.runs.entries ≡ runs_behind c.args.number (map run_of c.self.inside.runs.entries) =
-    c.drop_places.ensures.kept ∙ ap (λ (place : ℕ). behind_place place (map run_of c.self.inside.runs.entries)) c.fragment_place.ensures.is ∙ front.0 in
-    subst AreInPlace (sym kept) (filtered_in_place (λ run. not (nat_le run.number c.args.number)) (map run_of c.self.inside.runs.entries) c.self.invariant)
+    let kept : map run_model c.drop_places.new.runs.entries ≡ runs_behind c.args.number (map run_model c.self.inside.runs.entries) =
+    c.drop_places.ensures.kept ∙ ap (λ (place : ℕ). behind_place place (map run_model c.self.inside.runs.entries)) c.fragment_place.ensures.is ∙ front.0 in
+    subst AreInPlace (sym kept) (filtered_in_place (λ run. not (nat_le run.number c.args.number)) (map run_model c.self.inside.runs.entries) c.self.invariant)
 
 pub returns-clause-kept : goal.returns-clause-kept
 returns-clause-kept c =
     let front = front_dropped c.args.number c.self.inside.runs.entries c.len.ensures.ordered c.self.invariant in
     c.drop_places.ensures.kept
-    ∙ ap (λ (place : ℕ). behind_place place (map run_of c.self.inside.runs.entries)) c.fragment_place.ensures.is
+    ∙ ap (λ (place : ℕ). behind_place place (map run_model c.self.inside.runs.entries)) c.fragment_place.ensures.is
     ∙ front.0
     ∙ ap (λ (runs : List RunModel). runs_behind c.args.number runs) c.self.view_is
 
@@ -27,6 +27,6 @@ pub returns-clause-size : goal.returns-clause-size
 returns-clause-size c =
     let front = front_dropped c.args.number c.self.inside.runs.entries c.len.ensures.ordered c.self.invariant in
     c.drop_places.ensures.size
-    ∙ ap (λ (place : ℕ). capped (runs_bytes (up_to_place place (map run_of c.self.inside.runs.entries)))) c.fragment_place.ensures.is
-    ∙ ap (λ (runs : List RunModel). capped (runs_bytes runs)) front.1
-    ∙ ap (λ (runs : List RunModel). capped (runs_bytes (runs_up_to c.args.number runs))) c.self.view_is
+    ∙ ap (λ (place : ℕ). capped_usize (runs_bytes (up_to_place place (map run_model c.self.inside.runs.entries)))) c.fragment_place.ensures.is
+    ∙ ap (λ (runs : List RunModel). capped_usize (runs_bytes runs)) front.1
+    ∙ ap (λ (runs : List RunModel). capped_usize (runs_bytes (runs_up_to c.args.number runs))) c.self.view_is

@@ -2,7 +2,7 @@
 use Rattle.std.proofs.Common.{map, arith, ap}
 use Rattle.dcsctp_api.specs.spec.queues.Runs.{runs_bytes}
 use Rattle.dcsctp_api.specs.types.StreamTables.{marks}
-use Rattle.dcsctp_receive_reassembly.specs.Runs.{run_of}
+use Rattle.dcsctp_receive_reassembly.specs.Runs.{run_model}
 use Rattle.dcsctp_receive_reassembly.proofs.StreamBytes.{parted_bytes}
 use Rattle.dcsctp_receive_reassembly.proofs.incoming.Incoming.reset_each_stream.Goals as goal
 
@@ -16,7 +16,7 @@ returns-clause-bytes c =
       c.saturating_sub-self.ensures,
       c.drop_messages-dropped.ensures.size,
       ap runs_bytes c.drop_messages-dropped.ensures.kept,
-      parted_bytes (λ run. marks c.table_of.result run.number) (map run_of c.args.self.now.unordered.entries),
+      parted_bytes (λ run. marks c.table_of.result run.number) (map run_model c.args.self.now.unordered.entries),
       c.forget_each_stream-forgotten.ensures.bytes,
       c.forget_each_stream-forgotten.ensures.size,
     )

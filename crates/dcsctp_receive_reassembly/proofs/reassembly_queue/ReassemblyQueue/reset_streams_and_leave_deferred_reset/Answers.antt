@@ -5,7 +5,7 @@ use Rattle.dcsctp_api.specs.types.Ids.{stream_numbers}
 use Rattle.dcsctp_receive_reassembly.specs.declared.deferral.Deferral.{Deferral}
 use Rattle.dcsctp_receive_reassembly.specs.contracts.reassembly_queue.ReassemblyQueue.{the_view}
 use Rattle.dcsctp_receive_reassembly.specs.Reassembly.{incoming_of}
-use Rattle.dcsctp_api.specs.spec.queues.Reassembly.{ReassemblyState, DeferralModel, waiting_of, skips_of, Leaves, HandlesAll, SkipsThen}
+use Rattle.dcsctp_api.specs.spec.queues.Reassembly.{ReassemblyState, DeferralModel, waiting_of, skips_of, EndsDeferral, HandlesAll, SkipsThen}
 use Rattle.dcsctp_receive_reassembly.specs.Queue.{deferral_of}
 use Rattle.dcsctp_receive_reassembly.proofs.reassembly_queue.ReassemblyQueue.reset_streams_and_leave_deferred_reset.Goals as goal
 use Rattle.dcsctp_receive_reassembly.proofs.reassembly_queue.ReassemblyQueue.reset_streams_and_leave_deferred_reset.Goals.{in-Some-1, in-None-2}
@@ -13,7 +13,7 @@ use Rattle.dcsctp_receive_reassembly.proofs.reassembly_queue.ReassemblyQueue.res
 pub returns-in-None-clause-ok : goal.returns-in-None-clause-ok
 returns-in-None-clause-ok c =
     let none : option_map deferral_of c.self.inside.deferral ≡ None = ap (λ (o : Option Deferral). option_map deferral_of o) (sym c.take.ensures.value ∙ c.in-None.is) in
-    subst (λ (old : ReassemblyState). Leaves (stream_numbers c.args.streams.now) old (the_view (record { incoming = c.reset_streams.new.self; max_size = c.self.inside.max_size; deferral = c.take.new.self }))) c.self.view_is
+    subst (λ (old : ReassemblyState). EndsDeferral (stream_numbers c.args.streams.now) old (the_view (record { incoming = c.reset_streams.new.self; max_size = c.self.inside.max_size; deferral = c.take.new.self }))) c.self.view_is
     (record {
       between = incoming_of c.reset_streams.new.self;
       handled = incoming_of c.reset_streams.new.self;
@@ -27,8 +27,8 @@ returns-in-None-clause-ok c =
 pub returns-in-Ok-clause-ok : goal.returns-in-Ok-clause-ok
 returns-in-Ok-clause-ok c =
     let some : option_map deferral_of c.self.inside.deferral ≡ Some (deferral_of c.in-Some.deferral) = ap (λ (o : Option Deferral). option_map deferral_of o) (sym c.take.ensures.value ∙ c.in-Some.is) in
-    let left : Leaves (stream_numbers c.args.streams.now) c.args.self.now (the_view (record { incoming = c.handle_deferral.new.incoming; max_size = c.self.inside.max_size; deferral = c.take.new.self })) =
-    subst (λ (old : ReassemblyState). Leaves (stream_numbers c.args.streams.now) old (the_view (record { incoming = c.handle_deferral.new.incoming; max_size = c.self.inside.max_size; deferral = c.take.new.self }))) c.self.view_is
+    let left : EndsDeferral (stream_numbers c.args.streams.now) c.args.self.now (the_view (record { incoming = c.handle_deferral.new.incoming; max_size = c.self.inside.max_size; deferral = c.take.new.self })) =
+    subst (λ (old : ReassemblyState). EndsDeferral (stream_numbers c.args.streams.now) old (the_view (record { incoming = c.handle_deferral.new.incoming; max_size = c.self.inside.max_size; deferral = c.take.new.self }))) c.self.view_is
     (record {
       between = incoming_of c.reset_streams.new.self;
       handled = c.in-Ok.ensures.ok.handled;
@@ -39,6 +39,6 @@ returns-in-Ok-clause-ok c =
       deferral = ap (λ (o : Option Deferral). option_map deferral_of o) c.take.ensures.after;
     }) in
     elim c.match-deferral.branch [
-      | in-Some-1 w ↦ subst (λ (new : ReassemblyState). Leaves (stream_numbers c.args.streams.now) c.args.self.now new) (sym w.self-is) left
-      | in-None-2 w ↦ subst (λ (new : ReassemblyState). Leaves (stream_numbers c.args.streams.now) c.args.self.now new) (sym w.self-is) left
+      | in-Some-1 w ↦ subst (λ (new : ReassemblyState). EndsDeferral (stream_numbers c.args.streams.now) c.args.self.now new) (sym w.self-is) left
+      | in-None-2 w ↦ subst (λ (new : ReassemblyState). EndsDeferral (stream_numbers c.args.streams.now) c.args.self.now new) (sym w.self-is) left
     ]

@@ -5,7 +5,7 @@ use Rattle.std.specs.BTreeMap.{get}
 use Rattle.std.specs.Ordering.{nat_cmp}
 use Rattle.dcsctp_receive_reassembly.specs.declared.runs.Assembled.{Assembled}
 use Rattle.dcsctp_receive_reassembly.specs.Runs.{IsOfMessage, assembled_of, whole_of}
-use Rattle.dcsctp_receive_reassembly.specs.Streams.{stream_of, HoldsPlace}
+use Rattle.dcsctp_receive_reassembly.specs.Streams.{stream_model, HoldsPlace}
 use Rattle.dcsctp_receive_reassembly.proofs.WaitingLemmas.{place_there, takes_waiting}
 use Rattle.dcsctp_receive_reassembly.proofs.stream.Stream.take_ahead.Goals as goal
 
@@ -23,7 +23,7 @@ returns-in-Ok-Whole-clause-ok c =
       parts = c.in-Ok-Whole.ensures.ok;
       does =
           rw c.in-Ok-Whole.field-0-is
-          (takes_waiting (whole_of c.in-Ok-Whole.whole) (stream_of c.args.self.now) (stream_of (record c.args.self.now { waiting = c.fill_place.new.waiting; ordered = c.add.new.self })) ready (length c.args.part.payload.items) (record { kept_bytes = c.len-size.result; ready = 0 }) c.args.part.number number c.requires.ahead
+          (takes_waiting (whole_of c.in-Ok-Whole.whole) (stream_model c.args.self.now) (stream_model (record c.args.self.now { waiting = c.fill_place.new.waiting; ordered = c.add.new.self })) ready (length c.args.part.payload.items) (record { kept_bytes = c.len-size.result; ready = 0 }) c.args.part.number number c.requires.ahead
           (c.fill_place.ensures c.args.self.now.waiting.entries (subst (λ (n : ℕ). HoldsPlace n c.args.self.now.waiting.entries c.hold_place.new.waiting.entries) (sym number) c.in_ok-hold_place.ensures.ok))
           refl (omega (arith, c.len-size.ensures)) refl);
       id = refl;

@@ -2,7 +2,7 @@
 use Rattle.dcsctp_api.specs.types.queues.Messages.{message_content}
 use Rattle.std.proofs.Common.{map, sym, ◌∙◌}
 use Rattle.dcsctp_receive_reassembly.specs.Runs.{part_of}
-use Rattle.dcsctp_receive_reassembly.specs.Streams.{stream_of}
+use Rattle.dcsctp_receive_reassembly.specs.Streams.{stream_model}
 use Rattle.dcsctp_api.specs.spec.queues.IncomingStreams.{TakesOrdered, TakesAhead}
 use Rattle.dcsctp_receive_reassembly.proofs.ResultFacts.{if_ok_then}
 use Rattle.dcsctp_receive_reassembly.proofs.WaitingLemmas.{taken_fresh}
@@ -11,7 +11,7 @@ use Rattle.dcsctp_receive_reassembly.proofs.stream.Stream.take_ordered.Goals as 
 pub returns-else-part-self-2-clause-ok : goal.returns-else-part-self-2-clause-ok
 returns-else-part-self-2-clause-ok c = λ ahead.
     if_ok_then c.take_ahead.result
-    (λ taken. TakesOrdered (part_of c.args.part) (stream_of c.args.self.now) (map message_content c.args.ready.now.items) taken (stream_of c.take_ahead.new.self) (map message_content c.args.ready.now.items))
-    (λ taken. TakesAhead (part_of c.args.part) (stream_of c.args.self.now) (map message_content c.args.ready.now.items) taken (stream_of c.take_ahead.new.self) (map message_content c.args.ready.now.items))
+    (λ taken. TakesOrdered (part_of c.args.part) (stream_model c.args.self.now) (map message_content c.args.ready.now.items) taken (stream_model c.take_ahead.new.self) (map message_content c.args.ready.now.items))
+    (λ taken. TakesAhead (part_of c.args.part) (stream_model c.args.self.now) (map message_content c.args.ready.now.items) taken (stream_model c.take_ahead.new.self) (map message_content c.args.ready.now.items))
     (c.take_ahead.ensures.ok (map message_content c.args.ready.now.items))
-    (λ taken takes. taken_fresh (part_of c.args.part) (stream_of c.args.self.now) (map message_content c.args.ready.now.items) taken (stream_of c.take_ahead.new.self) (map message_content c.args.ready.now.items) (sym c.waits.ensures.waits ∙ c.if-waits.false) takes)
+    (λ taken takes. taken_fresh (part_of c.args.part) (stream_model c.args.self.now) (map message_content c.args.ready.now.items) taken (stream_model c.take_ahead.new.self) (map message_content c.args.ready.now.items) (sym c.waits.ensures.waits ∙ c.if-waits.false) takes)

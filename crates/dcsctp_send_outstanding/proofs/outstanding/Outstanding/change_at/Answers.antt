@@ -1,5 +1,5 @@
 use Rattle.std.proofs.Common.{◌≡◌, ◌<◌, length, get_or, arith, ap, refl, subst, sym}
-use Rattle.dcsctp_api.specs.spec.queues.Items.{Item, size_of}
+use Rattle.dcsctp_api.specs.spec.queues.Items.{Item, item_size}
 use Rattle.dcsctp_api.specs.spec.queues.Outstanding.{OutstandingState, header_of}
 use Rattle.dcsctp_send_outstanding.specs.Outstanding.{MayChange}
 use Rattle.dcsctp_send_outstanding.proofs.BytesLemmas.{bytes_changed}
@@ -18,7 +18,7 @@ invariant_of-self c =
     let within : c.args.place < length c.self.inside.items.items = omega (arith, c.requires.place, ap (λ (m : OutstandingState). length m.items) c.self.view_is) in
     let P : Item → Type 0 = λ item. item ≡ get_or c.self.inside.items.items c.args.place item in
     let at = subst P (sym c.item.view_is) c.index_mut-item.ensures.value in
-    let Q : Item → Type 0 = λ item. c.size-size.result ≡ size_of (header_of c.self.inside.interleaving) item in
+    let Q : Item → Type 0 = λ item. c.size-size.result ≡ item_size (header_of c.self.inside.interleaving) item in
     let sized = subst Q (sym c.item.view_is) c.size-size.ensures in
     let R : OutstandingState → Type 0 = λ m. MayChange c.args.change c.args.place m.items in
     let may = subst R (sym c.self.view_is) c.requires.may in

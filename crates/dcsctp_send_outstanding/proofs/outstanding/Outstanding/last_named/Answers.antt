@@ -1,7 +1,7 @@
 use Rattle.std.proofs.Common.{List, subst, refl, add-one, arith}
 use Rattle.std.proofs.lemmas.List.{take_all}
 use Rattle.dcsctp_api.specs.wire.declared.chunk.sack.GapAckBlock.{GapAckBlock}
-use Rattle.dcsctp_api.specs.spec.queues.Reports.{Names, IsLast}
+use Rattle.dcsctp_api.specs.spec.queues.Reports.{NamesItem, IsLastPlace}
 use Rattle.dcsctp_send_outstanding.proofs.ReportLemmas.{named_more}
 use Rattle.dcsctp_send_outstanding.proofs.outstanding.Outstanding.last_named.Goals as goal
 
@@ -13,5 +13,5 @@ loop-block-preserved c =
 
 pub returns : goal.returns
 returns c =
-    let P : List GapAckBlock → Type 0 = λ blocks. IsLast (λ place item. Names c.args.count blocks place) c.args.self.now.items c.loop-block.last in
+    let P : List GapAckBlock → Type 0 = λ blocks. IsLastPlace (λ place item. NamesItem c.args.count blocks place) c.args.self.now.items c.loop-block.last in
     subst P (take_all c.loop-block.block-index c.args.blocks.now (omega (arith, c.loop-block-test.false))) c.loop-block.invariant

@@ -1,7 +1,7 @@
 use Rattle.std.proofs.Common.{List, subst, refl, add-one, arith}
 use Rattle.std.proofs.lemmas.List.{take_all}
 use Rattle.dcsctp_api.specs.wire.declared.chunk.sack.GapAckBlock.{GapAckBlock}
-use Rattle.dcsctp_api.specs.spec.queues.Reports.{IsNewlyAcknowledged, IsLast}
+use Rattle.dcsctp_api.specs.spec.queues.Reports.{IsNewlyAcknowledged, IsLastPlace}
 use Rattle.dcsctp_send_outstanding.proofs.ReportLemmas.{newest_more, newest_first}
 use Rattle.dcsctp_send_outstanding.proofs.outstanding.Outstanding.newest_reported.Goals as goal
 
@@ -16,5 +16,5 @@ loop-block-preserved c =
 
 pub returns : goal.returns
 returns c =
-    let P : List GapAckBlock → Type 0 = λ blocks. IsLast (IsNewlyAcknowledged c.args.count blocks) c.args.self.now.items c.loop-block.newest in
+    let P : List GapAckBlock → Type 0 = λ blocks. IsLastPlace (IsNewlyAcknowledged c.args.count blocks) c.args.self.now.items c.loop-block.newest in
     subst P (take_all c.loop-block.block-index c.args.blocks.now (omega (arith, c.loop-block-test.false))) c.loop-block.invariant

@@ -1,6 +1,6 @@
 use Rattle.std.proofs.Common.{◌≡◌, ◌∙◌, ◌-◌, ◌^◌, ◌++◌, ℕ, List, drop, min, ap, subst}
 use Rattle.std.proofs.lemmas.Result.{err_from_is_err_and}
-use Rattle.dcsctp_api.specs.types.queues.SendStreams.{Waiting, Stream, stream_at, size_of}
+use Rattle.dcsctp_api.specs.types.queues.SendStreams.{Waiting, Stream, stream_at, payload_size}
 use Rattle.dcsctp_send_streams.specs.Telling.{contents, TellsFront}
 use Rattle.dcsctp_api.specs.spec.queues.SendEvents.{expiries}
 use Rattle.dcsctp_api.specs.spec.queues.Sending.{part_events}
@@ -18,8 +18,8 @@ returns-in_err-tell_low-clause-front c =
     let kept : c.count_under_way-kept.result ≡ count_under_way (stream_at queue.streams place).id queue.under_way =
     c.count_under_way-kept.ensures ∙ ap (λ (n : ℕ). count_under_way n queue.under_way) (c.id.ensures ∙ ap (λ (s : Stream). s.id) c.at.ensures) in
     let size : c.size_from-size.result ≡ size_not_begun place queue =
-    c.size_from-size.ensures ∙ (ap (λ (n : ℕ). min (size_of (drop n c.at-2.result.now.messages)) (2 ^ 64 - 1)) kept
-    ∙ ap (λ (s : Stream). min (size_of (drop (count_under_way (stream_at queue.streams place).id queue.under_way) s.messages)) (2 ^ 64 - 1)) c.at-2.ensures) in
+    c.size_from-size.ensures ∙ (ap (λ (n : ℕ). min (payload_size (drop n c.at-2.result.now.messages)) (2 ^ 64 - 1)) kept
+    ∙ ap (λ (s : Stream). min (payload_size (drop (count_under_way (stream_at queue.streams place).id queue.under_way) s.messages)) (2 ^ 64 - 1)) c.at-2.ensures) in
     let P : ℕ → Type 0 = λ n. TellsFront (contents c.args.events.now) (part_events place n queue) (contents c.tell_low.new.events) in
     rw (err_from_is_err_and c.from_residual.result c.from_residual.ensures.1).1
     (front_left (contents c.args.events.now) (part_events place (size_not_begun place queue) queue) (expiries (not_begun place queue)) (contents c.tell_low.new.events)
@@ -32,8 +32,8 @@ returns-in_err-tell_dropped-clause-front c =
     let kept : c.count_under_way-kept.result ≡ count_under_way (stream_at queue.streams place).id queue.under_way =
     c.count_under_way-kept.ensures ∙ ap (λ (n : ℕ). count_under_way n queue.under_way) (c.id.ensures ∙ ap (λ (s : Stream). s.id) c.at.ensures) in
     let size : c.size_from-size.result ≡ size_not_begun place queue =
-    c.size_from-size.ensures ∙ (ap (λ (n : ℕ). min (size_of (drop n c.at-2.result.now.messages)) (2 ^ 64 - 1)) kept
-    ∙ ap (λ (s : Stream). min (size_of (drop (count_under_way (stream_at queue.streams place).id queue.under_way) s.messages)) (2 ^ 64 - 1)) c.at-2.ensures) in
+    c.size_from-size.ensures ∙ (ap (λ (n : ℕ). min (payload_size (drop n c.at-2.result.now.messages)) (2 ^ 64 - 1)) kept
+    ∙ ap (λ (s : Stream). min (payload_size (drop (count_under_way (stream_at queue.streams place).id queue.under_way) s.messages)) (2 ^ 64 - 1)) c.at-2.ensures) in
     let left : drop c.count_under_way-kept.result c.at-3.result.now.messages ≡ not_begun place queue =
     ap (λ (n : ℕ). drop n c.at-3.result.now.messages) kept
     ∙ ap (λ (s : Stream). drop (count_under_way (stream_at queue.streams place).id queue.under_way) s.messages) c.at-3.ensures in

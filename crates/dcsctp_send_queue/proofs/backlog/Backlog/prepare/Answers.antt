@@ -1,7 +1,7 @@
 use Rattle.std.proofs.Common.{ℕ, List, ◌++◌, ap, sym, subst, ◌∙◌, rules}
 use Rattle.dcsctp_api.specs.spec.endpoint.Event.{Event}
 use Rattle.dcsctp_send_streams.specs.Telling.{contents, TellsFront}
-use Rattle.dcsctp_api.specs.spec.queues.OwnResets.{is_open, prepared_in, prepare_events_in}
+use Rattle.dcsctp_api.specs.spec.queues.OwnResets.{is_open_pause, prepared_in, prepare_events_in}
 use Rattle.dcsctp_send_queue.proofs.ResetLemmas.{on_ok_map, on_err_map, paused_is, open_is, closed_is, open_events, closed_events, can_go_on-after_pause}
 use Rattle.dcsctp_send_queue.proofs.QueueLemmas.{found_in-at}
 use Rattle.dcsctp_send_queue.specs.Backlog.{queue_of}
@@ -13,7 +13,7 @@ returns-in-Open-clause-ok c =
     let is = ap (λ s. s.pause) (found_in-at _ _ _ _ c.in_ok-place.ensures.ascending c.in_ok-place.ensures.place ∙ sym c.at.ensures) ∙ (sym c.pause_state.ensures ∙ c.in-Open.is) in
     on_ok_map c.pause.result
     (λ e. e ∙ (paused_is (queue_of c.use_stream.new.self) c.in_ok-place.place c.args.stream_id.0 c.in_ok-place.ensures.ascending c.in_ok-place.ensures.place
-    ∙ (open_is (queue_of c.use_stream.new.self) c.args.stream_id.0 (ap (λ p. is_open p) is) ∙ ap {A = SendQueueState} (λ (q : SendQueueState). prepared_in c.args.stream_id.0 q) c.in_ok-place.ensures.ok)))
+    ∙ (open_is (queue_of c.use_stream.new.self) c.args.stream_id.0 (ap (λ p. is_open_pause p) is) ∙ ap {A = SendQueueState} (λ (q : SendQueueState). prepared_in c.args.stream_id.0 q) c.in_ok-place.ensures.ok)))
     c.pause.ensures.ok
 
 pub returns-in-Open-clause-told : goal.returns-in-Open-clause-told
@@ -21,7 +21,7 @@ returns-in-Open-clause-told c =
     let is = ap (λ s. s.pause) (found_in-at _ _ _ _ c.in_ok-place.ensures.ascending c.in_ok-place.ensures.place ∙ sym c.at.ensures) ∙ (sym c.pause_state.ensures ∙ c.in-Open.is) in
     on_ok_map c.pause.result
     (λ e. e ∙ ap (λ z. contents c.args.events.now ++ z)
-    (open_events (queue_of c.use_stream.new.self) c.in_ok-place.place c.args.stream_id.0 c.in_ok-place.ensures.ascending c.in_ok-place.ensures.place (ap (λ p. is_open p) is)
+    (open_events (queue_of c.use_stream.new.self) c.in_ok-place.place c.args.stream_id.0 c.in_ok-place.ensures.ascending c.in_ok-place.ensures.place (ap (λ p. is_open_pause p) is)
     ∙ ap {A = SendQueueState} (λ (q : SendQueueState). prepare_events_in c.args.stream_id.0 q) c.in_ok-place.ensures.ok))
     c.pause.ensures.told
 
@@ -33,7 +33,7 @@ pub returns-in-Open-clause-front : goal.returns-in-Open-clause-front
 returns-in-Open-clause-front c =
     let is = ap (λ s. s.pause) (found_in-at _ _ _ _ c.in_ok-place.ensures.ascending c.in_ok-place.ensures.place ∙ sym c.at.ensures) ∙ (sym c.pause_state.ensures ∙ c.in-Open.is) in
     let told =
-    open_events (queue_of c.use_stream.new.self) c.in_ok-place.place c.args.stream_id.0 c.in_ok-place.ensures.ascending c.in_ok-place.ensures.place (ap (λ p. is_open p) is)
+    open_events (queue_of c.use_stream.new.self) c.in_ok-place.place c.args.stream_id.0 c.in_ok-place.ensures.ascending c.in_ok-place.ensures.place (ap (λ p. is_open_pause p) is)
     ∙ ap {A = SendQueueState} (λ (q : SendQueueState). prepare_events_in c.args.stream_id.0 q) c.in_ok-place.ensures.ok in
     on_err_map c.pause.result
     (λ tells. subst (λ (whole : List (Event (List ℕ))). TellsFront (contents c.args.events.now) whole (contents c.pause.new.events)) told tells)
@@ -42,21 +42,21 @@ returns-in-Open-clause-front c =
 pub returns-in-Pausing-clause-ok : goal.returns-in-Pausing-clause-ok
 returns-in-Pausing-clause-ok c =
     let is = ap (λ s. s.pause) (found_in-at _ _ _ _ c.in_ok-place.ensures.ascending c.in_ok-place.ensures.place ∙ sym c.at.ensures) ∙ (sym c.pause_state.ensures ∙ c.in-Pausing.is) in
-    closed_is (queue_of c.use_stream.new.self) c.args.stream_id.0 (ap (λ p. is_open p) is) ∙ ap {A = SendQueueState} (λ (q : SendQueueState). prepared_in c.args.stream_id.0 q) c.in_ok-place.ensures.ok
+    closed_is (queue_of c.use_stream.new.self) c.args.stream_id.0 (ap (λ p. is_open_pause p) is) ∙ ap {A = SendQueueState} (λ (q : SendQueueState). prepared_in c.args.stream_id.0 q) c.in_ok-place.ensures.ok
 
 pub returns-in-Pausing-clause-told : goal.returns-in-Pausing-clause-told
 returns-in-Pausing-clause-told c =
     let is = ap (λ s. s.pause) (found_in-at _ _ _ _ c.in_ok-place.ensures.ascending c.in_ok-place.ensures.place ∙ sym c.at.ensures) ∙ (sym c.pause_state.ensures ∙ c.in-Pausing.is) in
-    let none = ap {A = SendQueueState} (λ (q : SendQueueState). prepare_events_in {P = List ℕ} c.args.stream_id.0 q) (sym c.in_ok-place.ensures.ok) ∙ closed_events (queue_of c.use_stream.new.self) c.args.stream_id.0 (ap (λ p. is_open p) is) in
+    let none = ap {A = SendQueueState} (λ (q : SendQueueState). prepare_events_in {P = List ℕ} c.args.stream_id.0 q) (sym c.in_ok-place.ensures.ok) ∙ closed_events (queue_of c.use_stream.new.self) c.args.stream_id.0 (ap (λ p. is_open_pause p) is) in
     rw none (search rules)
 
 pub returns-in-HandedOut-clause-ok : goal.returns-in-HandedOut-clause-ok
 returns-in-HandedOut-clause-ok c =
     let is = ap (λ s. s.pause) (found_in-at _ _ _ _ c.in_ok-place.ensures.ascending c.in_ok-place.ensures.place ∙ sym c.at.ensures) ∙ (sym c.pause_state.ensures ∙ c.in-HandedOut.is) in
-    closed_is (queue_of c.use_stream.new.self) c.args.stream_id.0 (ap (λ p. is_open p) is) ∙ ap {A = SendQueueState} (λ (q : SendQueueState). prepared_in c.args.stream_id.0 q) c.in_ok-place.ensures.ok
+    closed_is (queue_of c.use_stream.new.self) c.args.stream_id.0 (ap (λ p. is_open_pause p) is) ∙ ap {A = SendQueueState} (λ (q : SendQueueState). prepared_in c.args.stream_id.0 q) c.in_ok-place.ensures.ok
 
 pub returns-in-HandedOut-clause-told : goal.returns-in-HandedOut-clause-told
 returns-in-HandedOut-clause-told c =
     let is = ap (λ s. s.pause) (found_in-at _ _ _ _ c.in_ok-place.ensures.ascending c.in_ok-place.ensures.place ∙ sym c.at.ensures) ∙ (sym c.pause_state.ensures ∙ c.in-HandedOut.is) in
-    let none = ap {A = SendQueueState} (λ (q : SendQueueState). prepare_events_in {P = List ℕ} c.args.stream_id.0 q) (sym c.in_ok-place.ensures.ok) ∙ closed_events (queue_of c.use_stream.new.self) c.args.stream_id.0 (ap (λ p. is_open p) is) in
+    let none = ap {A = SendQueueState} (λ (q : SendQueueState). prepare_events_in {P = List ℕ} c.args.stream_id.0 q) (sym c.in_ok-place.ensures.ok) ∙ closed_events (queue_of c.use_stream.new.self) c.args.stream_id.0 (ap (λ p. is_open_pause p) is) in
     rw none (search rules)

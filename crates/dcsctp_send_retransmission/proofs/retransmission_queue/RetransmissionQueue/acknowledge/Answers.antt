@@ -3,7 +3,7 @@ use Rattle.dcsctp_api.specs.types.declared.progress.Change.TheVariants.{Acknowle
 use Rattle.dcsctp_api.specs.spec.queues.Outstanding.{OutstandingState}
 use Rattle.dcsctp_api.specs.types.declared.congestion.Acknowledged.{Acknowledged}
 use Rattle.dcsctp_api.specs.spec.queues.Retransmission.{RetransmissionState, with_items}
-use Rattle.dcsctp_api.specs.spec.queues.Acknowledging.{covered, missed_until, without_first, acknowledgement}
+use Rattle.dcsctp_api.specs.spec.queues.Acknowledging.{covered, missed_until, without_first_items, congestion_acknowledgement}
 use Rattle.dcsctp_send_outstanding.proofs.ItemsLemmas.{length-changed_between, length-reported}
 use Rattle.dcsctp_send_retransmission.proofs.QueueLemmas.{length-missed_until, acknowledged_is}
 use Rattle.dcsctp_send_retransmission.proofs.retransmission_queue.RetransmissionQueue.acknowledge.Goals as goal
@@ -81,7 +81,7 @@ returns c =
     rw (c.acknowledge_blocks.ensures, c.change_between.ensures, ← c.self.view_is) refl in
     let is_mid : mid ≡ missed_until c.args.count c.args.limit c.args.newest (with_items (covered c.args.count c.args.blocks.now c.args.self.now.outstanding.items) c.args.self.now) =
     c.self-2.view_is ∙ c.count_misses.ensures ∙ ap (missed_until c.args.count c.args.limit c.args.newest) is_stage in
-    let is_left : left ≡ without_first c.args.count mid = rw c.remove_first.ensures refl in
-    let is_ack : ack ≡ acknowledgement c.args.count c.args.self.now left =
+    let is_left : left ≡ without_first_items c.args.count mid = rw c.remove_first.ensures refl in
+    let is_ack : ack ≡ congestion_acknowledgement c.args.count c.args.self.now left =
     rw (c.saturating_sub.ensures, c.unacknowledged_bytes-bytes.ensures, c.unacknowledged_bytes-left.ensures, c.in_flight_bytes.ensures, c.unacknowledged_items.ensures, ← c.self.view_is) refl in
     acknowledged_is c.args.count c.args.blocks.now c.args.limit c.args.newest c.args.self.now mid left _ ack is_mid is_left is_ack (rw c.handle_acknowledgement.ensures refl)

@@ -1,12 +1,12 @@
 use Rattle.std.proofs.Common.{◌≡◌, ◌∙◌, ◌+◌, ◌-◌, ◌%◌, ◌^◌, true, false, ap, sym}
-use Rattle.dcsctp_send_retransmission.specs.Skipping.{Skips}
+use Rattle.dcsctp_send_retransmission.specs.Skipping.{SkipsRow}
 use Rattle.dcsctp_send_retransmission.proofs.SkippingLemmas.{cumulative_is, says_messages, says_streams}
 use Rattle.dcsctp_send_retransmission.proofs.retransmission_queue.RetransmissionQueue.create_forward_tsn.Goals as goal
 use Rattle.dcsctp_send_retransmission.proofs.retransmission_queue.RetransmissionQueue.create_forward_tsn.Goals.{then-is_interleaving+in_ok-messages_of, else-is_interleaving+in_ok-streams_of}
 
 pub returns : goal.returns
 returns c =
-    let skips : Skips c.args.self.now c.in_ok-count.count c.skip.new.numbers.entries = c.in_ok-count.ensures in
+    let skips : SkipsRow c.args.self.now c.in_ok-count.count c.skip.new.numbers.entries = c.in_ok-count.ensures in
     let tsn : c.tsn_at.result ≡ (c.args.self.now.outstanding.first_tsn + c.in_ok-count.count) % 2 ^ 32 = rw (← c.self.view_is) c.tsn_at.ensures in
     let cumulative : (c.tsn_at.result + 4294967295) % 4294967296 ≡ (c.args.self.now.outstanding.first_tsn + c.in_ok-count.count + (2 ^ 32 - 1)) % 2 ^ 32 =
     ap (λ t. (t + 4294967295) % 4294967296) tsn ∙ cumulative_is c.args.self.now.outstanding.first_tsn c.in_ok-count.count in

@@ -4,7 +4,7 @@ use Rattle.dcsctp_api.specs.spec.queues.Retransmission.{RetransmissionState}
 use Rattle.dcsctp_api.specs.spec.queues.Outstanding.{OutstandingState}
 use Rattle.std.proofs.lemmas.Result.{err_from_is_err_and}
 use Rattle.dcsctp_send_retransmission.specs.States.{stage, Goes}
-use Rattle.dcsctp_api.specs.spec.queues.Filling.{Stage, StepNew, none, counting}
+use Rattle.dcsctp_api.specs.spec.queues.Filling.{Stage, StepNew, none, resent_packet_counted}
 use Rattle.dcsctp_send_retransmission.proofs.StatesLemmas.{goes_filling}
 use Rattle.dcsctp_send_retransmission.proofs.FreshLemmas.{fresh_none, ends_fresh, ends_fresh_ok}
 use Rattle.dcsctp_send_retransmission.proofs.HaltingLemmas.{halts_counted, halts_marked, halts_new}
@@ -69,7 +69,7 @@ returns-then-marked_items-ne0-clause-steps c =
 pub returns-clause-steps : goal.returns-clause-steps
 returns-clause-steps c =
     let counts : stage c.count_sent_again.new.self c.send_again.new.queue c.send_again.new.events c.send_again.new.packet.tsns.items c.send_again.new.packet.room
-    ≡ counting c.args.packet.now.room (stage c.send_again.new.self c.send_again.new.queue c.send_again.new.events c.send_again.new.packet.tsns.items c.send_again.new.packet.room) = rw (c.count_sent_again.ensures, c.saturating_sub.ensures) refl in
+    ≡ resent_packet_counted c.args.packet.now.room (stage c.send_again.new.self c.send_again.new.queue c.send_again.new.events c.send_again.new.packet.tsns.items c.send_again.new.packet.room) = rw (c.count_sent_again.ensures, c.saturating_sub.ensures) refl in
     let new = stage c.send_new.new.self c.send_new.new.queue c.send_new.new.events c.send_new.new.packet.tsns.items c.send_new.new.packet.room in
     let P : Stage → Type 0 = λ s. Goes c.args.now (StepNew c.args.now) s new c.send_new.result in
     goes_filling c.send_new.result c.args.now (stage c.args.self.now c.args.queue.now c.args.events.now c.args.packet.now.tsns.items c.args.packet.now.room) (stage c.send_again.new.self c.send_again.new.queue c.send_again.new.events c.send_again.new.packet.tsns.items c.send_again.new.packet.room) new c.in_ok-send_again.ensures.steps

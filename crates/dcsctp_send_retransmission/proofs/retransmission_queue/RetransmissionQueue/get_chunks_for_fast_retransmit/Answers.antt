@@ -3,8 +3,8 @@ use Rattle.std.proofs.lemmas.Result.{err_from_is_err_and}
 use Rattle.dcsctp_api.specs.spec.queues.Outstanding.{OutstandingState}
 use Rattle.dcsctp_api.specs.spec.queues.Retransmission.{RetransmissionState}
 use Rattle.dcsctp_send_retransmission.specs.Sending.{HandsOut}
-use Rattle.dcsctp_send_retransmission.specs.States.{stage, Stops}
-use Rattle.dcsctp_api.specs.spec.queues.Filling.{SendsMarked, Steps}
+use Rattle.dcsctp_send_retransmission.specs.States.{stage, StopsBetweenSteps}
+use Rattle.dcsctp_api.specs.spec.queues.Filling.{SendsMarked, StageSteps}
 use Rattle.dcsctp_send_retransmission.proofs.SendingLemmas.{fills_hand_out, counted_outstanding}
 use Rattle.dcsctp_send_retransmission.proofs.StatesLemmas.{stops_any}
 use Rattle.dcsctp_send_retransmission.proofs.retransmission_queue.RetransmissionQueue.get_chunks_for_fast_retransmit.Goals as goal
@@ -12,7 +12,7 @@ use Rattle.dcsctp_send_retransmission.proofs.retransmission_queue.Retransmission
 pub returns-in_err-restarts-clause-steps : goal.returns-in_err-restarts-clause-steps
 returns-in_err-restarts-clause-steps c =
     rw (err_from_is_err_and c.from_residual.result c.from_residual.ensures.1).1 (λ waiting events.
-    let P : List ℕ → Type 0 = λ tsns. Stops c.args.now (SendsMarked c.args.now) (stage (record c.args.self.now { fast_retransmit_due = false }) waiting events tsns c.args.bytes) (stage c.send_again_at_once.new.self waiting events [] c.args.bytes) in
+    let P : List ℕ → Type 0 = λ tsns. StopsBetweenSteps c.args.now (SendsMarked c.args.now) (stage (record c.args.self.now { fast_retransmit_due = false }) waiting events tsns c.args.bytes) (stage c.send_again_at_once.new.self waiting events [] c.args.bytes) in
     subst P c.new.ensures.items (rw (← c.self.view_is)
     (stops_any c.args.now (SendsMarked c.args.now) _ c.send_again_at_once.new.self waiting events c.send_again_at_once.new.packet.tsns.items [] c.send_again_at_once.new.packet.room c.args.bytes (c.in_err-restarts.ensures.steps waiting events))))
 
@@ -29,7 +29,7 @@ pub returns-clause-steps : goal.returns-clause-steps
 returns-clause-steps c = λ waiting.
     let resent = c.send_again_at_once.new.self in
     let packet = c.send_again_at_once.new.packet in
-    let P : List ℕ → Type 0 = λ tsns. Steps (SendsMarked c.args.now) (stage (record c.args.self.now { fast_retransmit_due = false }) waiting [] tsns c.args.bytes) (stage resent waiting [] packet.tsns.items packet.room) in
+    let P : List ℕ → Type 0 = λ tsns. StageSteps (SendsMarked c.args.now) (stage (record c.args.self.now { fast_retransmit_due = false }) waiting [] tsns c.args.bytes) (stage resent waiting [] packet.tsns.items packet.room) in
     record {
       resent = resent;
       room = packet.room;

@@ -1,13 +1,13 @@
 use Rattle.std.proofs.Common.{◌≡◌, ◌+◌, ◌-◌, refl, arith}
 use Rattle.std.proofs.lemmas.Result.{err_from_is_err_and}
-use Rattle.dcsctp_api.specs.spec.queues.ItemMessages.{IsMessage}
+use Rattle.dcsctp_api.specs.spec.queues.ItemMessages.{AreMessageItems}
 use Rattle.dcsctp_send_retransmission.specs.States.{stage}
 use Rattle.dcsctp_send_retransmission.proofs.StatesLemmas.{found}
 use Rattle.dcsctp_send_retransmission.proofs.retransmission_queue.RetransmissionQueue.give_up.Goals as goal
 
 pub returns-clause-whole : goal.returns-clause-whole
 returns-clause-whole c = λ tsns room.
-    let message : IsMessage c.args.place c.message_places-start.result.0 c.message_places-start.result.1 c.args.self.now.outstanding.items = rw (← c.self.view_is) c.message_places-start.ensures in
+    let message : AreMessageItems c.args.place c.message_places-start.result.0 c.message_places-start.result.1 c.args.self.now.outstanding.items = rw (← c.self.view_is) c.message_places-start.ensures in
     let behind = message.1 in
     let to = behind.to in
     let within = behind.within in
@@ -26,7 +26,7 @@ returns-clause-whole c = λ tsns room.
 
 pub returns-in_err-close_message-clause-front : goal.returns-in_err-close_message-clause-front
 returns-in_err-close_message-clause-front c =
-    let message : IsMessage c.args.place c.message_places-start.result.0 c.message_places-start.result.1 c.args.self.now.outstanding.items = rw (← c.self.view_is) c.message_places-start.ensures in
+    let message : AreMessageItems c.args.place c.message_places-start.result.0 c.message_places-start.result.1 c.args.self.now.outstanding.items = rw (← c.self.view_is) c.message_places-start.ensures in
     let behind = message.1 in
     let to = behind.to in
     let within = behind.within in

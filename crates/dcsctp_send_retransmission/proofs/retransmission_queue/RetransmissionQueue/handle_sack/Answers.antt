@@ -1,9 +1,9 @@
 use Rattle.std.specs.Prelude.{Option, ℕ}
 use Rattle.std.specs.Option.{option_map}
 use Rattle.std.proofs.Common.{subst, ◌≡◌, ◌≤◌, nat_lt, ◌∙◌, length, ap, refl, arith}
-use Rattle.dcsctp_api.specs.spec.queues.Outstanding.{acknowledged_by, tsn_at}
+use Rattle.dcsctp_api.specs.spec.queues.Outstanding.{acknowledged_count, tsn_at}
 use Rattle.dcsctp_api.specs.spec.queues.Reports.{MissesUntil}
-use Rattle.dcsctp_api.specs.spec.queues.Acknowledging.{is_recovering, AcknowledgesItems, has_acknowledged, exiting, acknowledged_until, settled_at}
+use Rattle.dcsctp_api.specs.spec.queues.Acknowledging.{is_recovering, AcknowledgesItems, has_acknowledged, exiting, acknowledged_until, window_settled_at}
 use Rattle.dcsctp_api.specs.spec.queues.Retransmission.{RetransmissionState}
 use Rattle.dcsctp_send_retransmission.proofs.AnswerLemmas.{sack_answers}
 use Rattle.dcsctp_send_retransmission.proofs.retransmission_queue.RetransmissionQueue.handle_sack.Goals as goal
@@ -22,7 +22,7 @@ returns-clause-turn c =
       bytes_retransmitted = c.self.inside.bytes_retransmitted;
     } in
     let is_stage : stage ≡ exiting c.args.cumulative_tsn_ack c.args.self.now = rw (c.leave_recovery.ensures, ← c.self.view_is) refl in
-    let count_is : c.distance_to-count.result ≡ acknowledged_by c.args.self.now.outstanding c.args.cumulative_tsn_ack = rw (← c.self.view_is) c.distance_to-count.ensures.value in
+    let count_is : c.distance_to-count.result ≡ acknowledged_count c.args.self.now.outstanding c.args.cumulative_tsn_ack = rw (← c.self.view_is) c.distance_to-count.ensures.value in
     let few : c.distance_to-count.result ≤ length c.args.self.now.outstanding.items = rw (← c.self.view_is) (omega (arith, c.if-len-count.false, c.len.ensures.value)) in
     let Misses : RetransmissionState → Type 0 = λ q. MissesUntil (is_recovering c.distance_to-count.result q) c.distance_to-count.result c.args.blocks.now q.outstanding.items c.miss_limit-limit.result in
     let newest_is : c.newest_tsn-newest_tsn.result ≡ option_map (tsn_at c.args.self.now.outstanding) c.newest_reported-newest.result = rw (← c.self.view_is) c.newest_tsn-newest_tsn.ensures in
@@ -31,7 +31,7 @@ returns-clause-turn c =
       missing = rw (← count_is) (subst Misses is_stage (let at_stage : Misses stage = c.miss_limit-limit.ensures in at_stage));
       newest = c.newest_reported-newest.result;
       is_newest = rw (← count_is, ← c.self.view_is) c.newest_reported-newest.ensures;
-      is = rw (← count_is) (c.settle.ensures ∙ ap (settled_at c.args.now c.args.a_rwnd c.distance_to-count.result) (c.acknowledge.ensures ∙ (ap (λ (n : Option ℕ). acknowledged_until c.distance_to-count.result c.args.blocks.now c.miss_limit-limit.result n stage) newest_is ∙ ap (acknowledged_until c.distance_to-count.result c.args.blocks.now c.miss_limit-limit.result (option_map (tsn_at c.args.self.now.outstanding) c.newest_reported-newest.result)) is_stage)));
+      is = rw (← count_is) (c.settle.ensures ∙ ap (window_settled_at c.args.now c.args.a_rwnd c.distance_to-count.result) (c.acknowledge.ensures ∙ (ap (λ (n : Option ℕ). acknowledged_until c.distance_to-count.result c.args.blocks.now c.miss_limit-limit.result n stage) newest_is ∙ ap (acknowledged_until c.distance_to-count.result c.args.blocks.now c.miss_limit-limit.result (option_map (tsn_at c.args.self.now.outstanding) c.newest_reported-newest.result)) is_stage)));
     } in
     let counts : nat_lt c.never_acknowledged_items.result c.never_acknowledged_items-before.result ≡ has_acknowledged c.args.self.now c.settle.new.self =
     rw (c.never_acknowledged_items.ensures, c.never_acknowledged_items-before.ensures, ← c.self.view_is, ← c.self-2.view_is) refl in (

@@ -1,15 +1,15 @@
 use Rattle.std.proofs.Common.{◌≤◌, ◌+◌, length}
 use Rattle.dcsctp_api.specs.spec.queues.Items.{marked_items}
-use Rattle.dcsctp_send_retransmission.specs.Sending.{Fills}
+use Rattle.dcsctp_send_retransmission.specs.Sending.{ContinuesPacket}
 use Rattle.dcsctp_send_retransmission.specs.States.{stage}
-use Rattle.dcsctp_api.specs.spec.queues.Filling.{StepAgain, Steps}
+use Rattle.dcsctp_api.specs.spec.queues.Filling.{StepAgain, StageSteps}
 use Rattle.dcsctp_send_retransmission.proofs.retransmission_queue.RetransmissionQueue.send_again.Given as goal
 
 abbrev pub invariant-loop-now : goal.invariant-loop-now
 invariant-loop-now l =
-    Fills l.initial.self l.initial.packet l.self l.packet
+    ContinuesPacket l.initial.self l.initial.packet l.self l.packet
     × (length l.packet.tsns.items + marked_items l.self.outstanding.items ≤ length l.initial.packet.tsns.items + marked_items l.initial.self.outstanding.items)
-    × Steps (StepAgain l.now) (stage l.initial.self l.initial.queue l.initial.events l.initial.packet.tsns.items l.initial.packet.room) (stage l.self l.queue l.events l.packet.tsns.items l.packet.room)
+    × StageSteps (StepAgain l.now) (stage l.initial.self l.initial.queue l.initial.events l.initial.packet.tsns.items l.initial.packet.room) (stage l.self l.queue l.events l.packet.tsns.items l.packet.room)
 
 abbrev pub decreases-loop-now : goal.decreases-loop-now
 decreases-loop-now l = marked_items l.self.outstanding.items

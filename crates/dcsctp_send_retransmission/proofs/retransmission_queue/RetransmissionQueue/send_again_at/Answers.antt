@@ -1,17 +1,17 @@
 use Rattle.std.proofs.Common.{◌≡◌, Bool, ◌+◌, ◌-◌, refl, ap, ◌∙◌, arith}
 use Rattle.dcsctp_api.specs.types.declared.progress.Change.TheVariants.{SendAgain}
-use Rattle.dcsctp_api.specs.spec.queues.Items.{size_of}
+use Rattle.dcsctp_api.specs.spec.queues.Items.{item_size}
 use Rattle.dcsctp_api.specs.spec.queues.Outstanding.{header, header_of}
 use Rattle.dcsctp_api.specs.spec.queues.Retransmission.{RetransmissionState}
 use Rattle.dcsctp_send_retransmission.specs.declared.packet.Packet.{Packet}
-use Rattle.dcsctp_send_retransmission.specs.Sending.{Keeps}
+use Rattle.dcsctp_send_retransmission.specs.Sending.{KeepsAllFragments}
 use Rattle.dcsctp_send_retransmission.proofs.SendingLemmas.{keeps_refl, fills_same, keeps_with, fragments_changed, filled_kept, filled_more}
 use Rattle.dcsctp_send_retransmission.proofs.retransmission_queue.RetransmissionQueue.send_again_at.Goals as goal
 
 pub returns-clause-fills : goal.returns-clause-fills
 returns-clause-fills c =
-    let size_is : c.size-size.result ≡ size_of (header c.args.self.now.outstanding) c.item-item.result.now =
-    c.size-size.ensures ∙ ap (λ (b : Bool). size_of (header_of b) c.item-item.result.now) (c.is_interleaving.ensures ∙ ap (λ (q : RetransmissionState). q.outstanding.is_interleaved) c.self.view_is) in
+    let size_is : c.size-size.result ≡ item_size (header c.args.self.now.outstanding) c.item-item.result.now =
+    c.size-size.ensures ∙ ap (λ (b : Bool). item_size (header_of b) c.item-item.result.now) (c.is_interleaving.ensures ∙ ap (λ (q : RetransmissionState). q.outstanding.is_interleaved) c.self.view_is) in
     let after : Packet = record { tsns = c.push.new.self; room = c.args.packet.now.room - c.size-size.result } in
     let stage : RetransmissionState = record {
       outstanding = c.send_again.new.self;
@@ -24,7 +24,7 @@ returns-clause-fills c =
       packets_retransmitted = c.self.inside.packets_retransmitted;
       bytes_retransmitted = c.self.inside.bytes_retransmitted;
     } in
-    let keeps : Keeps c.args.self.now stage =
+    let keeps : KeepsAllFragments c.args.self.now stage =
     rw (c.send_again.ensures, ← c.self.view_is)
     (keeps_with _ _ (fragments_changed (SendAgain c.next_tsn-next.result) c.args.place (c.args.place + 1) c.self.inside.outstanding.items)) in
     record {

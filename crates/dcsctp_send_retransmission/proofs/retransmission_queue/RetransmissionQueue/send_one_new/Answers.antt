@@ -1,7 +1,7 @@
 use Rattle.std.proofs.Common.{ℕ, inl, inr, ◌≡◌, ◌+◌, ◌-◌, ◌*◌, ◌/◌, ◌^◌, ◌<◌, min, length, [], ◌∷◌, ◌++◌, ap, ◌∙◌, false, refl, sym, subst}
 use Rattle.dcsctp_send_retransmission.specs.declared.packet.Packet.{Packet}
 use Rattle.dcsctp_api.specs.spec.queues.Retransmission.{RetransmissionState}
-use Rattle.dcsctp_send_retransmission.specs.Sending.{Keeps, Fills}
+use Rattle.dcsctp_send_retransmission.specs.Sending.{KeepsAllFragments, ContinuesPacket}
 use Rattle.dcsctp_api.specs.spec.queues.Outstanding.{OutstandingState, header}
 use Rattle.dcsctp_send_outstanding.specs.Fresh.{SendsFresh}
 use Rattle.dcsctp_send_queue.specs.Calls.{StopsTaking}
@@ -31,7 +31,7 @@ returns-in_err-sent-clause-fills c =
       packets_retransmitted = c.self.inside.packets_retransmitted;
       bytes_retransmitted = c.self.inside.bytes_retransmitted;
     } in
-    let keeps : Keeps c.args.self.now stage = rw (c.in_err-sent.ensures.tries, c.self.view_is) (keeps_refl c.args.self.now) in
+    let keeps : KeepsAllFragments c.args.self.now stage = rw (c.in_err-sent.ensures.tries, c.self.view_is) (keeps_refl c.args.self.now) in
     fills_same c.args.self.now stage c.args.packet.now (record { tsns = c.reserve.new.self; room = c.args.packet.now.room }) keeps c.in_ok-reserve.ensures.items refl
 
 pub returns-in-None-clause-fills : goal.returns-in-None-clause-fills
@@ -48,7 +48,7 @@ returns-in-None-clause-fills c =
       bytes_retransmitted = c.self.inside.bytes_retransmitted;
     } in
     let same = rw c.in-None.is at c.in_ok-sent.ensures.tries in
-    let keeps : Keeps c.args.self.now stage = rw (same, c.self.view_is) (keeps_refl c.args.self.now) in
+    let keeps : KeepsAllFragments c.args.self.now stage = rw (same, c.self.view_is) (keeps_refl c.args.self.now) in
     fills_same c.args.self.now stage c.args.packet.now (record { tsns = c.reserve.new.self; room = c.args.packet.now.room }) keeps c.in_ok-reserve.ensures.items refl
 
 pub returns-in_ok-push-in-Some-clause-fills : goal.returns-in_ok-push-in-Some-clause-fills
@@ -69,7 +69,7 @@ returns-in_ok-push-in-Some-clause-fills c =
     let M : RetransmissionState → Type 0 = λ q. c.args.max ≡ (min c.args.packet.now.room 65532 - header q.outstanding) / 4 * 4 in
     let tsns : after.tsns.items ≡ c.args.packet.now.tsns.items ++ c.in-Some.tsn ∷ [] = rw (c.in_ok-push-in-Some.ensures.items, c.in_ok-reserve.ensures.items) refl in
     let both = sends_fills c.args.now c.args.max old c.args.packet.now after c.len-place.result c.size_at-size.result c.in-Some.tsn c.send_next.new.self false told c.len-place.ensures.value c.size_at-size.ensures (subst M (sym c.self.view_is) c.requires.max.1) c.requires.max.0 tsns c.saturating_sub-packet.ensures in
-    let P : RetransmissionState → Type 0 = λ q. Fills q c.args.packet.now (with_outstanding c.send_next.new.self false old) after in
+    let P : RetransmissionState → Type 0 = λ q. ContinuesPacket q c.args.packet.now (with_outstanding c.send_next.new.self false old) after in
     subst P c.self.view_is both.0
 
 pub returns-in_ok-push-in-Some-clause-less : goal.returns-in_ok-push-in-Some-clause-less

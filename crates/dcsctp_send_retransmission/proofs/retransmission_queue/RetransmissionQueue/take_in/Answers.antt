@@ -5,7 +5,7 @@ use Rattle.std.specs.BTreeMap.{is_at}
 use Rattle.dcsctp_api.specs.spec.queues.Sending.{Fragment}
 use Rattle.dcsctp_api.specs.spec.queues.Items.{Item}
 use Rattle.dcsctp_api.specs.spec.queues.Skipping.{is_listed, LacksRoom}
-use Rattle.dcsctp_send_retransmission.specs.Skipping.{limit_of}
+use Rattle.dcsctp_send_retransmission.specs.Skipping.{skipped_entry_limit}
 use Rattle.dcsctp_send_retransmission.specs.declared.retransmission_queue.forwarding.LastNumbers.{LastNumbers}
 use Rattle.dcsctp_send_retransmission.proofs.SkippingLemmas.{key_cmp, take_more, collects_skipped, collects_taken, lacks_room, fits_after}
 use Rattle.dcsctp_send_retransmission.proofs.retransmission_queue.RetransmissionQueue.take_in.Goals as goal
@@ -34,7 +34,7 @@ returns-then-not-contains_key c =
       refl,
       λ other is.
           let same : item ≡ other = cc in
-          subst (λ (x : Item). LacksRoom c.args.self.now.outstanding.is_interleaved (limit_of c.args.self.now) (length c.args.numbers.now.entries) (take c.args.place c.args.self.now.outstanding.items) x) same
+          subst (λ (x : Item). LacksRoom c.args.self.now.outstanding.is_interleaved (skipped_entry_limit c.args.self.now) (length c.args.numbers.now.entries) (take c.args.place c.args.self.now.outstanding.items) x) same
           (lacks_room c.args.self.now (take c.args.place c.args.self.now.outstanding.items) item c.args.numbers.now.entries listed c.requires.row (omega arith) absent),
     )
 
@@ -50,13 +50,13 @@ returns c =
     → lookup (is_at (key_cmp q)) c.insert.new.self.entries
     ≡ cond (is_at (key_cmp (f.stream, f.is_unordered)) q) (Some (let last : LastNumbers = record { ssn = f.ssn; mid = f.mid } in last)) (lookup (is_at (key_cmp q)) c.args.numbers.now.entries) in
     let updates = subst Updates fragment c.in_ok-insert.ensures.updates.0 in
-    let limit : c.entry_limit.result ≡ limit_of c.args.self.now = c.entry_limit.ensures in
+    let limit : c.entry_limit.result ≡ skipped_entry_limit c.args.self.now = c.entry_limit.ensures in
     let len : c.len.result ≡ length c.args.numbers.now.entries = c.len.ensures.len in
-    let room : (length c.args.numbers.now.entries < limit_of c.args.self.now) ⊎ (is_some c.in_ok-insert.field-0 ≡ true) =
+    let room : (length c.args.numbers.now.entries < skipped_entry_limit c.args.self.now) ⊎ (is_some c.in_ok-insert.field-0 ≡ true) =
     elim c.else-entry_limit-len.branch [
       | else-entry_limit-len-via-then-entry_limit-len+else-not-contains_key w ↦ inr (ap is_some c.in_ok-insert.ensures.old ∙ sym w.contains_key.ensures ∙ w.if-not-contains_key.false)
       | else-entry_limit-len-via-else-entry_limit-len w ↦ inl (let below = w.if-entry_limit-len.false in omega arith)
     ] in
     rw (add-one, take_more c.args.self.now.outstanding.items c.args.place item at)
     (collects_taken c.args.self.now (take c.args.place c.args.self.now.outstanding.items) item c.args.numbers.now.entries c.insert.new.self.entries listed c.requires.row updates
-    (fits_after (limit_of c.args.self.now) (length c.args.numbers.now.entries) (length c.insert.new.self.entries) (is_some c.in_ok-insert.field-0) c.requires.row.fits c.in_ok-insert.ensures.len room))
+    (fits_after (skipped_entry_limit c.args.self.now) (length c.args.numbers.now.entries) (length c.insert.new.self.entries) (is_some c.in_ok-insert.field-0) c.requires.row.fits c.in_ok-insert.ensures.len room))

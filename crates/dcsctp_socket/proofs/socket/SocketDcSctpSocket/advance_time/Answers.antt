@@ -1,6 +1,6 @@
 use Rattle.std.proofs.Common.{subst}
 use Rattle.dcsctp_core.specs.declared.context.Context.{Context}
-use Rattle.dcsctp_core.specs.Timeout.{IsTold}
+use Rattle.dcsctp_core.specs.Timeout.{ListsDeadlines}
 use Rattle.dcsctp_core.specs.View.{endpoint_of, view_of}
 use Rattle.dcsctp_socket_calls.specs.TimeParts.{TimeMoves, WorksTime}
 use Rattle.dcsctp_socket.proofs.SoundCalls.{clock_sound, clock_told, OnlyClock, time_sound}
@@ -21,5 +21,5 @@ invariant_of-self-2 g c = (
       time_sound c.calls_keep_soundness.ensures g.R.Rng.stream c.self.inside.context.value c.advance_time-outcome.new.context c.self.inside.failed c.settled.new.failed (c.self.invariant.0 c.if-self.false) goes_on
       c.args.now c.advance_time-outcome.result c.settled.result
       (subst (λ (x : Context g.row.R.Denot). WorksTime g.R.Rng.stream c.args.now x c.advance_time-outcome.result c.advance_time-outcome.new.context) c.deref_mut-2.ensures.value c.advance_time-outcome.ensures.turn) c.settled.ensures,
-  subst (λ (x : Context g.row.R.Denot). IsTold (endpoint_of x) c.list_deadlines.new.deadlines) c.deref-2.ensures c.list_deadlines.ensures,
+  subst (λ (x : Context g.row.R.Denot). ListsDeadlines (endpoint_of x) c.list_deadlines.new.deadlines) c.deref-2.ensures c.list_deadlines.ensures,
 )

@@ -1,7 +1,7 @@
 use Rattle.std.proofs.Common.{subst}
-use Rattle.dcsctp_core.specs.api.Calls.{Closes}
+use Rattle.dcsctp_core.specs.api.Calls.{ClosesSocket}
 use Rattle.dcsctp_core.specs.declared.context.Context.{Context}
-use Rattle.dcsctp_core.specs.Timeout.{IsTold}
+use Rattle.dcsctp_core.specs.Timeout.{ListsDeadlines}
 use Rattle.dcsctp_core.specs.View.{endpoint_of, view_of}
 use Rattle.dcsctp_socket.specs.SocketView.{SocketView, user_view_of}
 use Rattle.dcsctp_core.specs.types.declared.ends.AbortReason.TheVariants.{CloseCalled}
@@ -13,7 +13,7 @@ use Rattle.dcsctp_socket.proofs.socket.SocketDcSctpSocket.close.Goals as goal
 
 pub returns-clause-call : goal.returns-clause-call
 returns-clause-call g c =
-    subst (λ (s : SocketView g.row.R.Denot). Closes (user_view_of s) c.settled.result (user_view_of (record { view = view_of c.close-outcome.new.context; failed = c.settled.new.failed })))
+    subst (λ (s : SocketView g.row.R.Denot). ClosesSocket (user_view_of s) c.settled.result (user_view_of (record { view = view_of c.close-outcome.new.context; failed = c.settled.new.failed })))
     c.self.view_is
     (closes g.R.Rng.stream c.self.inside.context.value c.close-outcome.new.context c.self.inside.failed c.settled.new.failed c.close-outcome.result c.settled.result
     c.if-self.false
@@ -26,5 +26,5 @@ invariant_of-self g c = (
       close_sound c.calls_keep_soundness.ensures g.R.Rng.stream c.self.inside.context.value c.close-outcome.new.context c.self.inside.failed c.settled.new.failed (c.self.invariant.0 c.if-self.false) goes_on
       c.close-outcome.result c.settled.result
       (subst (λ (x : Context g.row.R.Denot). WorksCall g.R.Rng.stream (ActTurns (abort_with CloseCalled)) x c.close-outcome.result c.close-outcome.new.context) c.deref_mut.ensures.value c.close-outcome.ensures.turn) c.settled.ensures,
-  subst (λ (x : Context g.row.R.Denot). IsTold (endpoint_of x) c.list_deadlines.new.deadlines) c.deref.ensures c.list_deadlines.ensures,
+  subst (λ (x : Context g.row.R.Denot). ListsDeadlines (endpoint_of x) c.list_deadlines.new.deadlines) c.deref.ensures c.list_deadlines.ensures,
 )

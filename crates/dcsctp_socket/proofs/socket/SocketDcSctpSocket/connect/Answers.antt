@@ -1,6 +1,6 @@
 use Rattle.dcsctp_core.specs.api.Calls.{Connects}
 use Rattle.dcsctp_core.specs.declared.context.Context.{Context}
-use Rattle.dcsctp_core.specs.Timeout.{IsTold}
+use Rattle.dcsctp_core.specs.Timeout.{ListsDeadlines}
 use Rattle.dcsctp_core.specs.View.{endpoint_of, view_of}
 use Rattle.dcsctp_socket.specs.SocketView.{SocketView, user_view_of}
 use Rattle.dcsctp_socket_calls.specs.Parts.{WorksConnect}
@@ -24,5 +24,5 @@ invariant_of-self g c = (
       connect_sound c.calls_keep_soundness.ensures g.R.Rng.stream c.self.inside.context.value c.connect-outcome.new.context c.self.inside.failed c.settled.new.failed (c.self.invariant.0 c.if-self.false) goes_on
       c.connect-outcome.result c.settled.result
       (subst (λ (x : Context g.row.R.Denot). WorksConnect g.R.Rng.stream x c.connect-outcome.result c.connect-outcome.new.context) c.deref_mut.ensures.value c.connect-outcome.ensures.turn) c.settled.ensures,
-  subst (λ (x : Context g.row.R.Denot). IsTold (endpoint_of x) c.list_deadlines.new.deadlines) c.deref.ensures c.list_deadlines.ensures,
+  subst (λ (x : Context g.row.R.Denot). ListsDeadlines (endpoint_of x) c.list_deadlines.new.deadlines) c.deref.ensures c.list_deadlines.ensures,
 )

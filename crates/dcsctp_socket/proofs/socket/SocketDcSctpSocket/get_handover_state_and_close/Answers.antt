@@ -1,6 +1,6 @@
 use Rattle.std.proofs.Common.{subst}
 use Rattle.dcsctp_core.specs.declared.context.Context.{Context}
-use Rattle.dcsctp_core.specs.Timeout.{IsTold}
+use Rattle.dcsctp_core.specs.Timeout.{ListsDeadlines}
 use Rattle.dcsctp_core.specs.View.{endpoint_of, view_of}
 use Rattle.dcsctp_socket_calls.specs.HandoverParts.{WorksHandover}
 use Rattle.dcsctp_core.specs.api.Handover.{HandsOver}
@@ -24,5 +24,5 @@ invariant_of-self g c = (
       hand_over_sound c.calls_keep_soundness.ensures g.R.Rng.stream c.self.inside.context.value c.get_handover_state_and_close-outcome.new.context c.self.inside.failed c.settled.new.failed (c.self.invariant.0 c.if-self.false) goes_on
       c.get_handover_state_and_close-outcome.result c.settled.result
       (subst (λ (x : Context g.row.R.Denot). WorksHandover g.R.Rng.stream x c.get_handover_state_and_close-outcome.result c.get_handover_state_and_close-outcome.new.context) c.deref_mut.ensures.value c.get_handover_state_and_close-outcome.ensures.call) c.settled.ensures,
-  subst (λ (x : Context g.row.R.Denot). IsTold (endpoint_of x) c.list_deadlines.new.deadlines) c.deref.ensures c.list_deadlines.ensures,
+  subst (λ (x : Context g.row.R.Denot). ListsDeadlines (endpoint_of x) c.list_deadlines.new.deadlines) c.deref.ensures c.list_deadlines.ensures,
 )

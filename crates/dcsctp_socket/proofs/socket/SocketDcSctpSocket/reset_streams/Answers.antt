@@ -2,7 +2,7 @@ use Rattle.std.proofs.Common.{subst}
 use Rattle.dcsctp_core.specs.types.Ids.{stream_numbers}
 use Rattle.dcsctp_core.specs.api.Resets.{ResetsOwn}
 use Rattle.dcsctp_core.specs.declared.context.Context.{Context}
-use Rattle.dcsctp_core.specs.Timeout.{IsTold}
+use Rattle.dcsctp_core.specs.Timeout.{ListsDeadlines}
 use Rattle.dcsctp_core.specs.View.{endpoint_of, view_of}
 use Rattle.dcsctp_socket.specs.SocketView.{SocketView, user_view_of}
 use Rattle.dcsctp_socket_calls.specs.ResetParts.{WorksReset}
@@ -25,5 +25,5 @@ invariant_of-self g c = (
       reset_sound c.calls_keep_soundness.ensures g.R.Rng.stream c.self.inside.context.value c.reset_streams-outcome.new.context c.self.inside.failed c.settled.new.failed (c.self.invariant.0 c.if-self.false) goes_on
       (stream_numbers c.args.stream_ids.now) c.reset_streams-outcome.result c.settled.result
       (subst (λ (x : Context g.row.R.Denot). WorksReset g.R.Rng.stream (stream_numbers c.args.stream_ids.now) x c.reset_streams-outcome.result c.reset_streams-outcome.new.context) c.deref_mut.ensures.value c.reset_streams-outcome.ensures.call) c.settled.ensures,
-  subst (λ (x : Context g.row.R.Denot). IsTold (endpoint_of x) c.list_deadlines.new.deadlines) c.deref.ensures c.list_deadlines.ensures,
+  subst (λ (x : Context g.row.R.Denot). ListsDeadlines (endpoint_of x) c.list_deadlines.new.deadlines) c.deref.ensures c.list_deadlines.ensures,
 )

@@ -1,6 +1,6 @@
 use Rattle.std.proofs.Common.{◌≡◌, true, sym, subst}
 use Rattle.dcsctp_core.specs.declared.context.Context.{Context}
-use Rattle.dcsctp_core.specs.Timeout.{IsTold}
+use Rattle.dcsctp_core.specs.Timeout.{ListsDeadlines}
 use Rattle.dcsctp_core.specs.View.{endpoint_of}
 use Rattle.dcsctp_core.specs.types.Snapshot.{snapshot, is_valid_snapshot}
 use Rattle.dcsctp_socket_calls.specs.HandoverParts.{WorksRestore}
@@ -15,5 +15,5 @@ invariant_of-self g c = (
       (snapshot c.args.state.now) c.restore_from_state-outcome.result c.settled.result
       (subst (λ (s : SocketView g.row.R.Denot). is_valid_snapshot s.view.endpoint.options (snapshot c.args.state.now) ≡ true) (sym c.self.view_is) c.requires)
       (subst (λ (x : Context g.row.R.Denot). WorksRestore g.R.Rng.stream (snapshot c.args.state.now) x c.restore_from_state-outcome.result c.restore_from_state-outcome.new.context) c.deref_mut.ensures.value c.restore_from_state-outcome.ensures.call) c.settled.ensures,
-  subst (λ (x : Context g.row.R.Denot). IsTold (endpoint_of x) c.list_deadlines.new.deadlines) c.deref.ensures c.list_deadlines.ensures,
+  subst (λ (x : Context g.row.R.Denot). ListsDeadlines (endpoint_of x) c.list_deadlines.new.deadlines) c.deref.ensures c.list_deadlines.ensures,
 )

@@ -2,7 +2,7 @@ use Rattle.std.proofs.Common.{map, subst}
 use Rattle.dcsctp_core.specs.types.queues.Messages.{message_content}
 use Rattle.dcsctp_core.specs.api.Messages.{SendsMany}
 use Rattle.dcsctp_core.specs.declared.context.Context.{Context}
-use Rattle.dcsctp_core.specs.Timeout.{IsTold}
+use Rattle.dcsctp_core.specs.Timeout.{ListsDeadlines}
 use Rattle.dcsctp_core.specs.View.{endpoint_of, view_of}
 use Rattle.dcsctp_socket.specs.SocketView.{SocketView, user_view_of}
 use Rattle.dcsctp_socket_calls.specs.MessageParts.{WorksSendMany}
@@ -25,5 +25,5 @@ invariant_of-self g c = (
       send_many_sound c.calls_keep_soundness.ensures g.R.Rng.stream c.self.inside.context.value c.send_many-outcome.new.context c.self.inside.failed c.settled.new.failed (c.self.invariant.0 c.if-self.false) goes_on
       (map message_content c.args.messages.items) c.args.options.now c.send_many-outcome.result c.settled.result
       (subst (λ (x : Context g.row.R.Denot). WorksSendMany g.R.Rng.stream (map message_content c.args.messages.items) c.args.options.now x c.send_many-outcome.result c.send_many-outcome.new.context) c.deref_mut.ensures.value c.send_many-outcome.ensures) c.settled.ensures,
-  subst (λ (x : Context g.row.R.Denot). IsTold (endpoint_of x) c.list_deadlines.new.deadlines) c.deref.ensures c.list_deadlines.ensures,
+  subst (λ (x : Context g.row.R.Denot). ListsDeadlines (endpoint_of x) c.list_deadlines.new.deadlines) c.deref.ensures c.list_deadlines.ensures,
 )

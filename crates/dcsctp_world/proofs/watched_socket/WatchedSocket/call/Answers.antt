@@ -2,7 +2,7 @@ use Rattle.std.proofs.Common.{Err, List, map, ap}
 use Rattle.std.proofs.lemmas.Result.{err_from_is_err_and}
 use Rattle.dcsctp_core.specs.api.declared.errors.SocketFault.{SocketFault}
 use Rattle.dcsctp_core.specs.types.Schedule.{call_content}
-use Rattle.dcsctp_core.specs.spec.endpoint.CallTurns.{Turned}
+use Rattle.dcsctp_core.specs.spec.endpoint.CallTurns.{Transition}
 use Rattle.dcsctp_core.specs.types.queues.Messages.{message_content}
 use Rattle.dcsctp_core.specs.spec.endpoint.UserTurns.{UserTurns}
 use Rattle.dcsctp_world.specs.Growth.{IsCallReply}
@@ -14,7 +14,7 @@ use Rattle.dcsctp_world.proofs.watched_socket.WatchedSocket.call.Goals as goal
 
 pub returns-in_err-reply-clause-call : goal.returns-in_err-reply-clause-call
 returns-in_err-reply-clause-call g c =
-    let Turns : List Turned → Type 0 = UserTurns c.args.self.now.socket.view.endpoint (call_content c.args.call.now) in
+    let Turns : List Transition → Type 0 = UserTurns c.args.self.now.socket.view.endpoint (call_content c.args.call.now) in
     let p = err_from_is_err_and c.from_residual.result c.from_residual.ensures.1 in
     rw (p.1, p.2)
     (call_fails Turns (shown c.args.self.now) c.make_call.new.socket (IsCallReply c.args.self.now.socket.view.endpoint (call_content c.args.call.now)) _ c.in_err-reply.ensures.call

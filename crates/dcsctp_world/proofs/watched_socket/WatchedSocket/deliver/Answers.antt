@@ -1,7 +1,7 @@
 use Rattle.std.proofs.Common.{ℕ, Option, Ok, List, refl, sym, subst}
 use Rattle.dcsctp_spec_runs.specs.Sockets.{DeliveryTurns}
 use Rattle.dcsctp_world.specs.declared.act.Reply.TheVariants.{NoCall}
-use Rattle.dcsctp_world.specs.Growth.{Works, IsDeliveryReply}
+use Rattle.dcsctp_world.specs.Growth.{HandlesAct, IsDeliveryReply}
 use Rattle.dcsctp_world.specs.Parts.{shown}
 use Rattle.dcsctp_world.proofs.Drawing.{side_draws_nothing}
 use Rattle.dcsctp_world.proofs.Stopping.{grows_by_nothing}
@@ -11,7 +11,7 @@ pub returns-in-None-clause-call : goal.returns-in-None-clause-call
 returns-in-None-clause-call g c =
     let old = c.args.self.now in
     let Delivers : Option (List ℕ) → Type 0 = λ bytes.
-    Works (DeliveryTurns old.socket.view.endpoint bytes) (IsDeliveryReply bytes) (shown old) (Ok NoCall) (shown old) in
+    HandlesAct (DeliveryTurns old.socket.view.endpoint bytes) (IsDeliveryReply bytes) (shown old) (Ok NoCall) (shown old) in
     subst Delivers (sym c.in-None.ensures) (refl, grows_by_nothing _ (shown old) refl c.requires)
 
 pub returns-in-None-clause-drawn : goal.returns-in-None-clause-drawn

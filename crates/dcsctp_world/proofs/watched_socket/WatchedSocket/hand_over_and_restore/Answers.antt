@@ -1,8 +1,8 @@
 use Rattle.std.proofs.Common.{Err, List, ap}
 use Rattle.std.proofs.lemmas.Result.{err_from_is_err_and}
 use Rattle.dcsctp_core.specs.api.declared.errors.SocketFault.{SocketFault}
-use Rattle.dcsctp_core.specs.spec.endpoint.CallTurns.{Turned}
-use Rattle.dcsctp_world.specs.Outside.{HandoverTurns, IsHandedOnBy}
+use Rattle.dcsctp_core.specs.spec.endpoint.CallTurns.{Transition}
+use Rattle.dcsctp_world.specs.Outside.{OutsideHandoverTurns, IsHandedOnBy}
 use Rattle.dcsctp_world.specs.Parts.{shown}
 use Rattle.dcsctp_world.proofs.Drawing.{side_draws}
 use Rattle.dcsctp_world.proofs.Stopping.{call_fails}
@@ -12,7 +12,7 @@ use Rattle.dcsctp_world.proofs.watched_socket.WatchedSocket.hand_over_and_restor
 
 pub returns-in_err-reply-clause-call : goal.returns-in_err-reply-clause-call
 returns-in_err-reply-clause-call g c =
-    let Turns : List Turned → Type 0 = HandoverTurns c.args.self.now.socket.view.endpoint in
+    let Turns : List Transition → Type 0 = OutsideHandoverTurns c.args.self.now.socket.view.endpoint in
     let p = err_from_is_err_and c.from_residual.result c.from_residual.ensures.1 in
     rw (p.1, p.2)
     (call_fails Turns (shown c.args.self.now) c.hand_over_and_restore.new.socket (IsHandedOnBy c.args.self.now.socket.view.endpoint) _ c.in_err-reply.ensures.call
@@ -20,7 +20,7 @@ returns-in_err-reply-clause-call g c =
 
 pub returns-in_err-keep_all-clause-call : goal.returns-in_err-keep_all-clause-call
 returns-in_err-keep_all-clause-call g c =
-    let Turns : List Turned → Type 0 = HandoverTurns c.args.self.now.socket.view.endpoint in
+    let Turns : List Transition → Type 0 = OutsideHandoverTurns c.args.self.now.socket.view.endpoint in
     let worked = c.in_ok-reply.ensures.call in
     let p = err_from_is_err_and c.from_residual-in_err-keep_all.result c.from_residual-in_err-keep_all.ensures.1 in
     rw (p.1, p.2) (
@@ -31,7 +31,7 @@ returns-in_err-keep_all-clause-call g c =
 
 pub returns-clause-call : goal.returns-clause-call
 returns-clause-call g c =
-    let Turns : List Turned → Type 0 = HandoverTurns c.args.self.now.socket.view.endpoint in
+    let Turns : List Transition → Type 0 = OutsideHandoverTurns c.args.self.now.socket.view.endpoint in
     let worked = c.in_ok-reply.ensures.call in (
       worked.reply,
       quiet_grows Turns (shown c.args.self.now) (shown c.keep_all.new.self) c.hand_over_and_restore.new.socket worked.turns worked.are c.requires worked.follows

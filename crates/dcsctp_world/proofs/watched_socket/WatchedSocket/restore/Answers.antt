@@ -1,7 +1,7 @@
 use Rattle.std.proofs.Common.{◌≡◌, false, Err, List, ap}
 use Rattle.std.proofs.lemmas.Result.{err_from_is_err_and}
 use Rattle.dcsctp_core.specs.api.declared.errors.SocketFault.{SocketFault}
-use Rattle.dcsctp_core.specs.spec.endpoint.CallTurns.{Turned}
+use Rattle.dcsctp_core.specs.spec.endpoint.CallTurns.{Transition}
 use Rattle.dcsctp_core.specs.types.Snapshot.{snapshot, is_valid_snapshot}
 use Rattle.dcsctp_world.specs.Outside.{ValidTurns, IsRestoredBy}
 use Rattle.dcsctp_world.specs.Parts.{shown}
@@ -14,7 +14,7 @@ use Rattle.dcsctp_world.proofs.watched_socket.WatchedSocket.restore.Goals as goa
 
 pub returns-in_err-reply-clause-call : goal.returns-in_err-reply-clause-call
 returns-in_err-reply-clause-call g c =
-    let Turns : List Turned → Type 0 = ValidTurns c.args.self.now.socket.view.endpoint (snapshot c.args.state.now) in
+    let Turns : List Transition → Type 0 = ValidTurns c.args.self.now.socket.view.endpoint (snapshot c.args.state.now) in
     let p = err_from_is_err_and c.from_residual.result c.from_residual.ensures.1 in
     rw (p.1, p.2)
     (call_fails Turns (shown c.args.self.now) c.restore.new.socket (IsRestoredBy c.args.self.now.socket.view.endpoint (snapshot c.args.state.now)) _ c.in_err-reply.ensures.call
@@ -22,7 +22,7 @@ returns-in_err-reply-clause-call g c =
 
 pub returns-in_err-keep_all-clause-call : goal.returns-in_err-keep_all-clause-call
 returns-in_err-keep_all-clause-call g c =
-    let Turns : List Turned → Type 0 = ValidTurns c.args.self.now.socket.view.endpoint (snapshot c.args.state.now) in
+    let Turns : List Transition → Type 0 = ValidTurns c.args.self.now.socket.view.endpoint (snapshot c.args.state.now) in
     let worked = c.in_ok-reply.ensures.call in
     let p = err_from_is_err_and c.from_residual-in_err-keep_all.result c.from_residual-in_err-keep_all.ensures.1 in
     rw (p.1, p.2) (
@@ -33,7 +33,7 @@ returns-in_err-keep_all-clause-call g c =
 
 pub returns-clause-call : goal.returns-clause-call
 returns-clause-call g c =
-    let Turns : List Turned → Type 0 = ValidTurns c.args.self.now.socket.view.endpoint (snapshot c.args.state.now) in
+    let Turns : List Transition → Type 0 = ValidTurns c.args.self.now.socket.view.endpoint (snapshot c.args.state.now) in
     let worked = c.in_ok-reply.ensures.call in (
       worked.reply,
       quiet_grows Turns (shown c.args.self.now) (shown c.keep_all.new.self) c.restore.new.socket worked.turns worked.are c.requires worked.follows

@@ -4,7 +4,7 @@ use Rattle.std.proofs.Common.{true, subst}
 use Rattle.dcsctp_world.specs.Recording.{Recording}
 use Rattle.dcsctp_world.specs.Shown.{WorldView, options_of}
 use Rattle.dcsctp_world.specs.Run.{IsRun}
-use Rattle.dcsctp_world.specs.Acts.{RanOut}
+use Rattle.dcsctp_world.specs.Acts.{ActRanOutOfMemory}
 use Rattle.dcsctp_world.specs.Parts.{world_of}
 use Rattle.dcsctp_world.proofs.Running.{is_run_options, is_run_of_own}
 use Rattle.dcsctp_world.proofs.Applying.{applied_is_run, ran_out_in}
@@ -45,7 +45,7 @@ returns-in-Ok-clause-options g c =
 pub returns-in-Err-clause-call : goal.returns-in-Err-clause-call
 returns-in-Err-clause-call g c =
     let new = world_of c.perform_and_keep.new.a c.perform_and_keep.new.b c.perform_and_keep.new.acts.items true in
-    subst (λ (w : WorldView (Recording g.row.R.Denot)). RanOut (act_content c.args.act) w new) c.self.view_is
+    subst (λ (w : WorldView (Recording g.row.R.Denot)). ActRanOutOfMemory (act_content c.args.act) w new) c.self.view_is
     (ran_out_in (act_content c.args.act) _ c.self.inside.a c.self.inside.b c.perform_and_keep.new.a c.perform_and_keep.new.b c.self.inside.acts.items c.perform_and_keep.new.acts.items
     c.self.inside.failed c.if-self.false (λ runs. (c.self.invariant runs).is_run) c.in-Err.ensures.call)
 

@@ -3,7 +3,7 @@ use Rattle.dcsctp_core.specs.types.declared.options.Options.{Options}
 use Rattle.dcsctp_spec_runs.specs.Sockets.{Both}
 use Rattle.dcsctp_world.specs.Parts.{world_of}
 use Rattle.dcsctp_world.specs.Recording.{Recording, fresh_recording}
-use Rattle.dcsctp_world.specs.Shown.{WorldView, fresh_side}
+use Rattle.dcsctp_world.specs.Shown.{WorldView, fresh_side_shown}
 use Rattle.dcsctp_world.proofs.Running.{is_fresh, fresh_is_run, is_run_of_own}
 use Rattle.dcsctp_world.proofs.Whole.{fresh_whole}
 use Rattle.dcsctp_world.proofs.world.World.new.Goals as goal
@@ -14,7 +14,7 @@ returns-clause-fresh g c =
     let options : Both Options = record { a = c.args.a.now; b = c.args.b.now } in
     let generators : Both (Recording g.row.R.Denot) = record { a = fresh_recording c.args.rng_a; b = fresh_recording c.args.rng_b } in
     is_fresh c.in_ok-a.a c.in_ok-b.b c.new-5.result.items options generators
-    (c.in_ok-a.ensures.fresh ∙ ap (fresh_side options.a) c.new.ensures) (c.in_ok-b.ensures.fresh ∙ ap (fresh_side options.b) c.new-3.ensures) c.new-5.ensures.items
+    (c.in_ok-a.ensures.fresh ∙ ap (fresh_side_shown options.a) c.new.ensures) (c.in_ok-b.ensures.fresh ∙ ap (fresh_side_shown options.b) c.new-3.ensures) c.new-5.ensures.items
 
 pub returns-clause-run : goal.returns-clause-run
 returns-clause-run g c =
