@@ -4,7 +4,8 @@ use Rattle.dcsctp_spec.specs.endpoint.Endpoint.{Endpoint, Core}
 use Rattle.dcsctp_spec.specs.Handover.{readiness_of}
 use Rattle.dcsctp_spec.specs.types.Snapshot.{Snapshot, snapshot, is_valid_snapshot}
 use Rattle.dcsctp_spec.specs.SocketSnapshot.{snapshot_of}
-use Rattle.dcsctp_spec.specs.HandoverInputs.{inputs_of_handover, inputs_of_restore}
+use Rattle.dcsctp_spec.specs.HandoverInputs.{inputs_of_restore}
+use Rattle.dcsctp_spec.specs.types.Schedule.{hand_over_call}
 use Rattle.dcsctp_spec.specs.endpoint.CallTurns.{Transition, Turns}
 use Rattle.dcsctp_spec.specs.types.declared.snapshot.SocketHandoverState.{SocketHandoverState}
 use Rattle.dcsctp_api.specs.declared.errors.HandoverError.{HandoverError}
@@ -12,8 +13,7 @@ use Rattle.dcsctp_api.specs.declared.errors.HandoverError.TheVariants.{NotReady}
 use Rattle.dcsctp_api.specs.declared.errors.RestoreError.{RestoreError}
 use Rattle.dcsctp_api.specs.declared.errors.RestoreError.TheVariants.{SocketNotClosed}
 use Rattle.dcsctp_api.specs.declared.errors.SocketFault.{SocketFault}
-use Rattle.dcsctp_api.specs.declared.errors.SocketFault.TheVariants.{OutOfMemory, Failed}
-use Rattle.dcsctp_api.specs.Calls.{UserView, Follows, FailsWhole, RanOutOfMemory, StaysFailed, is_closed}
+use Rattle.dcsctp_api.specs.Calls.{UserView, Calls, UserCallsWhole, RanOutOfMemory, is_closed}
 
 -- What is answered: the snapshot of a socket that is ready, which is valid for its options, or why it isn't ready.
 abbrev pub IsHandoverAnswer : Endpoint → Result SocketHandoverState HandoverError → Type 0
@@ -21,13 +21,8 @@ IsHandoverAnswer e (Ok state) =
     (readiness_of e ≡ 0) × (snapshot state ≡ snapshot_of e) × (is_valid_snapshot e.options (snapshot state) ≡ true)
 IsHandoverAnswer e (Err (NotReady readiness)) = (readiness_of e ≢ 0) × (readiness.0 ≡ readiness_of e)
 
--- The call has the turns of a handover, and returns what it has to. Or an allocation failed, and nothing else has changed.
 abbrev pub HandsOver : UserView → Result (Result SocketHandoverState HandoverError) SocketFault → UserView → Type 0
-HandsOver old (Ok answer) new =
-    IsHandoverAnswer old.endpoint answer
-    × (turns : List Transition) × Turns old.endpoint (inputs_of_handover (readiness_of old.endpoint)) turns × Follows old turns new
-HandsOver old (Err OutOfMemory) new = FailsWhole old new
-HandsOver old (Err Failed) new = StaysFailed old new
+HandsOver old result new = UserCallsWhole hand_over_call (IsHandoverAnswer old.endpoint) old result new
 
 -- What is answered: only a closed socket is restored.
 abbrev pub IsRestoreAnswer : Core → Result (Unit {0}) RestoreError → Type 0
@@ -38,9 +33,7 @@ IsRestoreAnswer core (Err SocketNotClosed) = is_closed core ≡ false
 abbrev pub RestoreTurns : Endpoint → Snapshot → List Transition → Type 0
 RestoreTurns e state turns = Turns e (inputs_of_restore e.core state) turns
 
--- The call has the turns of a restore, and returns what it has to. Or an allocation failed, and the first of the call's events may
--- have been added.
+-- If an allocation fails, the first of the call's events may have been added.
 abbrev pub RestoresSocket : Snapshot → UserView → Result (Result (Unit {0}) RestoreError) SocketFault → UserView → Type 0
-RestoresSocket state old (Ok answer) new = IsRestoreAnswer old.endpoint.core answer × (turns : List Transition) × RestoreTurns old.endpoint state turns × Follows old turns new
-RestoresSocket state old (Err OutOfMemory) new = RanOutOfMemory old (λ turns. (turns ≡ []) ⊎ RestoreTurns old.endpoint state turns) new
-RestoresSocket state old (Err Failed) new = StaysFailed old new
+RestoresSocket state old result new =
+    Calls (IsRestoreAnswer old.endpoint.core) (RestoreTurns old.endpoint state) (RanOutOfMemory (λ turns. (turns ≡ []) ⊎ RestoreTurns old.endpoint state turns)) old result new

@@ -3,20 +3,18 @@ use Rattle.std.specs.Prelude.{◌≡◌, ℕ, Option, Some, None, Result, Ok, Er
 use Rattle.dcsctp_spec.specs.types.declared.message.Message.{Message}
 use Rattle.dcsctp_spec.specs.types.declared.message.SendOptions.{SendOptions}
 use Rattle.dcsctp_spec.specs.types.queues.Messages.{MessageContent, message_content}
+use Rattle.dcsctp_spec.specs.types.Schedule.{send_call, send_many_call}
 use Rattle.dcsctp_spec.specs.queues.Transfer.{Transfer}
 use Rattle.dcsctp_spec.specs.queues.IncomingStreams.{StreamModel}
 use Rattle.dcsctp_spec.specs.endpoint.Endpoint.{Endpoint}
 use Rattle.dcsctp_spec.specs.endpoint.Outcome.{Outcome}
-use Rattle.dcsctp_spec.specs.endpoint.Turn.{Input, user_sends}
 use Rattle.dcsctp_spec.specs.endpoint.DataOutcomes.{ready_where, TakeTurn}
 use Rattle.dcsctp_spec.specs.endpoint.MessageOutcomes.{MessageRefusal, empty_payload, message_too_large, shutting_down, resource_exhaustion, message_refusal, sending_of, RefusedMessage, refused_from}
-use Rattle.dcsctp_spec.specs.endpoint.CallTurns.{Transition, Turns}
 use Rattle.dcsctp_api.specs.declared.errors.BatchSendError.{BatchSendError}
 use Rattle.dcsctp_api.specs.declared.errors.SendError.{SendError}
 use Rattle.dcsctp_api.specs.declared.errors.SendError.TheVariants.{EmptyPayload, MessageTooLarge, ResourceExhaustion, ShuttingDown}
 use Rattle.dcsctp_api.specs.declared.errors.SocketFault.{SocketFault}
-use Rattle.dcsctp_api.specs.declared.errors.SocketFault.TheVariants.{OutOfMemory, Failed}
-use Rattle.dcsctp_api.specs.Calls.{UserView, Follows, RanOutOfMemory, StaysFailed}
+use Rattle.dcsctp_api.specs.Calls.{UserView, UserCalls}
 
 -- ---- what is returned
 
@@ -43,26 +41,19 @@ IsBatchAnswer refused (Err error) = (refused_in error.0.items ≡ refused) × (r
 
 -- ---- send and send_many
 
--- The call is the turn of this input.
-abbrev pub IsTurnOf : Input → UserView → UserView → Type 0
-IsTurnOf input old new = (turns : List Transition) × Turns old.endpoint (input ∷ []) turns × Follows old turns new
+-- What `send` returns: whether the message is refused, and why.
+abbrev pub IsSendAnswer : Endpoint → MessageContent → Result (Unit {0}) SendError → Type 0
+IsSendAnswer e message answer = refusal_in answer ≡ message_refusal e message.stream (length message.payload)
 
--- The call is one turn, and returns whether the message was refused. Or an allocation failed, and the first of the call's
--- events may have been added.
+-- What `send_many` returns: which of the messages are refused, and why.
+abbrev pub IsSendManyAnswer : Endpoint → List MessageContent → SendOptions → Result (Unit {0}) BatchSendError → Type 0
+IsSendManyAnswer e messages options answer = IsBatchAnswer (refused_from 0 e (map (sending_of options) messages)) answer
+
 abbrev pub SendsMessage : MessageContent → SendOptions → UserView → Result (Result (Unit {0}) SendError) SocketFault → UserView → Type 0
-SendsMessage message options old (Ok answer) new =
-    (refusal_in answer ≡ message_refusal old.endpoint message.stream (length message.payload))
-    × IsTurnOf (user_sends (sending_of options message ∷ [])) old new
-SendsMessage message options old (Err OutOfMemory) new = RanOutOfMemory old (Turns old.endpoint (user_sends (sending_of options message ∷ []) ∷ [])) new
-SendsMessage message options old (Err Failed) new = StaysFailed old new
+SendsMessage message options old result new = UserCalls (send_call message options) (IsSendAnswer old.endpoint message) old result new
 
--- the same for several messages
 abbrev pub SendsMany : List MessageContent → SendOptions → UserView → Result (Result (Unit {0}) BatchSendError) SocketFault → UserView → Type 0
-SendsMany messages options old (Ok answer) new =
-    IsBatchAnswer (refused_from 0 old.endpoint (map (sending_of options) messages)) answer
-    × IsTurnOf (user_sends (map (sending_of options) messages)) old new
-SendsMany messages options old (Err OutOfMemory) new = RanOutOfMemory old (Turns old.endpoint (user_sends (map (sending_of options) messages) ∷ [])) new
-SendsMany messages options old (Err Failed) new = StaysFailed old new
+SendsMany messages options old result new = UserCalls (send_many_call messages options) (IsSendManyAnswer old.endpoint messages options) old result new
 
 -- ---- get_next_message
 

@@ -9,10 +9,10 @@ use Rattle.dcsctp_transfer.specs.spec.endpoint.Event.{Event}
 use Rattle.dcsctp_transfer.specs.spec.Packet.{Emission}
 use Rattle.dcsctp_transfer.specs.spec.endpoint.Outcome.{Outcome, noting}
 use Rattle.dcsctp_transfer.specs.spec.association.Effect.{Effect, drawn_in}
-use Rattle.dcsctp_transfer.specs.api.Calls.{user_event}
+use Rattle.dcsctp_transfer.specs.api.Calls.{user_event, Drawn}
 use Rattle.dcsctp_transfer.specs.api.Events.{event_content}
 use Rattle.dcsctp_transfer.specs.api.declared.events.SocketEvent.{SocketEvent}
-use Rattle.dcsctp_core.specs.View.{View, Drawn, Moves, CutTurn}
+use Rattle.dcsctp_core.specs.View.{View, Moves, CutTurn}
 use Rattle.dcsctp_core.proofs.Moving.{Drawn-append}
 
 -- these words and events, and then those of a turn

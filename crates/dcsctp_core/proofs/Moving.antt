@@ -13,8 +13,8 @@ use Rattle.dcsctp_transfer.specs.spec.endpoint.Outcome.{Outcome, still}
 use Rattle.dcsctp_transfer.specs.spec.association.Effect.{Effect, drawn_in}
 use Rattle.dcsctp_transfer.specs.spec.endpoint.CallTurns.{Transition, after_all, words_of, pairs_of, events_of}
 use Rattle.dcsctp_transfer.proofs.spec_lemmas.TurnLists.{after_all-append, words_of-append, pairs_of-append, events_of-append}
-use Rattle.dcsctp_transfer.specs.api.Calls.{user_event}
-use Rattle.dcsctp_core.specs.View.{View, Drawn, Moves, MovesAll}
+use Rattle.dcsctp_transfer.specs.api.Calls.{user_event, Drawn}
+use Rattle.dcsctp_core.specs.View.{View, Moves, MovesAll}
 
 pub Drawn-append : (s t u : Stream) (xs ys : List Word) → Drawn s xs t → Drawn t ys u → Drawn s (xs ++ ys) u
 Drawn-append s t u [] ys a b = subst (λ (v : Stream). Drawn v ys u) a b

@@ -1,10 +1,9 @@
 -- What a socket's parts are in the machine, and how a turn moves them.
 use Rattle.std.specs.Prelude.{◌≡◌, ℕ, Option, None, Some, List, [], ◌∷◌, ◌++◌, map, take}
-use Rattle.rand_core.specs.Stream.{Stream, next_u32, next_u64}
+use Rattle.rand_core.specs.Stream.{Stream}
 use Rattle.dcsctp_transfer.specs.types.declared.options.Options.{Options}
 use Rattle.dcsctp_transfer.specs.types.declared.association.Pair.{Pair}
 use Rattle.dcsctp_transfer.specs.types.declared.word.Word.{Word}
-use Rattle.dcsctp_transfer.specs.types.declared.word.Word.TheVariants.{U32, U64}
 use Rattle.dcsctp_transfer.specs.spec.endpoint.Event.{Event}
 use Rattle.dcsctp_transfer.specs.types.declared.association.Held.{Held}
 use Rattle.dcsctp_transfer.specs.spec.queues.Transfer.{Transfer, new_transfer}
@@ -20,7 +19,7 @@ use Rattle.dcsctp_transfer.specs.spec.association.Effect.{drawn_in}
 use Rattle.dcsctp_transfer.specs.spec.endpoint.CallTurns.{Transition, after_all, words_of, effects_of, events_of}
 use Rattle.dcsctp_transfer.specs.types.Settings.{ports_of}
 use Rattle.dcsctp_transfer.specs.api.Events.{event_content}
-use Rattle.dcsctp_transfer.specs.api.Calls.{user_event}
+use Rattle.dcsctp_transfer.specs.api.Calls.{user_event, Drawn}
 use Rattle.dcsctp_core.specs.declared.state.State.{State}
 use Rattle.dcsctp_core.specs.declared.state.State.TheVariants.{Closed, CookieWait, CookieEchoed, Open}
 use Rattle.dcsctp_core.specs.declared.state.OpenPhase as phase_types
@@ -189,12 +188,6 @@ begun_heartbeats e = record e { timers = heartbeats_begun e e.timers }
 -- the endpoint once one more message was queued
 abbrev pub message_counted : Endpoint → Endpoint
 message_counted e = record e { counts = record e.counts { messages_queued = count_up e.counts.messages_queued } }
-
--- The words are what the generator gives next, and this is left of it.
-abbrev pub Drawn : Stream → List Word → Stream → Type 0
-Drawn old [] new = new ≡ old
-Drawn old (U32 word ∷ words) new = (word ≡ (next_u32 old).0) × Drawn (next_u32 old).1 words new
-Drawn old (U64 word ∷ words) new = (word ≡ (next_u64 old).0) × Drawn (next_u64 old).1 words new
 
 -- the view once its association was dropped and these messages are left; the heartbeat's timers go on
 abbrev pub association_dropped : {R : Type 0} → View R → List MessageContent → View R

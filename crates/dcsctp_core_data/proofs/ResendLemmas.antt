@@ -20,7 +20,8 @@ use Rattle.dcsctp_core.proofs.spec_lemmas.AnswerLemmas.{any_answers}
 use Rattle.dcsctp_core.specs.declared.context.Context.{Context}
 use Rattle.dcsctp_core.specs.declared.state.State.{State}
 use Rattle.dcsctp_core.specs.declared.state.State.TheVariants.{Closed, CookieWait, CookieEchoed, Open}
-use Rattle.dcsctp_core.specs.View.{View, core_of, held_of, transfer_of, endpoint_of, view_of, Drawn, Moves}
+use Rattle.dcsctp_core.specs.api.Calls.{Drawn}
+use Rattle.dcsctp_core.specs.View.{View, core_of, held_of, transfer_of, endpoint_of, view_of, Moves}
 use Rattle.dcsctp_core.specs.Handling.{TakesPossibleTurn, CutIn, FlushAt}
 use Rattle.dcsctp_core.specs.Below.{GoesAtOnce, AtOnceAt}
 use Rattle.dcsctp_core.proofs.Composing.{behind, Adds, Draws, moves_behind, cut_behind, cut_longer}

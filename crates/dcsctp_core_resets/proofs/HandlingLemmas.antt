@@ -29,13 +29,13 @@ use Rattle.dcsctp_core.specs.spec.endpoint.ResetOutcomes.{requested_in, is_reque
 use Rattle.dcsctp_core.proofs.spec_lemmas.AnswerLemmas.{any_answers}
 use Rattle.dcsctp_core.proofs.spec_lemmas.ReassemblyLemmas.{any_left}
 use Rattle.dcsctp_core.proofs.spec_lemmas.TurnLists.{drawn_in-append}
-use Rattle.dcsctp_core.specs.api.Calls.{user_event}
+use Rattle.dcsctp_core.specs.api.Calls.{user_event, Drawn}
 use Rattle.dcsctp_core.specs.declared.context.Context.{Context}
 use Rattle.dcsctp_core.specs.declared.state.State.{State}
 use Rattle.dcsctp_core.specs.declared.transmission_control_block.TransmissionControlBlock.{TransmissionControlBlock}
 use Rattle.dcsctp_core.specs.declared.state.State.TheVariants.{Closed, CookieWait, CookieEchoed, Open}
 use Rattle.dcsctp_core.specs.Reconfiguring.{request_in}
-use Rattle.dcsctp_core.specs.View.{View, Drawn, request_number, tcb_of, held_of, phase_in, core_of, outstanding_of, transfer_of, endpoint_of, view_of, Moves}
+use Rattle.dcsctp_core.specs.View.{View, request_number, tcb_of, held_of, phase_in, core_of, outstanding_of, transfer_of, endpoint_of, view_of, Moves}
 use Rattle.dcsctp_core.specs.Handling.{Tries, Emits, chunk_emitted, report_turn, FlushAt, TakesPossibleTurn, CutIn, TakesOne}
 use Rattle.dcsctp_core.specs.Below.{ChangesQueues}
 use Rattle.dcsctp_core.proofs.BelowLemmas.{below_view, same_view}

@@ -1,12 +1,12 @@
 -- Several messages of which one may be too long: a front of it will do, as for one message alone.
-use Rattle.std.proofs.Common.{arith, ◌≡◌, ◌∙◌, ◌<◌, ◌≤◌, ◌==◌, ◌||◌, refl, sym, ap, subst, inl, inr, is_none, ℕ, Bool, false, true, suc, ◌+◌, List, [], ◌∷◌, ◌++◌, map, length, drop, Option, Some, None, Result, Ok, Err, OnOk, ℤ}
+use Rattle.std.proofs.Common.{arith, ◌≡◌, ◌∙◌, ◌<◌, ◌≤◌, ◌==◌, ◌||◌, refl, sym, ap, subst, inl, inr, is_none, ℕ, Bool, false, true, suc, ◌+◌, List, [], ◌∷◌, ◌++◌, map, length, drop, Option, Some, None, Result, Ok, Err, ℤ}
 use Rattle.dcsctp_core.specs.types.declared.message.SendOptions.{SendOptions}
 use Rattle.dcsctp_core.specs.types.queues.Messages.{MessageContent}
 use Rattle.dcsctp_core.specs.types.Settings.{ports_of}
 use Rattle.dcsctp_core.specs.spec.endpoint.Endpoint.{Endpoint}
 use Rattle.dcsctp_core.specs.spec.endpoint.Outcome.{Outcome, quiet, then_outcome}
 use Rattle.dcsctp_core.specs.spec.endpoint.FlushOutcomes.{Answer}
-use Rattle.dcsctp_core.specs.spec.endpoint.Turn.{user_sends}
+use Rattle.dcsctp_core.specs.spec.endpoint.Turn.{Input, user_sends}
 use Rattle.dcsctp_core.specs.spec.endpoint.MessageOutcomes.{MessageRefusal, empty_payload, message_too_large, shutting_down, resource_exhaustion, message_refusal, refusal_events, Sending, sending_of, sending_refusal, lifecycle_name, queue_by, queue_one, queue_all, takes_any, RefusedMessage, refused_where, refused_from, SendAnswers, send_by, SendTurn}
 use Rattle.dcsctp_core.specs.spec.endpoint.CallTurns.{Transition, transition, Turns}
 use Rattle.dcsctp_core.specs.api.declared.errors.SendError.{SendError}
@@ -15,7 +15,7 @@ use Rattle.dcsctp_core.specs.api.Calls.{UserView, Follows, AddsFirstEvents, RanO
 use Rattle.dcsctp_core.specs.api.declared.errors.BatchSendError.{BatchSendError}
 use Rattle.dcsctp_core.specs.api.declared.errors.SocketFault.{SocketFault}
 use Rattle.dcsctp_core.specs.api.declared.errors.SocketFault.TheVariants.{OutOfMemory, Failed}
-use Rattle.dcsctp_core.specs.api.Messages.{IsTurnOf, SendsMany, IsBatchAnswer, refusal_of, refused_in}
+use Rattle.dcsctp_core.specs.api.Messages.{SendsMany, IsBatchAnswer, refusal_of, refused_in}
 use Rattle.dcsctp_session.specs.declared.status.Status.{Status}
 use Rattle.dcsctp_session.specs.declared.status.Status.TheVariants as statuses
 use Rattle.dcsctp_session.specs.Copying.{IsFront}
@@ -177,6 +177,10 @@ module _ (options : SendOptions) where
 
 -- ---- turns
 
+-- the call is the turn of this input
+abbrev pub IsTurnOf : Input → UserView → UserView → Type 0
+IsTurnOf input old new = (turns : List Transition) × Turns old.endpoint (input ∷ []) turns × Follows old turns new
+
 -- what comes of the call, by whether a message is taken and what queueing them does
 abbrev CameOf : Bool → Outcome → Outcome → Type 0
 CameOf takes queued o = (answers : List Answer) × SendAnswers takes queued.after answers × (o ≡ then_outcome queued (send_by takes queued.after answers))
@@ -192,14 +196,14 @@ module _ (options : SendOptions) (old : UserView) (wholes fronts : List Sending)
   same_call new (t ∷ []) said follows = (
     transition (user_sends wholes) t.outcome ∷ [],
     (record { is = refl; comes = same_turn options old.endpoint wholes fronts t.outcome all said.0.comes }, tt),
-    record { runs = follows.runs; goes_on = follows.goes_on; endpoint = follows.endpoint; events = follows.events; words = follows.words; pairs = follows.pairs },
+    record { runs = follows.runs; goes_on = follows.goes_on; endpoint = follows.endpoint; events = follows.events; words = follows.words; pairs = follows.pairs; drawn = follows.drawn },
   )
 
   pub same_sent : (new : UserView) → IsTurnOf (user_sends fronts) old new → IsTurnOf (user_sends wholes) old new
   same_sent new (turns, are, follows) = same_call new turns are follows
 
   same_front : (new : UserView) (turns : List Transition) → old.failed ≡ false → new.failed ≡ true → Turns old.endpoint (user_sends fronts ∷ []) turns
-      → AddsFirstEvents (ports_of old.endpoint.options) turns old.events new.events → RanOutOfMemory old (Turns old.endpoint (user_sends wholes ∷ [])) new
+      → AddsFirstEvents (ports_of old.endpoint.options) turns old.events new.events → RanOutOfMemory (Turns old.endpoint (user_sends wholes ∷ [])) old new
   same_front new [] runs fails said adds = absurd said
   same_front new (t ∷ u ∷ turns) runs fails said adds = absurd said.1
   same_front new (t ∷ []) runs fails said adds =
@@ -211,7 +215,7 @@ module _ (options : SendOptions) (old : UserView) (wholes fronts : List Sending)
         events = record { added = adds.added; rest = adds.rest; behind = adds.behind; front = adds.front };
       }
 
-  pub same_cut : (new : UserView) → RanOutOfMemory old (Turns old.endpoint (user_sends fronts ∷ [])) new → RanOutOfMemory old (Turns old.endpoint (user_sends wholes ∷ [])) new
+  pub same_cut : (new : UserView) → RanOutOfMemory (Turns old.endpoint (user_sends fronts ∷ [])) old new → RanOutOfMemory (Turns old.endpoint (user_sends wholes ∷ [])) old new
   same_cut new cut = same_front new cut.turns cut.runs cut.fails cut.are cut.events
 
 -- ---- the call
@@ -241,35 +245,33 @@ module _ (options : SendOptions) (wholes fronts : List MessageContent) (old new 
   all : AllAlike options old.endpoint whole_sendings front_sendings
   all = all_alike options old.endpoint wholes fronts are
 
-  -- what is told of each
+  -- the status of each
   abbrev pub whole_outcome : Result (Result (Unit {0}) BatchSendError) SocketFault → Result (List Status) SocketFault
   whole_outcome (Ok answer) = Ok (statuses_of old.endpoint whole_sendings)
   whole_outcome (Err fault) = Err fault
 
   pub whole_call : (outcome : Result (Result (Unit {0}) BatchSendError) SocketFault) → SendsMany fronts options old outcome new
       → ManyCall wholes options old (whole_outcome outcome) new
-  whole_call (Ok answer) (answers, turn) = (refl, same_sent options old whole_sendings front_sendings all new turn)
+  whole_call (Ok answer) made =
+      let same : IsTurnOf (user_sends whole_sendings) old new = same_sent options old whole_sendings front_sendings all new (made.turns, made.are, made.follows) in
+      record { answers = refl; turns = same.0; are = same.1; follows = same.2 }
   whole_call (Err OutOfMemory) cut = same_cut options old whole_sendings front_sendings all new cut
   whole_call (Err Failed) stays = stays
 
   pub whole_status : (outcome : Result (Result (Unit {0}) BatchSendError) SocketFault) → SendsMany fronts options old outcome new
       → outcome_status outcome ≡ many_status (whole_outcome outcome)
-  whole_status (Ok answer) (answers, turn) =
-      first_from 0 old.endpoint front_sendings (errors_in answer) (answered (refused_from 0 old.endpoint front_sendings) answer answers)
+  whole_status (Ok answer) made =
+      first_from 0 old.endpoint front_sendings (errors_in answer) (answered (refused_from 0 old.endpoint front_sendings) answer made.answers)
       ∙ ap first_refusal all.told
   whole_status (Err fault) sends = refl
 
   pub whole_results : (outcome : Result (Result (Unit {0}) BatchSendError) SocketFault) (before : List ℤ) → SendsMany fronts options old outcome new
       → results_by outcome (length whole_sendings) before ≡ results_after (whole_outcome outcome) before
-  whole_results (Ok answer) before (answers, turn) =
+  whole_results (Ok answer) before made =
       let each : statuses_by (length whole_sendings) 0 (errors_in answer) ≡ statuses_of old.endpoint whole_sendings =
       ap (λ n. statuses_by n 0 (errors_in answer)) (sym (fronts_length old.endpoint.options.max_message_size options wholes fronts are))
-      ∙ told_are old.endpoint front_sendings (errors_in answer) (answered (refused_from 0 old.endpoint front_sendings) answer answers)
+      ∙ told_are old.endpoint front_sendings (errors_in answer) (answered (refused_from 0 old.endpoint front_sendings) answer made.answers)
       ∙ all.told in
       ap (λ l. map status_number l ++ drop (length whole_sendings) before) each
       ∙ ap (λ n. map status_number (statuses_of old.endpoint whole_sendings) ++ drop n before) (sym (each_length old.endpoint whole_sendings))
   whole_results (Err fault) before sends = refl
-
-  pub whole_draws : (Draws : Type 0) (outcome : Result (Result (Unit {0}) BatchSendError) SocketFault) → OnOk outcome Draws → OnOk (whole_outcome outcome) Draws
-  whole_draws Draws (Ok answer) draws = draws
-  whole_draws Draws (Err fault) draws = draws

@@ -1,4 +1,4 @@
--- Several messages in one call: their copies, and what is told of each.
+-- Several messages in one call: their copies, and the status of each.
 use Rattle.std.proofs.Common.{arith, ◌≡◌, ◌∙◌, ap, refl, sym, subst, ℕ, zero, suc, ◌+◌, ◌-◌, ◌<◌, ℤ, to_z, of_z, w32, List, [], ◌∷◌, ◌++◌, length, take, map, get_or, slice_set}
 use Rattle.std.proofs.lemmas.List.{take_more, map-append}
 use Rattle.dcsctp_core.specs.types.queues.Messages.{MessageContent}
@@ -27,7 +27,7 @@ fronts_more limit i messages none fronts front within are is =
     (sym (ap (map outgoing_content) (take_more messages i none within) ∙ map-append outgoing_content (take i messages) (get_or messages i none ∷ [])))
     (fronts_and limit (map outgoing_content (take i messages)) fronts (outgoing_content (get_or messages i none)) front are is)
 
--- ---- what is told
+-- ---- what is reported
 
 -- a status fits into 32 bits
 fits : (status : Status) → to_z w32 (of_z w32 (status_number status)) ≡ status_number status

@@ -1,5 +1,5 @@
 -- The call of a session that sends several messages, from the call of its socket on their fronts.
-use Rattle.std.proofs.Common.{◌≡◌, ◌∙◌, ap, sym, inr, ℤ, List, length, map, Result, OnOk}
+use Rattle.std.proofs.Common.{◌≡◌, ◌∙◌, ap, sym, inr, ℤ, List, length, map, Result}
 use Rattle.std.proofs.lemmas.List.{length-map}
 use Rattle.dcsctp_core.specs.types.declared.message.SendOptions.{SendOptions}
 use Rattle.dcsctp_core.specs.types.queues.Messages.{MessageContent}
@@ -7,27 +7,25 @@ use Rattle.dcsctp_core.specs.spec.endpoint.MessageOutcomes.{sending_of}
 use Rattle.dcsctp_core.specs.api.declared.errors.BatchSendError.{BatchSendError}
 use Rattle.dcsctp_core.specs.api.declared.errors.SocketFault.{SocketFault}
 use Rattle.dcsctp_core.specs.api.Messages.{SendsMany}
-use Rattle.dcsctp_core.specs.View.{Drawn}
 use Rattle.dcsctp_session.specs.declared.many.OutgoingRecord.{OutgoingRecord}
 use Rattle.dcsctp_session.specs.declared.session.Session.{Session}
 use Rattle.dcsctp_session.specs.declared.status.Status.{Status}
 use Rattle.dcsctp_session.specs.Answering.{AreFronts, outcome_status, results_by}
 use Rattle.dcsctp_session.specs.Many.{outgoing_content, CopiesSent}
-use Rattle.dcsctp_session.specs.Views.{view, ahead}
-use Rattle.dcsctp_session.proofs.FrontTurns.{whole_outcome, whole_call, whole_status, whole_results, whole_draws}
+use Rattle.dcsctp_session.specs.Views.{view}
+use Rattle.dcsctp_session.proofs.FrontTurns.{whole_outcome, whole_call, whole_status, whole_results}
 
 pub copies_sent : (options : SendOptions) (messages : List OutgoingRecord) (fronts : List MessageContent) (outcome : Result (Result (Unit {0}) BatchSendError) SocketFault)
     (old : Session) (before : List ℤ) (status : Status) (after : List ℤ) (new : Session)
     → AreFronts (view old).endpoint.options.max_message_size (map outgoing_content messages) fronts
-    → SendsMany fronts options (view old) outcome (view new) → OnOk outcome (Drawn (ahead old) (view new).words (ahead new))
+    → SendsMany fronts options (view old) outcome (view new)
     → status ≡ outcome_status outcome → after ≡ results_by outcome (length messages) before → new.taken ≡ old.taken
     → CopiesSent messages options old before status after new
-copies_sent options messages fronts outcome old before status after new are sends draws told results taken =
+copies_sent options messages fronts outcome old before status after new are sends told results taken =
     let wholes : List MessageContent = map outgoing_content messages in
     inr (record {
       outcome = whole_outcome options wholes fronts (view old) (view new) are outcome;
       call = whole_call options wholes fronts (view old) (view new) are outcome sends;
-      draws = whole_draws options wholes fronts (view old) (view new) are (Drawn (ahead old) (view new).words (ahead new)) outcome draws;
       told = told ∙ whole_status options wholes fronts (view old) (view new) are outcome sends;
       results =
           results ∙ ap (λ n. results_by outcome n before) (sym (length-map wholes (sending_of options) ∙ length-map messages outgoing_content))

@@ -1,5 +1,6 @@
--- A message that is too long is refused by its length alone, whatever bytes it has. So a front of it will do.
-use Rattle.std.proofs.Common.{arith, ◌≡◌, ◌∙◌, ◌<◌, refl, sym, ap, subst, inl, inr, ℕ, Bool, false, true, List, [], ◌∷◌, length, Option, Some, None, Result, Ok, Err, OnOk}
+-- A message that is too long is refused by its length alone, whatever bytes it has. So a front of
+-- it will do.
+use Rattle.std.proofs.Common.{arith, ◌≡◌, ◌∙◌, ◌<◌, refl, sym, ap, subst, inl, inr, ℕ, Bool, false, true, List, [], ◌∷◌, length, Option, Some, None, Result, Ok, Err}
 use Rattle.dcsctp_core.specs.types.declared.message.SendOptions.{SendOptions}
 use Rattle.dcsctp_core.specs.types.queues.Messages.{MessageContent}
 use Rattle.dcsctp_core.specs.types.Settings.{ports_of}
@@ -14,8 +15,7 @@ use Rattle.dcsctp_core.specs.api.declared.errors.SendError.TheVariants.{EmptyPay
 use Rattle.dcsctp_core.specs.api.declared.errors.SocketFault.{SocketFault}
 use Rattle.dcsctp_core.specs.api.declared.errors.SocketFault.TheVariants.{OutOfMemory, Failed}
 use Rattle.dcsctp_core.specs.api.Calls.{UserView, Follows, AddsFirstEvents, RanOutOfMemory}
-use Rattle.dcsctp_core.specs.api.Messages.{IsTurnOf, SendsMessage}
-use Rattle.dcsctp_core.specs.View.{Drawn}
+use Rattle.dcsctp_core.specs.api.Messages.{SendsMessage}
 use Rattle.dcsctp_session.specs.declared.session.Session.{Session}
 use Rattle.dcsctp_session.specs.declared.status.Status.{Status}
 use Rattle.dcsctp_session.specs.declared.options.SendOptionsRecord.{SendOptionsRecord}
@@ -23,7 +23,8 @@ use Rattle.dcsctp_session.specs.Options.{SaysSendOptions, is_valid_sending}
 use Rattle.dcsctp_session.specs.Copying.{IsFront}
 use Rattle.dcsctp_session.specs.Calls.{Settled, SentIf, MessageSent}
 use Rattle.dcsctp_session.specs.Status.{send_status}
-use Rattle.dcsctp_session.specs.Views.{view, ahead}
+use Rattle.dcsctp_session.specs.Views.{view}
+use Rattle.dcsctp_session.proofs.FrontTurns.{IsTurnOf}
 
 too_large : (e : Endpoint) (stream bytes : ℕ) → e.options.max_message_size < bytes
     → message_refusal e stream bytes ≡ Some (message_too_large bytes e.options.max_message_size)
@@ -75,11 +76,11 @@ module _ (old : UserView) (options : SendOptions) (stream ppid : ℕ) (front who
   same_call new (t ∷ []) said follows = (
     transition (user_sends (sending whole ∷ [])) t.outcome ∷ [],
     (record { is = refl; comes = same_turn t.outcome said.0.comes }, tt),
-    record { runs = follows.runs; goes_on = follows.goes_on; endpoint = follows.endpoint; events = follows.events; words = follows.words; pairs = follows.pairs },
+    record { runs = follows.runs; goes_on = follows.goes_on; endpoint = follows.endpoint; events = follows.events; words = follows.words; pairs = follows.pairs; drawn = follows.drawn },
   )
 
   same_cut : (new : UserView) (turns : List Transition) → old.failed ≡ false → new.failed ≡ true → IsTurn front turns
-      → AddsFirstEvents (ports_of old.endpoint.options) turns old.events new.events → RanOutOfMemory old (IsTurn whole) new
+      → AddsFirstEvents (ports_of old.endpoint.options) turns old.events new.events → RanOutOfMemory (IsTurn whole) old new
   same_cut new [] runs fails said adds = absurd said
   same_cut new (t ∷ u ∷ turns) runs fails said adds = absurd said.1
   same_cut new (t ∷ []) runs fails said adds =
@@ -98,8 +99,10 @@ module _ (old : UserView) (options : SendOptions) (stream ppid : ℕ) (front who
 
   same_sends : (new : UserView) (outcome : Result (Result (Unit {0}) SendError) SocketFault)
       → SendsMessage (message front) options old outcome new → SendsMessage (message whole) options old (whole_answer outcome) new
-  same_sends new (Ok (Ok done)) sends = grind arith
-  same_sends new (Ok (Err error)) (is, (turns, are, follows)) = (sym (refused whole whole_long), same_call new turns are follows)
+  same_sends new (Ok (Ok done)) made = let is = made.answers in let long = refused front front_long in grind arith
+  same_sends new (Ok (Err error)) made =
+      let same : IsTurnOf (user_sends (sending whole ∷ [])) old new = same_call new made.turns made.are made.follows in
+      record { answers = sym (refused whole whole_long); turns = same.0; are = same.1; follows = same.2 }
   same_sends new (Err OutOfMemory) sends = same_cut new sends.turns sends.runs sends.fails sends.are sends.events
   same_sends new (Err Failed) sends = sends
 
@@ -107,15 +110,10 @@ module _ (old : UserView) (options : SendOptions) (stream ppid : ℕ) (front who
       → send_status (whole_answer outcome) ≡ send_status outcome
   same_status new (Ok (Ok done)) sends = refl
   same_status new (Ok (Err (MessageTooLarge bytes most))) sends = refl
-  same_status new (Ok (Err EmptyPayload)) sends = let is = refused front front_long in grind arith
-  same_status new (Ok (Err ResourceExhaustion)) sends = let is = refused front front_long in grind arith
-  same_status new (Ok (Err ShuttingDown)) sends = let is = refused front front_long in grind arith
+  same_status new (Ok (Err EmptyPayload)) made = let answer = made.answers in let is = refused front front_long in grind arith
+  same_status new (Ok (Err ResourceExhaustion)) made = let answer = made.answers in let is = refused front front_long in grind arith
+  same_status new (Ok (Err ShuttingDown)) made = let answer = made.answers in let is = refused front front_long in grind arith
   same_status new (Err fault) sends = refl
-
-  same_draws : (Draws : Type 0) (outcome : Result (Result (Unit {0}) SendError) SocketFault) → OnOk outcome Draws → OnOk (whole_answer outcome) Draws
-  same_draws Draws (Ok (Ok done)) draws = draws
-  same_draws Draws (Ok (Err error)) draws = draws
-  same_draws Draws (Err fault) draws = draws
 
 -- ---- the call of a session
 
@@ -129,7 +127,6 @@ settled_whole options stream ppid front whole old status new (inr (front_long, w
     record {
       outcome = whole_answer (view old) options stream ppid front whole front_long whole_long settled.outcome;
       call = same_sends (view old) options stream ppid front whole front_long whole_long (view new) settled.outcome settled.call;
-      draws = same_draws (view old) options stream ppid front whole front_long whole_long (Drawn (ahead old) (view new).words (ahead new)) settled.outcome settled.draws;
       told = settled.told ∙ sym (same_status (view old) options stream ppid front whole front_long whole_long (view new) settled.outcome settled.call);
       taken = settled.taken;
     }

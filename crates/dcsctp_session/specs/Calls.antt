@@ -1,5 +1,5 @@
 -- What the calls of a session do: the call of its socket takes place, what was taken is kept, and the status says how it ended.
-use Rattle.std.specs.Prelude.{◌≡◌, ◌⊎◌, ◌<◌, ℕ, Bool, true, false, IsOk, List, Option, Some, None, Result, Ok, Err, OnOk, option_map}
+use Rattle.std.specs.Prelude.{◌≡◌, ◌⊎◌, ◌<◌, ℕ, Bool, true, false, IsOk, List, Option, Some, None, Result, Ok, Err, option_map}
 use Rattle.rand_chacha.specs.ChaCha.{of_seed}
 use Rattle.dcsctp_core.specs.types.Settings.{IsValid}
 use Rattle.dcsctp_core.specs.types.declared.options.Options.{Options}
@@ -14,7 +14,6 @@ use Rattle.dcsctp_core.specs.api.Metrics.{ShowsMetrics}
 use Rattle.dcsctp_core.specs.api.Resets.{ResetsOwn}
 use Rattle.dcsctp_core.specs.api.Time.{AdvancesClock, OnlyMovesClock}
 use Rattle.dcsctp_core.specs.spec.endpoint.TimeTurns.{Waits}
-use Rattle.dcsctp_core.specs.View.{Drawn}
 use Rattle.dcsctp_socket.specs.SocketView.{user_view_of, fresh_socket}
 use Rattle.dcsctp_session.specs.declared.session.Session.{Session}
 use Rattle.dcsctp_session.specs.declared.status.Status.{Status}
@@ -28,7 +27,7 @@ use Rattle.dcsctp_session.specs.declared.records.MetricsRecord.{MetricsRecord}
 use Rattle.dcsctp_session.specs.Options.{SaysOptions, SaysSendOptions, has_options_size, is_valid_sending}
 use Rattle.dcsctp_session.specs.Records.{event_record, message_record, SaysMetrics, counts_size}
 use Rattle.dcsctp_session.specs.Status.{done_status, send_status, reset_status}
-use Rattle.dcsctp_session.specs.Views.{view, words_ahead, ahead, nothing_taken}
+use Rattle.dcsctp_session.specs.Views.{view, words_ahead, nothing_taken}
 
 -- ---- the first call
 
@@ -37,8 +36,7 @@ pub record IsCreated (numbers : OptionsRecord) (seed : List ℕ) (moment : ℕ) 
   pub sized : has_options_size numbers ≡ true
   pub options : Options
   pub says : SaysOptions numbers options
-  pub moves : AdvancesClock (user_view_of (fresh_socket options (of_seed seed))) moment (Ok tt) (view session)
-  pub draws : Drawn (words_ahead (of_seed seed)) (view session).words (ahead session)
+  pub moves : AdvancesClock (user_view_of words_ahead (fresh_socket options (of_seed seed))) moment (Ok tt) (view session)
   pub taken : session.taken ≡ nothing_taken
 
 -- No socket can be made with these options.
@@ -58,12 +56,11 @@ Creates numbers seed moment (Err status) =
 
 -- ---- calls that the socket may refuse
 
--- The socket's call takes place, and the status says its outcome. The words that were drawn are those that came next.
+-- The socket's call takes place, and the status says its outcome.
 pub record Settled {A : Type 0} (status_of : Result A SocketFault → Status) (Call : UserView → Result A SocketFault → UserView → Type 0)
     (old : Session) (status : Status) (new : Session) : Type 0 where
   pub outcome : Result A SocketFault
   pub call : Call (view old) outcome (view new)
-  pub draws : OnOk outcome (Drawn (ahead old) (view new).words (ahead new))
   pub told : status ≡ status_of outcome
   pub taken : new.taken ≡ old.taken
 
@@ -133,13 +130,11 @@ StreamsReset ids old status new = CopyFailed old status new ⊎ Settled reset_st
 pub record SizeLimited (bytes : ℕ) (old : Session) (status : Status) (new : Session) : Type 0 where
   pub told : status ≡ statuses.Done
   pub call : view new ≡ with_setting (longest_message bytes) (view old)
-  pub generator : ahead new ≡ ahead old
   pub taken : new.taken ≡ old.taken
 
 -- The next event is taken and kept, and the record says it.
 pub record EventTaken (old : Session) (told : Option EventRecord) (new : Session) : Type 0 where
   pub call : PollsEvent (view old) new.taken.event (view new)
-  pub generator : ahead new ≡ ahead old
   pub says : told ≡ option_map event_record new.taken.event
   pub message : new.taken.message ≡ old.taken.message
   pub snapshot : new.taken.snapshot ≡ old.taken.snapshot
@@ -147,7 +142,6 @@ pub record EventTaken (old : Session) (told : Option EventRecord) (new : Session
 -- The next message is taken and kept, and the record says it.
 pub record MessageTaken (old : Session) (told : Option MessageRecord) (new : Session) : Type 0 where
   pub call : TakesNextMessage (view old) new.taken.message (view new)
-  pub generator : ahead new ≡ ahead old
   pub says : told ≡ option_map message_record new.taken.message
   pub event : new.taken.event ≡ old.taken.event
   pub snapshot : new.taken.snapshot ≡ old.taken.snapshot

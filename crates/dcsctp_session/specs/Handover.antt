@@ -1,5 +1,5 @@
 -- What the calls of a session do that hand its socket over and restore it.
-use Rattle.std.specs.Prelude.{◌≡◌, ◌≢◌, ◌⊎◌, ℕ, List, [], IsOk, Bool, true, false, Option, Some, None, Result, Ok, Err, OnOk}
+use Rattle.std.specs.Prelude.{◌≡◌, ◌≢◌, ◌⊎◌, ℕ, List, [], IsOk, Bool, true, false, Option, Some, None, Result, Ok, Err}
 use Rattle.dcsctp_core.specs.spec.Handover.{readiness_of}
 use Rattle.dcsctp_core.specs.spec.HandoverInputs.{inputs_of_restore}
 use Rattle.dcsctp_core.specs.types.Snapshot.{Snapshot, snapshot, is_valid_snapshot}
@@ -13,7 +13,6 @@ use Rattle.dcsctp_core.specs.api.declared.errors.HandoverError.{HandoverError}
 use Rattle.dcsctp_core.specs.api.declared.errors.RestoreError.{RestoreError}
 use Rattle.dcsctp_core.specs.api.Calls.{UserView}
 use Rattle.dcsctp_core.specs.api.Handover.{HandsOver, RestoresSocket}
-use Rattle.dcsctp_core.specs.View.{Drawn}
 use Rattle.dcsctp_session.specs.declared.session.Session.{Session}
 use Rattle.dcsctp_session.specs.declared.session.Taken.{Taken}
 use Rattle.dcsctp_session.specs.declared.status.Status.{Status}
@@ -21,7 +20,7 @@ use Rattle.dcsctp_session.specs.declared.status.Status.TheVariants as statuses
 use Rattle.dcsctp_session.specs.Calls.{Settled, CopyFailed}
 use Rattle.dcsctp_session.specs.Copying.{Copies}
 use Rattle.dcsctp_session.specs.Status.{handover_status, restore_status}
-use Rattle.dcsctp_session.specs.Views.{view, ahead}
+use Rattle.dcsctp_session.specs.Views.{view}
 
 -- The snapshot that was answered is kept in the place of an earlier one.
 abbrev pub taken_after : Result (Result SocketHandoverState HandoverError) SocketFault → Taken → Taken
@@ -41,7 +40,6 @@ RestoreCall state old outcome new = RestoresSocket state old outcome new × (old
 pub record HandedOver (old : Session) (status : Status) (new : Session) : Type 0 where
   pub outcome : Result (Result SocketHandoverState HandoverError) SocketFault
   pub call : HandoverCall (view old) outcome (view new)
-  pub draws : OnOk outcome (Drawn (ahead old) (view new).words (ahead new))
   pub told : status ≡ handover_status outcome
   pub taken : new.taken ≡ taken_after outcome old.taken
 

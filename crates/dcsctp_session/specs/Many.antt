@@ -1,16 +1,12 @@
 -- What the call of a session does that sends several messages, and what it tells of each.
-use Rattle.std.specs.Prelude.{◌≡◌, ◌⊎◌, ◌++◌, ℤ, Bool, true, false, nat_lt, List, [], ◌∷◌, map, length, drop, Option, None, Some, Result, Ok, Err, OnOk}
+use Rattle.std.specs.Prelude.{◌≡◌, ◌⊎◌, ◌++◌, ℤ, Bool, true, false, nat_lt, List, [], ◌∷◌, map, length, drop, Option, None, Some, Result, Ok, Err}
 use Rattle.dcsctp_core.specs.types.declared.message.SendOptions.{SendOptions}
 use Rattle.dcsctp_core.specs.types.queues.Messages.{MessageContent}
 use Rattle.dcsctp_core.specs.spec.endpoint.Endpoint.{Endpoint}
-use Rattle.dcsctp_core.specs.spec.endpoint.Turn.{user_sends}
-use Rattle.dcsctp_core.specs.spec.endpoint.CallTurns.{Turns}
+use Rattle.dcsctp_core.specs.types.Schedule.{send_many_call}
 use Rattle.dcsctp_core.specs.spec.endpoint.MessageOutcomes.{MessageRefusal, empty_payload, message_too_large, shutting_down, resource_exhaustion, Sending, sending_of, sending_refusal, queue_one}
 use Rattle.dcsctp_core.specs.api.declared.errors.SocketFault.{SocketFault}
-use Rattle.dcsctp_core.specs.api.declared.errors.SocketFault.TheVariants as faults
-use Rattle.dcsctp_core.specs.api.Calls.{UserView, RanOutOfMemory, StaysFailed}
-use Rattle.dcsctp_core.specs.api.Messages.{IsTurnOf}
-use Rattle.dcsctp_core.specs.View.{Drawn}
+use Rattle.dcsctp_core.specs.api.Calls.{UserView, UserCalls}
 use Rattle.dcsctp_session.specs.declared.many.OutgoingRecord.{OutgoingRecord}
 use Rattle.dcsctp_session.specs.declared.options.SendOptionsRecord.{SendOptionsRecord}
 use Rattle.dcsctp_session.specs.declared.session.Session.{Session}
@@ -18,7 +14,7 @@ use Rattle.dcsctp_session.specs.declared.status.Status.{Status}
 use Rattle.dcsctp_session.specs.declared.status.Status.TheVariants as statuses
 use Rattle.dcsctp_session.specs.Options.{SaysSendOptions, is_valid_sending}
 use Rattle.dcsctp_session.specs.Status.{status_number, fault_status}
-use Rattle.dcsctp_session.specs.Views.{view, ahead}
+use Rattle.dcsctp_session.specs.Views.{view}
 
 -- what a message is that a caller wants to send
 abbrev pub outgoing_content : OutgoingRecord → MessageContent
@@ -56,18 +52,15 @@ results_after (Err fault) before = before
 
 -- ---- the call
 
--- The messages are sent in one turn, and of each it is told whether it was taken. Or an allocation failed.
+-- The messages are sent in one turn, and of each the status says whether it was taken.
 abbrev pub ManyCall : List MessageContent → SendOptions → UserView → Result (List Status) SocketFault → UserView → Type 0
-ManyCall messages options old (Ok each) new =
-    (each ≡ statuses_of old.endpoint (map (sending_of options) messages)) × IsTurnOf (user_sends (map (sending_of options) messages)) old new
-ManyCall messages options old (Err faults.OutOfMemory) new = RanOutOfMemory old (Turns old.endpoint (user_sends (map (sending_of options) messages) ∷ [])) new
-ManyCall messages options old (Err faults.Failed) new = StaysFailed old new
+ManyCall messages options old outcome new =
+    UserCalls (send_many_call messages options) (λ each. each ≡ statuses_of old.endpoint (map (sending_of options) messages)) old outcome new
 
 -- The socket's call takes place, and the status and the results say its outcome.
 pub record ManySettled (messages : List MessageContent) (options : SendOptions) (old : Session) (before : List ℤ) (status : Status) (after : List ℤ) (new : Session) : Type 0 where
   pub outcome : Result (List Status) SocketFault
   pub call : ManyCall messages options (view old) outcome (view new)
-  pub draws : OnOk outcome (Drawn (ahead old) (view new).words (ahead new))
   pub told : status ≡ many_status outcome
   pub results : after ≡ results_after outcome before
   pub taken : new.taken ≡ old.taken

@@ -13,17 +13,13 @@ use Rattle.dcsctp_socket.specs.SocketView.{user_view_of}
 use Rattle.dcsctp_session.specs.declared.session.Session.{Session}
 use Rattle.dcsctp_session.specs.declared.session.Taken.{Taken}
 
--- what the socket of a session is to its user
-abbrev pub view : Session → UserView
-view session = user_view_of session.socket
-
 -- all random words that ChaCha20 still gives
 abbrev pub words_ahead : ChaCha → Stream
 words_ahead generator = stream_of (steps_u32 (next_word 10)) generator
 
--- all random words that the socket of a session will draw
-abbrev pub ahead : Session → Stream
-ahead session = words_ahead session.socket.view.generator
+-- what the socket of a session is to its user
+abbrev pub view : Session → UserView
+view session = user_view_of words_ahead session.socket
 
 abbrev pub nothing_taken : Taken
 nothing_taken = record { event = None; message = None; snapshot = None }

@@ -1,153 +1,110 @@
--- Calls, by what their socket answers.
-use Rattle.std.proofs.Common.{◌≡◌, ℕ, Bool, true, false, List, [], ◌∷◌, sym, ap, subst, ◌∙◌, Result, Ok, Err, map}
+-- Calls of a socket, from those of its parts.
+use Rattle.std.proofs.Common.{◌≡◌, ℕ, Bool, true, false, List, sym, ap, subst, ◌∙◌, Result, Ok, Err}
 use Rattle.rand_core.specs.Stream.{Stream}
-use Rattle.dcsctp_core.specs.spec.association.Acts.{abort_with}
-use Rattle.dcsctp_core.specs.api.declared.errors.SocketFault.{SocketFault}
-use Rattle.dcsctp_core.specs.api.Calls.{UserView, Connects, Follows, FailsWhole, ClosesSocket, RanOutOfMemory}
-use Rattle.dcsctp_core.specs.declared.context.Context.{Context}
-use Rattle.dcsctp_core.specs.View.{View, view_of, call_start}
-use Rattle.dcsctp_socket_calls.specs.Parts.{WorksConnect, CallMoved, CallCut, ActTurns, WorksCall}
-use Rattle.dcsctp_socket.specs.SocketView.{SettlesCall, user_view_of}
-use Rattle.dcsctp_core.specs.types.declared.ends.AbortReason.TheVariants.{CloseCalled}
-use Rattle.dcsctp_core.specs.types.declared.message.SendOptions.{SendOptions}
-use Rattle.dcsctp_core.specs.types.queues.Messages.{MessageContent}
+use Rattle.dcsctp_core.specs.types.Schedule.{CallContent, connect_call, hand_over_call}
+use Rattle.dcsctp_core.specs.types.Setting.{Setting}
+use Rattle.dcsctp_core.specs.types.Snapshot.{Snapshot}
+use Rattle.dcsctp_core.specs.types.declared.snapshot.SocketHandoverState.{SocketHandoverState}
 use Rattle.dcsctp_core.specs.spec.endpoint.Endpoint.{Endpoint}
 use Rattle.dcsctp_core.specs.spec.endpoint.CallTurns.{Transition}
-use Rattle.dcsctp_core.specs.spec.endpoint.MessageOutcomes.{sending_of}
-use Rattle.dcsctp_core.specs.api.declared.errors.BatchSendError.{BatchSendError}
 use Rattle.dcsctp_core.specs.api.declared.errors.HandoverError.{HandoverError}
-use Rattle.dcsctp_core.specs.types.declared.snapshot.SocketHandoverState.{SocketHandoverState}
-use Rattle.dcsctp_core.specs.api.Handover.{HandsOver}
-use Rattle.dcsctp_socket_calls.specs.HandoverParts.{HandoverTurns, WorksHandover}
-use Rattle.dcsctp_core.specs.api.declared.errors.ResetStreamsError.{ResetStreamsError}
-use Rattle.dcsctp_core.specs.api.declared.errors.SendError.{SendError}
-use Rattle.dcsctp_core.specs.api.Messages.{SendsMessage, SendsMany}
-use Rattle.dcsctp_core.specs.api.Resets.{ResetsOwn}
-use Rattle.dcsctp_socket_calls.specs.MessageParts.{SendTurns, WorksSend, WorksSendMany}
-use Rattle.dcsctp_socket_calls.specs.ResetParts.{ResetTurns, WorksReset}
+use Rattle.dcsctp_core.specs.api.declared.errors.RestoreError.{RestoreError}
+use Rattle.dcsctp_core.specs.api.declared.errors.SocketFault.{SocketFault}
+use Rattle.dcsctp_core.specs.api.Calls.{UserView, NoAnswer, Calls, UserCalls, Connects, HandlesInput, Sets, Follows, FailsWhole, RanOutOfMemory}
+use Rattle.dcsctp_core.specs.api.Handover.{IsHandoverAnswer, IsRestoreAnswer, HandsOver, RestoresSocket}
+use Rattle.dcsctp_core.specs.declared.context.Context.{Context}
+use Rattle.dcsctp_core.specs.View.{View, view_of, call_start}
+use Rattle.dcsctp_socket_calls.specs.Parts.{TurnsOf, InputTurns, CutTurns, RestoringTurns, CutRestoring, CallMoved, CutCall, DrewAlone, BeganAlone, WorksCall, WorksUserCall, WorksSetting, set_view}
+use Rattle.dcsctp_socket.specs.SocketView.{SettlesCall, user_view_of}
 
--- ---- connect
+module _ {R : Type 0} (stream : R → Stream) (old new : Context R) (failed fails : Bool) (runs : failed ≡ false) where
+  -- the socket before the call, and after it
+  abbrev pub was : UserView
+  was = user_view_of stream (record { view = view_of old; failed = failed })
 
-pub connects : {R E : Type 0} (stream : R → Stream) (old new : Context R) (failed fails : Bool) (result : Result (Unit {0}) E) (answer : Result (Unit {0}) SocketFault)
-    → failed ≡ false → WorksConnect stream old result new → SettlesCall failed result answer fails
-    → Connects (user_view_of (record { view = view_of old; failed = failed })) answer (user_view_of (record { view = view_of new; failed = fails }))
-connects stream old new failed fails (Ok done) answer runs worked settled =
-    let then : Follows (user_view_of (record { view = view_of old; failed = failed })) worked.turns (user_view_of (record { view = view_of new; failed = fails })) =
-    record {
-      runs = runs;
-      goes_on = settled.1 ∙ runs;
-      endpoint = worked.moves.endpoint;
-      events = worked.moves.events;
-      words = worked.moves.words;
-      pairs = worked.moves.pairs;
-    } in
-    subst (λ (a : Result (Unit {0}) SocketFault). Connects (user_view_of (record { view = view_of old; failed = failed })) a (user_view_of (record { view = view_of new; failed = fails })))
-    (sym settled.0) (worked.turns, worked.are, then)
-connects {R = R} stream old new failed fails (Err error) answer runs same settled =
-    let was : UserView = user_view_of (record { view = view_of old; failed = failed }) in
-    let now : UserView = user_view_of (record { view = view_of new; failed = fails }) in
-    let only : now ≡ record was { words = now.words; pairs = now.pairs; failed = true } =
-    ap (λ (v : View R). user_view_of (record { view = v; failed = fails })) same
-    ∙ ap (λ (f : Bool). let u : UserView = record was { words = now.words; pairs = now.pairs; failed = f } in u) settled.1 in
-    let out : FailsWhole was now = record { runs = runs; only = only } in
-    subst (λ (a : Result (Unit {0}) SocketFault). Connects was a now) (sym settled.0) out
+  abbrev pub now : UserView
+  now = user_view_of stream (record { view = view_of new; failed = fails })
 
--- ---- close
+  -- ---- what a call leaves
 
-pub closes : {R E : Type 0} (stream : R → Stream) (old new : Context R) (failed fails : Bool) (result : Result (Unit {0}) E) (answer : Result (Unit {0}) SocketFault)
-    → failed ≡ false → WorksCall stream (ActTurns (abort_with CloseCalled)) old result new → SettlesCall failed result answer fails
-    → ClosesSocket (user_view_of (record { view = view_of old; failed = failed })) answer (user_view_of (record { view = view_of new; failed = fails }))
-closes stream old new failed fails (Ok done) answer runs worked settled =
-    let was : UserView = user_view_of (record { view = view_of old; failed = failed }) in
-    let now : UserView = user_view_of (record { view = view_of new; failed = fails }) in
-    let then : Follows was worked.turns now =
-    record { runs = runs; goes_on = settled.1 ∙ runs; endpoint = worked.moves.endpoint; events = worked.moves.events; words = worked.moves.words; pairs = worked.moves.pairs } in
-    subst (λ (a : Result (Unit {0}) SocketFault). ClosesSocket was a now) (sym settled.0) (worked.turns, worked.are, then)
-closes stream old new failed fails (Err error) answer runs cut settled =
-    let was : UserView = user_view_of (record { view = view_of old; failed = failed }) in
-    let now : UserView = user_view_of (record { view = view_of new; failed = fails }) in
-    let out : RanOutOfMemory was (ActTurns (abort_with CloseCalled) was.endpoint) now = record { runs = runs; fails = settled.1; turns = cut.turns; are = cut.are; events = cut.adds } in
-    subst (λ (a : Result (Unit {0}) SocketFault). ClosesSocket was a now) (sym settled.0) out
+  follows : (AreTurns : Endpoint → List Transition → Type 0) (moved : CallMoved stream AreTurns (view_of old) (view_of new)) → fails ≡ failed → Follows was moved.turns now
+  follows AreTurns moved same =
+      record {
+        runs = runs;
+        goes_on = same ∙ runs;
+        endpoint = moved.moves.endpoint;
+        events = moved.moves.events;
+        words = moved.moves.words;
+        pairs = moved.moves.pairs;
+        drawn = moved.moves.drawn;
+      }
 
--- ---- calls with an answer
+  ran_out : (AreTurns : Endpoint → List Transition → Type 0) → CutCall AreTurns (view_of old) (view_of new) → fails ≡ true → RanOutOfMemory (AreTurns was.endpoint) was now
+  ran_out AreTurns cut stops = record { runs = runs; fails = stops; turns = cut.turns; are = cut.are; events = cut.adds }
 
-follows : {R : Type 0} (stream : R → Stream) (CallTurns : Endpoint → List Transition → Type 0) (old new : View R) (failed fails : Bool) (moved : CallMoved stream CallTurns old new)
-    → failed ≡ false → fails ≡ failed → Follows (user_view_of (record { view = old; failed = failed })) moved.turns (user_view_of (record { view = new; failed = fails }))
-follows stream CallTurns old new failed fails moved runs same =
-    record {
-      runs = runs;
-      goes_on = same ∙ runs;
-      endpoint = moved.moves.endpoint;
-      events = moved.moves.events;
-      words = moved.moves.words;
-      pairs = moved.moves.pairs;
-    }
+  -- the same view, of a socket that has failed
+  unless_failed : (view : View R) → fails ≡ true → user_view_of stream (record { view = view; failed = fails }) ≡ user_view_of stream (record { view = view; failed = true })
+  unless_failed view stops = ap (λ (f : Bool). user_view_of stream (record { view = view; failed = f })) stops
 
-ran_out : {R : Type 0} (CallTurns : Endpoint → List Transition → Type 0) (old new : View R) (failed fails : Bool) (cut : CallCut CallTurns old new.events) → failed ≡ false → fails ≡ true
-    → RanOutOfMemory (user_view_of (record { view = old; failed = failed })) (CallTurns old.endpoint) (user_view_of (record { view = new; failed = fails }))
-ran_out CallTurns old new failed fails cut runs stops = record { runs = runs; fails = stops; turns = cut.turns; are = cut.are; events = cut.adds }
+  drew : DrewAlone (view_of old) (view_of new) → fails ≡ true → FailsWhole was now
+  drew same stops =
+      let n : View R = view_of new in
+      let drawn : View R = record (call_start (view_of old)) { words = n.words; pairs = n.pairs; generator = n.generator } in
+      record { runs = runs; only = ap (λ (v : View R). user_view_of stream (record { view = v; failed = fails })) same ∙ unless_failed drawn stops }
 
--- ---- sending
+  began : BeganAlone (view_of old) (view_of new) → fails ≡ true → FailsWhole was now
+  began same stops =
+      let start : View R = call_start (view_of old) in
+      record {
+        runs = runs;
+        only = subst (λ (v : View R). user_view_of stream (record { view = v; failed = fails })
+            ≡ record was { words = v.words; pairs = v.pairs; generator = stream v.generator; failed = true }) (sym same) (unless_failed start stops);
+      }
 
-pub sends : {R E : Type 0} (stream : R → Stream) (message : MessageContent) (options : SendOptions) (old new : Context R) (failed fails : Bool)
-    (result : Result (Result (Unit {0}) SendError) E) (answer : Result (Result (Unit {0}) SendError) SocketFault) → failed ≡ false → WorksSend stream message options old result new → SettlesCall failed result answer fails
-    → SendsMessage message options (user_view_of (record { view = view_of old; failed = failed })) answer (user_view_of (record { view = view_of new; failed = fails }))
-sends stream message options old new failed fails (Ok value) answer runs worked settled =
-    let was : UserView = user_view_of (record { view = view_of old; failed = failed }) in
-    let now : UserView = user_view_of (record { view = view_of new; failed = fails }) in
-    subst (λ (a : Result (Result (Unit {0}) SendError) SocketFault). SendsMessage message options was a now) (sym settled.0)
-    (worked.0, (worked.1.turns, worked.1.are, follows stream (SendTurns (sending_of options message ∷ [])) (view_of old) (view_of new) failed fails worked.1 runs settled.1))
-sends stream message options old new failed fails (Err error) answer runs cut settled =
-    let was : UserView = user_view_of (record { view = view_of old; failed = failed }) in
-    let now : UserView = user_view_of (record { view = view_of new; failed = fails }) in
-    subst (λ (a : Result (Result (Unit {0}) SendError) SocketFault). SendsMessage message options was a now) (sym settled.0)
-    (ran_out (SendTurns (sending_of options message ∷ [])) (view_of old) (view_of new) failed fails cut runs settled.1)
+  -- ---- a call by its result
 
-pub sends_many : {R E : Type 0} (stream : R → Stream) (messages : List MessageContent) (options : SendOptions) (old new : Context R) (failed fails : Bool)
-    (result : Result (Result (Unit {0}) BatchSendError) E) (answer : Result (Result (Unit {0}) BatchSendError) SocketFault) → failed ≡ false → WorksSendMany stream messages options old result new → SettlesCall failed result answer fails
-    → SendsMany messages options (user_view_of (record { view = view_of old; failed = failed })) answer (user_view_of (record { view = view_of new; failed = fails }))
-sends_many stream messages options old new failed fails (Ok value) answer runs worked settled =
-    let was : UserView = user_view_of (record { view = view_of old; failed = failed }) in
-    let now : UserView = user_view_of (record { view = view_of new; failed = fails }) in
-    subst (λ (a : Result (Result (Unit {0}) BatchSendError) SocketFault). SendsMany messages options was a now) (sym settled.0)
-    (worked.0, (worked.1.turns, worked.1.are, follows stream (SendTurns (map (sending_of options) messages)) (view_of old) (view_of new) failed fails worked.1 runs settled.1))
-sends_many stream messages options old new failed fails (Err error) answer runs cut settled =
-    let was : UserView = user_view_of (record { view = view_of old; failed = failed }) in
-    let now : UserView = user_view_of (record { view = view_of new; failed = fails }) in
-    subst (λ (a : Result (Result (Unit {0}) BatchSendError) SocketFault). SendsMany messages options was a now) (sym settled.0)
-    (ran_out (SendTurns (map (sending_of options) messages)) (view_of old) (view_of new) failed fails cut runs settled.1)
+  answered : {A E : Type 0} (IsAnswer : A → Type 0) (AreTurns : Endpoint → List Transition → Type 0) (Leaves : View R → View R → Type 0) (LeavesUser : UserView → UserView → Type 0)
+      (result : Result A E) (answer : Result A SocketFault) → (Leaves (view_of old) (view_of new) → fails ≡ true → LeavesUser was now)
+      → WorksCall stream IsAnswer AreTurns Leaves old result new → SettlesCall failed result answer fails → Calls IsAnswer (AreTurns was.endpoint) LeavesUser was answer now
+  answered IsAnswer AreTurns Leaves LeavesUser (Ok value) answer leaves worked settled =
+      subst (λ a. Calls IsAnswer (AreTurns was.endpoint) LeavesUser was a now) (sym settled.0)
+      (record { answers = worked.0; turns = worked.1.turns; are = worked.1.are; follows = follows AreTurns worked.1 settled.1 })
+  answered IsAnswer AreTurns Leaves LeavesUser (Err error) answer leaves cut settled =
+      subst (λ a. Calls IsAnswer (AreTurns was.endpoint) LeavesUser was a now) (sym settled.0) (leaves cut settled.1)
 
--- ---- resets of streams
+  -- ---- the calls
 
-pub resets : {R E : Type 0} (stream : R → Stream) (ids : List ℕ) (old new : Context R) (failed fails : Bool)
-    (result : Result (Result (Unit {0}) ResetStreamsError) E) (answer : Result (Result (Unit {0}) ResetStreamsError) SocketFault) → failed ≡ false → WorksReset stream ids old result new → SettlesCall failed result answer fails
-    → ResetsOwn ids (user_view_of (record { view = view_of old; failed = failed })) answer (user_view_of (record { view = view_of new; failed = fails }))
-resets stream ids old new failed fails (Ok value) answer runs worked settled =
-    let was : UserView = user_view_of (record { view = view_of old; failed = failed }) in
-    let now : UserView = user_view_of (record { view = view_of new; failed = fails }) in
-    subst (λ (a : Result (Result (Unit {0}) ResetStreamsError) SocketFault). ResetsOwn ids was a now) (sym settled.0)
-    (worked.0, (worked.1.turns, worked.1.are, follows stream (ResetTurns ids) (view_of old) (view_of new) failed fails worked.1 runs settled.1))
-resets stream ids old new failed fails (Err error) answer runs cut settled =
-    let was : UserView = user_view_of (record { view = view_of old; failed = failed }) in
-    let now : UserView = user_view_of (record { view = view_of new; failed = fails }) in
-    subst (λ (a : Result (Result (Unit {0}) ResetStreamsError) SocketFault). ResetsOwn ids was a now) (sym settled.0)
-    (ran_out (ResetTurns ids) (view_of old) (view_of new) failed fails cut runs settled.1)
+  pub user_calls : {A E : Type 0} (call : CallContent) (IsAnswer : A → Type 0) (result : Result A E) (answer : Result A SocketFault)
+      → WorksUserCall stream call IsAnswer old result new → SettlesCall failed result answer fails → UserCalls call IsAnswer was answer now
+  user_calls call IsAnswer result answer worked settled =
+      answered IsAnswer (TurnsOf call) (CutCall (TurnsOf call)) (RanOutOfMemory (TurnsOf call was.endpoint)) result answer (ran_out (TurnsOf call)) worked settled
 
--- ---- handover
+  pub handles_input : {E : Type 0} (bytes : List ℕ) (result : Result (Unit {0}) E) (answer : Result (Unit {0}) SocketFault)
+      → WorksCall stream NoAnswer (InputTurns bytes) (CutCall (CutTurns bytes)) old result new → SettlesCall failed result answer fails → HandlesInput was bytes answer now
+  handles_input bytes result answer worked settled =
+      answered NoAnswer (InputTurns bytes) (CutCall (CutTurns bytes)) (RanOutOfMemory (CutTurns bytes was.endpoint)) result answer (ran_out (CutTurns bytes)) worked settled
 
-pub hands_over : {R E : Type 0} (stream : R → Stream) (old new : Context R) (failed fails : Bool)
-    (result : Result (Result SocketHandoverState HandoverError) E) (answer : Result (Result SocketHandoverState HandoverError) SocketFault) → failed ≡ false → WorksHandover stream old result new → SettlesCall failed result answer fails
-    → HandsOver (user_view_of (record { view = view_of old; failed = failed })) answer (user_view_of (record { view = view_of new; failed = fails }))
-hands_over stream old new failed fails (Ok value) answer runs worked settled =
-    let was : UserView = user_view_of (record { view = view_of old; failed = failed }) in
-    let now : UserView = user_view_of (record { view = view_of new; failed = fails }) in
-    subst (λ (a : Result (Result SocketHandoverState HandoverError) SocketFault). HandsOver was a now) (sym settled.0)
-    (worked.0, worked.1.turns, worked.1.are, follows stream HandoverTurns (view_of old) (view_of new) failed fails worked.1 runs settled.1)
-hands_over {R = R} stream old new failed fails (Err error) answer runs same settled =
-    let was : UserView = user_view_of (record { view = view_of old; failed = failed }) in
-    let now : UserView = user_view_of (record { view = view_of new; failed = fails }) in
-    let only : now ≡ record was { words = now.words; pairs = now.pairs; failed = true } =
-    subst (λ (v : View R). user_view_of (record { view = v; failed = fails }) ≡ record was { words = v.words; pairs = v.pairs; failed = true }) (sym same)
-    (ap (λ (f : Bool). user_view_of (record { view = call_start (view_of old); failed = f })) settled.1) in
-    let out : FailsWhole was now = record { runs = runs; only = only } in
-    subst (λ (a : Result (Result SocketHandoverState HandoverError) SocketFault). HandsOver was a now) (sym settled.0) out
+  pub connects : {E : Type 0} (result : Result (Unit {0}) E) (answer : Result (Unit {0}) SocketFault)
+      → WorksCall stream NoAnswer (TurnsOf connect_call) DrewAlone old result new → SettlesCall failed result answer fails → Connects was answer now
+  connects result answer worked settled = answered NoAnswer (TurnsOf connect_call) DrewAlone FailsWhole result answer drew worked settled
+
+  pub hands_over : {E : Type 0} (result : Result (Result SocketHandoverState HandoverError) E) (answer : Result (Result SocketHandoverState HandoverError) SocketFault)
+      → WorksCall stream (IsHandoverAnswer was.endpoint) (TurnsOf hand_over_call) BeganAlone old result new → SettlesCall failed result answer fails → HandsOver was answer now
+  hands_over result answer worked settled = answered (IsHandoverAnswer was.endpoint) (TurnsOf hand_over_call) BeganAlone FailsWhole result answer began worked settled
+
+  pub restores : {E : Type 0} (state : Snapshot) (result : Result (Result (Unit {0}) RestoreError) E) (answer : Result (Result (Unit {0}) RestoreError) SocketFault)
+      → WorksCall stream (IsRestoreAnswer was.endpoint.core) (RestoringTurns state) (CutCall (CutRestoring state)) old result new → SettlesCall failed result answer fails → RestoresSocket state was answer now
+  restores state result answer worked settled =
+      answered (IsRestoreAnswer was.endpoint.core) (RestoringTurns state) (CutCall (CutRestoring state)) (RanOutOfMemory (CutRestoring state was.endpoint)) result answer (ran_out (CutRestoring state)) worked settled
+
+  pub sets : {E : Type 0} (setting : Setting) (result : Result (Unit {0}) E) (answer : Result (Unit {0}) SocketFault)
+      → WorksSetting setting old result new → SettlesCall failed result answer fails → Sets setting was answer now
+  sets setting (Ok done) answer is settled =
+      let set : View R = set_view setting (view_of old) in
+      subst (λ a. Sets setting was a now) (sym settled.0)
+      (record {
+        runs = runs;
+        only = ap (λ (v : View R). user_view_of stream (record { view = v; failed = fails })) is
+            ∙ ap (λ (f : Bool). user_view_of stream (record { view = set; failed = f })) settled.1;
+      })
+  sets setting (Err error) answer is settled = subst (λ a. Sets setting was a now) (sym settled.0) (began is settled.1)

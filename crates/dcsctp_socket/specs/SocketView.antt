@@ -1,5 +1,6 @@
 -- What a socket is: its view in the machine, and whether an allocation failed.
 use Rattle.std.specs.Prelude.{◌≡◌, Bool, true, false, Result, Ok, Err, []}
+use Rattle.rand_core.specs.Stream.{Stream}
 use Rattle.dcsctp_core.specs.types.declared.options.Options.{Options}
 use Rattle.dcsctp_core.specs.spec.endpoint.Endpoint.{fresh_endpoint}
 use Rattle.dcsctp_core.specs.api.declared.errors.SocketFault.{SocketFault}
@@ -11,10 +12,17 @@ pub record SocketView (R : Type 0) : Type 0 where
   pub view : View R
   pub failed : Bool
 
--- without the generator
-abbrev pub user_view_of : {R : Type 0} → SocketView R → UserView
-user_view_of socket =
-    record { endpoint = socket.view.endpoint; events = socket.view.events; words = socket.view.words; pairs = socket.view.pairs; failed = socket.failed }
+-- With what its generator gives next in place of the generator: all that the calls say of it.
+abbrev pub user_view_of : {R : Type 0} → (R → Stream) → SocketView R → UserView
+user_view_of stream socket =
+    record {
+      endpoint = socket.view.endpoint;
+      events = socket.view.events;
+      words = socket.view.words;
+      pairs = socket.view.pairs;
+      generator = stream socket.view.generator;
+      failed = socket.failed;
+    }
 
 -- a socket that was just made
 abbrev pub fresh_socket : {R : Type 0} → Options → R → SocketView R

@@ -153,40 +153,16 @@ impl<R: Rng + Drop> Socket<R> {
 }
 
 impl<R: Rng + Drop> DcSctpSocket for Socket<R> {
-    ghost use Rattle.std.specs.Prelude.{◌≡◌, ◌≢◌, ◌<◌, [], true, false, None, map, IsOk, OnOk, IsErrOf};
-    ghost use Rattle.dcsctp_core.specs.api.Calls.{PollsEvent, HandlesInput, Connects, ClosesSocket, ShutsDown, takes_shutdown, Sets, with_setting, is_closed};
-    ghost use Rattle.dcsctp_core.specs.spec.endpoint.PreparedResets.{reset_refusal};
-    ghost use Rattle.dcsctp_core.specs.types.Setting.{stream_priority, stream_low_threshold, longest_message};
-    ghost use Rattle.dcsctp_core.specs.spec.endpoint.TimeTurns.{Waits, next_moment};
-    ghost use Rattle.dcsctp_core.specs.api.Time.{AdvancesClock, OnlyMovesClock};
-    ghost use Rattle.dcsctp_core.specs.api.Handover.{HandsOver, RestoresSocket};
-    ghost use Rattle.dcsctp_core.specs.spec.Handover.{readiness_of};
-    ghost use Rattle.dcsctp_core.specs.types.Snapshot.{snapshot, is_valid_snapshot};
-    ghost use Rattle.dcsctp_core.specs.spec.HandoverInputs.{inputs_of_restore};
-    ghost use Rattle.dcsctp_core.specs.api.Messages.{SendsMessage, SendsMany, TakesNextMessage};
-    ghost use Rattle.dcsctp_core.specs.api.Resets.{ResetsOwn};
-    ghost use Rattle.dcsctp_core.specs.types.Ids.{stream_numbers};
-    ghost use Rattle.dcsctp_core.specs.types.queues.Messages.{message_content};
-    ghost use Rattle.dcsctp_core.specs.View.{Drawn};
     ghost use Rattle.dcsctp_socket.specs.SocketView.{user_view_of};
 
-    ghost user_view = { user_view_of };
+    // The calls promise what the trait says, of the view with what the generator gives next.
+    ghost user_view = { user_view_of R.stream };
 
-    fn poll_event(&mut self) -> Option<SocketEvent>
-        ensures call { PollsEvent (user_view_of self.old) result (user_view_of self.new) }
-        ensures generator { self.new.view.generator ≡ self.old.view.generator }
-    {
+    fn poll_event(&mut self) -> Option<SocketEvent> {
         self.context.events.next_event()
     }
 
-    fn handle_input(&mut self, packet: &[u8]) -> Result<(), SocketFault>
-        ensures call { HandlesInput (user_view_of self.old) packet.now result
-            (user_view_of self.new) }
-        // The words are what the generator gave, in order.
-        ensures drawn { OnOk result (Drawn (R.stream self.old.view.generator) self.new.view.words
-            (R.stream self.new.view.generator)) }
-        ensures failed { IsErrOf result SocketFault.Failed → self.new ≡ self.old }
-    {
+    fn handle_input(&mut self, packet: &[u8]) -> Result<(), SocketFault> {
         // A socket that has failed counts no packet.
         if self.failed {
             return Err(SocketFault::Failed);
@@ -197,15 +173,7 @@ impl<R: Rng + Drop> DcSctpSocket for Socket<R> {
         settled(&mut self.failed, outcome)
     }
 
-    fn connect(&mut self) -> Result<(), SocketFault>
-        ensures call { Connects (user_view_of self.old) result (user_view_of self.new) }
-        ensures open { self.old.failed ≡ false → is_closed self.old.view.endpoint.core ≡ false
-            → IsOk result }
-        // The words are what the generator gave, in order.
-        ensures drawn { OnOk result (Drawn (R.stream self.old.view.generator) self.new.view.words
-            (R.stream self.new.view.generator)) }
-        ensures failed { IsErrOf result SocketFault.Failed → self.new ≡ self.old }
-    {
+    fn connect(&mut self) -> Result<(), SocketFault> {
         // A socket that has failed draws no pair.
         if self.failed {
             return Err(SocketFault::Failed);
@@ -216,15 +184,7 @@ impl<R: Rng + Drop> DcSctpSocket for Socket<R> {
         settled(&mut self.failed, outcome)
     }
 
-    fn close(&mut self) -> Result<(), SocketFault>
-        ensures call { ClosesSocket (user_view_of self.old) result (user_view_of self.new) }
-        ensures closed { self.old.failed ≡ false → is_closed self.old.view.endpoint.core ≡ true
-            → IsOk result }
-        // The words are what the generator gave, in order.
-        ensures drawn { OnOk result (Drawn (R.stream self.old.view.generator) self.new.view.words
-            (R.stream self.new.view.generator)) }
-        ensures failed { IsErrOf result SocketFault.Failed → self.new ≡ self.old }
-    {
+    fn close(&mut self) -> Result<(), SocketFault> {
         // A socket that has failed sends no ABORT.
         if self.failed {
             return Err(SocketFault::Failed);
@@ -235,15 +195,7 @@ impl<R: Rng + Drop> DcSctpSocket for Socket<R> {
         settled(&mut self.failed, outcome)
     }
 
-    fn shutdown(&mut self) -> Result<(), SocketFault>
-        ensures call { ShutsDown (user_view_of self.old) result (user_view_of self.new) }
-        ensures idle { self.old.failed ≡ false → takes_shutdown self.old.view.endpoint.core ≡ false
-            → IsOk result }
-        // The words are what the generator gave, in order.
-        ensures drawn { OnOk result (Drawn (R.stream self.old.view.generator) self.new.view.words
-            (R.stream self.new.view.generator)) }
-        ensures failed { IsErrOf result SocketFault.Failed → self.new ≡ self.old }
-    {
+    fn shutdown(&mut self) -> Result<(), SocketFault> {
         // A socket that has failed sends no SHUTDOWN.
         if self.failed {
             return Err(SocketFault::Failed);
@@ -254,16 +206,7 @@ impl<R: Rng + Drop> DcSctpSocket for Socket<R> {
         settled(&mut self.failed, outcome)
     }
 
-    fn advance_time(&mut self, now: SocketTime) -> Result<(), SocketFault>
-        ensures call { AdvancesClock (user_view_of self.old) now result (user_view_of self.new) }
-        ensures earlier { self.old.failed ≡ false → now < self.old.view.endpoint.moment → IsOk result }
-        ensures waits { self.old.failed ≡ false → Waits self.old.view.endpoint now
-            → OnlyMovesClock (user_view_of self.old) now result (user_view_of self.new) }
-        // The words are what the generator gave, in order.
-        ensures drawn { OnOk result (Drawn (R.stream self.old.view.generator) self.new.view.words
-            (R.stream self.new.view.generator)) }
-        ensures failed { IsErrOf result SocketFault.Failed → self.new ≡ self.old }
-    {
+    fn advance_time(&mut self, now: SocketTime) -> Result<(), SocketFault> {
         // The clock of a socket that has failed stands still.
         if self.failed {
             return Err(SocketFault::Failed);
@@ -279,9 +222,7 @@ impl<R: Rng + Drop> DcSctpSocket for Socket<R> {
         settled(&mut self.failed, outcome)
     }
 
-    fn poll_timeout(&self) -> SocketTime
-        ensures { result ≡ next_moment self.now.view.endpoint }
-    {
+    fn poll_timeout(&self) -> SocketTime {
         poll_timeout(&self.context, &self.deadlines)
     }
 
@@ -289,13 +230,7 @@ impl<R: Rng + Drop> DcSctpSocket for Socket<R> {
         &mut self,
         message: Message,
         options: &SendOptions,
-    ) -> Result<Result<(), SendError>, SocketFault>
-        ensures call { SendsMessage (message_content message) options.now (user_view_of self.old) result
-            (user_view_of self.new) }
-        ensures drawn { OnOk result (Drawn (R.stream self.old.view.generator) self.new.view.words
-            (R.stream self.new.view.generator)) }
-        ensures failed { IsErrOf result SocketFault.Failed → self.new ≡ self.old }
-    {
+    ) -> Result<Result<(), SendError>, SocketFault> {
         // A socket that has failed takes no message.
         if self.failed {
             return Err(SocketFault::Failed);
@@ -310,13 +245,7 @@ impl<R: Rng + Drop> DcSctpSocket for Socket<R> {
         &mut self,
         messages: Vec<Message>,
         options: &SendOptions,
-    ) -> Result<Result<(), BatchSendError>, SocketFault>
-        ensures call { SendsMany (map message_content messages.items) options.now (user_view_of self.old)
-            result (user_view_of self.new) }
-        ensures drawn { OnOk result (Drawn (R.stream self.old.view.generator) self.new.view.words
-            (R.stream self.new.view.generator)) }
-        ensures failed { IsErrOf result SocketFault.Failed → self.new ≡ self.old }
-    {
+    ) -> Result<Result<(), BatchSendError>, SocketFault> {
         // A socket that has failed takes none of them.
         if self.failed {
             return Err(SocketFault::Failed);
@@ -330,15 +259,7 @@ impl<R: Rng + Drop> DcSctpSocket for Socket<R> {
     fn reset_streams(
         &mut self,
         stream_ids: &[StreamId],
-    ) -> Result<Result<(), ResetStreamsError>, SocketFault>
-        ensures call { ResetsOwn (stream_numbers stream_ids.now) (user_view_of self.old) result
-            (user_view_of self.new) }
-        ensures refused { self.old.failed ≡ false → reset_refusal self.old.view.endpoint ≢ None
-            → IsOk result }
-        ensures drawn { OnOk result (Drawn (R.stream self.old.view.generator) self.new.view.words
-            (R.stream self.new.view.generator)) }
-        ensures failed { IsErrOf result SocketFault.Failed → self.new ≡ self.old }
-    {
+    ) -> Result<Result<(), ResetStreamsError>, SocketFault> {
         // A socket that has failed resets no stream.
         if self.failed {
             return Err(SocketFault::Failed);
@@ -349,11 +270,7 @@ impl<R: Rng + Drop> DcSctpSocket for Socket<R> {
         settled(&mut self.failed, outcome)
     }
 
-    fn get_next_message(&mut self) -> Option<Message>
-        ensures call { TakesNextMessage (user_view_of self.old) result (user_view_of self.new) }
-        ensures generator { self.new.view.generator ≡ self.old.view.generator }
-        ensures failed { self.new.failed ≡ self.old.failed }
-    {
+    fn get_next_message(&mut self) -> Option<Message> {
         calls_keep_soundness();
         let message = dcsctp_socket_calls::get_next_message(&mut self.context);
         list_deadlines(&self.context, &mut self.deadlines);
@@ -377,15 +294,7 @@ impl<R: Rng + Drop> DcSctpSocket for Socket<R> {
 
     fn get_handover_state_and_close(
         &mut self,
-    ) -> Result<Result<SocketHandoverState, HandoverError>, SocketFault>
-        ensures call { HandsOver (user_view_of self.old) result (user_view_of self.new) }
-        ensures refused { self.old.failed ≡ false → readiness_of self.old.view.endpoint ≢ 0
-            → IsOk result }
-        // The words are what the generator gave, in order.
-        ensures drawn { OnOk result (Drawn (R.stream self.old.view.generator) self.new.view.words
-            (R.stream self.new.view.generator)) }
-        ensures failed { IsErrOf result SocketFault.Failed → self.new ≡ self.old }
-    {
+    ) -> Result<Result<SocketHandoverState, HandoverError>, SocketFault> {
         // A socket that has failed is not handed over.
         if self.failed {
             return Err(SocketFault::Failed);
@@ -399,16 +308,7 @@ impl<R: Rng + Drop> DcSctpSocket for Socket<R> {
     fn restore_from_state(
         &mut self,
         state: &SocketHandoverState,
-    ) -> Result<Result<(), RestoreError>, SocketFault>
-        requires { is_valid_snapshot self.old.view.endpoint.options (snapshot state.now) ≡ true }
-        ensures call { RestoresSocket (snapshot state.now) (user_view_of self.old) result (user_view_of self.new) }
-        ensures idle { self.old.failed ≡ false
-            → inputs_of_restore self.old.view.endpoint.core (snapshot state.now) ≡ [] → IsOk result }
-        // The words are what the generator gave, in order.
-        ensures drawn { OnOk result (Drawn (R.stream self.old.view.generator) self.new.view.words
-            (R.stream self.new.view.generator)) }
-        ensures failed { IsErrOf result SocketFault.Failed → self.new ≡ self.old }
-    {
+    ) -> Result<Result<(), RestoreError>, SocketFault> {
         // A socket that has failed is not restored.
         if self.failed {
             return Err(SocketFault::Failed);
@@ -427,19 +327,16 @@ impl<R: Rng + Drop> DcSctpSocket for Socket<R> {
         self.context.options
     }
 
-    fn set_max_message_size(&mut self, max_message_size: usize)
-        ensures call { user_view_of self.new ≡ with_setting (longest_message max_message_size) (user_view_of self.old) }
-        ensures generator { self.new.view.generator ≡ self.old.view.generator }
-    {
+    fn set_max_message_size(&mut self, max_message_size: usize) {
         calls_keep_soundness();
         dcsctp_socket_calls::set_max_message_size(&mut self.context, max_message_size);
     }
 
-    fn set_stream_priority(&mut self, stream_id: StreamId, priority: u16) -> Result<(), SocketFault>
-        ensures call { Sets (stream_priority stream_id.0 priority) (user_view_of self.old) result (user_view_of self.new) }
-        ensures generator { self.new.view.generator ≡ self.old.view.generator }
-        ensures failed { IsErrOf result SocketFault.Failed → self.new ≡ self.old }
-    {
+    fn set_stream_priority(
+        &mut self,
+        stream_id: StreamId,
+        priority: u16,
+    ) -> Result<(), SocketFault> {
         // A socket that has failed is unchanged.
         if self.failed {
             return Err(SocketFault::Failed);
@@ -471,11 +368,7 @@ impl<R: Rng + Drop> DcSctpSocket for Socket<R> {
         &mut self,
         stream_id: StreamId,
         bytes: usize,
-    ) -> Result<(), SocketFault>
-        ensures call { Sets (stream_low_threshold stream_id.0 bytes) (user_view_of self.old) result (user_view_of self.new) }
-        ensures generator { self.new.view.generator ≡ self.old.view.generator }
-        ensures failed { IsErrOf result SocketFault.Failed → self.new ≡ self.old }
-    {
+    ) -> Result<(), SocketFault> {
         // A socket that has failed keeps the threshold.
         if self.failed {
             return Err(SocketFault::Failed);

@@ -16,7 +16,7 @@ use Rattle.dcsctp_core.specs.api.Calls.{AddsFirstEvents, user_event}
 use Rattle.dcsctp_core.proofs.spec_lemmas.TurnLists.{events_of-append}
 use Rattle.dcsctp_core.specs.View.{View, call_start, Moves, MovesAll, CutTurn}
 use Rattle.dcsctp_core.specs.wire.declared.packet.WireOptions.{WireOptions}
-use Rattle.dcsctp_socket_calls.specs.Parts.{MoveToEnd, ChunksMove, ChunksCut, AcksMove, PacketMoves, InputMoves, AcksCut, PacketCut, InputCut}
+use Rattle.dcsctp_socket_calls.specs.Parts.{MoveToEnd, ChunksMove, ChunksCut, AcksMove, PacketMoves, AcksCut, PacketCut, InputTurns, CutTurns, CallMoved, TurnsCut}
 use Rattle.dcsctp_core.specs.Handling.{TakesPossibleTurn, CutIn}
 use Rattle.dcsctp_core.proofs.Moving.{moves_one, moves_then}
 
@@ -96,7 +96,7 @@ readable_call stream a b c bytes packet turns found counted are moves = (
 abbrev Called : {R : Type 0} → (R → Stream) → List ℕ → View R → View R → Type 0
 Called stream bytes a c = (turns : List Transition) × HandleInput a.endpoint bytes turns × MovesAll stream a turns c
 
-called_input : {R : Type 0} (stream : R → Stream) (bytes : List ℕ) (old new : View R) → Called stream bytes (call_start old) new → InputMoves stream bytes old new
+called_input : {R : Type 0} (stream : R → Stream) (bytes : List ℕ) (old new : View R) → Called stream bytes (call_start old) new → CallMoved stream (InputTurns bytes) old new
 called_input stream bytes old new called = record { turns = called.0; are = called.1; moves = called.2 }
 
 -- the reader's options are those of the endpoint that counted the packet
@@ -108,7 +108,7 @@ pub readable_input : {R : Type 0} (stream : R → Stream) (old a b c : View R) (
     → IsPacket options packet bytes
     → b.endpoint.core ≡ a.endpoint.core
     → PacketMoves stream packet b c
-    → InputMoves stream bytes old c
+    → CallMoved stream (InputTurns bytes) old c
 readable_input {R = R} stream old a b c bytes packet options begins counted is found same worked =
     let here : IsPacket (wire_options a.endpoint.options) packet bytes = subst (λ (o : WireOptions). IsPacket o packet bytes) (options_of stream a b options counted is) found in
     let are : AdmittedTurns b.endpoint (packet_in packet) (admits a.endpoint.core (packet_in packet)) worked.turns =
@@ -119,7 +119,7 @@ pub unreadable_input : {R : Type 0} (stream : R → Stream) (old a b c : View R)
     → a ≡ call_start old → Moves stream a (arrival_outcome a.endpoint) b → options ≡ wire_options b.endpoint.options
     → ((packet : PacketContent) → IsPacket options packet bytes → ⊥)
     → text ≡ unreadable_text → Moves stream b (refusal_outcome b.endpoint text) c
-    → InputMoves stream bytes old c
+    → CallMoved stream (InputTurns bytes) old c
 unreadable_input {R = R} stream old a b c bytes options text begins counted is none says moves =
     let here : (packet : PacketContent) → IsPacket (wire_options a.endpoint.options) packet bytes → ⊥ = λ packet found. none packet (subst (λ (o : WireOptions). IsPacket o packet bytes) (sym (options_of stream a b options counted is)) found) in
     called_input stream bytes old c (subst (λ (v : View R). Called stream bytes v c) begins (unreadable_call stream a b c bytes here counted (subst (λ (t : List ℕ). Moves stream b (refusal_outcome b.endpoint t) c) says moves)))
@@ -174,7 +174,7 @@ adds_begun ports first turns old new quiet adds =
       front = adds.front ∙ ap (λ (es : List (Event Emission)). map (user_event ports) (es ++ events_of turns)) (sym quiet);
     }
 
-pub unread_cut : {R : Type 0} (view : View R) (bytes : List ℕ) (events : List (Event (List ℕ))) → events ≡ view.events → InputCut bytes view events
+pub unread_cut : {R : Type 0} (view : View R) (bytes : List ℕ) (events : List (Event (List ℕ))) → events ≡ view.events → TurnsCut (CutTurns bytes) view events
 unread_cut view bytes events same =
     record { turns = []; are = unread; adds = subst (λ (es : List (Event (List ℕ))). AddsFirstEvents (ports_of view.endpoint.options) [] view.events es) (sym same) (adds_none (ports_of view.endpoint.options) view.events) }
 
@@ -187,7 +187,7 @@ abbrev Cut : {R : Type 0} → List ℕ → View R → List (Event (List ℕ)) �
 Cut bytes view events =
     (turns : List Transition) × CutInput view.endpoint bytes turns × AddsFirstEvents (ports_of view.endpoint.options) turns view.events events
 
-input_cut : {R : Type 0} (bytes : List ℕ) (old : View R) (events : List (Event (List ℕ))) → Cut bytes (call_start old) events → InputCut bytes old events
+input_cut : {R : Type 0} (bytes : List ℕ) (old : View R) (events : List (Event (List ℕ))) → Cut bytes (call_start old) events → TurnsCut (CutTurns bytes) old events
 input_cut bytes old events cut = record { turns = cut.0; are = cut.1; adds = cut.2 }
 
 -- the packet was counted before, which adds no event
@@ -215,7 +215,7 @@ pub packet_cut : {R : Type 0} (stream : R → Stream) (old a b : View R) (bytes 
     → IsPacket options packet bytes
     → b.endpoint.core ≡ a.endpoint.core
     → PacketCut packet b events
-    → InputCut bytes old events
+    → TurnsCut (CutTurns bytes) old events
 packet_cut {R = R} stream old a b bytes packet options events begins counted is found same cut =
     let here : IsPacket (wire_options a.endpoint.options) packet bytes = subst (λ (o : WireOptions). IsPacket o packet bytes) (options_of stream a b options counted is) found in
     input_cut bytes old events (subst (λ (v : View R). Cut bytes v events) begins (counted_cut stream a b bytes packet events here counted same cut))

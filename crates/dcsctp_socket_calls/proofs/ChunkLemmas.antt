@@ -22,7 +22,8 @@ use Rattle.dcsctp_core.specs.Drawing.{first_word, second_word}
 use Rattle.dcsctp_core.specs.Handling.{OnlyDrew, HandlesTurn, HandlesWholeTurn, HandlesPossibleTurn}
 use Rattle.dcsctp_core.proofs.Moving.{moves_one}
 use Rattle.dcsctp_core_handshake.specs.Handshake.{init_turn, connect_turn}
-use Rattle.dcsctp_socket_calls.specs.Parts.{ChunkMoves, ChunkCut, ConnectMoves, HandlesChunk}
+use Rattle.dcsctp_core.specs.types.Schedule.{connect_call}
+use Rattle.dcsctp_socket_calls.specs.Parts.{ChunkMoves, ChunkCut, TurnsOf, CallMoved, HandlesChunk}
 
 -- ---- a chunk's turn by what its handler says
 
@@ -84,7 +85,7 @@ works_one stream tag content Took old (Err error) new is cut = record { outcome 
 -- ---- connect
 
 pub connect_moves : {R : Type 0} (stream : R → Stream) (old start new : View R) → start ≡ call_start old
-    → Moves stream start (connect_turn stream start) new → ConnectMoves stream old new
+    → Moves stream start (connect_turn stream start) new → CallMoved stream (TurnsOf connect_call) old new
 connect_moves {R = R} stream old start new begins moves =
     let turn : Transition = transition (act_input connect) (connect_turn stream (call_start old)) in
     record {

@@ -34,7 +34,8 @@ use Rattle.dcsctp_core.specs.Handling.{TakesPossibleTurn, CutIn}
 use Rattle.dcsctp_core.specs.Timing.{is_timer_due, ExpiryTurn, Expires}
 use Rattle.dcsctp_core.specs.View.{View, view_of, Moves, MovesAll, CutTurn}
 use Rattle.dcsctp_core.proofs.Moving.{moves_one, moves_then}
-use Rattle.dcsctp_socket_calls.specs.TimeParts.{TurnsMove, TurnsCut, WorksTurns, EndTurns}
+use Rattle.dcsctp_socket_calls.specs.Parts.{TurnsMove, TurnsCut, WorksTurns}
+use Rattle.dcsctp_socket_calls.specs.TimeParts.{EndTurns}
 use Rattle.dcsctp_socket_calls.proofs.CallLemmas.{adds_cut}
 use Rattle.dcsctp_socket_calls.proofs.DispatchLemmas.{moves_none}
 

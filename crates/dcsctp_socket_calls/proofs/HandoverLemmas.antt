@@ -28,12 +28,15 @@ use Rattle.dcsctp_core.specs.View.{View, call_start, Moves, MovesAll, CallMoves}
 use Rattle.dcsctp_core.specs.Handling.{TakesPossibleTurn, CutIn, FlushAt}
 use Rattle.dcsctp_core.proofs.Moving.{moves_one, moves_then}
 use Rattle.dcsctp_core_handover.specs.Handover.{hand_over_turn, restore_turn}
-use Rattle.dcsctp_socket_calls.specs.HandoverParts.{HandoverTurns}
-use Rattle.dcsctp_socket_calls.specs.Parts.{CallMoved, CallCut}
+use Rattle.dcsctp_socket_calls.specs.Parts.{CallMoved, TurnsCut, RestoringTurns, CutRestoring}
 use Rattle.dcsctp_socket_calls.proofs.CallLemmas.{adds_none, adds_cut}
 use Rattle.dcsctp_socket_calls.proofs.DispatchLemmas.{moves_none}
 
 -- ---- a handover
+
+-- the turns of a handover
+abbrev HandoverTurns : Endpoint → List Transition → Type 0
+HandoverTurns e turns = Turns e (inputs_of_handover (readiness_of e)) turns
 
 no_turn_at : (e : Endpoint) (readiness : ℕ) → readiness ≢ 0 → Turns e (inputs_of_handover readiness) []
 no_turn_at e zero some = absurd (some refl)
@@ -73,16 +76,16 @@ no_turn_from_closed e (cookie_echoed my held cookie) connection state none is = 
 no_turn_from_closed e (open_in phase my held) connection state none is = tt
 
 unmoved : {R : Type 0} (stream : R → Stream) (old start : View R) (state : Snapshot) → start ≡ call_start old → Turns old.endpoint (inputs_of_restore old.endpoint.core state) []
-    → CallMoved stream (λ (e : Endpoint) (turns : List Transition). RestoreTurns e state turns) old start
+    → CallMoved stream (RestoringTurns state) old start
 unmoved {R} stream old start state begins none =
     record { turns = []; are = none; moves = subst (λ (v : View R). CallMoves stream old [] v) (sym begins) (moves_none stream (call_start old)) }
 
 pub restore_refused : {R : Type 0} (stream : R → Stream) (old start : View R) (state : Snapshot) → start ≡ call_start old → is_closed old.endpoint.core ≡ false
-    → CallMoved stream (λ (e : Endpoint) (turns : List Transition). RestoreTurns e state turns) old start
+    → CallMoved stream (RestoringTurns state) old start
 restore_refused stream old start state begins is_open = unmoved stream old start state begins (no_turn_open old.endpoint old.endpoint.core state is_open)
 
 pub nothing_restored : {R : Type 0} (stream : R → Stream) (old start : View R) (state : Snapshot) → start ≡ call_start old → state.socket_state ≡ states.Closed
-    → CallMoved stream (λ (e : Endpoint) (turns : List Transition). RestoreTurns e state turns) old start
+    → CallMoved stream (RestoringTurns state) old start
 nothing_restored stream old start state begins none = unmoved stream old start state begins (no_turn_from_closed old.endpoint old.endpoint.core state.socket_state state none refl)
 
 -- the turn of a restore, and that of the flush behind it
@@ -113,7 +116,7 @@ both_moved stream a b c state h f =
     (moves_one stream a b (transition (restores state) h.outcome) h.moves) (moves_one stream b c (transition (act_input flushes) f.outcome) f.moves)
 
 pub restored : {R : Type 0} (stream : R → Stream) (old start mid new : View R) (state : Snapshot) → start ≡ call_start old → old.endpoint.core ≡ closed → state.socket_state ≡ states.Connected
-    → TakesPossibleTurn stream (restore_turn state) start mid → TakesPossibleTurn stream FlushAt mid new → CallMoved stream (λ (e : Endpoint) (turns : List Transition). RestoreTurns e state turns) old new
+    → TakesPossibleTurn stream (restore_turn state) start mid → TakesPossibleTurn stream FlushAt mid new → CallMoved stream (RestoringTurns state) old new
 restored {R} stream old start mid new state begins none connected first f =
     let h : TakesPossibleTurn stream (restore_turn state) (call_start old) mid = subst (λ (v : View R). TakesPossibleTurn stream (restore_turn state) v mid) begins first in
     record {
@@ -125,13 +128,13 @@ restored {R} stream old start mid new state begins none connected first f =
 -- ---- an allocation failed
 
 pub restore_unmade : {R : Type 0} (old : View R) (state : Snapshot) (events : List (Event (List ℕ))) → events ≡ old.events
-    → CallCut (λ (e : Endpoint) (turns : List Transition). (turns ≡ []) ⊎ RestoreTurns e state turns) old events
+    → TurnsCut (CutRestoring state) old events
 restore_unmade old state events same =
     record { turns = []; are = inl refl; adds = subst (λ (es : List (Event (List ℕ))). AddsFirstEvents (ports_of old.endpoint.options) [] old.events es) (sym same) (adds_none (ports_of old.endpoint.options) old.events) }
 
 pub restore_cut : {R : Type 0} (stream : R → Stream) (old start mid : View R) (state : Snapshot) (events : List (Event (List ℕ))) → start ≡ call_start old → old.endpoint.core ≡ closed
     → state.socket_state ≡ states.Connected → TakesPossibleTurn stream (restore_turn state) start mid → CutIn FlushAt mid events
-    → CallCut (λ (e : Endpoint) (turns : List Transition). (turns ≡ []) ⊎ RestoreTurns e state turns) old events
+    → TurnsCut (CutRestoring state) old events
 restore_cut {R} stream old start mid state events begins none connected first f =
     let h : TakesPossibleTurn stream (restore_turn state) (call_start old) mid = subst (λ (v : View R). TakesPossibleTurn stream (restore_turn state) v mid) begins first in
     let ports : ports_of mid.endpoint.options ≡ ports_of old.endpoint.options = ap (λ (e : Endpoint). ports_of e.options) h.moves.endpoint ∙ options_stay old.endpoint old.endpoint.core state h.outcome h.turn in
@@ -178,7 +181,7 @@ works_handed_over {R} stream old start new is_ready readiness state law sound be
 pub works_restored : {R : Type 0} (stream : R → Stream) (old start mid new : View R) (is_closed_now : Bool) (state : Snapshot) → start ≡ call_start old
     → is_closed_now ≡ is_closed start.endpoint.core → is_closed_now ≡ true → state.socket_state ≡ states.Connected
     → TakesPossibleTurn stream (restore_turn state) start mid → TakesPossibleTurn stream FlushAt mid new
-    → (is_closed old.endpoint.core ≡ true) × CallMoved stream (λ (e : Endpoint) (turns : List Transition). RestoreTurns e state turns) old new
+    → (is_closed old.endpoint.core ≡ true) × CallMoved stream (RestoringTurns state) old new
 works_restored {R} stream old start mid new is_closed_now state begins is test connected first f =
     let none : old.endpoint.core ≡ closed = sym (ap (λ (v : View R). v.endpoint.core) begins) ∙ closed_by is_closed_now start.endpoint.core is test in
     (ap is_closed none, restored stream old start mid new state begins none connected first f)
@@ -186,6 +189,6 @@ works_restored {R} stream old start mid new is_closed_now state begins is test c
 pub works_restore_cut : {R : Type 0} (stream : R → Stream) (old start mid : View R) (is_closed_now : Bool) (state : Snapshot) (events : List (Event (List ℕ))) → start ≡ call_start old
     → is_closed_now ≡ is_closed start.endpoint.core → is_closed_now ≡ true → state.socket_state ≡ states.Connected
     → TakesPossibleTurn stream (restore_turn state) start mid → CutIn FlushAt mid events
-    → CallCut (λ (e : Endpoint) (turns : List Transition). (turns ≡ []) ⊎ RestoreTurns e state turns) old events
+    → TurnsCut (CutRestoring state) old events
 works_restore_cut {R} stream old start mid is_closed_now state events begins is test connected first f =
     restore_cut stream old start mid state events begins (sym (ap (λ (v : View R). v.endpoint.core) begins) ∙ closed_by is_closed_now start.endpoint.core is test) connected first f

@@ -14,7 +14,8 @@ use Rattle.dcsctp_spec_laws.proofs.TimerLemmas.{none_is_due}
 use Rattle.dcsctp_core.specs.declared.context.Context.{Context}
 use Rattle.dcsctp_core.specs.View.{View, view_of, endpoint_of, core_of, call_start, MovesAll}
 use Rattle.dcsctp_core.proofs.Moving.{moves_then}
-use Rattle.dcsctp_socket_calls.specs.TimeParts.{TurnsMove, TurnsCut, TimeMoves, TimeCut}
+use Rattle.dcsctp_core.specs.types.Schedule.{advance_call}
+use Rattle.dcsctp_socket_calls.specs.Parts.{TurnsMove, TurnsCut, TurnsOf, CallMoved}
 use Rattle.dcsctp_socket_calls.proofs.CallLemmas.{adds_begun}
 
 -- ---- the call
@@ -39,7 +40,7 @@ view_at moment view = record view { endpoint = clock_at moment view.endpoint }
 -- The clock was moved, and what was due had its turns.
 pub time_moves : {R : Type 0} (stream : R → Stream) (old start new : Context R) (moment : ℕ) → view_of start ≡ call_start (view_of old) → start.moment ≤ moment
     → TurnsMove stream DueTurns (view_of (record start { moment = moment })) (view_of new)
-    → TimeMoves stream moment (view_of old) (view_of new)
+    → CallMoved stream (TurnsOf (advance_call moment)) (view_of old) (view_of new)
 time_moves {R = R} stream old start new moment begins later m =
     let a : View R = call_start (view_of old) in
     let here : View R = view_at moment a in
@@ -53,7 +54,7 @@ time_moves {R = R} stream old start new moment begins later m =
 -- A growth was refused in what was due.
 pub time_cut : {R : Type 0} (old start : Context R) (moment : ℕ) (es : List (Event (List ℕ))) → view_of start ≡ call_start (view_of old) → start.moment ≤ moment
     → TurnsCut DueTurns (view_of (record start { moment = moment })) es
-    → TimeCut moment (view_of old) es
+    → TurnsCut (TurnsOf (advance_call moment)) (view_of old) es
 time_cut {R = R} old start moment es begins later cut =
     let a : View R = call_start (view_of old) in
     let here : View R = view_at moment a in

@@ -9,7 +9,8 @@ use Rattle.dcsctp_core.specs.declared.context.Context.{Context}
 use Rattle.dcsctp_core.specs.Timing.{Expires}
 use Rattle.dcsctp_core.specs.View.{View, view_of, core_of, endpoint_of}
 use Rattle.dcsctp_socket_calls.specs.declared.timers.SocketTimer.{SocketTimer}
-use Rattle.dcsctp_socket_calls.specs.TimeParts.{timer_in, TurnsMove, WorksTurns}
+use Rattle.dcsctp_socket_calls.specs.Parts.{TurnsMove, WorksTurns}
+use Rattle.dcsctp_socket_calls.specs.TimeParts.{timer_in}
 use Rattle.dcsctp_socket_calls.proofs.DispatchLemmas.{moves_none}
 use Rattle.dcsctp_socket_calls.proofs.ExpiryLemmas.{timer_then, expiry_cut}
 

@@ -1,5 +1,5 @@
 -- What the calls of a socket do, by its parts.
-use Rattle.std.specs.Prelude.{◌≡◌, ◌⊎◌, ℕ, Bool, true, false, Result, Ok, Err, List, [], ◌∷◌, ◌++◌}
+use Rattle.std.specs.Prelude.{◌≡◌, ◌⊎◌, ℕ, Bool, true, false, Option, Result, Ok, Err, List, [], ◌∷◌, ◌++◌}
 use Rattle.std.specs.List.{AllByRecursion}
 use Rattle.rand_core.specs.Stream.{Stream}
 use Rattle.dcsctp_core.specs.wire.Content.{PacketContent}
@@ -10,18 +10,24 @@ use Rattle.dcsctp_core.specs.spec.endpoint.Following.{next_chunk, packet_end}
 use Rattle.dcsctp_core.specs.spec.endpoint.Outcome.{Outcome, still}
 use Rattle.dcsctp_core.specs.types.Settings.{ports_of}
 use Rattle.dcsctp_core.specs.spec.endpoint.Event.{Event}
-use Rattle.dcsctp_core.specs.spec.endpoint.Turn.{ContentTurn, act_input, chunk_input, packet_ends, has_data_chunk}
-use Rattle.dcsctp_core.specs.spec.association.Acts.{Act, connect}
+use Rattle.dcsctp_core.specs.spec.endpoint.Turn.{ContentTurn, chunk_input, packet_ends, has_data_chunk}
+use Rattle.dcsctp_core.specs.types.ByResult.{ByResult}
+use Rattle.dcsctp_core.specs.types.declared.message.Message.{Message}
+use Rattle.dcsctp_core.specs.types.Schedule.{CallContent}
 use Rattle.dcsctp_core.specs.types.Setting.{Setting}
 use Rattle.dcsctp_core.specs.spec.endpoint.SettingOutcomes.{endpoint_with}
-use Rattle.dcsctp_core.specs.spec.endpoint.CallTurns.{Transition, IsTurn, Turns, after_all, ChunkTurns, WholeTurns, AdmittedTurns, HandleInput, FirstTurns, FirstOfWhole, FirstAdmitted, CutInput}
+use Rattle.dcsctp_core.specs.spec.endpoint.CallTurns.{Transition, IsTurn, after_all, ChunkTurns, WholeTurns, AdmittedTurns, HandleInput, FirstTurns, FirstOfWhole, FirstAdmitted, CutInput}
+use Rattle.dcsctp_core.specs.spec.endpoint.UserTurns.{UserTurns}
+use Rattle.dcsctp_core.specs.types.Snapshot.{Snapshot}
 use Rattle.dcsctp_core.specs.api.Calls.{AddsFirstEvents}
+use Rattle.dcsctp_core.specs.api.Handover.{RestoreTurns}
 use Rattle.dcsctp_core.specs.declared.context.Context.{Context}
-use Rattle.dcsctp_core.specs.View.{View, view_of, call_start, Moves, MovesAll, CallMoves, CutTurn}
+use Rattle.dcsctp_core.specs.View.{View, view_of, call_start, Moves, MovesAll, CutTurn}
 use Rattle.dcsctp_core.specs.declared.following.Following.{Following}
 use Rattle.dcsctp_core.specs.declared.following.Following.TheVariants.{NextChunk, PacketEnd, DroppedRest}
 use Rattle.dcsctp_core.specs.Handling.{following_of, OnlyDrew}
 use Rattle.dcsctp_core_ends.specs.Shutdown.{shutdown_answer_turn}
+use Rattle.dcsctp_core_messages.specs.Taking.{TakesNextOf}
 
 -- A chunk had its turn, and this follows it.
 pub record ChunkMoves {R : Type 0} (stream : R → Stream) (tag : ℕ) (content : Content) (old : View R) (next : Following) (new : View R) : Type 0 where
@@ -29,6 +35,18 @@ pub record ChunkMoves {R : Type 0} (stream : R → Stream) (tag : ℕ) (content 
   pub turn : ContentTurn old.endpoint tag content outcome
   pub following : outcome.following ≡ following_of next
   pub moves : Moves stream old outcome new
+
+-- Such turns took place.
+pub record TurnsMove {R : Type 0} (stream : R → Stream) (AreTurns : Endpoint → List Transition → Type 0) (old new : View R) : Type 0 where
+  pub turns : List Transition
+  pub are : AreTurns old.endpoint turns
+  pub moves : MovesAll stream old turns new
+
+-- An allocation failed in such turns, and events of them were added in part.
+pub record TurnsCut {R : Type 0} (AreTurns : Endpoint → List Transition → Type 0) (old : View R) (events : List (Event (List ℕ))) : Type 0 where
+  pub turns : List Transition
+  pub are : AreTurns old.endpoint turns
+  pub adds : AddsFirstEvents (ports_of old.endpoint.options) turns old.events events
 
 -- What precedes the chunks of a packet: data that comes while a SHUTDOWN waits for its answer is answered (RFC 9260, section
 -- 9.2).
@@ -56,18 +74,6 @@ pub record MoveToEnd {R : Type 0} (stream : R → Stream) (packet : PacketConten
   pub moves : MovesAll stream old turns new
   pub ports : ports_of (after_all old.endpoint turns).options ≡ ports_of old.endpoint.options
 
--- The chunks of a packet had their turns, and so had its end.
-pub record ChunksMove {R : Type 0} (stream : R → Stream) (packet : PacketContent) (old new : View R) : Type 0 where
-  pub turns : List Transition
-  pub are : ChunksToEnd old.endpoint (packet_in packet) turns
-  pub moves : MovesAll stream old turns new
-
--- All of a packet was handled: what precedes its chunks, the chunks, and its end.
-pub record WholeMoves {R : Type 0} (stream : R → Stream) (packet : PacketContent) (old new : View R) : Type 0 where
-  pub turns : List Transition
-  pub are : WholeTurns old.endpoint (packet_in packet) turns
-  pub moves : MovesAll stream old turns new
-
 -- A SHUTDOWN ACK had its turn, and no other chunk of the packet has one.
 pub record AckEnds {R : Type 0} (stream : R → Stream) (tag : ℕ) (content : Content) (old new : View R) : Type 0 where
   pub is : content ≡ shutdown_ack
@@ -84,39 +90,23 @@ pub record AckMoves {R : Type 0} (stream : R → Stream) (tag : ℕ) (content : 
   pub moves : MovesAll stream old turns new
   pub core : new.endpoint.core ≡ old.endpoint.core
 
--- The SHUTDOWN ACK chunks of a packet had their turns.
-pub record AcksMove {R : Type 0} (stream : R → Stream) (packet : PacketContent) (old new : View R) : Type 0 where
-  pub turns : List Transition
-  pub are : ChunkTurns old.endpoint packet.verification_tag (shutdown_acks_in (packet_in packet).contents) [] turns
-  pub moves : MovesAll stream old turns new
+-- ---- the turns of a packet
 
--- A packet that was counted was admitted and handled, or refused.
-pub record PacketMoves {R : Type 0} (stream : R → Stream) (packet : PacketContent) (old new : View R) : Type 0 where
-  pub turns : List Transition
-  pub are : AdmittedTurns old.endpoint (packet_in packet) (admits old.endpoint.core (packet_in packet)) turns
-  pub moves : MovesAll stream old turns new
+-- its chunks, and its end
+abbrev pub ChunksMove : {R : Type 0} → (R → Stream) → PacketContent → View R → View R → Type 0
+ChunksMove stream packet old new = TurnsMove stream (λ e turns. ChunksToEnd e (packet_in packet) turns) old new
 
--- A packet was handed in.
-pub record InputMoves {R : Type 0} (stream : R → Stream) (bytes : List ℕ) (old new : View R) : Type 0 where
-  pub turns : List Transition
-  pub are : HandleInput old.endpoint bytes turns
-  pub moves : CallMoves stream old turns new
+-- what precedes its chunks, these, and its end
+abbrev pub WholeMoves : {R : Type 0} → (R → Stream) → PacketContent → View R → View R → Type 0
+WholeMoves stream packet old new = TurnsMove stream (λ e turns. WholeTurns e (packet_in packet) turns) old new
 
--- The user connected.
-pub record ConnectMoves {R : Type 0} (stream : R → Stream) (old new : View R) : Type 0 where
-  pub turns : List Transition
-  pub are : Turns old.endpoint (act_input connect ∷ []) turns
-  pub moves : CallMoves stream old turns new
+-- its SHUTDOWN ACK chunks
+abbrev pub AcksMove : {R : Type 0} → (R → Stream) → PacketContent → View R → View R → Type 0
+AcksMove stream packet old new = TurnsMove stream (λ e turns. ChunkTurns e packet.verification_tag (shutdown_acks_in (packet_in packet).contents) [] turns) old new
 
--- A call had its turns, which are these of its endpoint.
-pub record CallMoved {R : Type 0} (stream : R → Stream) (CallTurns : Endpoint → List Transition → Type 0) (old new : View R) : Type 0 where
-  pub turns : List Transition
-  pub are : CallTurns old.endpoint turns
-  pub moves : CallMoves stream old turns new
-
--- the turns of a call that is one act
-abbrev pub ActTurns : Act → Endpoint → List Transition → Type 0
-ActTurns act e turns = Turns e (act_input act ∷ []) turns
+-- a packet that was counted, and is admitted or refused
+abbrev pub PacketMoves : {R : Type 0} → (R → Stream) → PacketContent → View R → View R → Type 0
+PacketMoves stream packet old new = TurnsMove stream (λ e turns. AdmittedTurns e (packet_in packet) (admits e.core (packet_in packet)) turns) old new
 
 -- ---- when an allocation failed
 
@@ -130,40 +120,20 @@ pub record ChunkCut {R : Type 0} (tag : ℕ) (content : Content) (old : View R) 
 abbrev pub FirstToEnd : Endpoint → Packet → List Transition → Type 0
 FirstToEnd e packet turns = FirstTurns e packet.tag packet.contents turns ⊎ ChunksToEnd e packet turns
 
-pub record ChunksCut {R : Type 0} (packet : PacketContent) (old : View R) (events : List (Event (List ℕ))) : Type 0 where
-  pub turns : List Transition
-  pub are : FirstToEnd old.endpoint (packet_in packet) turns
-  pub adds : AddsFirstEvents (ports_of old.endpoint.options) turns old.events events
+abbrev pub ChunksCut : {R : Type 0} → PacketContent → View R → List (Event (List ℕ)) → Type 0
+ChunksCut packet old events = TurnsCut (λ e turns. FirstToEnd e (packet_in packet) turns) old events
 
--- A packet that is fully handled had some of its turns.
-pub record WholeCut {R : Type 0} (packet : PacketContent) (old : View R) (events : List (Event (List ℕ))) : Type 0 where
-  pub turns : List Transition
-  pub are : FirstOfWhole old.endpoint (packet_in packet) turns
-  pub adds : AddsFirstEvents (ports_of old.endpoint.options) turns old.events events
+-- what precedes the chunks of a packet, and some of them
+abbrev pub WholeCut : {R : Type 0} → PacketContent → View R → List (Event (List ℕ)) → Type 0
+WholeCut packet old events = TurnsCut (λ e turns. FirstOfWhole e (packet_in packet) turns) old events
 
--- Some SHUTDOWN ACK chunks of a packet had their turns.
-pub record AcksCut {R : Type 0} (packet : PacketContent) (old : View R) (events : List (Event (List ℕ))) : Type 0 where
-  pub turns : List Transition
-  pub are : FirstTurns old.endpoint packet.verification_tag (shutdown_acks_in (packet_in packet).contents) turns
-  pub adds : AddsFirstEvents (ports_of old.endpoint.options) turns old.events events
+-- some of its SHUTDOWN ACK chunks
+abbrev pub AcksCut : {R : Type 0} → PacketContent → View R → List (Event (List ℕ)) → Type 0
+AcksCut packet old events = TurnsCut (λ e turns. FirstTurns e packet.verification_tag (shutdown_acks_in (packet_in packet).contents) turns) old events
 
--- A packet that was counted had some of its turns.
-pub record PacketCut {R : Type 0} (packet : PacketContent) (old : View R) (events : List (Event (List ℕ))) : Type 0 where
-  pub turns : List Transition
-  pub are : FirstAdmitted old.endpoint (packet_in packet) (admits old.endpoint.core (packet_in packet)) turns
-  pub adds : AddsFirstEvents (ports_of old.endpoint.options) turns old.events events
-
--- A packet was handed in, and the call was cut.
-pub record InputCut {R : Type 0} (bytes : List ℕ) (old : View R) (events : List (Event (List ℕ))) : Type 0 where
-  pub turns : List Transition
-  pub are : CutInput old.endpoint bytes turns
-  pub adds : AddsFirstEvents (ports_of old.endpoint.options) turns old.events events
-
--- A call was cut: events of such turns were added in part.
-pub record CallCut {R : Type 0} (CallTurns : Endpoint → List Transition → Type 0) (old : View R) (events : List (Event (List ℕ))) : Type 0 where
-  pub turns : List Transition
-  pub are : CallTurns old.endpoint turns
-  pub adds : AddsFirstEvents (ports_of old.endpoint.options) turns old.events events
+-- the first turns of a packet that was counted
+abbrev pub PacketCut : {R : Type 0} → PacketContent → View R → List (Event (List ℕ)) → Type 0
+PacketCut packet old events = TurnsCut (λ e turns. FirstAdmitted e (packet_in packet) (admits e.core (packet_in packet)) turns) old events
 
 -- the view once this is set; no word is drawn
 abbrev pub set_view : {R : Type 0} → Setting → View R → View R
@@ -171,21 +141,14 @@ set_view setting view = record view { endpoint = endpoint_with setting view.endp
 
 -- ---- by the result of a function
 
+-- A chunk had its turn, or it was cut.
 abbrev pub HandlesChunk : {R E : Type 0} → (R → Stream) → ℕ → Content → Context R → Result Following E → Context R → Type 0
-HandlesChunk stream tag content old (Ok next) new = ChunkMoves stream tag content (view_of old) next (view_of new)
-HandlesChunk stream tag content old (Err error) new = ChunkCut tag content (view_of old) (view_of new).events
+HandlesChunk stream tag content old result new =
+    ByResult (λ next. ChunkMoves stream tag content (view_of old) next (view_of new)) (ChunkCut tag content (view_of old) (view_of new).events) result
 
 abbrev pub WorksToEnd : {R E : Type 0} → (R → Stream) → PacketContent → Context R → Result Bool E → Context R → Type 0
-WorksToEnd stream packet old (Ok ends) new = MoveToEnd stream packet (view_of old) ends (view_of new)
-WorksToEnd stream packet old (Err error) new = ChunksCut packet (view_of old) (view_of new).events
-
-abbrev pub WorksChunks : {R E : Type 0} → (R → Stream) → PacketContent → Context R → Result (Unit {0}) E → Context R → Type 0
-WorksChunks stream packet old (Ok done) new = ChunksMove stream packet (view_of old) (view_of new)
-WorksChunks stream packet old (Err error) new = ChunksCut packet (view_of old) (view_of new).events
-
-abbrev pub HandlesWholePacket : {R E : Type 0} → (R → Stream) → PacketContent → Context R → Result (Unit {0}) E → Context R → Type 0
-HandlesWholePacket stream packet old (Ok done) new = WholeMoves stream packet (view_of old) (view_of new)
-HandlesWholePacket stream packet old (Err error) new = WholeCut packet (view_of old) (view_of new).events
+WorksToEnd stream packet old result new =
+    ByResult (λ ends. MoveToEnd stream packet (view_of old) ends (view_of new)) (ChunksCut packet (view_of old) (view_of new).events) result
 
 -- If an allocation failed, nothing has changed.
 abbrev pub WorksAck : {R E : Type 0} → (R → Stream) → ℕ → Content → Context R → Result Following E → Context R → Type 0
@@ -194,29 +157,71 @@ WorksAck stream tag content old (Ok PacketEnd) new = AckEnds stream tag content 
 WorksAck stream tag content old (Ok DroppedRest) new = ⊥
 WorksAck stream tag content old (Err error) new = view_of new ≡ view_of old
 
+-- Such turns took place, or an allocation failed in such turns.
+abbrev pub WorksTurns : {R E : Type 0} → (R → Stream) → (Endpoint → List Transition → Type 0) → Context R → Result (Unit {0}) E → Context R → Type 0
+WorksTurns stream AreTurns old result new =
+    ByResult (λ done. TurnsMove stream AreTurns (view_of old) (view_of new)) (TurnsCut AreTurns (view_of old) (view_of new).events) result
+
+abbrev pub WorksChunks : {R E : Type 0} → (R → Stream) → PacketContent → Context R → Result (Unit {0}) E → Context R → Type 0
+WorksChunks stream packet old result new = ByResult (λ done. ChunksMove stream packet (view_of old) (view_of new)) (ChunksCut packet (view_of old) (view_of new).events) result
+
+abbrev pub HandlesWholePacket : {R E : Type 0} → (R → Stream) → PacketContent → Context R → Result (Unit {0}) E → Context R → Type 0
+HandlesWholePacket stream packet old result new = ByResult (λ done. WholeMoves stream packet (view_of old) (view_of new)) (WholeCut packet (view_of old) (view_of new).events) result
+
 abbrev pub WorksAcks : {R E : Type 0} → (R → Stream) → PacketContent → Context R → Result (Unit {0}) E → Context R → Type 0
-WorksAcks stream packet old (Ok done) new = AcksMove stream packet (view_of old) (view_of new)
-WorksAcks stream packet old (Err error) new = AcksCut packet (view_of old) (view_of new).events
+WorksAcks stream packet old result new = ByResult (λ done. AcksMove stream packet (view_of old) (view_of new)) (AcksCut packet (view_of old) (view_of new).events) result
 
 abbrev pub WorksPacket : {R E : Type 0} → (R → Stream) → PacketContent → Context R → Result (Unit {0}) E → Context R → Type 0
-WorksPacket stream packet old (Ok done) new = PacketMoves stream packet (view_of old) (view_of new)
-WorksPacket stream packet old (Err error) new = PacketCut packet (view_of old) (view_of new).events
+WorksPacket stream packet old result new = ByResult (λ done. PacketMoves stream packet (view_of old) (view_of new)) (PacketCut packet (view_of old) (view_of new).events) result
 
-abbrev pub WorksInput : {R E : Type 0} → (R → Stream) → List ℕ → Context R → Result (Unit {0}) E → Context R → Type 0
-WorksInput stream bytes old (Ok done) new = InputMoves stream bytes (view_of old) (view_of new)
-WorksInput stream bytes old (Err error) new = InputCut bytes (view_of old) (view_of new).events
+-- ---- the calls
 
--- A call's turns, or some events of them.
-abbrev pub WorksCall : {R E : Type 0} → (R → Stream) → (Endpoint → List Transition → Type 0) → Context R → Result (Unit {0}) E → Context R → Type 0
-WorksCall stream CallTurns old (Ok done) new = CallMoved stream CallTurns (view_of old) (view_of new)
-WorksCall stream CallTurns old (Err error) new = CallCut CallTurns (view_of old) (view_of new).events
+-- the turns of a user's call
+abbrev pub TurnsOf : CallContent → Endpoint → List Transition → Type 0
+TurnsOf call e turns = UserTurns e call turns
+
+-- the turns of a packet that is handed in, and those that may have taken place where an allocation failed
+abbrev pub InputTurns : List ℕ → Endpoint → List Transition → Type 0
+InputTurns bytes e turns = HandleInput e bytes turns
+
+abbrev pub CutTurns : List ℕ → Endpoint → List Transition → Type 0
+CutTurns bytes e turns = CutInput e bytes turns
+
+-- the turns of a restore, and those that may have taken place where an allocation failed
+abbrev pub RestoringTurns : Snapshot → Endpoint → List Transition → Type 0
+RestoringTurns state e turns = RestoreTurns e state turns
+
+abbrev pub CutRestoring : Snapshot → Endpoint → List Transition → Type 0
+CutRestoring state e turns = (turns ≡ []) ⊎ RestoreTurns e state turns
+
+-- A call had such turns. No word and no pair was drawn in it before them.
+abbrev pub CallMoved : {R : Type 0} → (R → Stream) → (Endpoint → List Transition → Type 0) → View R → View R → Type 0
+CallMoved stream AreTurns old new = TurnsMove stream AreTurns (call_start old) new
+
+-- What a call leaves where an allocation failed in it: some events of such turns were added; or only words were drawn; or nothing
+-- has changed.
+abbrev pub CutCall : {R : Type 0} → (Endpoint → List Transition → Type 0) → View R → View R → Type 0
+CutCall AreTurns old new = TurnsCut AreTurns old new.events
+
+abbrev pub DrewAlone : {R : Type 0} → View R → View R → Type 0
+DrewAlone old new = OnlyDrew (call_start old) new
+
+abbrev pub BeganAlone : {R : Type 0} → View R → View R → Type 0
+BeganAlone old new = new ≡ call_start old
+
+-- A call has such an answer, and had such turns; or an allocation failed in it, and this is left.
+abbrev pub WorksCall : {R A E : Type 0} → (R → Stream) → (A → Type 0) → (Endpoint → List Transition → Type 0) → (View R → View R → Type 0) → Context R → Result A E → Context R → Type 0
+WorksCall stream IsAnswer AreTurns Leaves old result new =
+    ByResult (λ answer. IsAnswer answer × CallMoved stream AreTurns (view_of old) (view_of new)) (Leaves (view_of old) (view_of new)) result
+
+-- A call of the user; or an allocation failed in it, and the first of its events may have been added.
+abbrev pub WorksUserCall : {R A E : Type 0} → (R → Stream) → CallContent → (A → Type 0) → Context R → Result A E → Context R → Type 0
+WorksUserCall stream call IsAnswer old result new = WorksCall stream IsAnswer (TurnsOf call) (CutCall (TurnsOf call)) old result new
 
 -- It is set; or an allocation failed, and nothing has changed.
 abbrev pub WorksSetting : {R E : Type 0} → Setting → Context R → Result (Unit {0}) E → Context R → Type 0
-WorksSetting setting old (Ok done) new = view_of new ≡ set_view setting (view_of old)
-WorksSetting setting old (Err error) new = view_of new ≡ call_start (view_of old)
+WorksSetting setting old result new = ByResult (λ done. view_of new ≡ set_view setting (view_of old)) (view_of new ≡ call_start (view_of old)) result
 
--- If an allocation failed, nothing has changed but the words that were drawn.
-abbrev pub WorksConnect : {R E : Type 0} → (R → Stream) → Context R → Result (Unit {0}) E → Context R → Type 0
-WorksConnect stream old (Ok done) new = ConnectMoves stream (view_of old) (view_of new)
-WorksConnect stream old (Err error) new = OnlyDrew (call_start (view_of old)) (view_of new)
+-- The first message that is ready is taken, if one is, and no word is drawn.
+abbrev pub WorksTake : {R : Type 0} → View R → Option Message → View R → Type 0
+WorksTake old result new = TakesNextOf (call_start old) result new

@@ -3,16 +3,15 @@
 ghost use Rattle.std.specs.Prelude.{◌≡◌, ◌<◌, true, false, IsOk, map};
 ghost use Rattle.dcsctp_core.specs.wire.Content.{chunk_content, packet_content};
 ghost use Rattle.dcsctp_core.specs.spec.Packet.{content_in};
-ghost use Rattle.dcsctp_core.specs.spec.association.Acts.{abort_with, shut_down};
+ghost use Rattle.dcsctp_core.specs.types.Schedule.{connect_call, close_call, shutdown_call, advance_call};
 ghost use Rattle.dcsctp_core.specs.types.Settings.{wire_options};
 ghost use Rattle.dcsctp_core.specs.spec.endpoint.TimeTurns.{Waits};
 ghost use Rattle.dcsctp_core.specs.spec.endpoint.Turn.{has_data_chunk};
-ghost use Rattle.dcsctp_core.specs.api.Calls.{is_closed, takes_shutdown};
+ghost use Rattle.dcsctp_core.specs.api.Calls.{NoAnswer, is_closed, takes_shutdown};
 ghost use Rattle.dcsctp_core.specs.View.{core_of, endpoint_of};
 ghost use Rattle.dcsctp_core.specs.Handling.{Tries};
 ghost use Rattle.dcsctp_core_ends.specs.Shutdown.{is_open_core};
-ghost use Rattle.dcsctp_socket_calls.specs.Parts.{begin_turn, WorksToEnd, WorksChunks, HandlesWholePacket, WorksAck, WorksAcks, WorksPacket, WorksInput, WorksCall, ActTurns, WorksConnect};
-ghost use Rattle.dcsctp_socket_calls.specs.TimeParts.{WorksTime};
+ghost use Rattle.dcsctp_socket_calls.specs.Parts.{begin_turn, WorksToEnd, WorksChunks, HandlesWholePacket, WorksAck, WorksAcks, WorksPacket, InputTurns, CutTurns, TurnsOf, CutCall, DrewAlone, WorksCall, WorksUserCall};
 
 use crate::admission::{Admission, admit};
 use crate::dispatch::handle_chunk;
@@ -147,7 +146,8 @@ fn handle_packet<R: Rng>(
 /// Handles a packet (RFC 9260, section 8.5): it is counted, read, admitted or refused, and each chunk is
 /// handled.
 pub fn handle_input<R: Rng>(context: &mut Context<R>, packet: &[u8]) -> Result<(), AllocError>
-    ensures { WorksInput R.stream packet.now context.old result context.new }
+    ensures { WorksCall R.stream NoAnswer (InputTurns packet.now) (CutCall (CutTurns packet.now)) context.old
+        result context.new }
 {
     context.begin_call();
     context.count_packet();
@@ -166,7 +166,8 @@ pub fn handle_input<R: Rng>(context: &mut Context<R>, packet: &[u8]) -> Result<(
 /// Begins an association if there is none (RFC 9260, section 5.1). `Err`: an allocation failed, and no event
 /// was added.
 pub fn connect<R: Rng>(context: &mut Context<R>) -> Result<(), AllocError>
-    ensures turn { WorksConnect R.stream context.old result context.new }
+    ensures turn { WorksCall R.stream NoAnswer (TurnsOf connect_call) DrewAlone context.old result
+        context.new }
     ensures open { is_closed (core_of context.old.state) ≡ false → IsOk result }
 {
     context.begin_call();
@@ -177,8 +178,7 @@ pub fn connect<R: Rng>(context: &mut Context<R>) -> Result<(), AllocError>
 /// Ends the association at once (RFC 9260, section 9.1). `Err`: an allocation failed; the first of the call's
 /// events may already have been added.
 pub fn close<R: Rng>(context: &mut Context<R>) -> Result<(), AllocError>
-    ensures turn { WorksCall R.stream (ActTurns (abort_with AbortReason.CloseCalled)) context.old result
-        context.new }
+    ensures turn { WorksUserCall R.stream close_call NoAnswer context.old result context.new }
     ensures closed { is_closed (core_of context.old.state) ≡ true → IsOk result }
 {
     context.begin_call();
@@ -189,7 +189,7 @@ pub fn close<R: Rng>(context: &mut Context<R>) -> Result<(), AllocError>
 /// Shuts the association down (RFC 9260, section 9.2). `Err`: an allocation failed; the first of the call's
 /// events may already have been added.
 pub fn shutdown<R: Rng>(context: &mut Context<R>) -> Result<(), AllocError>
-    ensures turn { WorksCall R.stream (ActTurns shut_down) context.old result context.new }
+    ensures turn { WorksUserCall R.stream shutdown_call NoAnswer context.old result context.new }
     ensures idle { takes_shutdown (core_of context.old.state) ≡ false → IsOk result }
 {
     context.begin_call();
@@ -200,7 +200,7 @@ pub fn shutdown<R: Rng>(context: &mut Context<R>) -> Result<(), AllocError>
 /// Moves the clock to `now`, and handles the timers that are due (RFC 9260, sections 5.1 and 8.3). An earlier
 /// moment changes nothing.
 pub fn advance_time<R: Rng>(context: &mut Context<R>, now: SocketTime) -> Result<(), AllocError>
-    ensures turn { WorksTime R.stream now context.old result context.new }
+    ensures turn { WorksUserCall R.stream (advance_call now) NoAnswer context.old result context.new }
     ensures earlier { now < context.old.moment → IsOk result }
     ensures waits { Waits (endpoint_of context.old) now → IsOk result }
 {

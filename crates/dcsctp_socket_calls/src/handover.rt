@@ -6,7 +6,9 @@ ghost use Rattle.dcsctp_core.specs.types.Snapshot.{snapshot, is_valid_snapshot};
 ghost use Rattle.dcsctp_core.specs.spec.HandoverInputs.{inputs_of_restore};
 ghost use Rattle.dcsctp_core.specs.spec.Soundness.{IsSound};
 ghost use Rattle.dcsctp_core.specs.View.{core_of, endpoint_of};
-ghost use Rattle.dcsctp_socket_calls.specs.HandoverParts.{WorksHandover, WorksRestore};
+ghost use Rattle.dcsctp_core.specs.types.Schedule.{hand_over_call};
+ghost use Rattle.dcsctp_core.specs.api.Handover.{IsHandoverAnswer, IsRestoreAnswer};
+ghost use Rattle.dcsctp_socket_calls.specs.Parts.{TurnsOf, RestoringTurns, CutRestoring, BeganAlone, CutCall, WorksCall};
 
 use dcsctp_core::Context;
 use dcsctp_core::api::handover::{HandoverSocketState, SocketHandoverState};
@@ -22,7 +24,8 @@ pub fn get_handover_state_and_close<R: Rng>(
     context: &mut Context<R>,
 ) -> Result<Result<SocketHandoverState, HandoverError>, AllocError>
     requires { IsSound (endpoint_of context.old) }
-    ensures call { WorksHandover R.stream context.old result context.new }
+    ensures call { WorksCall R.stream (IsHandoverAnswer (endpoint_of context.old)) (TurnsOf hand_over_call)
+        BeganAlone context.old result context.new }
     ensures refused { readiness_of (endpoint_of context.old) ≢ 0 → IsOk result }
 {
     snapshots_are_valid();
@@ -43,7 +46,9 @@ pub fn restore_from_state<R: Rng>(
     state: &SocketHandoverState,
 ) -> Result<Result<(), RestoreError>, AllocError>
     requires { is_valid_snapshot context.old.options (snapshot state.now) ≡ true }
-    ensures call { WorksRestore R.stream (snapshot state.now) context.old result context.new }
+    ensures call { WorksCall R.stream (IsRestoreAnswer (core_of context.old.state))
+        (RestoringTurns (snapshot state.now)) (CutCall (CutRestoring (snapshot state.now))) context.old result
+        context.new }
     ensures idle { inputs_of_restore (core_of context.old.state) (snapshot state.now) ≡ [] → IsOk result }
 {
     context.begin_call();

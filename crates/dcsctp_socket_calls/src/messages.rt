@@ -5,8 +5,10 @@ ghost use Rattle.dcsctp_core.specs.types.Ids.{stream_numbers};
 ghost use Rattle.dcsctp_core.specs.types.queues.Messages.{message_content};
 ghost use Rattle.dcsctp_core.specs.spec.endpoint.PreparedResets.{reset_refusal};
 ghost use Rattle.dcsctp_core.specs.View.{view_of, endpoint_of};
-ghost use Rattle.dcsctp_socket_calls.specs.MessageParts.{WorksSend, WorksSendMany, WorksTake};
-ghost use Rattle.dcsctp_socket_calls.specs.ResetParts.{WorksReset};
+ghost use Rattle.dcsctp_core.specs.types.Schedule.{send_call, send_many_call, reset_call};
+ghost use Rattle.dcsctp_core.specs.api.Messages.{IsSendAnswer, IsSendManyAnswer};
+ghost use Rattle.dcsctp_core.specs.api.Resets.{IsResetAnswer};
+ghost use Rattle.dcsctp_socket_calls.specs.Parts.{WorksUserCall, WorksTake};
 
 use dcsctp_core::Context;
 use dcsctp_core::api::{
@@ -22,7 +24,8 @@ pub fn send<R: Rng>(
     message: Message,
     options: &SendOptions,
 ) -> Result<Result<(), SendError>, AllocError>
-    ensures { WorksSend R.stream (message_content message) options.now context.old result context.new }
+    ensures { WorksUserCall R.stream (send_call (message_content message) options.now)
+        (IsSendAnswer (endpoint_of context.old) (message_content message)) context.old result context.new }
 {
     context.begin_call();
     do_send(context, message, options)
@@ -34,8 +37,9 @@ pub fn send_many<R: Rng>(
     messages: Vec<Message>,
     options: &SendOptions,
 ) -> Result<Result<(), BatchSendError>, AllocError>
-    ensures { WorksSendMany R.stream (map message_content messages.items) options.now context.old result
-        context.new }
+    ensures { WorksUserCall R.stream (send_many_call (map message_content messages.items) options.now)
+        (IsSendManyAnswer (endpoint_of context.old) (map message_content messages.items) options.now)
+        context.old result context.new }
 {
     context.begin_call();
     do_send_many(context, messages, options)
@@ -47,7 +51,8 @@ pub fn reset_streams<R: Rng>(
     context: &mut Context<R>,
     stream_ids: &[StreamId],
 ) -> Result<Result<(), ResetStreamsError>, AllocError>
-    ensures call { WorksReset R.stream (stream_numbers stream_ids.now) context.old result context.new }
+    ensures call { WorksUserCall R.stream (reset_call (stream_numbers stream_ids.now))
+        (IsResetAnswer (endpoint_of context.old)) context.old result context.new }
     ensures refused { reset_refusal (endpoint_of context.old) ≢ None → IsOk result }
 {
     context.begin_call();

@@ -6,7 +6,9 @@ ghost use Rattle.dcsctp_core.specs.spec.endpoint.Turn.{act_input, clock_at};
 ghost use Rattle.dcsctp_core.specs.spec.association.Acts.{flushes};
 ghost use Rattle.dcsctp_core.specs.Timing.{Expires};
 ghost use Rattle.dcsctp_core.specs.View.{call_start, core_of, endpoint_of, view_of};
-ghost use Rattle.dcsctp_socket_calls.specs.TimeParts.{timer_in, EndTurns, TimeMoves, TurnsBehind, WorksTurns};
+ghost use Rattle.dcsctp_core.specs.types.Schedule.{advance_call};
+ghost use Rattle.dcsctp_socket_calls.specs.Parts.{TurnsOf, CallMoved, WorksTurns};
+ghost use Rattle.dcsctp_socket_calls.specs.TimeParts.{timer_in, EndTurns, TurnsAfter};
 
 use dcsctp_core::api::SocketTime;
 use dcsctp_core::types::AbortReason;
@@ -69,7 +71,7 @@ fn end_or_send<R: Rng>(context: &mut Context<R>) -> Result<(), AllocError>
 
 // What follows the timers if one has expired: the association may be aborted.
 fn end_where_held<R: Rng>(context: &mut Context<R>) -> Result<(), AllocError>
-    ensures { WorksTurns R.stream TurnsBehind context.old result context.new }
+    ensures { WorksTurns R.stream TurnsAfter context.old result context.new }
 {
     match context.state {
         State::Closed => {}
@@ -142,7 +144,8 @@ pub(crate) fn handle_timers<R: Rng>(context: &mut Context<R>) -> Result<(), Allo
 /// Moves the clock to `now`, where no timer is due then. An earlier moment changes nothing.
 pub fn move_clock<R: Rng>(context: &mut Context<R>, now: SocketTime)
     requires { NoneIsDue (clock_at now (endpoint_of context.old)) (timers_in (core_of context.old.state)) }
-    ensures turn { TimeMoves R.stream now (view_of context.old) (view_of context.new) }
+    ensures turn { CallMoved R.stream (TurnsOf (advance_call now)) (view_of context.old)
+        (view_of context.new) }
     ensures only { view_of context.new ≡ record (call_start (view_of context.old)) {
       endpoint = clock_at (max context.old.moment now) (endpoint_of context.old);
     } }

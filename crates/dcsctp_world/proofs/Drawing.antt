@@ -7,7 +7,7 @@ use Rattle.dcsctp_core.specs.types.declared.schedule.Side.TheVariants as sides
 use Rattle.dcsctp_core.specs.types.declared.word.Word.{Word}
 use Rattle.dcsctp_spec_runs.specs.Sockets.{Both, of_side, of_other}
 use Rattle.dcsctp_core.specs.types.queues.Messages.{MessageContent}
-use Rattle.dcsctp_core.specs.View.{Drawn}
+use Rattle.dcsctp_core.specs.api.Calls.{Drawn}
 use Rattle.dcsctp_core.proofs.Moving.{Drawn-append}
 use Rattle.dcsctp_socket.specs.SocketView.{SocketView}
 use Rattle.dcsctp_world.specs.Growth.{CollectsWaiting}

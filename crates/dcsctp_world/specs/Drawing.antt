@@ -4,7 +4,7 @@ use Rattle.rand_core.specs.Stream.{Stream}
 use Rattle.dcsctp_core.specs.types.declared.word.Word.{Word}
 use Rattle.dcsctp_core.specs.types.declared.schedule.Side.{Side}
 use Rattle.dcsctp_spec_runs.specs.Sockets.{Both, of_side}
-use Rattle.dcsctp_core.specs.View.{Drawn}
+use Rattle.dcsctp_core.specs.api.Calls.{Drawn}
 use Rattle.dcsctp_socket.specs.SocketView.{SocketView}
 use Rattle.dcsctp_world.specs.Recording.{Recording}
 use Rattle.dcsctp_world.specs.Shown.{SideShown}

@@ -1,5 +1,6 @@
 use Rattle.std.proofs.lemmas.Result.{err_from_is_err_and}
 use Rattle.std.proofs.Common.{rules}
+use Rattle.dcsctp_socket_calls.proofs.ClockLemmas.{early_time_moves}
 use Rattle.dcsctp_socket_calls.proofs.TimeLemmas.{time_moves, time_cut, waits_rest}
 use Rattle.dcsctp_socket_calls.proofs.calls.advance_time.Goals as goal
 
@@ -10,7 +11,11 @@ returns-in_err-handle_timers-clause-turn g c =
 
 pub returns-clause-turn : goal.returns-clause-turn
 returns-clause-turn g c =
-    time_moves g.R.Rng.stream c.args.context.now c.begin_call.new.self c.handle_timers.new.context c.args.now c.begin_call.ensures (search rules) c.in_ok-handle_timers.ensures.turns
+    (tt, time_moves g.R.Rng.stream c.args.context.now c.begin_call.new.self c.handle_timers.new.context c.args.now c.begin_call.ensures (search rules) c.in_ok-handle_timers.ensures.turns)
+
+-- The moment is an earlier one.
+pub returns-then-lt-clause-turn : goal.returns-then-lt-clause-turn
+returns-then-lt-clause-turn g c = (tt, early_time_moves g.R.Rng.stream c.args.context.now c.begin_call.new.self c.args.now c.begin_call.ensures (search rules))
 
 -- Where nothing is due no growth is refused.
 pub returns-in_err-handle_timers-clause-waits : goal.returns-in_err-handle_timers-clause-waits

@@ -8,9 +8,11 @@ use Rattle.dcsctp_socket_calls.proofs.ActLemmas.{act_done, act_cut}
 use Rattle.dcsctp_socket_calls.proofs.calls.close.Goals as goal
 
 pub returns-clause-turn : goal.returns-clause-turn
-returns-clause-turn g c =
-    act_done g.R.Rng.stream (abort_with CloseCalled) (aborting_turn CloseCalled) (view_of c.args.context.now) (view_of c.begin_call.new.self) (view_of c.abort_association.new.context)
-    c.begin_call.ensures (λ view. refl) c.in_ok-abort_association.ensures.turn
+returns-clause-turn g c = (
+  tt,
+  act_done g.R.Rng.stream (abort_with CloseCalled) (aborting_turn CloseCalled) (view_of c.args.context.now) (view_of c.begin_call.new.self) (view_of c.abort_association.new.context)
+      c.begin_call.ensures (λ view. refl) c.in_ok-abort_association.ensures.turn,
+)
 
 pub returns-in_err-abort_association-clause-turn : goal.returns-in_err-abort_association-clause-turn
 returns-in_err-abort_association-clause-turn g c =

@@ -8,18 +8,22 @@ use Rattle.dcsctp_socket_calls.proofs.CallLemmas.{readable_input, unreadable_inp
 use Rattle.dcsctp_socket_calls.proofs.calls.handle_input.Goals as goal
 
 pub returns-in_ok-handle_packet-in-Ok : goal.returns-in_ok-handle_packet-in-Ok
-returns-in_ok-handle_packet-in-Ok g c =
-    readable_input g.R.Rng.stream (view_of c.args.context.now) (view_of c.begin_call.new.self) (view_of c.count_packet.new.self) (view_of c.handle_packet.new.context)
-    c.args.packet.now (packet_content c.in-Ok.packet) c.wire_options-options.result
-    c.begin_call.ensures c.count_packet.ensures c.wire_options-options.ensures
-    c.in-Ok.ensures.found (ap (λ (e : Endpoint). e.core) c.count_packet.ensures.endpoint) c.in_ok-handle_packet-in-Ok.ensures
+returns-in_ok-handle_packet-in-Ok g c = (
+  tt,
+  readable_input g.R.Rng.stream (view_of c.args.context.now) (view_of c.begin_call.new.self) (view_of c.count_packet.new.self) (view_of c.handle_packet.new.context)
+      c.args.packet.now (packet_content c.in-Ok.packet) c.wire_options-options.result
+      c.begin_call.ensures c.count_packet.ensures c.wire_options-options.ensures
+      c.in-Ok.ensures.found (ap (λ (e : Endpoint). e.core) c.count_packet.ensures.endpoint) c.in_ok-handle_packet-in-Ok.ensures,
+)
 
 pub returns-in_ok-report-in-Err-Malformed : goal.returns-in_ok-report-in-Err-Malformed
-returns-in_ok-report-in-Err-Malformed g c =
-    unreadable_input g.R.Rng.stream (view_of c.args.context.now) (view_of c.begin_call.new.self) (view_of c.count_packet.new.self) (view_of c.report.new.self)
-    c.args.packet.now c.wire_options-options.result (string_bytes c.in_ok-text-in-Err-Malformed.text)
-    c.begin_call.ensures c.count_packet.ensures c.wire_options-options.ensures
-    (c.in-Err-Malformed.ensures.malformed (ap (λ (e : PacketError). Err e) c.in-Err-Malformed.field-0-is)) c.in_ok-text-in-Err-Malformed.ensures.ok c.in_ok-report-in-Err-Malformed.ensures
+returns-in_ok-report-in-Err-Malformed g c = (
+  tt,
+  unreadable_input g.R.Rng.stream (view_of c.args.context.now) (view_of c.begin_call.new.self) (view_of c.count_packet.new.self) (view_of c.report.new.self)
+      c.args.packet.now c.wire_options-options.result (string_bytes c.in_ok-text-in-Err-Malformed.text)
+      c.begin_call.ensures c.count_packet.ensures c.wire_options-options.ensures
+      (c.in-Err-Malformed.ensures.malformed (ap (λ (e : PacketError). Err e) c.in-Err-Malformed.field-0-is)) c.in_ok-text-in-Err-Malformed.ensures.ok c.in_ok-report-in-Err-Malformed.ensures,
+)
 
 pub returns-in_err-handle_packet-in-Ok : goal.returns-in_err-handle_packet-in-Ok
 returns-in_err-handle_packet-in-Ok g c =

@@ -7,9 +7,11 @@ use Rattle.dcsctp_socket_calls.proofs.ActLemmas.{act_done, act_cut}
 use Rattle.dcsctp_socket_calls.proofs.calls.shutdown.Goals as goal
 
 pub returns-clause-turn : goal.returns-clause-turn
-returns-clause-turn g c =
-    act_done g.R.Rng.stream shut_down shut_down_turn (view_of c.args.context.now) (view_of c.begin_call.new.self) (view_of c.do_shutdown.new.context)
-    c.begin_call.ensures (λ view. refl) c.in_ok-do_shutdown.ensures.turn
+returns-clause-turn g c = (
+  tt,
+  act_done g.R.Rng.stream shut_down shut_down_turn (view_of c.args.context.now) (view_of c.begin_call.new.self) (view_of c.do_shutdown.new.context)
+      c.begin_call.ensures (λ view. refl) c.in_ok-do_shutdown.ensures.turn,
+)
 
 pub returns-in_err-do_shutdown-clause-turn : goal.returns-in_err-do_shutdown-clause-turn
 returns-in_err-do_shutdown-clause-turn g c =
