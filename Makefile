@@ -81,7 +81,7 @@ $(SHARED): $(LIBRARY) packaging/exports.map
 	    -Wl,-z,defs,-z,now,-z,noexecstack,-z,text,--fatal-warnings \
 	    -Wl,--whole-archive $< -Wl,--no-whole-archive -o $@
 
-# (always anew, since PREFIX and LIBDIR may be others)
+# (made again each time, since PREFIX and LIBDIR may be others)
 PROVED = $(if $(MARK),built without proofs,proved in Rattle)
 TO_PREFIX = $(shell realpath -ms --relative-to=$(LIBDIR)/pkgconfig $(or $(PREFIX),/))
 $(OUT)/$(NAME)%: packaging/dcsctp%.in include/dcsctp.h FORCE

@@ -39,7 +39,7 @@
  * messages, and move the deadline. A message that is taken may move it, too. So take all of them,
  * and then ask for the deadline, before you wait.
  * Take all messages before you begin another association, and before each packet, since a peer may
- * begin one: what isn't taken by then is lost, though the peer was told that it was delivered.
+ * begin one: what isn't taken by then is lost, though it was reported to the peer as delivered.
  * Without `follow_rfc` it is lost when its own association ends.
  * `packet` has room for the longest packet of either end (the greater `mtu`), and `buffer` for
  * `message.length` bytes: the peer says how long a message is.
@@ -51,8 +51,8 @@
  *   dcsctp_destroy gives it back. When a call has returned, the library keeps no pointer of yours.
  *
  * Sockets. A dcsctp_socket begins as zero bytes (DCSCTP_SOCKET_INIT), and only these functions
- *   change it. You may move it in memory between calls. Never use two copies of it. After fork one
- *   of the two processes goes on with it: the parent, if it has threads.
+ *   change it. You may move it in memory between calls. Never use two copies of it. After fork only
+ *   one of the two processes may use it: the parent, if it has threads.
  *
  * Pointers. Each is valid, aligned, and not NULL, not even with a length of 0. Each points to as
  *   many elements as the number after it says, and a number may be 0. What a call writes to
@@ -69,13 +69,13 @@
  *
  * Memory. It comes from malloc, realloc and free, of one allocator, whose blocks are aligned to 16.
  *   When an allocation fails that a call needs, it returns DCSCTP_ERROR_OUT_OF_MEMORY, and your
- *   process goes on.
+ *   process continues.
  *
  * Time. A moment is a number of nanoseconds, by a clock that never goes back: CLOCK_MONOTONIC. All
- *   moments of a socket are by the same clock. Tell the time before you hand in a packet.
+ *   moments of a socket are by the same clock. Advance the time before you hand in a packet.
  *
- * Seed. All random numbers of a socket come from its 32 bytes of seed. Take them from the system's
- *   generator, for each socket anew: who knows them can forge packets.
+ * Seed. All random numbers of a socket come from its 32 bytes of seed. Take new ones from the
+ *   system's generator for each socket: whoever knows them can forge packets.
  *
  * DTLS. It is below, or another layer that lets in nothing but what the peer has sent. Else one
  *   COOKIE ECHO, which anyone can make, connects a closed socket: cookies aren't authenticated.
@@ -147,8 +147,8 @@ DCSCTP_ENUM(dcsctp_error, int32_t) {
     DCSCTP_OK = 0,
 
     /* An allocation failed in this call. The socket has failed now, unless the call says that it
-     * may be tried again; dcsctp_has_failed tells. Events that waited can still be taken, and
-     * perhaps some of the call's own, its first ones. Messages that were ready may be lost. */
+     * may be tried again; dcsctp_has_failed says whether. Events that waited can still be taken,
+     * and perhaps some of the call's own, its first ones. Messages that were ready may be lost. */
     DCSCTP_ERROR_OUT_OF_MEMORY = -1,
 
     /* An allocation failed in an earlier call. Events can be taken. Queries still return, but
@@ -180,7 +180,7 @@ DCSCTP_ENUM(dcsctp_error, int32_t) {
     DCSCTP_ERROR_MESSAGE_TOO_LARGE = -9,
 
     /* The send buffer is full, in all or for this stream. Try again when less waits:
-     * DCSCTP_EVENT_BUFFERED_AMOUNT_LOW and DCSCTP_EVENT_TOTAL_BUFFERED_AMOUNT_LOW tell. */
+     * DCSCTP_EVENT_BUFFERED_AMOUNT_LOW and DCSCTP_EVENT_TOTAL_BUFFERED_AMOUNT_LOW report that. */
     DCSCTP_ERROR_RESOURCE_EXHAUSTION = -10,
 
     /* The association is being shut down, and takes no message. */
@@ -288,7 +288,7 @@ typedef struct dcsctp_socket {
  * Not all valid options connect. The end that connects needs an `mtu` with room for the peer's
  *   cookie and 16 bytes: 72 where the peer is this library. The other end needs 104, or 112 with
  *   `zero_checksum_method`. Both need a `max_receiver_window_buffer_size` of at least 1,500, one
- *   stream or more each way, and a `max_burst` of at least 1. `remote_port` has to be the peer's
+ *   stream or more each way, and a `max_burst` of at least 1. `remote_port` must be the peer's
  *   `local_port`. Where one of these fails, the end that connects gives up. Port 0 is forbidden
  *   (RFC 9260, section 3.1): this library takes it, others may not.
  * A silent peer is given up by DCSCTP_EVENT_ABORTED. By default that takes 511 s while no INIT ACK
@@ -309,10 +309,10 @@ typedef struct dcsctp_socket {
  * `rto_initial`: let it be longer than any round trip. Else the first flight is sent twice, and at
  *   twice the value all data is, as long as the association lasts.
  * `follow_rfc`: rules of the RFCs hold that dcsctp 0.1.16 doesn't keep. A shutdown sends first what
- *   waits, data that finds no room or fills a gap is answered at once, the peer is told when a full
- *   receive window opens, a peer's SHUTDOWN acknowledges data, streams of equal priority take
- *   turns, a reset that is in progress is asked for under the next number, and messages that are
- *   ready can be taken when their association has ended. At 0 all is as in dcsctp 0.1.16.
+ *   waits, data that finds no room or fills a gap is answered at once, a full receive window that
+ *   opens is reported to the peer, a peer's SHUTDOWN acknowledges data, streams of equal priority
+ *   take turns, a reset that is in progress is asked for under the next number, and messages that
+ *   are ready can be taken when their association has ended. At 0 all is as in dcsctp 0.1.16.
  *   docs/DIFFERENCES.md has a row for each rule. */
 typedef struct dcsctp_options {
     size_t size;                                         /* sizeof(dcsctp_options) */
@@ -365,7 +365,7 @@ static inline void dcsctp_options_init(dcsctp_options *options) {
 }
 #endif
 
-/* Creates a closed socket whose clock stands at `now`. Nothing is sent before dcsctp_connect, or
+/* Creates a closed socket whose clock is at `now`. Nothing is sent before dcsctp_connect, or
  * before a peer connects.
  *
  * Errors: ALREADY_CREATED, WRONG_SIZE, INVALID_OPTIONS, OUT_OF_MEMORY. In each case `socket` is as
@@ -373,7 +373,7 @@ static inline void dcsctp_options_init(dcsctp_options *options) {
 int32_t dcsctp_create(dcsctp_socket *socket, const dcsctp_options *options, const uint8_t seed[32],
                       uint64_t now) DCSCTP_CHECKED_CALL;
 
-/* Frees a socket, whatever it is doing. The peer is told nothing: dcsctp_close does that, or
+/* Frees a socket, whatever it is doing. The peer isn't informed: dcsctp_close does that, or
  * dcsctp_shutdown. One can be created again. Where there is none, nothing happens. */
 void dcsctp_destroy(dcsctp_socket *socket) DCSCTP_CALL;
 
@@ -408,17 +408,17 @@ int32_t dcsctp_close(dcsctp_socket *socket) DCSCTP_CHECKED_CALL;
  * tag, adds a DCSCTP_EVENT_ERROR. It is counted, and changes nothing else. Each chunk may bring a
  * packet: 290 HEARTBEAT in one of 1,172 bytes bring 290. Without `follow_rfc` so do 290 SHUTDOWN
  * ACK, even from a closed socket, whatever the tag; with it they bring one. So hand in only what
- * your peer has sent, as DTLS tells.
+ * your peer has sent, as DTLS ensures.
  * Errors: NO_SOCKET, FAILED, OUT_OF_MEMORY. */
 int32_t dcsctp_handle_input(dcsctp_socket *socket, const uint8_t *packet, size_t length)
     DCSCTP_CHECKED_CALL;
 
-/* Tells the time, and handles what is due. A moment before the last one changes nothing.
+/* Sets the time, and handles what is due. A moment before the last one changes nothing.
  * Errors: NO_SOCKET, FAILED, OUT_OF_MEMORY. */
 int32_t dcsctp_advance_time(dcsctp_socket *socket, uint64_t now) DCSCTP_CHECKED_CALL;
 
-/* Writes the next deadline, by which dcsctp_advance_time has to be called: a moment that is never
- * before the last one told, or DCSCTP_NEVER. Error: NO_SOCKET. */
+/* Writes the next deadline, by which dcsctp_advance_time must be called: a moment that is never
+ * before the last one handed in, or DCSCTP_NEVER. Error: NO_SOCKET. */
 int32_t dcsctp_poll_timeout(const dcsctp_socket *socket, uint64_t *moment) DCSCTP_CALL;
 
 /* ---- Events --------------------------------------------------------------------------------- */
@@ -428,9 +428,9 @@ DCSCTP_ENUM(dcsctp_event_kind, uint32_t) {
     DCSCTP_EVENT_SEND_PACKET = 1,              /* bytes: a packet for the peer, at most `mtu` */
     DCSCTP_EVENT_CONNECTED = 2,                /* an association was made, by either end */
     DCSCTP_EVENT_CLOSED = 3,                   /* it has ended: a shutdown, close or handover */
-    DCSCTP_EVENT_CONNECTION_RESTARTED = 4,     /* the peer began anew: then CONNECTED comes */
+    DCSCTP_EVENT_CONNECTION_RESTARTED = 4,     /* the peer restarted: then CONNECTED comes */
     DCSCTP_EVENT_ABORTED = 5,                  /* it was cut off: error_kind; bytes: a text */
-    DCSCTP_EVENT_ERROR = 6,                    /* it goes on: error_kind; bytes: a text */
+    DCSCTP_EVENT_ERROR = 6,                    /* it continues: error_kind; bytes: a text */
     DCSCTP_EVENT_BUFFERED_AMOUNT_LOW = 7,      /* stream_id */
     DCSCTP_EVENT_TOTAL_BUFFERED_AMOUNT_LOW = 8,
     DCSCTP_EVENT_STREAMS_RESET_FAILED = 9,     /* streams of this end that weren't reset */
@@ -548,11 +548,11 @@ int32_t dcsctp_messages_ready_count(const dcsctp_socket *socket, size_t *count) 
 /* Takes the message that became ready first and writes what it is: 1. Where none is ready: 0, and
  * its length is 0. Its bytes leave the receive window. They can be copied until the next call of
  * dcsctp_get_next_message. With `follow_rfc` the deadline is the present moment once a full window
- * opens, so that dcsctp_advance_time tells the peer.
+ * opens, so that dcsctp_advance_time reports it to the peer.
  *
  * Messages that are ready when their association ends, by a shutdown, ABORT or close of either end
  * or because the peer is silent, can be taken until the next one begins. Then they are lost, though
- * they were acknowledged, and so they are when the peer begins anew. Without `follow_rfc` they are
+ * they were acknowledged, and so they are when the peer restarts. Without `follow_rfc` they are
  * lost when their own ends, even one that comes in the same packet as an ABORT. So take all
  * messages before the next packet is handed in.
  *
@@ -607,8 +607,8 @@ typedef struct dcsctp_send_options {
  * peer drops it (RFC 9260, section 6.5), unless it is this library.
  *
  * A message that is longer than nine tenths of the peer's receive window may never arrive, and one
- * that needs more than all of it can't, whatever `follow_rfc` is at either end. Nothing tells, and
- * those after it wait.
+ * that needs more than all of it can't, whatever `follow_rfc` is at either end. No event reports
+ * it, and those after it wait.
  *
  * Errors: NO_SOCKET, INVALID_SEND_OPTIONS, EMPTY_PAYLOAD, MESSAGE_TOO_LARGE, SHUTTING_DOWN,
  * RESOURCE_EXHAUSTION, FAILED, OUT_OF_MEMORY. */
@@ -653,8 +653,8 @@ int32_t dcsctp_send_many(dcsctp_socket *socket, const dcsctp_outgoing_message *m
  * request comes doesn't perform it yet, and without `follow_rfc` some peers never do: then neither
  * event comes. If it misses data because its user takes no messages, the request is sent again and
  * again. Each one that is lost counts as an error, and without `follow_rfc` no answer clears that
- * count: a live association can be aborted within a minute. With it the peer's user may be told
- * twice of one reset.
+ * count: a live association can be aborted within a minute. With it one reset may be reported
+ * twice to the peer's user.
  *
  * Errors: NO_SOCKET, NOT_CONNECTED, NOT_SUPPORTED, FAILED, OUT_OF_MEMORY. If there is no memory for
  * a copy of the numbers, nothing has changed, and the call may be tried again. */
@@ -706,7 +706,7 @@ int32_t dcsctp_set_max_message_size(dcsctp_socket *socket, size_t bytes) DCSCTP_
 int32_t dcsctp_get_options(const dcsctp_socket *socket, dcsctp_options *options) DCSCTP_CALL;
 
 DCSCTP_ENUM(dcsctp_peer, uint32_t) {
-    DCSCTP_PEER_UNKNOWN = 0,   /* its cookie doesn't tell, or it sent no INIT ACK */
+    DCSCTP_PEER_UNKNOWN = 0,   /* its cookie doesn't say, or it sent no INIT ACK */
     DCSCTP_PEER_DCSCTP_RS = 1, /* this library, or dcSCTP in Rust */
     DCSCTP_PEER_DCSCTP_CC = 2, /* dcSCTP in C++ */
     DCSCTP_PEER_USRSCTP = 3,
@@ -771,10 +771,10 @@ int32_t dcsctp_get_counts(const dcsctp_socket *socket, dcsctp_counts *counts) DC
  * Error: NO_SOCKET. */
 int32_t dcsctp_get_handover_readiness(const dcsctp_socket *socket, uint32_t *reasons) DCSCTP_CALL;
 
-/* Takes a snapshot of the socket, from which dcsctp_restore_from_state goes on in another process,
- * and ends the association here. The peer isn't told, and the last event is DCSCTP_EVENT_CLOSED; on
- * a closed socket there is none. Copy the snapshot by dcsctp_handover_bytes, and then destroy this
- * socket. A second call would replace the snapshot.
+/* Takes a snapshot of the socket, from which dcsctp_restore_from_state continues in another
+ * process, and ends the association here. The peer isn't informed, and the last event is
+ * DCSCTP_EVENT_CLOSED; on a closed socket there is none. Copy the snapshot by
+ * dcsctp_handover_bytes, and then destroy this socket. A second call would replace the snapshot.
  *
  * Errors: NO_SOCKET, NOT_READY, FAILED, OUT_OF_MEMORY. */
 int32_t dcsctp_get_handover_state_and_close(dcsctp_socket *socket) DCSCTP_CHECKED_CALL;
@@ -788,12 +788,12 @@ int32_t dcsctp_get_handover_state_and_close(dcsctp_socket *socket) DCSCTP_CHECKE
 int32_t dcsctp_handover_bytes(const dcsctp_socket *socket, uint8_t *buffer, size_t capacity,
                               size_t *length) DCSCTP_CHECKED_CALL;
 
-/* Goes on from a snapshot that another socket with these options gave: DCSCTP_EVENT_CONNECTED
+/* Continues from a snapshot that another socket with these options gave: DCSCTP_EVENT_CONNECTED
  * follows. What waited to be sent here is dropped. The snapshot of a closed socket changes nothing.
- * Use a snapshot once: two sockets that go on from it confuse the peer. Let the clock of the socket
- * be past a minute, since older times count as moment 0. By another clock, cookies that were given
- * before may be judged too young or too old. Restore only what you trust: a forged
- * snapshot can make an association, and can take long to check.
+ * Use a snapshot once: two sockets that continue from it confuse the peer. Let the clock of the
+ * socket be past a minute, since older times count as moment 0. By another clock, cookies that were
+ * given before may be judged too young or too old. Restore only what you trust: a forged snapshot
+ * can make an association, and can take long to check.
  *
  * OTHER_OPTIONS: this socket has other ports, announces another number of streams, or differs in
  * `enable_partial_reliability`, `enable_message_interleaving` or `zero_checksum_method`. The other

@@ -1,6 +1,6 @@
 #!/usr/bin/env bash
-# Tries the attacks of the crates that are named: edits that the prover has to refuse, too many for each run of
-# `rt ci`. They stand in attacks/CRATE; those on the definitions that agreement rests on in attacks/definitions, and
+# Tries the attacks of the crates that are named: edits that the prover must refuse, too many for each run of
+# `rt ci`. They are in attacks/CRATE; those on the definitions that agreement rests on in attacks/definitions, and
 # those that delivery rests on in attacks/delivery. With no name: those of each crate that has changed since the commit
 # in attacks/passed.
 # Works on a copy of HEAD, prints each attack that isn't refused, and fails where there is one. attacks/tried keeps, for
@@ -12,7 +12,7 @@ set -eu
 export LC_ALL=C.UTF-8
 cd "$(dirname "$0")/.."
 top=$PWD
-# the crates of definitions, with the lemmas, the laws and the runs that stand on them, lowest first
+# the crates of definitions, with the lemmas, the laws and the runs that depend on them, lowest first
 machine=()
 for name in types spec spec_lemmas spec_laws spec_runs; do machine+=("dcsctp_$name"); done
 agreement=dcsctp_theorem_association
@@ -57,7 +57,7 @@ sum_of() {
     { git rev-parse "HEAD:attacks/$1/$2.edit"; printf '%s\n' "$3"; } | sha256sum | cut -c1-16
 }
 
-# Notes that this attack was refused over the sources of HEAD.
+# Records that this attack was refused over the sources of HEAD.
 remember() {
     local line
     line="$1/$2 $(sum_of "$1" "$2" "$3")"
@@ -155,7 +155,7 @@ of_crate() {
 
 # ---- the attacks on definitions
 
-# Applies an edit to the copy: each `old:` text has to stand in its file exactly once.
+# Applies an edit to the copy: each `old:` text must be in its file exactly once.
 apply() {
     local line path='' old='' new='' text rest pairs=0
     while IFS= read -r line || [ -n "$line" ]; do

@@ -10,8 +10,8 @@ make -s out/libdcsctp.a out/tests/costs ${ARCHIVE:+"ARCHIVE=$ARCHIVE"} >&2
 folder=$(mktemp -d)
 trap 'rm -rf "$folder"' EXIT
 
-# tell TEXT FIGURE: a line.
-tell() {
+# report TEXT FIGURE: a line.
+report() {
     printf '%-44s %s\n' "$1" "$2"
 }
 
@@ -22,12 +22,12 @@ instructions() {
     awk '/Collected *:/ { print $NF }' "$folder/log"
 }
 
-tell "bytes of libdcsctp.a" "$(wc -c <out/libdcsctp.a)"
-tell "code in it, without data" "$(size out/dcsctp.o | awk 'NR == 2 { print $1 }')"
-while read -r kind rest; do tell "heap of a $kind socket" "$rest"; done < <(out/tests/costs heap)
+report "bytes of libdcsctp.a" "$(wc -c <out/libdcsctp.a)"
+report "code in it, without data" "$(size out/dcsctp.o | awk 'NR == 2 { print $1 }')"
+while read -r kind rest; do report "heap of a $kind socket" "$rest"; done < <(out/tests/costs heap)
 command -v valgrind >/dev/null || { echo "c-costs: no valgrind, so no instructions are counted"; exit 0; }
 for name in $(out/tests/costs names); do
     few=$(instructions "$name" 100)
     many=$(instructions "$name" 1100)
-    tell "instructions of $name" "$(((many - few) / 1000))"
+    report "instructions of $name" "$(((many - few) / 1000))"
 done

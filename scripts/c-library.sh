@@ -15,7 +15,7 @@ used() {
     sed -n "s/^$1\( staticlib\)\{0,1\}: *//p" crates.txt
 }
 
-# words: what rattle is told of the crate, one word a line.
+# words: what rattle gets for the crate, one word a line.
 words() {
     local it
     printf '%s\n' --crate-name $crate src/lib.rt --crate-type staticlib --links $crate= \

@@ -1,14 +1,14 @@
 #!/usr/bin/env bash
 # Runs each case in crates/dcsctp_run/cases by the program that `rt ci` has proved and built, or by PROGRAM:
-# a script, the status that it has to end with, and all that it has to print; and so each script in examples/,
+# a script, the status that it must end with, and all that it must print; and so each script in examples/,
 # which has its output beside it and ends with 0. Prints each that fails: its place and name, and the first line
 # that differs. A file of cases has these lines:
 #
-#     = NAME          lines that `{NAME}` stands for, up to an empty one
-#     == NAME         a case; behind it its script
-#     -- STATUS       behind it what the script prints, up to an empty line
+#     = NAME          lines that replace `{NAME}`, up to an empty one
+#     == NAME         a case; after it its script
+#     -- STATUS       after it what the script prints, up to an empty line
 #
-# `{N zeros}` stands for the digits of N bytes of zeros. A last line of a script that ends in `\` has no
+# `{N zeros}` means the digits of N bytes of zeros. A last line of a script that ends in `\` has no
 # newline. Lines that begin with `#` are comments.
 #
 # With `--write FOLDER` nothing is run: FOLDER gets three files for each case and example, `.name` (status, place
@@ -78,8 +78,8 @@ fi
 differs() {
     awk '
         function part(line) { return substr(line, from, 120) (length(line) < from + 120 ? "" : "..") }
-        function tell(wanted, printed,    at) {
-            told = 1
+        function report(wanted, printed,    at) {
+            reported = 1
             while (++at <= length(wanted) && substr(wanted, at, 1) == substr(printed, at, 1));
             from = at > 100 ? at - 40 : 1
             print "    line " row (from == 1 ? "" : ", from column " from) " differs"
@@ -89,11 +89,11 @@ differs() {
         }
         FILENAME == ARGV[1] { wanted[++rows] = $0; next }
         { row = FNR }
-        row > rows { tell("(nothing more)", $0) }
-        $0 "" != wanted[row] "" { tell(wanted[row], $0) }
+        row > rows { report("(nothing more)", $0) }
+        $0 "" != wanted[row] "" { report(wanted[row], $0) }
         END {
-            if (!told && row++ < rows) tell(wanted[row], "(nothing more)")
-            if (!told) print "    the newline at the end differs"
+            if (!reported && row++ < rows) report(wanted[row], "(nothing more)")
+            if (!reported) print "    the newline at the end differs"
         }
     ' "$1" "$2"
 }

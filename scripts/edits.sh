@@ -1,5 +1,5 @@
 #!/usr/bin/env bash
-# Fails on a wrong body of attacks/ or must-fail/ whose text doesn't stand once in its file: it would be tried on nothing.
+# Fails on a wrong body of attacks/ or must-fail/ whose text isn't once in its file: it would be tried on nothing.
 set -euo pipefail
 cd "$(dirname "$0")/.."
 count=0

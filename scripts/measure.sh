@@ -51,30 +51,30 @@ each() {
     awk -v difference="$((b - a))" -v work="$((n - m))" 'BEGIN { printf "%.0f\n", difference / work }'
 }
 
-# tell TEXT COMMAND..: a figure, and what it is of.
-tell() {
+# report TEXT COMMAND..: a figure, and what it is of.
+report() {
     figure=$("${@:2}")
     printf '%-52s %12s\n' "$1" "$figure"
 }
 
 speed() {
-    tell "a handshake, sockets made and dropped" each instructions 10 110 handshakes
-    tell "1 MiB of 1,024 bytes, a message" each instructions 1 1025 messages 1024
-    tell "the same without checksums" each instructions 1 1025 messages 1024 zero-checksum
-    tell "10 MiB of 1,024 bytes at 1 % loss, a message" each instructions 1 10241 messages 1024 zero-checksum loss=10
-    tell "the same at 5 % loss" each instructions 1 10241 messages 1024 zero-checksum loss=50
-    tell "1 MiB of 64 KiB, a packet" each instructions 1 17 messages 65536 counts
-    tell "1 MiB of 100 bytes, a message" each instructions 1 10487 messages 100
-    tell "100 bytes behind 10 messages, a message" each instructions 100 400 messages 100 queued=10
+    report "a handshake, sockets made and dropped" each instructions 10 110 handshakes
+    report "1 MiB of 1,024 bytes, a message" each instructions 1 1025 messages 1024
+    report "the same without checksums" each instructions 1 1025 messages 1024 zero-checksum
+    report "10 MiB of 1,024 bytes at 1 % loss, a message" each instructions 1 10241 messages 1024 zero-checksum loss=10
+    report "the same at 5 % loss" each instructions 1 10241 messages 1024 zero-checksum loss=50
+    report "1 MiB of 64 KiB, a packet" each instructions 1 17 messages 65536 counts
+    report "1 MiB of 100 bytes, a message" each instructions 1 10487 messages 100
+    report "100 bytes after 10 messages, a message" each instructions 100 400 messages 100 queued=10
     few=$figure
-    tell "100 bytes behind 10,000, a message" each instructions 100 400 messages 100 queued=10000
-    tell "their ratio" awk -v few="$few" -v many="$figure" 'BEGIN { printf "%.2f\n", many / few }'
+    report "100 bytes after 10,000, a message" each instructions 100 400 messages 100 queued=10000
+    report "their ratio" awk -v few="$few" -v many="$figure" 'BEGIN { printf "%.2f\n", many / few }'
 }
 
 memory() {
-    tell "bytes of a connected pair, with both sockets" each heap 1 21 hold
-    tell "the same after 1 MiB each way" each heap 1 21 hold used
-    tell "bytes of a socket itself" awk '/^socket-bytes/ { print $2 }' "$folder/said"
+    report "bytes of a connected pair, with both sockets" each heap 1 21 hold
+    report "the same after 1 MiB each way" each heap 1 21 hold used
+    report "bytes of a socket itself" awk '/^socket-bytes/ { print $2 }' "$folder/said"
 }
 
 # strained KIND HELD: what a packet costs that comes to a receiver which holds so many.
@@ -90,7 +90,7 @@ strain() {
     for kind in fragments interleaved gaps links waiting streams reset \
         skips-repeated skips-rising skips-waiting skips-interleaved; do
         for held in 10 10000; do
-            tell "$kind: $held held, a packet" strained "$kind" "$held"
+            report "$kind: $held held, a packet" strained "$kind" "$held"
         done
     done
 }

@@ -1,9 +1,9 @@
 #!/usr/bin/env bash
 # Fails on a name or a path that README.md or docs/ has in backticks, or as a link, and that isn't in the tree.
 #
-# A name is each word of a span in backticks: it has to stand somewhere in the code, the definitions, the proofs, the
+# A name is each word of a span in backticks: it must be somewhere in the code, the definitions, the proofs, the
 # wrong bodies, the scripts or the cases, or be the name of a file there. A path may leave out `crates/`, `crates/dcsctp_`
-# or the crate, and its ending; it may have a `*`. So may a path that stands without backticks, as STANDARDS has them.
+# or the crate, and its ending; it may have a `*`. So may a path without backticks, as STANDARDS has them.
 set -euo pipefail
 cd "$(dirname "$0")/.."
 folder=$(mktemp -d)
@@ -19,7 +19,7 @@ git ls-files -z crates attacks scripts bindings examples include tests packaging
 # the port, and words of commands
 printf '%s\n' dcsctp rt ci plant git clean >> "$folder/words"
 
-# ---- the spans: where each stands, and what it says
+# ---- the spans: where each is, and what it says
 
 for file in README.md docs/*.md; do
     awk -v file="$file" -v folder="$(dirname "$file")/" '

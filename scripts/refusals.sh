@@ -6,8 +6,8 @@
 #     once for each of its allocations, which is refused with all after it
 #     once so that all are refused between its marks, where it does what takes no memory; there may be none
 #
-# `rt try --test --fail-alloc N` does the first for one N, and builds the tests anew each time; here they are what
-# `rt test` built, and the malloc of tests/refuse.c stands in front of theirs. Needs a C compiler. Usage:
+# `rt try --test --fail-alloc N` does the first for one N, and builds the tests again each time; here they are what
+# `rt test` built, and the malloc of tests/refuse.c comes before theirs. Needs a C compiler. Usage:
 # scripts/refusals.sh [PROGRAM ..], where each PROGRAM is another build of tests.
 set -euo pipefail
 shopt -s inherit_errexit

@@ -51,8 +51,8 @@ stalled='it["aborts"] == 0 && it["complete"] == "false"'
 complete='it["complete"] == "true"'
 closed='it["closes"] == 2'
 
-# told RULE RUNS: what these runs have shown.
-told() {
+# shown RULE RUNS: what these runs have shown.
+shown() {
     case $1 in
         readers)
             printf '%s; %s; ' "$(number "$aborted" <<<"$2")" "$(number "$stalled" <<<"$2")"
@@ -80,8 +80,8 @@ told() {
 rows() {
     local loss off on
     for loss in $3; do
-        off=$(told "$2" "$(runs "$2" off "$loss" "${@:4}")")
-        on=$(told "$2" "$(runs "$2" on "$loss" "${@:4}")")
+        off=$(shown "$2" "$(runs "$2" off "$loss" "${@:4}")")
+        on=$(shown "$2" "$(runs "$2" on "$loss" "${@:4}")")
         printf '| `%s` %s | %s %% | %s | %s |\n' "$2" "$1" "$(awk -v loss="$loss" 'BEGIN { print loss / 10 }')" "$off" "$on"
     done
 }

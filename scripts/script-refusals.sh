@@ -1,6 +1,6 @@
 #!/usr/bin/env bash
 # Runs scripts by the program once for each allocation that they take, which fails in that run, and once more with
-# every one after it failing, too. A run has to print what the lines before the one that ran out print, whole, then
+# every one after it failing, too. A run must print what the lines before the one that ran out print, whole, then
 # `out of memory`, and to end with status 3. Prints each run that doesn't. PROGRAM names another build of the program.
 # With `all` every case is run so, which takes minutes.
 #
@@ -42,7 +42,7 @@ run() {
     awk -v status="$status" 'BEGIN { count = -1 } $1 == "allocations" { count = $2 } END { print status, count }' "$1.said"
 }
 
-# wrong PLACE PRINTED WHAT: tells of a run that isn't as it has to be.
+# wrong PLACE PRINTED WHAT: prints a run that isn't as it must be.
 wrong() {
     echo "wrong $1: $3, and it printed:"
     sed 's/^/    /' "$2"

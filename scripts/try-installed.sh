@@ -12,12 +12,12 @@ program=examples/c/two_sockets.c
 folder=$(mktemp -d)
 trap 'rm -rf "$folder"' EXIT
 
-# run PROGRAM: it prints what it has to.
+# run PROGRAM: it prints what it must.
 run() {
     "$folder/$1" | diff examples/c/two_sockets.stdout -
 }
 
-# run_shared PROGRAM: it takes the shared library from the folder, and prints what it has to.
+# run_shared PROGRAM: it takes the shared library from the folder, and prints what it must.
 run_shared() {
     readelf -d "$folder/$1" | grep -qF "[lib$name.so.0]" || { echo "try-installed: $1 has the archive" >&2; exit 1; }
     LD_LIBRARY_PATH=$prefix/$lib run "$1"

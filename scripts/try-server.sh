@@ -1,6 +1,6 @@
 #!/usr/bin/env bash
 # Runs the server of examples/c with 100 associations. They send 10 messages each in a second while 50 of 1,000 packets are
-# lost, and end. Two send all they can, so that the server has to wait for room. 100 more send 10 each, and the server ends
+# lost, and end. Two send all they can, so that the server must wait for room. 100 more send 10 each, and the server ends
 # these by SIGTERM. COMMAND is put before both programs, as valgrind is.
 #
 #     scripts/try-server.sh FOLDER [COMMAND..]

@@ -1,14 +1,14 @@
 #!/usr/bin/env bash
 # Prints the table of changes in docs/MEASUREMENTS.md: how many crates are checked again after a change in a crate of
 # types, definitions, theorems or delivery, and how many visits of crates the sums of `rt` take. Before each check `rt`
-# sums the sources of all libraries below, anew along every path of crates.txt.
+# sums the sources of all libraries below, again along every path of crates.txt.
 # With `--check` it fails if that file has another table, and with `--write` it puts the table there.
 set -euo pipefail
 shopt -s inherit_errexit
 cd "$(dirname "$0")/.."
 . scripts/table.bash
 
-# The table. A crate's line stands behind those of its libraries, so one pass counts the visits.
+# The table. A crate's line comes after those of its libraries, so one pass counts the visits.
 table() {
     echo '| A change in | Crates checked again | Of these, crates of tests |'
     echo '|---|---|---|'

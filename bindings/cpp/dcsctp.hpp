@@ -116,8 +116,8 @@ inline std::error_code make_error_code(error it) {
 
 // ---- Views ----------------------------------------------------------------------------------------------------------
 
-// Elements that stand elsewhere, as std::span of C++20 has them. `data` is never null, as dcsctp.h wants it. A list in
-// braces is there until the call has returned.
+// Elements that are stored elsewhere, as std::span of C++20 has them. `data` is never null, as dcsctp.h wants it. A
+// list in braces is there until the call has returned.
 template <typename T>
 class view {
     static constexpr bool has_bytes = std::is_same_v<T, std::uint8_t>;
@@ -206,7 +206,7 @@ enum class error_kind : std::uint32_t {
     unsupported_operation = DCSCTP_KIND_UNSUPPORTED_OPERATION,
 };
 
-// What a socket tells. Later versions of the library may have more kinds: ignore them.
+// What a socket reports. Later versions of the library may have more kinds: ignore them.
 struct event {
     event_kind kind = event_kind::none;
     error_kind about = error_kind::no_error; // of aborted and error
@@ -282,8 +282,8 @@ public:
     socket(const socket &) = delete;
     socket &operator=(const socket &) = delete;
 
-    // Creates a closed socket whose clock stands at `now`, by a seed from the system, or by one that is given: that has
-    // to be secret and new.
+    // Creates a closed socket whose clock is at `now`, by a seed from the system, or by one that is given: that must
+    // be secret and new.
     error create(const dcsctp_options &how, nanoseconds now) {
         const std::optional<seed> drawn = random_seed();
         return drawn ? create(how, *drawn, now) : error::no_seed;
@@ -294,7 +294,7 @@ public:
         return done(dcsctp_create(&it_, &how, drawn.data(), number(now)));
     }
 
-    // Frees the socket, whatever it is doing. The peer is told nothing. It can be created again.
+    // Frees the socket, whatever it is doing. The peer isn't informed. It can be created again.
     void destroy() { dcsctp_destroy(&it_); }
 
     error connect() { return done(dcsctp_connect(&it_)); }
@@ -304,7 +304,7 @@ public:
     error handle_input(bytes_view packet) { return done(dcsctp_handle_input(&it_, packet.data(), packet.size())); }
     error advance_time(nanoseconds now) { return done(dcsctp_advance_time(&it_, number(now))); }
 
-    // The next deadline. There is none, or it is further away than a clock can tell.
+    // The next deadline. There is none, or it is further away than a clock can show.
     std::optional<nanoseconds> poll_timeout() const {
         std::uint64_t moment = DCSCTP_NEVER;
         dcsctp_poll_timeout(&it_, &moment);

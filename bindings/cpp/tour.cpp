@@ -174,7 +174,7 @@ void close_a_channel() {
     pair.settle();
 }
 
-// Another socket goes on in A's place. It may be in another process, since the snapshot is bytes.
+// Another socket continues in A's place. It may be in another process, since the snapshot is bytes.
 void hand_over() {
     pair pair = pair::connected();
     std::vector<std::uint8_t> snapshot;

@@ -3,7 +3,7 @@ package dcsctp
 // #include <dcsctp.h>
 import "C"
 
-// Event is what a socket tells: one of the types below. Name has the words of dcsctp_event_name.
+// Event is what a socket reports: one of the types below. Name has the words of dcsctp_event_name.
 type Event interface {
 	Name() string
 }
@@ -31,14 +31,14 @@ type (
 	Connected struct{}
 	// Closed: it has ended, by a shutdown, Close or a handover.
 	Closed struct{}
-	// ConnectionRestarted: the peer began anew. Then Connected comes.
+	// ConnectionRestarted: the peer restarted. Then Connected comes.
 	ConnectionRestarted struct{}
 	// Aborted: it was cut off. Text may be empty.
 	Aborted struct {
 		Kind ErrorKind
 		Text string
 	}
-	// ErrorEvent: something went wrong, and the association goes on. Text may be empty.
+	// ErrorEvent: something went wrong, and the association continues. Text may be empty.
 	ErrorEvent struct {
 		Kind ErrorKind
 		Text string

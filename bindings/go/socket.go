@@ -6,7 +6,7 @@
 //
 //  1. Take all events (PollEvent), and send each packet to the peer. Take all messages (GetNextMessage).
 //  2. Ask for the deadline (PollTimeout). Wait for a packet, or until then.
-//  3. Tell the time (AdvanceTime). Hand in one packet, if one has come (HandleInput). Begin again at 1.
+//  3. Set the time (AdvanceTime). Hand in one packet, if one has come (HandleInput). Begin again at 1.
 //
 // A call that hands something in, be it a packet, the time or a command, may add events and messages, and move the
 // deadline. When an association begins, the messages of the one before that weren't taken are lost.
@@ -35,14 +35,14 @@ import (
 type Socket struct {
 	mutex sync.Mutex
 	c     C.dcsctp_socket
-	own   uintptr // where it stands, by which a copy is told
+	own   uintptr // its address, by which a copy is recognized
 }
 
 // where there is nothing to point to
 var nothing [1]byte
 var nowhere [1]uint16
 
-// New creates a closed socket whose clock stands at now, which is the time since any other moment, the same for all
+// New creates a closed socket whose clock is at now, which is the time since any other moment, the same for all
 // calls on the socket. The seed is secret and never used twice; if it is nil, the system's generator makes one. Errors:
 // ErrInvalidOptions, ErrOutOfMemory, ErrWrongVersion, and those of crypto/rand.
 func New(options Options, seed *[32]byte, now time.Duration) (*Socket, error) {
@@ -75,7 +75,7 @@ func (s *Socket) do(call func(at *C.dcsctp_socket) C.int32_t) C.int32_t {
 	return call(&s.c)
 }
 
-// Destroy frees the socket, whatever it is doing. The peer is told nothing: Shutdown or Close does that. Again it does
+// Destroy frees the socket, whatever it is doing. The peer isn't informed: Shutdown or Close does that. Again it does
 // nothing.
 func (s *Socket) Destroy() {
 	s.do(func(at *C.dcsctp_socket) C.int32_t {
@@ -111,13 +111,13 @@ func (s *Socket) HandleInput(packet []byte) error {
 	}))
 }
 
-// AdvanceTime tells the time, and handles what is due. A moment before the last one changes nothing. Errors:
+// AdvanceTime sets the time, and handles what is due. A moment before the last one changes nothing. Errors:
 // ErrNoSocket, ErrFailed, ErrOutOfMemory.
 func (s *Socket) AdvanceTime(now time.Duration) error {
 	return check(s.do(func(at *C.dcsctp_socket) C.int32_t { return C.dcsctp_advance_time(at, nanoseconds(now)) }))
 }
 
-// PollTimeout returns the next deadline, by which AdvanceTime has to be called, and whether there is one.
+// PollTimeout returns the next deadline, by which AdvanceTime must be called, and whether there is one.
 func (s *Socket) PollTimeout() (time.Duration, bool) {
 	moment := C.uint64_t(C.DCSCTP_NEVER)
 	s.do(func(at *C.dcsctp_socket) C.int32_t { return C.dcsctp_poll_timeout(at, &moment) })
@@ -340,8 +340,8 @@ func (s *Socket) HandoverReadiness() uint32 {
 	return uint32(reasons)
 }
 
-// GetHandoverStateAndClose takes a snapshot, from which RestoreFromState goes on in another process, and ends the
-// association here. The peer isn't told, and the last event is Closed. Take all messages first. The snapshot is as
+// GetHandoverStateAndClose takes a snapshot, from which RestoreFromState continues in another process, and ends the
+// association here. The peer isn't informed, and the last event is Closed. Take all messages first. The snapshot is as
 // secret as the messages, is used once, and by the same version of the library. Errors: ErrNoSocket, ErrNotReady,
 // ErrFailed, ErrOutOfMemory. If HandoverBytes returns the last one, it may be tried again.
 func (s *Socket) GetHandoverStateAndClose() ([]byte, error) {
@@ -370,7 +370,7 @@ func (s *Socket) HandoverBytes() ([]byte, error) {
 	return snapshot, nil
 }
 
-// RestoreFromState goes on from a snapshot that another socket with these options gave: Connected follows. Let the
+// RestoreFromState continues from a snapshot that another socket with these options gave: Connected follows. Let the
 // clock of the socket be past a minute. Restore only what you trust. ErrOtherOptions: they differ in a port, an
 // announced number of streams, EnablePartialReliability, EnableMessageInterleaving or ZeroChecksumMethod. Errors:
 // ErrNoSocket, ErrNotClosed, ErrInvalidSnapshot, ErrOtherOptions, ErrFailed, ErrOutOfMemory.

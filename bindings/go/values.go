@@ -261,7 +261,7 @@ const (
 	StateShuttingDown State = C.DCSCTP_STATE_SHUTTING_DOWN
 )
 
-// Peer is which program the peer runs, as its cookie tells.
+// Peer is which program the peer runs, as its cookie says.
 type Peer uint32
 
 // The programs.

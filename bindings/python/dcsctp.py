@@ -62,7 +62,7 @@ class Error(Exception):
 
 class OutOfMemory(Error):
     """An allocation of the library failed. The socket has failed now, unless the call says that it may be tried again;
-    `has_failed` tells."""
+    `has_failed` says whether."""
 
     number = -1
     text = "out of memory"
@@ -199,7 +199,7 @@ _ERRORS: Dict[int, Type[Error]] = {it.number: it for it in Error.__subclasses__(
 
 
 def error_of(number: int) -> Error:
-    """The error that a result below 0 stands for."""
+    """The error that a result below 0 means."""
     known = _ERRORS.get(number)
     return known() if known else Error(number)
 
@@ -231,7 +231,7 @@ class ErrorKind(enum.IntEnum):
 
 @dataclasses.dataclass(frozen=True)
 class Event:
-    """What a socket tells. `name` has the words of `dcsctp_event_name`."""
+    """What a socket reports. `name` has the words of `dcsctp_event_name`."""
 
     kind: ClassVar[int] = 0
     name: ClassVar[str] = "none"
@@ -264,7 +264,7 @@ class Closed(Event):
 
 @dataclasses.dataclass(frozen=True)
 class ConnectionRestarted(Event):
-    """The peer began anew: then `Connected` comes."""
+    """The peer restarted: then `Connected` comes."""
 
     kind = 4
     name = "connection restarted"
@@ -283,7 +283,7 @@ class Aborted(Event):
 
 @dataclasses.dataclass(frozen=True)
 class ErrorEvent(Event):
-    """Something went wrong, and the association goes on. Its fields are those of `Aborted`."""
+    """Something went wrong, and the association continues. Its fields are those of `Aborted`."""
 
     error: int
     text: str
@@ -477,7 +477,7 @@ class State(enum.IntEnum):
 
 
 class Peer(enum.IntEnum):
-    """Which program the peer runs, as its cookie tells. Later versions may have more numbers."""
+    """Which program the peer runs, as its cookie says. Later versions may have more numbers."""
 
     UNKNOWN = 0
     DCSCTP_RS = 1
@@ -785,7 +785,7 @@ def _stream(stream_id: int) -> int:
 
 
 class Socket:
-    """A socket. Leaving its `with` destroys it, and tells the peer nothing: `shutdown` or `close` does. It can't be
+    """A socket. Leaving its `with` destroys it without informing the peer: `shutdown` or `close` does. It can't be
     copied. A destroyed socket raises `NoSocket`.
 
     It begins closed, with its clock at `now`. The seed has 32 bytes, is secret and never used twice: without one the
@@ -821,7 +821,7 @@ class Socket:
         raise TypeError("hand over a socket by get_handover_state_and_close")
 
     def destroy(self) -> None:
-        """Frees the socket, whatever it is doing. The peer is told nothing. Again it does nothing."""
+        """Frees the socket, whatever it is doing. The peer isn't informed. Again it does nothing."""
         with self._lock:
             _library.dcsctp_destroy(self._socket)
 
@@ -875,12 +875,12 @@ class Socket:
         self._do(_library.dcsctp_handle_input, whole, len(whole))
 
     def advance_time(self, now: int) -> None:
-        """Tells the time, and handles what is due. A moment before the last one changes nothing. Raises `NoSocket`,
+        """Sets the time, and handles what is due. A moment before the last one changes nothing. Raises `NoSocket`,
         `Failed` and `OutOfMemory`."""
         self._do(_library.dcsctp_advance_time, _checked("now", now, ctypes.c_uint64))
 
     def poll_timeout(self) -> Optional[int]:
-        """The next deadline, by which `advance_time` has to be called. `None` if there is none. Raises `NoSocket`."""
+        """The next deadline, by which `advance_time` must be called. `None` if there is none. Raises `NoSocket`."""
         moment = self._number(_library.dcsctp_poll_timeout, ctypes.c_uint64())
         return None if moment == NEVER else moment
 
@@ -1051,9 +1051,9 @@ class Socket:
         return Handover(self._number(_library.dcsctp_get_handover_readiness, ctypes.c_uint32()))
 
     def get_handover_state_and_close(self) -> bytes:
-        """Takes a snapshot, from which `restore_from_state` goes on in another process, and ends the association here.
-        The peer isn't told, and the last event is `Closed`. Take all messages first. The snapshot is as secret as the
-        messages, is used once, and by the same version of the library.
+        """Takes a snapshot, from which `restore_from_state` continues in another process, and ends the association
+        here. The peer isn't informed, and the last event is `Closed`. Take all messages first. The snapshot is as
+        secret as the messages, is used once, and by the same version of the library.
 
         Raises `NoSocket`, `NotReady`, `Failed` and `OutOfMemory`."""
         with self._lock:
@@ -1071,7 +1071,7 @@ class Socket:
             return self._copied(_library.dcsctp_handover_bytes, length.value)
 
     def restore_from_state(self, snapshot: Bytes) -> None:
-        """Goes on from a snapshot that another socket with these options gave: `Connected` follows. Let the clock of
+        """Continues from a snapshot that another socket with these options gave: `Connected` follows. Let the clock of
         the socket be past a minute. Restore only what you trust. `OtherOptions`: they differ in a port, an announced
         number of streams, `enable_partial_reliability`, `enable_message_interleaving` or `zero_checksum_method`.
 

@@ -134,7 +134,7 @@ def close_a_channel():
 
 
 def hand_over():
-    """Another socket goes on in A's place. It may be in another process, since the snapshot is bytes."""
+    """Another socket continues in A's place. It may be in another process, since the snapshot is bytes."""
     with connected() as pair:
         pair.send("before")
         reasons = pair.a.handover_readiness()

@@ -4,7 +4,7 @@
     browser.py CHANNELS SCREENSHOT [PAGE]        run by scripts/browser.sh, which makes CHANNELS
 
 ICE and DTLS are aiortc's. Its own SCTP is replaced by `Transport` below. The page, index.html, sends
-what comes back, and closes and opens channels. It shows what it did, and tells it here in the end.
+what comes back, and closes and opens channels. It shows what it did, and reports it here in the end.
 The program exits with 0 only if the page and it saw all that they should. With PAGE it serves that
 file in place of index.html, and judges nothing.
 """
@@ -31,7 +31,7 @@ PATIENCE = 60  # seconds
 CONNECTED, CLOSED, ABORTED, ERROR = 2, 3, 5, 6
 PEERS = {0: "unknown", 2: "dcSCTP in C++"}
 
-# What the page has to do, and what the program has to see. The page is the DTLS server, so its
+# What the page must do, and what the program must see. The page is the DTLS server, so its
 # streams are odd.
 STEPS = """\
 connects
@@ -137,11 +137,11 @@ class Program:
         print("program: failed:", repr(failure))
         self.failures.append(failure)
 
-    def tell(self, text):
+    def report(self, text):
         print("program:", text)
         self.seen.append(text)
 
-    # What `end` tells:
+    # Called by `end`:
 
     def send_packet(self, packet):
         self.transport.packets.put_nowait(packet)
@@ -150,9 +150,9 @@ class Program:
         self.counts[id] = [0, 0, 0, 0]
         if by_peer:
             how = f'"{label}", type {kind:#04x}, reliability {reliability}'
-            self.tell(f"stream {id} is opened by the page: {how}")
+            self.report(f"stream {id} is opened by the page: {how}")
         else:
-            self.tell(f"stream {id} is open")
+            self.report(f"stream {id} is open")
             self.end.send(id, True, b"hello from the program")
 
     def message(self, id, is_text, data):
@@ -166,20 +166,20 @@ class Program:
         elif is_text and data == b"end, please":
             self.end.abort()
         elif id not in self.ours:
-            # (a page that sends more at once would have to wait: docs/CHANNELS.md)
+            # (a page that sends more at once would need to wait: docs/CHANNELS.md)
             self.end.send(id, is_text, data)
 
     def closed(self, id):
         texts, length, messages, size = self.counts.pop(id)
         came = f"{texts} texts of {length} bytes and {messages} messages of {size} bytes came"
-        self.tell(f"stream {id} is closed: {came}")
+        self.report(f"stream {id} is closed: {came}")
 
     def event(self, kind):
         if kind == CONNECTED:
             peer = self.end.peer()
-            self.tell(f"connected; the peer is {PEERS.get(peer, peer)}")
+            self.report(f"connected; the peer is {PEERS.get(peer, peer)}")
         elif kind == CLOSED:
-            self.tell("closed")
+            self.report("closed")
         elif kind in (ABORTED, ERROR):
             self.fail("aborted" if kind == ABORTED else "error")
 
@@ -225,7 +225,7 @@ def make_handler(page, loop, answer, result, finished):
 
 
 async def run_page(url, result, screenshot, finished):
-    """Runs Chromium until it has taken a screenshot, and returns what the page has told."""
+    """Runs Chromium until it has taken a screenshot, and returns what the page has reported."""
     with tempfile.TemporaryDirectory(ignore_cleanup_errors=True) as profile, tempfile.TemporaryFile() as log:
         browser = subprocess.Popen(
             ["chromium", "--headless=new", "--no-sandbox", "--disable-gpu", "--hide-scrollbars"]
@@ -236,14 +236,14 @@ async def run_page(url, result, screenshot, finished):
             stderr=log,
         )
         try:
-            told = await asyncio.wait_for(result, PATIENCE)
+            reported = await asyncio.wait_for(result, PATIENCE)
             finished.set()
             await asyncio.to_thread(browser.wait, PATIENCE)
-            return told
+            return reported
         except asyncio.TimeoutError:
             log.seek(0)
             said = [line for line in log.read().decode(errors="replace").split("\n") if "CONSOLE" in line]
-            sys.exit("\n".join(["browser: the page told nothing; its script may be wrong", *said]))
+            sys.exit("\n".join(["browser: the page reported nothing; its script may be wrong", *said]))
         finally:
             finished.set()
             browser.terminate()

@@ -1,5 +1,5 @@
 /*
- * Data channels for Python: a dcsctp_socket with examples/c/data_channel.c, behind calls that take
+ * Data channels for Python: a dcsctp_socket with examples/c/data_channel.c, under calls that take
  * numbers and bytes alone. scripts/browser.sh makes a shared library of it, which dcsctp.py loads.
  */
 #define _GNU_SOURCE
@@ -9,7 +9,7 @@
 #include <string.h>
 #include <sys/random.h>
 
-/* What Python is told. `bytes` are there until it returns. */
+/* What Python gets. `bytes` are there until it returns. */
 struct channel_calls {
     void (*send_packet)(const uint8_t *bytes, size_t length);
     /* A channel is open. `by_peer`: the peer has opened it, and these are its label and type. */
@@ -28,7 +28,7 @@ struct end {
     uint8_t buffer[262144];
 };
 
-/* ---- What Python is told -------------------------------------------------------------------- */
+/* ---- What Python gets ----------------------------------------------------------------------- */
 
 static void send_packet(void *user, const uint8_t *packet, size_t length) {
     ((struct end *)user)->calls.send_packet(packet, length);
@@ -94,12 +94,12 @@ int32_t channels_connect(struct end *end) {
     return dcsctp_connect(&end->socket);
 }
 
-/* Ends the association, by an ABORT. Chromium doesn't tell a page of a SHUTDOWN. */
+/* Ends the association, by an ABORT. Chromium doesn't report a SHUTDOWN to a page. */
 int32_t channels_abort(struct end *end) {
     return dcsctp_close(&end->socket);
 }
 
-/* Tells the time, hands in a packet, unless it is empty, and takes all there is. */
+/* Sets the time, hands in a packet, unless it is empty, and takes all there is. */
 int32_t channels_run(struct end *end, uint64_t now, const uint8_t *packet, size_t length) {
     int32_t result = dcsctp_advance_time(&end->socket, now);
     if (result == DCSCTP_OK && length > 0)

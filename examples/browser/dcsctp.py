@@ -8,7 +8,7 @@ SIZE, NUMBER, MOMENT = ctypes.c_size_t, ctypes.c_uint32, ctypes.c_uint64
 
 
 class Calls(ctypes.Structure):
-    """struct channel_calls: what an end is told."""
+    """struct channel_calls: the events of an end."""
 
     _fields_ = [
         ("send_packet", ctypes.CFUNCTYPE(None, BYTES, SIZE)),
@@ -51,12 +51,12 @@ def check(result):
 
 
 class End:
-    """An association with its data channels. `user` is told by the functions that Calls names. They
+    """An association with its data channels. `user` has the functions that Calls names. They
     may open, use and close channels; whoever does that elsewhere calls `run` then."""
 
     def __init__(self, library, user, is_dtls_client, peer_port):
         self.library, self.user, self.failure = library, user, None
-        told = {
+        functions = {
             "send_packet": lambda at, length: user.send_packet(ctypes.string_at(at, length)),
             "opened": lambda id, by_peer, at, length, kind, reliability: user.opened(
                 id, by_peer == 1, ctypes.string_at(at, length).decode(), kind, reliability
@@ -68,7 +68,7 @@ class End:
             "event": user.event,
         }
         # C calls these as long as the end is there.
-        self.calls = Calls(*(kind(self.guarded(told[name])) for name, kind in Calls._fields_))
+        self.calls = Calls(*(kind(self.guarded(functions[name])) for name, kind in Calls._fields_))
         self.at = library.channels_create(
             ctypes.byref(self.calls), is_dtls_client, peer_port, time.monotonic_ns()
         )
@@ -93,7 +93,7 @@ class End:
         check(self.library.channels_abort(self.at))
 
     def run(self, packet=b""):
-        """Tells the time, hands in a packet, and takes all there is. Returns the next deadline in
+        """Sets the time, hands in a packet, and takes all there is. Returns the next deadline in
         nanoseconds."""
         check(self.library.channels_run(self.at, time.monotonic_ns(), packet, len(packet)))
         if self.failure:

@@ -1,6 +1,6 @@
 /*
  * Opens data channels between two sockets in one process, uses them, closes them, and opens one on
- * the same stream again. It prints what each end is told.
+ * the same stream again. It prints the events of each end.
  *
  * The clock is a number, so that each run prints the same. file_transfer.c has a clock, and UDP.
  */
@@ -32,7 +32,7 @@ static void check(const char *what, int32_t result) {
     }
 }
 
-/* ---- What an end is told -------------------------------------------------------------------- */
+/* ---- The events of an end ------------------------------------------------------------------- */
 
 static void send_packet(void *user, const uint8_t *packet, size_t length) {
     struct end *end = (struct end *)user;

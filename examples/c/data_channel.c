@@ -397,7 +397,7 @@ static int32_t handle_event(struct data_channels *all, const dcsctp_event *event
     return result;
 }
 
-/* Takes all events and messages. Whoever is told may send, which adds events. */
+/* Takes all events and messages. Whoever is called may send, which adds events. */
 static int32_t take_all(struct data_channels *all) {
     dcsctp_event event;
     int32_t found, result;

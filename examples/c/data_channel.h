@@ -66,8 +66,8 @@ struct data_channel {
     uint64_t closing_since;
 };
 
-/* What you are told. In each of these you may open, use and close channels, but not call
- * data_channels_run. `user` is that of the struct data_channels. */
+/* Your functions that are called. In each of these you may open, use and close channels, but not
+ * call data_channels_run. `user` is that of the struct data_channels. */
 struct data_channel_calls {
     /* A packet for the peer. */
     void (*send_packet)(void *user, const uint8_t *packet, size_t length);
@@ -112,9 +112,9 @@ struct data_channels {
     uint64_t now; /* private */
 };
 
-/* Takes all events and messages, calls you, and sends what has to be sent. It follows each call
+/* Takes all events and messages, calls you, and sends what must be sent. It follows each call
  * that hands the socket something: dcsctp_connect, dcsctp_advance_time, dcsctp_handle_input, and
- * the calls below. `now` is the time that dcsctp_advance_time was last told.
+ * the calls below. `now` is the time that dcsctp_advance_time got last.
  *
  * Errors: OUT_OF_MEMORY, FAILED, NO_SOCKET, BUFFER_TOO_SMALL (for a packet). After one of them the
  * channels are of no more use: destroy the socket. */

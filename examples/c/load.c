@@ -5,9 +5,9 @@
  *
  * 1,000 associations connect, 2,000 a second. Then each of them sends RATE messages of BYTES a
  * second for SECONDS: 10 of 100 for 10. While too much waits on one, it sends none. Meanwhile LOSS
- * of a thousand packets are lost in each direction. Each message has to come back as it was, in
+ * of a thousand packets are lost in each direction. Each message must come back as it was, in
  * order. Then all are shut down; with --stay they wait until the server does that. Each has a UDP
- * socket, so `ulimit -n` has to be higher than ASSOCIATIONS.
+ * socket, so `ulimit -n` must be higher than ASSOCIATIONS.
  */
 #define _GNU_SOURCE
 #include "deadlines.h"

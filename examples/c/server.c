@@ -164,7 +164,7 @@ static int32_t handle_event(struct server *server, struct association *it,
     case DCSCTP_EVENT_SEND_PACKET:
         return send_packet(server, it);
     case DCSCTP_EVENT_CONNECTED:
-        /* A peer that begins anew is connected already. */
+        /* A peer that restarts is connected already. */
         server->connected += (uint64_t)!it->is_connected;
         it->is_connected = 1;
         it->has_message = it->is_full = 0;

@@ -14,7 +14,7 @@ static int32_t create(dcsctp_socket *socket) {
     return dcsctp_create(socket, &options, seed, 0);
 }
 
-/* Takes what a socket has to tell. Its packets go to the other one. Returns how many there were. */
+/* Takes the events of a socket. Its packets go to the other one. Returns how many there were. */
 static int drain(const char *name, dcsctp_socket *from, dcsctp_socket *to) {
     uint8_t bytes[1500];
     dcsctp_event event;

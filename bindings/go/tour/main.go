@@ -204,7 +204,7 @@ func closeAChannel() {
 	p.settle()
 }
 
-// handOver: another socket goes on in A's place. It may be in another process, since the snapshot is bytes.
+// handOver: another socket continues in A's place. It may be in another process, since the snapshot is bytes.
 func handOver() {
 	p := connected()
 	defer p.destroy()

@@ -22,13 +22,13 @@ pub enum SocketEvent {
     /// The association was ended in an orderly way.
     OnClosed(),
 
-    /// The peer began the association anew. It goes on, but data may have been lost.
+    /// The peer restarted the association. It continues, but data may have been lost.
     OnConnectionRestarted(),
 
     /// The association was cut off, by this end or the peer. The text says more, and may be empty.
     OnAborted(ErrorKind, String),
 
-    /// Something went wrong, and the association goes on. The text says more, and may be empty.
+    /// Something went wrong, and the association continues. The text says more, and may be empty.
     OnError(ErrorKind, String),
 
     /// What waits to be sent on the stream has fallen to its threshold or below.
@@ -44,7 +44,7 @@ pub enum SocketEvent {
     /// These outgoing streams were reset.
     OnStreamsResetPerformed(Vec<StreamId>),
 
-    /// The peer reset these incoming streams; an empty list stands for all of them.
+    /// The peer reset these incoming streams; an empty list means all of them.
     OnIncomingStreamReset(Vec<StreamId>),
 
     /// The last part of the message was sent for the first time.

@@ -39,5 +39,5 @@ pub use metrics::{Counts, Metrics};
 pub use state::SocketState;
 pub use state_cookie::StateCookie;
 
-// What stands below, for the crates above.
+// Lower crates, re-exported for those above.
 pub use dcsctp_spec::{types, wire};

@@ -5,7 +5,7 @@ use std::alloc::Global;
 use std::fmt::Debug;
 use std::process::Abort;
 
-// The two have to be equal.
+// The two must be equal.
 pub fn same<T: PartialEq + Debug + Drop>(rt: &impl Abort, name: &str, found: T, expected: T) {
     assert!(rt;
         found == expected,
@@ -13,7 +13,7 @@ pub fn same<T: PartialEq + Debug + Drop>(rt: &impl Abort, name: &str, found: T, 
     );
 }
 
-// `Debug` has to write this text of the value.
+// `Debug` must write this text of the value.
 pub fn shows<T: Debug>(rt: &impl Abort, alloc: Global, name: &str, value: &T, expected: &str) {
     let shown = format!(in alloc; "{value:?}").expect(rt, "memory for the text");
     same(rt, name, shown.as_str(), expected);

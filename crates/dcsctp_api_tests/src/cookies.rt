@@ -109,7 +109,7 @@ const MAGIC: &str = "Invalid state cookie magic";
 
 const TAG: &str = "Invalid verification tag in state cookie";
 
-/// Names, faults, and the bytes of which they are told. All but the zeros are of the first example.
+/// Names, faults, and the bytes that have them. All but the zeros are of the first example.
 #[rattlefmt::skip]
 static FAULTS: [(&str, &str, &[u8]); 7] = [
     ("55 bytes", SIZE, &[
@@ -151,7 +151,7 @@ fn the_first_fault_of_a_cookie_is_told(rt: HostRuntime) {
 /// Seconds and nanoseconds.
 type Span = (u64, u64);
 
-/// A name, a lifetime, the moment at which a cookie is made, how it stands in the cookie, the moment at which the
+/// A name, a lifetime, the moment at which a cookie is made, that moment as the cookie has it, the moment at which the
 /// cookie is judged, and whether it is stale then.
 type Age = (&'static str, Span, Span, u64, Span, bool);
 

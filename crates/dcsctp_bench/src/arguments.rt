@@ -52,7 +52,7 @@ pub struct Plan {
     /// Packets carry no checksum (RFC 9653).
     pub without_checksum: bool,
 
-    /// The packets are told, too.
+    /// The counts of packets are printed, too.
     pub shows_counts: bool,
 
     /// The time that passed and the chunks of data are printed, too.
@@ -129,7 +129,7 @@ fn parse_plan(count: u32, words: &[String]) -> Option<Plan> {
     Some(plan)
 }
 
-// What a word says about what a receiver has to hold, if more of it follows; `None` if it says nothing.
+// What a word says about what a receiver must hold, if more of it follows; `None` if it says nothing.
 fn parse_holding(word: &str) -> Option<Holding> {
     match word {
         "fragments" => Some(Holding::Fragments),
@@ -143,7 +143,7 @@ fn parse_holding(word: &str) -> Option<Holding> {
     }
 }
 
-// What a word says about what a receiver has to hold, and about what comes then; `None` if it says nothing.
+// What a word says about what a receiver must hold, and about what comes then; `None` if it says nothing.
 fn parse_kind(word: &str) -> Option<(Holding, Following)> {
     let same = Following::Skips { is_rising: false };
     match word {

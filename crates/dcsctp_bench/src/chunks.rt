@@ -47,7 +47,7 @@ impl Chunks {
         tsn.wrapping_sub(first) as usize
     }
 
-    // Notes a chunk that is sent: each TSN is sent after the one before it.
+    // Records a chunk that is sent: each TSN is sent after the one before it.
     fn note_sent_tsn(&mut self, tsn: u32) -> Result<(), AllocError> {
         self.sent = self.sent.saturating_add(1);
         if self.has_arrived.len() == self.place(tsn) {
@@ -56,7 +56,7 @@ impl Chunks {
         Ok(())
     }
 
-    // Notes a chunk that has arrived.
+    // Records a chunk that has arrived.
     fn note_arrived_tsn(&mut self, tsn: u32) {
         let place = self.place(tsn);
         if let Some(has_arrived) = self.has_arrived.get_mut(place) {
@@ -67,7 +67,7 @@ impl Chunks {
         }
     }
 
-    /// Notes a packet that is sent.
+    /// Records a packet that is sent.
     pub fn note_sent(&mut self, packet: &[u8]) -> Result<(), AllocError> {
         for tsn in &tsns_of(self.alloc, packet)? {
             self.note_sent_tsn(*tsn)?;
@@ -75,7 +75,7 @@ impl Chunks {
         Ok(())
     }
 
-    /// Notes a packet that has arrived.
+    /// Records a packet that has arrived.
     pub fn note_arrived(&mut self, packet: &[u8]) -> Result<(), AllocError> {
         for tsn in &tsns_of(self.alloc, packet)? {
             self.note_arrived_tsn(*tsn);

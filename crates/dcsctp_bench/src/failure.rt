@@ -17,7 +17,7 @@ pub enum Failure {
     /// The four packets were handed over, and a socket isn't connected.
     NotConnected,
 
-    /// A socket told an error of this kind.
+    /// A socket reported an error of this kind.
     Reported(ErrorKind),
 
     /// An association ended.

@@ -79,7 +79,7 @@ impl Ledger {
         }
     }
 
-    /// Notes a message that has arrived.
+    /// Records a message that has arrived.
     pub fn note(&mut self, message: &Message) -> Result<(), Failure> {
         let number = message.ppid.0;
         let is_due = self.is_in_place(number) && !self.has(number);

@@ -13,7 +13,7 @@
 //! ```
 //!
 //! `handshakes` makes N pairs of sockets one after another, connects each and drops it. `messages` sends N
-//! messages of SIZE bytes from one socket to the other, without checksums, as over DTLS. They go on one
+//! messages of SIZE bytes from one socket to the other, without checksums, as over DTLS. They are sent on one
 //! ordered stream, `unordered`, or on K streams in turn. PERMILLE of a thousand packets are lost after the
 //! handshake, by SEED. Each is under way for half of MS milliseconds of simulated time. Q more messages are
 //! sent before any packet is handed over. `counts` prints the packets, too, and `chunks` the time that

@@ -126,7 +126,7 @@ impl Link {
     }
 }
 
-/// How often a socket has told what isn't a packet.
+/// How often a socket has reported each kind of event that isn't a packet.
 #[derive(Clone, Copy)]
 pub struct EventCounts {
     /// An association was made.
@@ -138,12 +138,12 @@ pub struct EventCounts {
     /// An association was cut off.
     pub aborts: u32,
 
-    /// An own stream was reset.
+    /// Streams of the socket that were reset.
     pub resets: usize,
 }
 
 impl EventCounts {
-    // It has told nothing.
+    // It has reported nothing.
     fn new() -> EventCounts {
         EventCounts {
             connections: 0,
@@ -153,7 +153,7 @@ impl EventCounts {
         }
     }
 
-    // Notes an event.
+    // Counts an event.
     fn note(&mut self, event: &SocketEvent) {
         match event {
             SocketEvent::OnConnected() => self.connections = self.connections.saturating_add(1),
@@ -172,7 +172,7 @@ impl EventCounts {
     }
 }
 
-// Why a run fails by an event, if it bears no error and no end.
+// Why an event makes a run fail that may have no error and no end.
 fn failure_of(event: &SocketEvent) -> Option<Failure> {
     match event {
         SocketEvent::OnError(kind, _) => Some(Failure::Reported(*kind)),
@@ -181,7 +181,7 @@ fn failure_of(event: &SocketEvent) -> Option<Failure> {
     }
 }
 
-/// A socket, and what it has told.
+/// A socket, and what it has reported.
 #[derive(Drop)]
 pub struct End {
     pub socket: BenchSocket,
@@ -189,10 +189,10 @@ pub struct End {
     // Whom its packets go to.
     peer: Side,
 
-    // May it tell an error, or an end?
+    // May it report an error, or an end?
     bears_ends: bool,
 
-    /// What it has told beside packets.
+    /// What it has reported besides packets.
     pub told: EventCounts,
 
     /// How many packets it has sent.
@@ -219,7 +219,7 @@ impl End {
         })
     }
 
-    // Notes an event: a packet goes by the link.
+    // Counts an event, or puts its packet on the link.
     fn note(&mut self, link: &mut Link, event: &SocketEvent) -> Result<(), Failure> {
         if let SocketEvent::SendPacket(packet) = event {
             self.packets = self.packets.saturating_add(1);

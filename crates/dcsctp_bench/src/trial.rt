@@ -1,5 +1,5 @@
 //! Two sockets and their users. The user of the first sends messages, and that of the second takes them.
-//! Errors and ends of the association are counted, and the trial goes on.
+//! Errors and ends of the association are counted, and the trial continues.
 
 use crate::failure::Failure;
 use crate::pair::{Pair, Side};
@@ -18,7 +18,7 @@ pub struct Load {
     /// How many there are in all.
     pub count: u32,
 
-    /// How many streams they go on: those from 0 on. The number of a stream is the protocol of its messages.
+    /// How many streams they are sent on: those from 0 on. The number of a stream is the protocol of its messages.
     pub streams: u16,
 
     /// A message is sent on a stream as long as fewer bytes wait there.
@@ -150,7 +150,7 @@ impl Trial {
         Ok(())
     }
 
-    // Notes a message that the second user took.
+    // Records a message that the second user took.
     fn note(&mut self, message: &Message) {
         if message.ppid.0 == 0 {
             self.messages = self.messages.saturating_add(1);

@@ -1,5 +1,5 @@
--- What a query does: it reads the session of a handle, and its status is returned as a number. That the handle stays as it is
--- stands beside it in each contract.
+-- What a query does: it reads the session of a handle, and its status is returned as a number. Each
+-- contract says besides that the handle stays as it is.
 use Rattle.std.specs.Prelude.{◌≡◌, ℕ, ℤ, pos, Bool, true, false, List, Option, Some, None}
 use denote.RawPtr.{Ptr}
 use Rattle.std.specs.Global.{Vec}
@@ -45,11 +45,11 @@ WritesOptions = WritesAnswer (λ session told. ShowsOptions told (view session).
 abbrev pub OptionsGiven : Option Session → OptionsRecord → ℤ → OptionsRecord → Type 0
 OptionsGiven held before result after = AskedIf (has_options_size before) WritesOptions held before result after
 
--- the payload bytes that wait on a stream; each stream stands once in the queue
+-- the payload bytes that wait on a stream; each stream is in the queue once
 abbrev pub AmountIs : ℕ → Session → ℕ → Type 0
 AmountIs stream session told = (told ≡ (stream_shown (view session) stream).amount) × IsWellFormed (view session).endpoint.queues.queue
 
--- why the socket can't be handed over; of what was received, each stream stands once
+-- why the socket can't be handed over; each stream on which something was received is listed once
 abbrev pub ReadinessIs : Session → ℕ → Type 0
 ReadinessIs session told = (told ≡ readiness_of (view session).endpoint) × AreInOrder (incoming_streams (view session).endpoint)
 

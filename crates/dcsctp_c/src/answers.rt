@@ -6,7 +6,7 @@ ghost use Rattle.dcsctp_c.specs.Exports.{taken_or};
 
 use dcsctp_session::{SocketState, Status};
 
-// Writes what a call took, or what stands for nothing.
+// Writes what a call took, or else `otherwise`.
 pub(crate) fn take<T: Copy>(taken: Option<T>, otherwise: T, place: &mut T) -> i32
     ensures result { result ≡ status_number (taken_status taken) }
     ensures place { place.new ≡ taken_or otherwise taken }

@@ -19,7 +19,7 @@ pub extern "C" fn dcsctp_get_default_options(options: &mut OptionsRecord) -> i32
     Status::Done.number()
 }
 
-/// Gives a handle a closed socket, whose clock stands at `now`.
+/// Gives a handle a closed socket, whose clock is at `now`.
 #[tactic(auto, using(crate::proofs::ExportLemmas::not_created))]
 #[unsafe(no_mangle)]
 pub extern "C" fn dcsctp_create(

@@ -136,7 +136,7 @@ first_returns packet acked given_packet request_packet filled old along state gi
     λ draft built. data_cut old (transfer_of old.state) along state draft packet acked given_packet request_packet (view_of given) (view_of begun) (view_of new) refl is built ack forward begin
     (λ none. cc (idle none)) h
 
--- ---- and then the packet goes out
+-- ---- and then the packet is sent
 
 pub asks_returns : {R E : Type 0} (stream : R → Stream) (ask : Ask) (packet filled : Building) (old mid : Context R) (result : Result Bool E) (new : Context R)
     → ((draft : Emission) → packet ≡ packet_for old.options draft → FillsAskedPacket ask (view_of old) draft (view_of mid) filled) → SendsUnlessEmpty filled mid result new → KeepsSize filled

@@ -30,9 +30,9 @@ pub record Draws {R : Type 0} (stream : R → Stream) (old : View R) (taken : Li
   pub pairs : new.pairs ≡ old.pairs
   pub drawn : Drawn (stream old.generator) taken (stream new.generator)
 
--- ---- a turn behind them
+-- ---- a turn after them
 
--- The events after a turn, or after a part of it, are those that were had before, and its own.
+-- The events after a turn, or after a part of it, are those before it, and its own.
 pub events_behind : (ports later : Ports) (old mid new : List (Event (List ℕ))) (events more : List (Event Emission)) → later ≡ ports
     → mid ≡ old ++ map (user_event ports) events → new ≡ mid ++ map (user_event later) more → new ≡ old ++ map (user_event ports) (events ++ more)
 events_behind ports later old mid new events more same before after =
@@ -70,7 +70,7 @@ unfolding count_behind
 take_behind f [] ys n = refl
 take_behind f (x ∷ xs) ys n = ap (λ zs. f x ∷ zs) (take_behind f xs ys n)
 
--- what is cut behind these events
+-- what is cut after these events
 pub cut_behind : {R : Type 0} (a b : View R) (words : List Word) (events : List (Event Emission)) (o : Outcome) (es : List (Event (List ℕ)))
     → Adds a events b → CutTurn b o es → CutTurn a (behind words events o) es
 cut_behind a b words events o es added cut =
@@ -102,7 +102,7 @@ cut_after old o events front rest is added =
 pub added_one : (old new : List SocketEvent) (event : SocketEvent) → new ≡ old ++ event ∷ [] → map event_content new ≡ map event_content old ++ event_content event ∷ []
 added_one old new event is = ap (map event_content) is ∙ map-append event_content old (event ∷ [])
 
--- ---- the same turn with what it notes
+-- ---- the same turn with more effects recorded
 
 pub moves_noting : {R : Type 0} (stream : R → Stream) (a b : View R) (effects : List Effect) (o : Outcome) → drawn_in o.effects ≡ drawn_in (effects ++ o.effects)
     → Moves stream a o b → Moves stream a (noting effects o) b

@@ -1,4 +1,4 @@
--- What an ask comes to where an allocation failed.
+-- What an ask amounts to if an allocation failed.
 use Rattle.dcsctp_core.proofs.FillLemmas.{may_not, idle_parts, told_user}
 use Rattle.dcsctp_transfer.specs.spec.queues.Filling.{none as no_step, more as one_more_step, Stage, StageSteps}
 use Rattle.dcsctp_transfer.specs.spec.queues.NextItem.{is_abandonment_due}
@@ -21,13 +21,13 @@ use Rattle.std.specs.List.{slice_get}
 
 -- ---- where an allocation failed
 
--- what is told comes first of what comes of an ask
+-- the events of an ask begin with these
 pub told_first : (after : Endpoint) (told : List (Event Emission)) (with_checksum : Bool) (tag : ℕ) (contents : List Content)
     → (rest : List (Event Emission)) × ((goes_out after told with_checksum tag contents).events ≡ told ++ rest)
 told_first after told with_checksum tag [] = ([], sym (append-nil told))
 told_first after told with_checksum tag (content ∷ contents) = (_, refl)
 
--- the first of what is told, and the others
+-- the first of the events, and the others
 record ToldFront (told : List FillingEvent) (front : List (Event (List ℕ))) : Type 0 where
   first : List FillingEvent
   later : List FillingEvent
@@ -47,7 +47,7 @@ told_front (one ∷ told) (event ∷ front) rest is =
       is = ap (λ (es : List (Event (List ℕ))). filling_event_content one ∷ es) others.is ∙ ap (λ (e : Event (List ℕ)). e ∷ front) same;
     }
 
--- An ask is cut within what some answer tells.
+-- An ask is cut within the events of some answer.
 pub cut_within : {R : Type 0} (ask : Ask) (old : View R) (draft : Emission) (events telling front more : List (Event (List ℕ))) → Completes ask old.endpoint draft telling
     → telling ≡ front ++ more → events ≡ old.events ++ front → AskCut ask old draft events
 cut_within {R = R} ask old draft events telling front more c is added =
@@ -67,7 +67,7 @@ cut_within {R = R} ask old draft events telling front more c is added =
       added = added ∙ ap (λ (es : List (Event (List ℕ))). old.events ++ es) (sym split.is ∙ told_user (ports_of e.options) split.first);
     }
 
--- before anything was told
+-- before any event
 pub cut_untold : {R : Type 0} (ask : Ask) (old : View R) (draft : Emission) (events : List (Event (List ℕ))) → events ≡ old.events → AskCut ask old draft events
 cut_untold ask old draft events same = cut_within ask old draft events [] [] [] (some_answer ask old.endpoint draft) refl (same ∙ sym (append-nil old.events))
 

@@ -34,7 +34,7 @@ use Rattle.dcsctp_transfer.specs.spec.queues.Filling.{Stage}
 use Rattle.dcsctp_transfer.proofs.spec_lemmas.ToldLemmas.{behind_events, told_behind}
 use Rattle.dcsctp_transfer.specs.spec.endpoint.FlushOutcomes as asks
 
--- ---- what the user is told
+-- ---- the user's events
 
 told_one : (ports : Ports) (told : FillingEvent) → user_event ports (filling_event told) ≡ filling_event_content told
 told_one ports (amount_is_low stream) = refl
@@ -103,7 +103,7 @@ idle_wants first_ask queue transfer is =
 abbrev answer_by : List Plain → Option BegunReset → List ChunkContent → List FillingEvent → Endpoint → Answer
 answer_by sacks begun chunks told after = record { acknowledgements = sacks; begun = begun; data_chunks = map unworked chunks; told = told; after = after }
 
--- the packet with all of it behind what it holds
+-- the packet with all of it after what it holds
 packet_is : (options : Options) (draft : Emission) (sacks : List Plain) (begun : Option BegunReset) (chunks : List ChunkContent) (told : List FillingEvent) (after : Endpoint) (filled_packet : Building)
     → filled_packet ≡ record (packet_for options (filled draft (plain_contents sacks ++ request_contents begun))) {
       body = (packet_for options (filled draft (plain_contents sacks ++ request_contents begun))).body ++ flat_map chunk_bytes chunks;
@@ -147,7 +147,7 @@ requesting_none count room last_tsn held begun queue left none is hands =
 
 -- ---- what a packet is filled with
 
--- what an ask comes to, up to the data: where it begins
+-- what an ask amounts to, up to the data: where it begins
 abbrev pub start_of : {ask : Ask} {e : Endpoint} {draft : Emission} {transfer : Transfer} → GivesUntilFull ask e draft transfer → Stage
 start_of {e = e} {draft = draft} u =
     stage_of (queue_requesting (streams_within (room_in e (filled draft (plain_contents (u.sacks ++ u.forwards))))) u.begun u.gave_up.waiting)
@@ -187,7 +187,7 @@ answer_of {old = old} p = answer_by (p.until.sacks ++ p.until.forwards) p.until.
 
 -- ---- where nothing waits
 
--- nothing is asked for, so none of it goes out
+-- nothing is asked for, so none of it is sent
 no_sacks : (b : Bool) (room : ℕ) (transfer : Transfer) (after : TrackerState) (sacks : List Plain) → b ≡ false → asks.Acknowledges b room transfer after sacks → (after ≡ transfer.tracker) × (sacks ≡ [])
 no_sacks b room transfer after sacks is h = subst (λ (x : Bool). asks.Acknowledges x room transfer after sacks) is h
 
@@ -328,7 +328,7 @@ fills_by {R = R} ask old draft transfer new filled_packet p =
 
 -- ---- the run that fills it
 
--- What is told while a packet is filled goes behind what was told when messages were abandoned.
+-- The events of filling a packet come after those of abandoning messages.
 pub told_after : (front : List (Event (List ℕ))) (b : Bool) (now : ℕ) (waiting : SendQueueState) (state : RetransmissionState) (room : ℕ) (sent : Stage)
     → FillsWhere b now (stage_of waiting state [] room) sent → FillsWhere b now (stage_of waiting state front room) (behind_events front sent)
 told_after front b now waiting state room sent fills =
@@ -341,7 +341,7 @@ pub stays_behind : (front : List (Event (List ℕ))) (waiting : SendQueueState) 
 stays_behind front waiting state room sent is =
     ap (behind_events front) is ∙ ap (λ (told : List (Event (List ℕ))). stage_of waiting state told room) (append-nil front)
 
--- ---- where no peer is held
+-- ---- without a peer
 
 pub fills_nothing : {R : Type 0} (ask : Ask) (old : View R) (draft : Emission) (new : View R) (filled_packet : Building) → old.endpoint.queues.transfer ≡ None
     → new ≡ old → filled_packet ≡ packet_for old.endpoint.options draft → FillsAskedPacket ask old draft new filled_packet
@@ -359,7 +359,7 @@ fills_nothing {R = R} ask old draft new filled_packet holds same is =
 
 -- ---- a later packet
 
--- what fills it is all it comes to
+-- what fills it is all it amounts to
 abbrev pub later_until : (e : Endpoint) (draft : Emission) (transfer : Transfer) (sent : Stage)
     → FillsWhere (may_give e.queues.queue transfer.retransmission) e.moment (stage_of e.queues.queue transfer.retransmission [] (room_in e (filled draft []))) sent → GivesUntilFull later_ask e draft transfer
 later_until e draft transfer sent fills =
@@ -377,7 +377,7 @@ later_until e draft transfer sent fills =
       fills = fills;
     }
 
--- The draft has as much room with nothing behind it.
+-- The draft with nothing added is the same, so it has as much room.
 pub same_draft : (draft : Emission) → filled draft [] ≡ draft
 same_draft draft = ap (λ (contents : List Content). record draft { packet = record draft.packet { contents = contents } }) (append-nil draft.packet.contents)
 
@@ -439,7 +439,7 @@ chunk_where true options draft room chunk is =
 chunk_where false options draft room chunk is =
     ap (λ (contents : List Content). packet_for options (record draft { packet = record draft.packet { contents = contents } })) (sym (append-nil draft.packet.contents))
 
--- a chunk behind what the packet holds, where it fits
+-- a chunk after what the packet holds, if it fits
 pub chunk_packet : (e : Endpoint) (draft : Emission) (chunk : ChunkContent)
     → with_chunk (packet_for e.options draft) chunk ≡ packet_for e.options (filled draft (plain_contents (where_fits (room_in e draft) (unworked chunk))))
 chunk_packet e draft chunk =

@@ -74,7 +74,7 @@ transfer_is (CookieWait wait) old transfer holds = absurd (cc)
 transfer_is (CookieEchoed echoed) old transfer holds = refl
 transfer_is (Open opened) old transfer holds = refl
 
--- the endpoint of a context whose state is told apart
+-- the endpoint of a context whose state is given in parts
 abbrev with_parts : {R : Type 0} → Context R → Core → ℕ → Option RunningTimer → Option RunningTimer → Option OutstandingRequest → Option RunningTimer → Option Transfer → Endpoint
 with_parts context core tie t1 t2 outstanding reconfiguration transfer =
     record (endpoint_of context) {
@@ -126,18 +126,18 @@ acked e draft true transfer mid before packet is h =
 abbrev acknowledged_view : {R : Type 0} → View R → Transfer → View R
 acknowledged_view old transfer = record old { endpoint = record old.endpoint { queues = record old.endpoint.queues { transfer = Some transfer } } }
 
--- the chunks of two lists, one behind the other
+-- the chunks of two lists, one after the other
 filled_twice : (draft : Emission) (front back : List Plain) → filled (filled draft (plain_contents front)) (plain_contents back) ≡ filled draft (plain_contents (front ++ back))
 filled_twice draft front back =
     ap (λ (contents : List Content). record draft { packet = record draft.packet { contents = contents } })
     (append_assoc draft.packet.contents (plain_contents front) (plain_contents back) ∙ ap (λ (contents : List Content). draft.packet.contents ++ contents) (sym (map-append plain front back)))
 
--- contents one behind the other
+-- contents one after the other
 filled_behind : (draft : Emission) (front back : List Content) → filled (filled draft front) back ≡ filled draft (front ++ back)
 filled_behind draft front back =
     ap (λ (contents : List Content). record draft { packet = record draft.packet { contents = contents } }) (append_assoc draft.packet.contents front back)
 
--- the packet with these contents behind what it holds
+-- the packet with these contents after what it holds
 contents_behind : (e : Endpoint) (draft : Emission) (contents : List Content) (packet filled_packet : Building) → packet ≡ packet_for e.options draft
     → filled_packet ≡ record packet { body = packet.body ++ flat_map chunk_bytes (map chunk_out contents) } → filled_packet ≡ packet_for e.options (filled draft contents)
 contents_behind e draft contents packet filled_packet is adds =
@@ -223,7 +223,7 @@ given_up {R = R} old draft mid given before packet true in_time holds is h =
 
 -- ---- and a reset that is begun
 
--- the view once it was begun behind that
+-- the view once the reset was begun after that
 abbrev pub begun_in_view : {R : Type 0} → View R → Option ℕ → Stage → Transfer → Option BegunReset → SendQueueState → View R
 begun_in_view old next gave_up mid begun handed =
     record (forwarded_view old next gave_up mid) {
@@ -286,7 +286,7 @@ forwarded {R = R} old draft transfer mid given before acked_packet given_packet 
       view = up.view;
     }
 
--- the draft behind that
+-- the draft after that
 abbrev pub behind_forwards : {R : Type 0} {old : View R} {draft : Emission} {transfer : Transfer} {given : View R} {packet : Building} → Forwarded old draft transfer given packet → Emission
 behind_forwards {draft = draft} f = filled draft (plain_contents (f.sacks ++ f.forwards))
 
@@ -353,7 +353,7 @@ pub moment_begun : (begun : Option BegunReset) (e : Endpoint) → (after_begun b
 moment_begun None e = refl
 moment_begun (Some begun) e = refl
 
--- what fills it with data, as it stands behind that
+-- what fills it with data, after that
 pub fills_behind : {R : Type 0} (old : View R) (draft : Emission) (transfer : Transfer) (here : View R) (packet : Building) (d : BeforeData old draft transfer here packet) (sent : Stage)
     → FillsWhere (may_give (handed_of d) (state_of d)) (after_begun d.begun (forwarded_view old d.up.next d.up.gave_up (record transfer { tracker = d.up.tracker })).endpoint).moment
     (stage_of (handed_of d) (state_of d) [] (bytes_remaining packet)) sent
@@ -362,7 +362,7 @@ fills_behind old draft transfer here packet d sent fills =
     subst (λ (n : ℕ). FillsWhere (may_give (handed_of d) (state_of d)) old.endpoint.moment (stage_of (handed_of d) (state_of d) [] n) sent) (room_is_left old.endpoint _ packet d.is)
     (subst (λ (now : ℕ). FillsWhere (may_give (handed_of d) (state_of d)) now (stage_of (handed_of d) (state_of d) [] (bytes_remaining packet)) sent) (moment_begun d.begun _) fills)
 
--- What abandons messages leaves the retransmission timeout, and so a reset that is begun behind it starts the same timer.
+-- Abandoning messages leaves the retransmission timeout as it is, so a reset that is begun after it starts the same timer.
 begun_behind : (begun : Option BegunReset) (e : Endpoint) (any : Bool) (later : ℕ) (waits handed left : SendQueueState) (given after : Transfer) → rto_of (Some given) ≡ rto_of e.queues.transfer
     → let f : Endpoint = record (after_begun begun (record e { no_forward_tsn_before = later; queues = record { queue = waits; transfer = Some given } })) { queues = record { queue = handed; transfer = Some (transfer_reset_begun begun given) } } in
     record f { timers = timers_where any f; queues = record { queue = left; transfer = Some after } } ≡ endpoint_given e begun any later left after
@@ -421,7 +421,7 @@ along_is : (found : Option Transfer) (queue : SendQueueState) (transfer : Transf
     → is_sack_wanted along transfer ≡ wants_sack first_ask queue transfer
 along_is found queue transfer along holds is = ap (λ (b : Bool). is_sack_wanted b transfer) (is ∙ ap (λ (f : Option Transfer). has_queued_data queue || can_queues_send f) holds)
 
--- ---- as the context tells it
+-- ---- as the context shows it
 
 -- no peer is known, so nothing has changed
 pub same_view : {R : Type 0} (old : Context R) (along : Bool) (state : State) (given here : View R) (packet acked_packet given_packet request_packet : Building) → transfer_of old.state ≡ None

@@ -27,7 +27,7 @@ use Rattle.dcsctp_core.proofs.Composing.{events_behind}
 use Rattle.dcsctp_core.proofs.SentLemmas.{body_len, none_as_bytes, built_bytes}
 use Rattle.dcsctp_core.proofs.CutLemmas.{told_first}
 
--- ---- a packet that was filled goes out
+-- ---- a packet that was filled is sent
 
 -- what it holds is within the limit
 pub fits_by : (e : Endpoint) (draft : Emission) (answer : Answer) (packet : Building) → packet ≡ packet_for e.options (filled draft (answer_contents answer)) → KeepsSize packet
@@ -77,7 +77,7 @@ body_none : (options : Options) (draft : Emission) (contents : List Content) (pa
     → is_none packet.body ≡ is_none (filled draft contents).packet.contents
 body_none options draft contents packet is = ap (λ (b : Building). is_none b.body) is ∙ none_as_bytes (filled draft contents).packet.contents
 
--- A request that is noted draws no pair.
+-- A request that is recorded draws no pair.
 begun_drawn : (begun : Option BegunReset) (effects : List Effect) → drawn_in (begun_effects begun ++ effects) ≡ drawn_in effects
 begun_drawn None effects = refl
 begun_drawn (Some begun) effects = refl
@@ -150,7 +150,7 @@ flushes_last stream ask n old new draft is_sent not_sent h =
           (subst (λ (e : Endpoint). Moves stream new (still e) new) h.moves.endpoint (moves_still stream new));
     }
 
--- what comes behind a packet that went out
+-- what comes after a packet that was sent
 pub flushes_further : {R : Type 0} (stream : R → Stream) (ask : Ask) (n : ℕ) (old mid new : View R) (draft next : Emission) (is_sent : Bool) → is_sent ≡ true → AsksFor stream ask old draft is_sent mid
     → next_draft old.endpoint.core draft ≡ next → FlushesFor stream later_ask n mid next new → FlushesFor stream ask (suc n) old draft new
 flushes_further stream ask n old mid new draft next is_sent was_sent h follows rest =
@@ -207,7 +207,7 @@ flush_cut_further stream ask n old mid draft next events is_sent was_sent h foll
       added = events_behind (ports_of e.options) (ports_of mid.endpoint.options) old.events mid.events events o.events rest.front ports h.moves.events rest.added;
     }
 
--- ---- to the peer that is held
+-- ---- to the peer of the association
 
 pub next_to : (core : Core) (draft : Emission) (held : Held) → held_in core ≡ Some held → next_draft core draft ≡ draft_to held
 next_to closed draft held holds = absurd (cc)

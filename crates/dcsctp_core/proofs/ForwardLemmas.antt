@@ -1,4 +1,4 @@
--- What gives messages up, as the view tells it.
+-- What abandons messages, as the view shows it.
 use Rattle.std.proofs.Common.{◌≡◌, ◌<◌, ℕ, Option, None, Some, List, sym, ap, subst, ◌∙◌, Bool, arith, false, nat_le, refl, true}
 use Rattle.dcsctp_transfer.specs.wire_build.Building.{Building}
 use Rattle.dcsctp_transfer.specs.spec.endpoint.Event.{Event}

@@ -77,7 +77,7 @@ pub listing-set : (kind : DeadlineKind) (deadline : Option ℕ) (xs : List Entry
 listing-set kind None xs is = listing-without kind xs is
 listing-set kind (Some moment) xs is = listing-placed (record { moment = moment; kind = kind }) (without kind xs) (without-absent kind xs) (listing-without kind xs is)
 
--- ---- what `set` tells
+-- ---- what the list says after `set`
 
 listed-without : (kind other : DeadlineKind) (xs : List Entry) → is_same_kind other kind ≡ false → listed other (without kind xs) ≡ listed other xs
 listed-without kind other [] differ = refl

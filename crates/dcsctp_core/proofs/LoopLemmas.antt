@@ -1,4 +1,4 @@
--- The loop of a flush: what completes from where it stands completes the whole.
+-- The loop of a flush: what completes the rest of it completes the whole.
 use Rattle.std.proofs.Common.{◌≡◌, ◌==◌, ◌-◌, ◌<◌, ℕ, suc, Bool, true, false, Option, None, Some, Result, Ok, Err, List, [], refl, sym, ap, subst, ◌∙◌, arith}
 use Rattle.rand_core.specs.Stream.{Stream}
 use Rattle.dcsctp_transfer.specs.wire_build.Building.{Building}
@@ -25,13 +25,13 @@ use Rattle.dcsctp_core.proofs.Composing.{cut_first, cut_after}
 use Rattle.dcsctp_core.specs.Flushing.{packet_for, empty_packet, AsksFor, AskCut, FlushesFor, FlushCut, FlushesBy}
 use Rattle.dcsctp_core.proofs.FlushLemmas.{flushes_none, flushes_last, flushes_further, flush_cut_here, flush_cut_further, flush_cut_before, next_to}
 
--- What completes a flush of so many packets from here, behind a packet to this peer, completes the whole.
+-- What completes a flush of so many packets from here, after a packet to this peer, completes the whole.
 pub record Completes {R : Type 0} (stream : R → Stream) (held : Held) (allowed : ℕ) (start : View R) (left : ℕ) (here : View R) : Type 0 where
   pub core : held_in here.endpoint.core ≡ Some held
   pub done : (new : View R) → FlushesFor stream later_ask left here (draft_to held) new → FlushesFor stream later_ask allowed start (draft_to held) new
   pub cut : (events : List (Event (List ℕ))) → FlushCut later_ask left here (draft_to held) events → FlushCut later_ask allowed start (draft_to held) events
 
--- one packet more has gone out
+-- one packet more was sent
 pub completes_on : {R : Type 0} (stream : R → Stream) (held : Held) (allowed : ℕ) (start : View R) (more : ℕ) (here next : View R) (is_sent : Bool) → is_sent ≡ true
     → Completes stream held allowed start (suc more) here → AsksFor stream later_ask here (draft_to held) is_sent next → Completes stream held allowed start more next
 completes_on stream held allowed start more here next is_sent was_sent c h =
@@ -66,7 +66,7 @@ completes_unmade stream held allowed start left here c = c.cut here.events (flus
 one_less : (left : ℕ) → 0 < left → left ≡ suc (left - 1)
 one_less left some = omega (arith, some)
 
--- the peer that is held
+-- the peer of the association
 pub held_is : (state : State) (tcb : TransmissionControlBlock) (held : Held) → Some tcb ≡ tcb_of state → held_in (core_of state) ≡ Some held → held ≡ held_of tcb
 held_is Closed tcb held kept holds = absurd (cc)
 held_is (CookieWait wait) tcb held kept holds = absurd (cc)
@@ -99,7 +99,7 @@ pub loop_cut : {R : Type 0} (stream : R → Stream) (held : Held) (allowed : ℕ
 loop_cut stream held allowed start left here events some c h =
     completes_cut stream held allowed start (left - 1) here events (subst (λ (n : ℕ). Completes stream held allowed start n here) (one_less left some) c) h
 
--- ---- behind the first packet
+-- ---- after the first packet
 
 pub none_allowed : {R : Type 0} (stream : R → Stream) (ask : Ask) (n : ℕ) (view : View R) (draft : Emission) → n ≡ 0 → FlushesFor stream ask n view draft view
 none_allowed stream ask n view draft none = subst (λ (m : ℕ). FlushesFor stream ask m view draft view) (sym none) (flushes_none stream ask view draft)
@@ -161,7 +161,7 @@ none_by_tcb (CookieWait wait) kept = refl
 none_by_tcb (CookieEchoed echoed) kept = absurd (cc)
 none_by_tcb (Open opened) kept = absurd (cc)
 
--- any answers to the peer that is held, where one is
+-- any answers to the peer, if there is one
 any_to : (e : Endpoint) (peer : Option Held) → (answers : List Answer) × AnswersTo e peer answers
 any_to e None = ([], refl)
 any_to e (Some held) = any_answers first_ask (packets_allowed e.options.max_burst e.core) e (draft_to held)

@@ -120,7 +120,7 @@ pub last_gap : (xs : List Entry) (n p : ℕ) → n ≤ length xs → n ≡ p + 1
 last_gap xs n p within is =
     ap (λ l. take p xs ++ l) (drop_all (p + 1) (take n xs) (omega (arith, length-take-le n xs within, is))) ∙ append_nil (take p xs)
 
--- ---- what stands around the place of a new entry
+-- ---- what is around the place of a new entry
 
 before-asym : (a b : Entry) → is_before a b ≡ true → is_before b a ≡ false
 before-asym a b before = grind (arith, nat_tests)

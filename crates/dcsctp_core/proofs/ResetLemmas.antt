@@ -167,7 +167,7 @@ core_where (Some begun) core = core_asking core
 abbrev transfer_where : Option BegunReset → Option Transfer → Option Transfer
 transfer_where begun found = option_map (transfer_reset_begun begun) found
 
--- what the machine sees of a state in which this was begun
+-- what the definitions see of a state in which this was begun
 record Stood (now : ℕ) (begun : Option BegunReset) (old new : State) : Type 0 where
   core : core_of new ≡ core_where begun (core_of old)
   tie : tie_of new ≡ tie_of old
@@ -215,7 +215,7 @@ stood now begun (Open opened) new transfer holds h =
       transfer = ap (λ (t : Transfer). Some t) h.1.transfer;
     })
 
--- the endpoint of a context, by what the machine sees of its state
+-- the endpoint of a context, by what the definitions see of its state
 abbrev with_parts : {R : Type 0} → Context R → Core → ℕ → Option RunningTimer → Option RunningTimer → Option OutstandingRequest → Option RunningTimer → Option Transfer → SendQueueState → Endpoint
 with_parts context core tie t1 t2 outstanding reconfiguration transfer queue =
     record (endpoint_of context) {

@@ -1,4 +1,4 @@
--- A flush for which no packet is made: nothing has to go into one.
+-- A flush for which no packet is made: there is nothing to put into one.
 use Rattle.dcsctp_transfer.specs.spec.queues.Filling.{none as no_step}
 use Rattle.dcsctp_transfer.proofs.spec_lemmas.MarkedItemLemmas.{fewer_marked}
 use Rattle.std.proofs.lemmas.Bool.Decides.{nat_tests}
@@ -29,7 +29,7 @@ use Rattle.dcsctp_transfer.specs.types.declared.progress.Change.TheVariants.{Aba
 use Rattle.dcsctp_transfer.specs.spec.queues.Filling.{Stage}
 use Rattle.dcsctp_transfer.proofs.spec_lemmas.DueItemLemmas.{due_marked}
 
--- ---- nothing has to be given
+-- ---- there is nothing to give
 
 -- No item waits to be sent again, so none is due to be abandoned.
 unmarked : (queue : SendQueueState) (state : RetransmissionState) → may_give queue state ≡ false → marked_items state.outstanding.items ≡ 0

@@ -1,4 +1,4 @@
--- A packet that goes out, in bytes.
+-- A packet that is sent, in bytes.
 use Rattle.std.proofs.Common.{◌≡◌, ◌+◌, ◌-◌, ℕ, Bool, true, false, cond, List, [], ◌∷◌, ◌++◌, length, map, refl, sym, ap, ◌∙◌, append_assoc}
 use Rattle.std.specs.Prelude.{nat_le}
 use Rattle.std.proofs.lemmas.List.{append-nil}
@@ -62,7 +62,7 @@ none_as_bytes (content ∷ contents) = some (body_of (content ∷ contents)) (λ
 pub room_is : (e : Endpoint) (draft : Emission) → bytes_remaining (packet_for e.options draft) ≡ room_in e draft
 room_is e draft = ap (λ (n : ℕ). packet_size_limit e.options - 12 - n) (body_len draft.packet.contents)
 
--- ---- a packet that goes out
+-- ---- a packet that is sent
 
 pub sent_moves : {R : Type 0} (stream : R → Stream) (a b : View R) (emission : Emission) (bytes : List ℕ)
     → b ≡ record a { endpoint = packet_counted a.endpoint; events = a.events ++ sent bytes ∷ [] }

@@ -1,4 +1,4 @@
--- What the list of a socket's deadlines tells of its next moment, and of a moment at which nothing is due.
+-- What the list of a socket's deadlines says about its next moment, and about a moment at which nothing is due.
 use Rattle.std.proofs.Common.{◌≡◌, ℕ, ◌≤◌, ◌⊎◌, inl, inr, min, max, Bool, true, false, Option, None, Some, List, [], ◌∷◌, refl, sym, ap, subst, ◌∙◌, arith}
 use Rattle.std.specs.Prelude.{if◌then◌else◌}
 use Rattle.std.proofs.lemmas.Bool.Decides.{nat_tests}

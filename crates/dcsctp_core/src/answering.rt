@@ -8,8 +8,8 @@ use crate::transmission_control_block::{ResetRequest, TransmissionControlBlock};
 use dcsctp_transfer::api::SocketTime;
 
 impl TransmissionControlBlock {
-    /// Our outstanding request is in progress: it waits to be sent again, and its timer starts anew (RFC
-    /// 6525, section 5.2.7). Allocates nothing.
+    /// Our outstanding request is in progress: it waits to be sent again, and its timer restarts (RFC 6525,
+    /// section 5.2.7). Allocates nothing.
     pub fn retry_reset(&mut self, now: SocketTime)
         ensures { Retries now self.old self.new }
     {

@@ -260,7 +260,7 @@ impl<R: Rng> Context<R> {
         self.tx_messages_count = self.tx_messages_count.saturating_add(1);
     }
 
-    /// Starts the heartbeat interval anew, unless it is zero, which switches heartbeats off.
+    /// Restarts the heartbeat interval, unless it is zero, which switches heartbeats off.
     pub fn start_heartbeat_interval(&mut self)
         ensures { view_of self.new ≡ record (view_of self.old) {
           endpoint = begun_heartbeats
@@ -272,8 +272,8 @@ impl<R: Rng> Context<R> {
         }
     }
 
-    /// Advances the heartbeat interval to the present moment, and returns whether it expires. It goes on
-    /// then.
+    /// Advances the heartbeat interval to the present moment, and returns whether it expires. If so, it runs
+    /// again.
     pub fn expire_heartbeat_interval(&mut self) -> bool
         ensures answer { result ≡ is_timer_due (endpoint_of self.old) (own_timer heartbeat_interval) }
         ensures left { view_of self.new ≡ where_expired result (interval_expired

@@ -12,7 +12,7 @@ pub enum Expiry {
     /// It doesn't run, or its deadline is still to come.
     NotDue,
 
-    /// It has expired, and goes on.
+    /// It has expired, and runs again.
     Again,
 
     /// It has expired with no restart left, and stopped.

@@ -214,7 +214,7 @@ impl<R: Rng> Context<R> {
         self.fill_with_data(packet)
     }
 
-    // Puts data into a packet; with some the heartbeat interval starts anew (RFC 9260, section 8.3).
+    // Puts data into a packet. If there is some, the heartbeat interval restarts (RFC 9260, section 8.3).
     fn fill_with_data(&mut self, packet: &mut SctpPacketBuilder) -> Result<(), AllocError>
         ensures turn { TriesData packet.old self.old result self.new packet.new }
         ensures idle { HasNoData self.old.send_queue (transfer_of self.old.state) → IsOk result }

@@ -28,6 +28,6 @@ pub use timeout::{is_quiet, list_deadlines, poll_timeout};
 pub use transmission_control_block::{Peer, ResetRequest, TransmissionControlBlock};
 pub use tx_error_counter::TxErrorCounter;
 
-// What stands below, for the crates above.
+// Lower crates, re-exported for those above.
 pub use dcsctp_transfer as transfer;
 pub use dcsctp_transfer::{api, send_timer, types, wire};

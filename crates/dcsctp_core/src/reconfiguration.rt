@@ -10,8 +10,8 @@ use crate::transmission_control_block::TransmissionControlBlock;
 use dcsctp_transfer::api::SocketTime;
 
 impl TransmissionControlBlock {
-    // Advances the timer of the outstanding request to the present moment, and returns whether it expires. It
-    // goes on then.
+    // Advances the timer of the outstanding request to the present moment, and returns whether it expires. If
+    // so, it runs again.
     pub(crate) fn expire_reconfiguration(&mut self, now: SocketTime) -> bool
         ensures answer { result ≡ expires_at now (timer_of self.old.reset_request) }
         ensures left { self.new ≡ reconfiguration_at_moment now self.old }

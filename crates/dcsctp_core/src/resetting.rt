@@ -39,7 +39,7 @@ fn number_of(stream: StreamId) -> u16
     stream.0
 }
 
-/// The streams as they stand in a request, two bytes each.
+/// The streams as a request has them, two bytes each.
 pub fn stream_bytes(alloc: Global, streams: &[StreamId]) -> Result<Vec<u8>, AllocError>
     ensures bytes { IfOk result (λ bytes. bytes.items ≡ flat_map (to_be_bytes w16) (stream_numbers streams.now)) }
     ensures fit { OnOk result (AllByRecursion IsStream (stream_numbers streams.now)) }

@@ -1,4 +1,4 @@
-//! The deadlines of a socket by its timers, and what its list of them tells.
+//! The deadlines of a socket by its timers, and what its list of them says.
 
 ghost use Rattle.std.specs.Prelude.{◌≡◌, [], true};
 ghost use Rattle.dcsctp_transfer.specs.spec.endpoint.Turn.{clock_at};
@@ -85,7 +85,7 @@ fn list_open<R: Rng>(context: &Context<R>, deadlines: &mut Deadlines)
     deadlines.add(DeadlineKind::T2, t2_deadline(context));
 }
 
-/// Makes the list anew from the timers. Each call that may move a timer ends with it. During the handshake
+/// Makes the list again from the timers. Each call that may change a timer ends with it. During the handshake
 /// T1's deadline alone counts, and on an open association those of the other six.
 pub fn list_deadlines<R: Rng>(context: &Context<R>, deadlines: &mut Deadlines)
     ensures { ListsDeadlines (endpoint_of context.now) deadlines.new }

@@ -162,7 +162,7 @@ pub ends_later : {R : Type 0} (stream : R → Stream) (old : Context R) (state :
     → is_peer_acknowledgement_due (transfer_of state) ≡ false → TakesPossibleTurn stream EndsAt (view_of old) (view_of (record old { state = state }))
 ends_later stream old state changes waits = end_later stream old state (transfer_of old.state) refl changes waits
 
--- what is answered behind it is what the end of the packet brings
+-- the answers after it are what the end of the packet brings
 answered_by : (e : Endpoint) (peer : Option Held) (transfer : Transfer) (tracker : TrackerState) (o : Outcome)
     → AnswersData (endpoint_with_tracker e transfer tracker) peer (Some (record transfer { tracker = tracker })) o → EndWhere true e peer transfer tracker o
 answered_by e None transfer tracker o h = h

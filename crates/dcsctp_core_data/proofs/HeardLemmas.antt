@@ -1,4 +1,4 @@
--- A SHUTDOWN that is received, as the handlers of its parts tell it.
+-- A SHUTDOWN that is received, from what the handlers of its parts do.
 use Rattle.std.proofs.Common.{◌≡◌, ◌&&◌, ℕ, Bool, true, false, Option, None, Some, Result, Ok, Err, List, [], refl, sym, ap, subst, ◌∙◌}
 use Rattle.rand_core.specs.Stream.{Stream}
 use Rattle.dcsctp_core.specs.wire.Content.{SackContent}

@@ -1,4 +1,4 @@
--- A shutdown under way goes on, and then what was lost goes out, and what waits.
+-- A shutdown under way continues; then what was lost is sent, and what waits.
 use Rattle.std.proofs.Common.{◌≡◌, ℕ, Bool, true, false, Option, Some, List, [], refl, sym, ap, subst, ◌∙◌}
 use Rattle.std.specs.Prelude.{is_some}
 use Rattle.rand_core.specs.Stream.{Stream}
@@ -86,7 +86,7 @@ both old mid b later at second =
       is = refl;
     })
 
--- A peer is still held behind the step.
+-- There still is an association after the step.
 pub stepped_held : {R : Type 0} (stream : R → Stream) (old mid : Context R) → is_some (transfer_of old.state) ≡ true → Moves stream (view_of old) (step_turn (view_of old)) (view_of mid)
     → is_some (transfer_of mid.state) ≡ true
 stepped_held stream old mid some m =

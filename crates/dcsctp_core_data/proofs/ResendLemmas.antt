@@ -1,4 +1,4 @@
--- What was lost goes out at once, and then what waits.
+-- What was lost is sent at once, and then what waits.
 use Rattle.std.proofs.Common.{◌≡◌, ℕ, Bool, true, false, Option, Some, List, [], ◌∷◌, ◌++◌, refl, sym, ap, subst, ◌∙◌}
 use Rattle.std.specs.Prelude.{is_some}
 use Rattle.std.proofs.lemmas.List.{append-nil}
@@ -27,7 +27,7 @@ use Rattle.dcsctp_core.specs.Below.{GoesAtOnce, AtOnceAt}
 use Rattle.dcsctp_core.proofs.Composing.{behind, Adds, Draws, moves_behind, cut_behind, cut_longer}
 use Rattle.dcsctp_core_data.specs.Sacks.{ResendsBy, Resends, ResendsAt}
 
--- ---- a peer that is held, with what lies below
+-- ---- a peer, with the queues below
 
 pub record Below (state : State) : Type 0 where
   pub held : Held
@@ -41,7 +41,7 @@ below_of (CookieWait wait) some = absurd (cc)
 below_of (CookieEchoed echoed) some = record { held = held_of echoed.tcb; transfer = echoed.tcb.transfer; holds = refl; below = refl }
 below_of (Open opened) some = record { held = held_of opened.tcb; transfer = opened.tcb.transfer; holds = refl; below = refl }
 
--- ---- what goes out at once changes little
+-- ---- what is sent at once changes little
 
 pub record IsPlain (e : Endpoint) (o : Outcome) : Type 0 where
   pub words : o.words ≡ []
@@ -58,7 +58,7 @@ fast_plain false e held transfer o h = subst (IsPlain e) (sym h) (record { words
 fast_plain true e held transfer o h =
     subst (IsPlain e) (sym h.is) (out_plain e (record transfer { retransmission = h.left }) (draft_to held).with_checksum (draft_to held).packet.tag (plain_contents h.chunks))
 
--- ---- behind it comes a flush
+-- ---- a flush comes after it
 
 at_held : (e : Endpoint) (peer : Option Held) (found : Option Transfer) (held : Held) (transfer : Transfer) (o : Outcome) → peer ≡ Some held → found ≡ Some transfer → GoesAtOnce e peer found o
     → FastRetransmits (has_fast_retransmit transfer.retransmission) e held transfer o

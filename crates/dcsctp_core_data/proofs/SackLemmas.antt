@@ -40,7 +40,7 @@ use Rattle.dcsctp_core_data.proofs.TakingLemmas.{tries_one}
 use Rattle.dcsctp_core_data.proofs.ResendLemmas.{Below, below_of}
 use Rattle.dcsctp_core_data.proofs.ProceedLemmas.{some_proceeds}
 
--- what is told of messages that were delivered, as the user gets it
+-- the events of messages that were delivered, as the user gets them
 told_one : (ports : Ports) (name : Option ℕ) (ends : Bool) → map (user_event ports) (lifecycle_events_by name ends) ≡ lifecycle_events_by name ends
 told_one ports None ends = refl
 told_one ports (Some id) true = refl
@@ -58,7 +58,7 @@ told_delivered ports tsn state = told_items ports (take (acknowledged_count stat
 
 -- ---- where it is valid
 
--- the turn where a peer is held, by whether the SACK is valid
+-- the turn with a peer, by whether the SACK is valid
 turn_at : (e : Endpoint) (peer : Option Held) (found : Option Transfer) (held : Held) (transfer : Transfer) (sack : SackContent) (b : Bool) (o : Outcome) → peer ≡ Some held → found ≡ Some transfer
     → is_sack_valid transfer.retransmission sack.cumulative_tsn_ack ≡ b → SackWhere b e held transfer sack o → peer ≡ held_in e.core → SackTurn e found sack o
 turn_at e peer found held transfer sack b o holds below valid h core =
@@ -135,7 +135,7 @@ with_both old state events = record (view_of (record old { state = state })) { e
 abbrev heeded : {R : Type 0} → Bool → View R → View R
 heeded shows view = record view { endpoint = record view.endpoint { error_count = if shows then 0 else view.endpoint.error_count } }
 
--- the window that a SACK tells counts from then on
+-- the window that a SACK reports counts from then on
 timed_window : (round_trip : Option ℕ) (transfer : Transfer) → (timed_by round_trip transfer).retransmission.peer_window ≡ transfer.retransmission.peer_window
 timed_window None transfer = refl
 timed_window (Some measured) transfer = refl

@@ -54,8 +54,8 @@ fn emit_no_user_data<R: Rng>(
     Ok(())
 }
 
-// Tells the peer, if it is known, that its data has no payload. `Err`: an allocation failed, and nothing has
-// changed.
+// Reports to the peer, if it is known, that its data has no payload. `Err`: an allocation failed, and nothing
+// has changed.
 fn tell_no_user_data<R: Rng>(context: &mut Context<R>, tsn: u32) -> Result<(), AllocError>
     ensures { Tries R.stream (empty_data_turn tsn) context.old result context.new }
 {

@@ -60,7 +60,7 @@ fn resend<R: Rng>(context: &mut Context<R>) -> Result<(), AllocError>
     Ok(())
 }
 
-// A shutdown that waited for the acknowledgement goes on; then what was lost is sent, and what waits. `Err`:
+// A shutdown that waited for the acknowledgement continues; then what was lost is sent, and what waits. `Err`:
 // an allocation failed; the first of its events may already have been added.
 fn proceed<R: Rng>(context: &mut Context<R>) -> Result<(), AllocError>
     ensures { ProceedsWhereHeld R.stream context.old result context.new }
@@ -72,7 +72,7 @@ fn proceed<R: Rng>(context: &mut Context<R>) -> Result<(), AllocError>
 
 /// Handles a SACK (RFC 9260, sections 6.2.1, 7.2.4 and 8.1). What it acknowledges is no longer in flight, and
 /// shows that the peer is there. What was lost is sent again, at once or in the flush after it. Before that,
-/// a shutdown goes on that waits for the last acknowledgement (section 9.2). An old SACK, or one of a TSN
+/// a shutdown that waits for the last acknowledgement continues (section 9.2). An old SACK, or one of a TSN
 /// that was never sent, changes nothing. Without an association it is reported.
 ///
 /// `Err`: an allocation failed; the first of its events may already have been added.

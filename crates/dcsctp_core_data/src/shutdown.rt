@@ -41,7 +41,7 @@ fn heeds_shutdown<R: Rng>(context: &Context<R>, cumulative_tsn_ack: u32) -> bool
     }
 }
 
-// The receive window that the peer told last; 0 without a peer.
+// The receive window that the peer reported last; 0 without a peer.
 fn peer_window(state: &State) -> u32
     ensures { result ≡ window_of (transfer_of state.now) }
 {
@@ -52,7 +52,7 @@ fn peer_window(state: &State) -> u32
 }
 
 // The peer shuts the association down, and this is acknowledged: as by a SACK without gaps, with the window
-// that was told last.
+// that was reported last.
 //
 // `Err`: an allocation failed; the first of its events may already have been added.
 fn acknowledge_and_receive<R: Rng>(

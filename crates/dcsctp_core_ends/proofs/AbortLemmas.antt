@@ -1,4 +1,4 @@
--- The own end aborts the association: an ABORT goes out if there is a peer, and the association ends.
+-- This end aborts the association: an ABORT is sent if there is a peer, and the association ends.
 use Rattle.std.proofs.Common.{◌≡◌, ℕ, Bool, true, false, cond, List, [], ◌∷◌, refl, sym, ap, ◌∙◌}
 use Rattle.std.proofs.lemmas.List.{append-nil}
 use Rattle.rand_core.specs.Stream.{Stream}

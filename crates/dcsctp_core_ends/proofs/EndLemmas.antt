@@ -1,4 +1,4 @@
--- SHUTDOWN COMPLETE goes out, and the association ends.
+-- SHUTDOWN COMPLETE is sent, and the association ends.
 use Rattle.std.proofs.Common.{◌≡◌, true, false, Option, Some, [], ◌∷◌, refl, sym, ap, subst, ◌∙◌}
 use Rattle.std.proofs.lemmas.List.{append-nil}
 use Rattle.rand_core.specs.Stream.{Stream}
@@ -41,7 +41,7 @@ ends_after_sent stream a b c emission event runs first second =
     (ap (λ (e : Endpoint). let out : Outcome = record { words = []; effects = ends ∷ []; after = closed_after e; events = sent emission ∷ event ∷ []; following = dropped_rest } in out) (sym first.endpoint))
     m
 
--- ---- to the peer that is held
+-- ---- to the peer of the association
 
 abbrev pub complete_to : Held → Emission
 complete_to held = to_peer held (shutdown_complete false)

@@ -1,4 +1,4 @@
--- What is known of T2 where it goes on.
+-- What is known of T2 when it runs again.
 use Rattle.std.proofs.Common.{◌≡◌, ℕ, Bool, true, false, Option, None, Some, List, refl, sym, subst}
 use Rattle.dcsctp_core.specs.spec.endpoint.Event.{Event}
 use Rattle.dcsctp_core.specs.spec.endpoint.Timers.{RunningTimer, is_timer_expired, is_restarted}
@@ -17,7 +17,7 @@ again_both true true is = (refl, refl)
 again_both true false is = absurd (cc)
 again_both false restarts is = absurd (cc)
 
--- It is due, and goes on.
+-- It is due, and runs again.
 again_is : (moment : ℕ) (t2 : Option RunningTimer) → Again ≡ expiry_of moment t2 → (has_come moment (deadline_of t2) ≡ true) × (has_restart t2 ≡ true)
 again_is moment None is = absurd (cc)
 again_is moment (Some timer) is = again_both (is_timer_expired moment timer) (is_restarted timer) is

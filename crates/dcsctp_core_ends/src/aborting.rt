@@ -35,7 +35,7 @@ fn text_of(reason: AbortReason) -> &'static str
     }
 }
 
-// The cause that the peer is told.
+// The cause that is sent to the peer.
 fn cause_of(reason: AbortReason) -> ErrorCause<'static>
     ensures { cause_content result ∷ [] ≡ causes_of reason }
 {

@@ -11,7 +11,7 @@ use dcsctp_core::{Context, State};
 use rand_core::Rng;
 use std::alloc::AllocError;
 
-/// Handles an ERROR: the user is told the texts of its causes, if the peer is known. Else nothing happens.
+/// Handles an ERROR: the texts of its causes are reported to the user, if the peer is known. Else nothing happens.
 ///
 /// `Err`: an allocation failed, and nothing has changed.
 pub fn handle_error<R: Rng>(

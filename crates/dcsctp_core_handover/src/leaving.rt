@@ -8,7 +8,7 @@ use dcsctp_core::{Context, OpenPhase, State};
 use rand_core::Rng;
 use std::alloc::AllocError;
 
-/// Ends the association with OnClosed, and the peer isn't told. One that isn't established is unchanged.
+/// Ends the association with OnClosed, without a packet to the peer. One that isn't established is unchanged.
 ///
 /// `Err`: an allocation failed, and nothing has changed.
 pub fn hand_over<R: Rng>(context: &mut Context<R>) -> Result<(), AllocError>

@@ -1,5 +1,5 @@
 //! A socket that is handed over to another process: what its snapshot has, how its association leaves, and how
-//! a socket there goes on with it.
+//! a socket there continues with it.
 #![tactic(auto)]
 
 mod leaving;

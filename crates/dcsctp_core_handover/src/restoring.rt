@@ -1,4 +1,4 @@
-//! How a socket goes on from a snapshot.
+//! How a socket continues from a snapshot.
 
 ghost use Rattle.std.specs.Prelude.{◌≡◌, true, IfOk};
 ghost use Rattle.dcsctp_core.specs.spec.endpoint.Endpoint.{closed};
@@ -55,7 +55,7 @@ fn peer_pair(state: &SocketHandoverState) -> Pair
     }
 }
 
-// Was an own request to reset streams begun? The number of the first is that of our first TSN.
+// Was a request of ours to reset streams begun? The number of the first is that of our first TSN.
 fn was_reset(state: &SocketHandoverState) -> bool
     ensures { result ≡ was_reset (snapshot state.now) }
 {
@@ -86,7 +86,7 @@ fn restored_association(
     Ok(tcb)
 }
 
-/// A closed socket goes on with the association of the snapshot, and with what waits there. The event is
+/// A closed socket continues with the association of the snapshot, and with what waits there. The event is
 /// OnConnected. `Err`: an allocation failed, and no event was added.
 pub fn restore<R: Rng>(
     context: &mut Context<R>,

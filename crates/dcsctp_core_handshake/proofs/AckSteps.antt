@@ -59,7 +59,7 @@ none_by_tcb (CookieWait wait) kept = refl
 none_by_tcb (CookieEchoed echoed) kept = absurd (cc)
 none_by_tcb (Open opened) kept = absurd (cc)
 
--- any answers to the peer that is held, where one is
+-- any answers to the peer, if there is one
 any_acknowledged : (e : Endpoint) (peer : Option Held) → (answers : List Answer) × AcknowledgedAnswers e peer answers
 any_acknowledged e None = ([], refl)
 any_acknowledged e (Some held) = any_answers first_ask (packets_allowed e.options.max_burst e.core) e (cookie_ack_to held)

@@ -94,9 +94,9 @@ association_unmade stream old es cookie queue events same =
     let o : Outcome = establish_by (flush_answered some.0) old.endpoint cookie queue tie events in
     record { outcome = o; turn = (some.0, some.1, refl); cut = cut_first old o es same }
 
--- ---- where no peer is held
+-- ---- without a peer
 
--- what stands once it is made: a word was drawn, and OnConnected was added
+-- what holds once it is made: a word was drawn, and OnConnected was added
 abbrev Made : {R : Type 0} → Context R → List SocketEvent → Cookie → ℕ → View R → Type 0
 Made drawn added cookie tie mid = mid ≡ record (view_of (record drawn { events = added })) { endpoint = established_with (endpoint_of (record drawn { events = added })) cookie tie }
 
@@ -164,7 +164,7 @@ replaces_cut {R = R} stream old mid es cookie is t =
       cut = record { count = here.cut.count; added = here.cut.added };
     }
 
--- ---- a restart: in place of another, behind its event
+-- ---- a restart: in place of another, after its event
 
 abbrev behind_it : Outcome → Outcome
 behind_it o = behind [] (connection_restarted ∷ []) o

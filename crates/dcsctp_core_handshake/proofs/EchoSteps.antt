@@ -111,7 +111,7 @@ works_restart stream old (Err error) new header bytes cookie c t =
       cut = t.cut;
     }
 
--- ---- the association is held: the cookie's addressee is the peer
+-- ---- the existing association is kept: the cookie's addressee is the peer
 
 is_of_peer : (a b c d : Bool) → maintain_existing ≡ case_by a b c d → b ≡ true
 is_of_peer false false true zero is = absurd (cc)

@@ -1,4 +1,4 @@
--- A flush as a part of a turn: behind the words and events of its handler.
+-- A flush as a part of a turn: after the words and events of its handler.
 use Rattle.std.proofs.Common.{◌≡◌, List, [], ◌∷◌, refl}
 use Rattle.rand_core.specs.Stream.{Stream}
 use Rattle.dcsctp_core.specs.spec.Packet.{Emission}
@@ -8,11 +8,11 @@ use Rattle.dcsctp_core.specs.spec.endpoint.Following.{next_chunk}
 use Rattle.dcsctp_core.specs.spec.endpoint.FlushOutcomes.{Answer, asked, next_draft, flush_of}
 use Rattle.dcsctp_core.specs.View.{View, Moves}
 
--- behind nothing
+-- after nothing
 pub moves_flushed : {R : Type 0} (stream : R → Stream) (a b : View R) (o : Outcome) → Moves stream a o b → Moves stream a (behind [] [] o) b
 moves_flushed stream a b o m = record { endpoint = m.endpoint; events = m.events; words = m.words; pairs = m.pairs; drawn = m.drawn }
 
--- The next chunk is worked behind it.
+-- The next chunk is handled after it.
 pub flush_following : (e : Endpoint) (draft : Emission) (answers : List Answer) → (flush_of e draft answers).following ≡ next_chunk
 flush_following e draft [] = refl
 flush_following e draft (answer ∷ answers) = flush_following (asked e draft answer).after (next_draft e.core draft) answers

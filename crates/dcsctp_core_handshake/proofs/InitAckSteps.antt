@@ -137,7 +137,7 @@ echo_unmade old es same =
     let o : Outcome = echo_by (flush_answered some.0) old.endpoint old.endpoint.core in
     record { outcome = o; turn = (some.0, some.1, refl); cut = cut_first old o es same }
 
--- ---- behind the word of a new association
+-- ---- after the word of a new association
 
 behind_where : (b : Bool) (answers : List Answer) (e : Endpoint) (word : Word) (tag : ℕ) (cookie : List ℕ)
     → behind (word ∷ []) [] (cond b (flush_answered answers e [] [] true tag (cookie_echo cookie ∷ [])) (quiet e [] []))

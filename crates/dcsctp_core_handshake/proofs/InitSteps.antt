@@ -1,4 +1,4 @@
--- The steps of an INIT: where a SHUTDOWN ACK waits for its answer, it goes out again.
+-- The steps of an INIT: while a SHUTDOWN ACK waits for its answer, it is sent again.
 use Rattle.std.proofs.Common.{◌≡◌, ◌≤◌, ◌+◌, ℕ, Bool, true, cond, [], sym, ap, subst, ◌∙◌, arith}
 use Rattle.std.specs.Prelude.{nat_le}
 use Rattle.std.proofs.lemmas.Bool.Decides.{nat_tests}

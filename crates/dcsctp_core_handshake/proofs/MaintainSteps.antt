@@ -1,4 +1,4 @@
--- The steps of an association that is held: it is established where its COOKIE ACK is awaited, and a flush follows.
+-- The steps for an existing association that is kept: it is established if its COOKIE ACK is awaited, and a flush follows.
 use Rattle.std.proofs.Common.{◌≡◌, ℕ, Option, Some, List, [], ◌∷◌, ◌++◌, refl, sym, ap, subst, ◌∙◌}
 use Rattle.std.proofs.lemmas.List.{append-nil}
 use Rattle.rand_core.specs.Stream.{Stream}
@@ -54,7 +54,7 @@ connected_view {R = R} old events state echoed mid was added is made =
       generator = ap (λ (v : View R). v.generator) made;
     }
 
--- a turn behind that
+-- a turn after that
 connects_behind : {R : Type 0} (stream : R → Stream) (old mid new : View R) (mine : Pair) (held : Held) (o : Outcome) → IsConnected old mine held mid
     → Moves stream mid o new → Moves stream old (noting (connects (identity_of mine held) ∷ []) (behind [] (connected ∷ []) o)) new
 connects_behind {R = R} stream old mid new mine held o c m =
@@ -135,7 +135,7 @@ cookie_ack_none stream view core is allowed nothing =
       moves = subst (λ (o : Outcome). Moves stream view o view) (sym nothing) (moves_still stream view);
     }
 
--- ---- the association that is held is acknowledged
+-- ---- the existing association is acknowledged
 
 maintain_turn : (e : Endpoint) (core : Core) (answers : List Answer) → e.core ≡ core → MaintainedAnswers e core answers
     → MaintainedAnswers e e.core answers × (maintained_by (flush_answered answers) e core ≡ maintained_by (flush_answered answers) e e.core)
@@ -196,7 +196,7 @@ maintains_open_cut {R = R} old es phase mine held is t =
     let turn = maintain_turn old.endpoint (open_in phase mine held) answers is a.allowed in
     record { outcome = acknowledges_by (flush_answered answers) old.endpoint held []; turn = (answers, turn.0, turn.1); cut = subst (λ (o : Outcome). CutTurn old o es) a.is t.cut }
 
--- where no peer is held
+-- without a peer
 pub maintains_none : {R : Type 0} (stream : R → Stream) (view : View R) (core : Core) → view.endpoint.core ≡ core → MaintainedAnswers view.endpoint core []
     → maintained_by (flush_answered []) view.endpoint core ≡ still view.endpoint → TakesPossibleTurn stream MaintainAt view view
 maintains_none stream view core is allowed nothing =

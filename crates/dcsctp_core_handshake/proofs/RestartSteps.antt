@@ -76,7 +76,7 @@ refusal_packet options held causes empty first packet cause was one two =
     ∙ ap (λ (b : Building). record b { body = (b.body ++ ack_bytes) ++ error_bytes }) was
     ∙ ap (λ (rest : List ℕ). record (empty_packet options (held.capabilities.zero_checksum_method.0 == 0) held.peer.tag) { body = ack_bytes ++ rest }) (sym (append-nil error_bytes))
 
--- It goes out.
+-- It is sent.
 refusal_sent : {R : Type 0} (old mid : View R) (held : Held) (packet : Building) (is_sent : Bool) → packet ≡ packet_for old.endpoint.options (shutting_down_emission held)
     → is_sent ≡ not (is_none packet.body) → mid ≡ sent_where is_sent packet old
     → mid ≡ record old { endpoint = packet_counted old.endpoint; events = old.events ++ sent (emission_bytes (ports_of old.endpoint.options) (shutting_down_emission held)) ∷ [] }
@@ -141,7 +141,7 @@ refused_where flush e cookie tie (open_in shutdown_sent mine held) waits = absur
 refused_where flush e cookie tie (open_in shutdown_received mine held) waits = absurd (cc)
 refused_where flush e cookie tie (open_in shutdown_ack_sent mine held) waits = (refl, refl)
 
--- None does: the association is made anew.
+-- None does: the association is restarted.
 anew_where : (flush : FlushKind) (e : Endpoint) (cookie : Cookie) (tie : ℕ) (core : Core) (answers : List Answer) → awaits_complete core ≡ false → EstablishAnswers e cookie (queue_begun e cookie) tie answers
     → RestartAnswers e cookie tie core answers × (restart_by flush e cookie tie ≡ restart_by_where flush e cookie tie core)
 anew_where flush e cookie tie closed answers waits h = (h, refl)

@@ -1,4 +1,4 @@
--- What is known of T1 where its handler goes on or gives up.
+-- What is known of T1 when its handler restarts it or gives up.
 use Rattle.std.proofs.Common.{◌≡◌, ℕ, Bool, true, false, cond, Option, None, Some, List, [], refl, sym, ap, subst, ◌∙◌}
 use Rattle.std.specs.Option.{option_map}
 use Rattle.rand_core.specs.Stream.{Stream}
@@ -39,7 +39,7 @@ goes_on true true timer next d r = refl
 goes_on true false timer next d r = absurd (cc)
 goes_on false restarts timer next d r = absurd (cc)
 
--- It is due, and goes on.
+-- It is due, and runs again.
 pub record IsAgain (moment : ℕ) (t1 : Option RunningTimer) : Type 0 where
   pub due : has_come moment (deadline_of t1) ≡ true
   pub restarts : has_restart t1 ≡ true
@@ -56,12 +56,12 @@ gave_up_both true true is = absurd (cc)
 gave_up_both true false is = (refl, refl)
 gave_up_both false restarts is = absurd (cc)
 
--- It is due, and doesn't go on.
+-- It is due, and doesn't run again.
 gave_up_is : (moment : ℕ) (t1 : Option RunningTimer) → GaveUp ≡ expiry_of moment t1 → (has_come moment (deadline_of t1) ≡ true) × (has_restart t1 ≡ false)
 gave_up_is moment None is = absurd (cc)
 gave_up_is moment (Some timer) is = gave_up_both (is_timer_expired moment timer) (is_restarted timer) is
 
--- ---- the packet goes out again
+-- ---- the packet is sent again
 
 -- a turn of it, by the association
 pub again_turn : {R : Type 0} (view : View R) (core : Core) (answers : List Answer) → view.endpoint.core ≡ core → AgainAnswers view.endpoint core answers
@@ -110,11 +110,11 @@ again_echo_cut old es mine held cookie is t = record { outcome = t.outcome; turn
 
 -- ---- the turn of T1
 
--- the socket once T1 was told the moment
+-- the socket once T1 was advanced to the moment
 abbrev pub told : {R : Type 0} → Context R → Context R
 told old = record old { state = t1_told old.moment old.state }
 
--- T1 goes on there.
+-- T1 runs again there.
 told_at : {R : Type 0} (old : Context R) (state : State) → Again ≡ expiry_of old.moment (t1_of state)
     → endpoint_of (record old { state = t1_told old.moment state }) ≡ t1_goes_on (endpoint_of (record old { state = state }))
 told_at old Closed is = absurd (cc)
@@ -126,7 +126,7 @@ told_at old (CookieEchoed echoed) is =
     ap (λ (t1 : Option RunningTimer). record e { timers = record e.timers { t1 = t1 } }) (again_is old.moment echoed.t1_cookie.running is).running
 told_at old (Open opened) is = absurd (cc)
 
--- the turn of a packet that goes out again there
+-- the turn of a packet that is sent again there
 again_expiry : {R : Type 0} (old : Context R) (o : Outcome) → Again ≡ expiry_of old.moment (t1_of old.state) → AgainAt (view_of (told old)) o → ExpiryTurn t1_timer (view_of old) o
 again_expiry old o is turn =
     let e : Endpoint = endpoint_of old in
@@ -162,7 +162,7 @@ t1_again_cut old es is t = (
   },
 )
 
--- ---- the association is given up
+-- ---- the handshake is given up
 
 gives_up_at : {R : Type 0} (stream : R → Stream) (old : Context R) (state : State) (new : View R) → GaveUp ≡ expiry_of old.moment (t1_of state)
     → Moves stream (view_of (record old { state = t1_told old.moment state })) (t1_gives_up_outcome (endpoint_of (record old { state = t1_told old.moment state })) (core_of (t1_told old.moment state))) new

@@ -71,7 +71,7 @@ fn establish<R: Rng>(context: &mut Context<R>, cookie: &StateCookie) -> Result<(
     Ok(())
 }
 
-/// Makes the association that a cookie shows instead of the existing one. What waits to be sent starts anew.
+/// Makes the association that a cookie shows instead of the existing one. What waits to be sent starts over.
 ///
 /// `Err`: an allocation failed; the first of its events may already have been added.
 fn replace<R: Rng>(context: &mut Context<R>, cookie: &StateCookie) -> Result<(), AllocError>
@@ -84,7 +84,7 @@ fn replace<R: Rng>(context: &mut Context<R>, cookie: &StateCookie) -> Result<(),
 }
 
 /// Makes the association that a cookie shows where there is none. What waits to be sent is kept; with
-/// `Options::follow_rfc` its numbers start anew (RFC 9260, section 6.5).
+/// `Options::follow_rfc` its numbers start again (RFC 9260, section 6.5).
 ///
 /// `Err`: an allocation failed; the first of its events may already have been added.
 fn establish_new<R: Rng>(context: &mut Context<R>, cookie: &StateCookie) -> Result<(), AllocError>
@@ -98,7 +98,7 @@ fn establish_new<R: Rng>(context: &mut Context<R>, cookie: &StateCookie) -> Resu
     }
 }
 
-/// Makes the association anew, since the peer began it anew.
+/// Restarts the association, since the peer restarted it.
 ///
 /// `Err`: an allocation failed; the first of its events may already have been added.
 fn restart<R: Rng>(context: &mut Context<R>, cookie: &StateCookie) -> Result<(), AllocError>
@@ -155,7 +155,7 @@ fn awaits_complete(state: &State) -> bool
     }
 }
 
-// Makes the association anew, unless a SHUTDOWN ACK waits for its answer.
+// Restarts the association, unless a SHUTDOWN ACK waits for its answer.
 //
 // `Err`: an allocation failed; the first of its events may already have been added.
 fn restart_where_open<R: Rng>(

@@ -18,7 +18,7 @@ pub enum CookieResolution {
     /// The peer isn't known, and the association is made.
     EstablishNew,
 
-    /// The peer began anew.
+    /// The peer restarted.
     RestartDetected,
 
     /// Both sides began at the same time.

@@ -51,7 +51,7 @@ fn send_heartbeat<R: Rng>(context: &mut Context<R>) -> Result<(), AllocError>
     Ok(())
 }
 
-/// Advances the heartbeat interval to the present moment, and returns whether it expires. If so, it goes on,
+/// Advances the heartbeat interval to the present moment, and returns whether it expires. If so, it runs again,
 /// and a HEARTBEAT is sent to the peer, if it is known.
 ///
 /// `Err`: an allocation failed; the first of its events may already have been added.

@@ -30,7 +30,7 @@ pub all_options : (e : Endpoint) (messages : List Sending) → (queue_all e mess
 all_options e [] = refl
 all_options e (message ∷ messages) = all_options (queue_one e message).after messages ∙ one_options e message
 
--- ---- a turn behind another that was cut
+-- ---- a turn that was cut, after another one
 
 pub cut_next : {R : Type 0} (stream : R → Stream) (a b : View R) (o p : Outcome) (events : List (Event (List ℕ))) → o.after.options ≡ a.endpoint.options
     → Moves stream a o b → CutTurn b p events → CutTurn a (then_outcome o p) events
@@ -41,7 +41,7 @@ cut_next stream a b o p events same m cut =
 
 -- ---- one message of some
 
--- a growth was refused behind it
+-- an allocation failed after it
 pub one_stopped : {R : Type 0} (stream : R → Stream) (message : Sending) (here next : View R) → Moves stream here (queue_one here.endpoint message) next → CutTurn here (queue_one here.endpoint message) next.events
 one_stopped stream message here next m =
     let one : Outcome = queue_one here.endpoint message in
@@ -67,7 +67,7 @@ goes_from_start stream all start queued none not_taken =
 
 module _ {R : Type 0} (stream : R → Stream) (all : List Sending) (start : View R) (place : ℕ) (queued : QueuedAll) (message : Sending) (left : List Sending) (here : View R)
     (g : GoesOn stream all start place queued (message ∷ left) here) where
-  -- behind a message
+  -- after a message
   next_moves : (next : View R) → Moves stream here (queue_one here.endpoint message) next
       → (new : View R) → Moves stream next (queue_all next.endpoint left) new → Moves stream start (queue_all start.endpoint all) new
   next_moves next m new n =
@@ -127,7 +127,7 @@ module _ {R : Type 0} (stream : R → Stream) (all : List Sending) (start : View
       → Moves stream here (queue_one here.endpoint message) next → GoesOn stream all start (place + 1) queued_then left next
   goes_next queued_then next noted m = goes_where (sending_refusal here.endpoint message) refl queued_then next noted m
 
-  -- a growth was refused within the message
+  -- an allocation failed within the message
   pub goes_cut : (events : List (Event (List ℕ))) → CutTurn here (queue_one here.endpoint message) events → CutTurn start (queue_all start.endpoint all) events
   goes_cut events cut =
       let one : Outcome = queue_one here.endpoint message in

@@ -1,4 +1,4 @@
--- What is told of a message that is refused: its end first.
+-- The events of a message that is refused: its end first.
 use Rattle.std.proofs.Common.{◌≡◌, Option, None, Some, [], ◌∷◌, ◌++◌, refl, ap, ◌∙◌}
 use Rattle.std.specs.Option.{option_map}
 use Rattle.rand_core.specs.Stream.{Stream}
@@ -15,7 +15,7 @@ events_in_parts : (refusal : MessageRefusal) (id : Option LifecycleId)
 events_in_parts refusal None = refl
 events_in_parts refusal (Some id) = refl
 
--- its end was told, and then a growth was refused
+-- its end was reported, and then an allocation failed
 pub told_in_part : {R : Type 0} (stream : R → Stream) (refusal : MessageRefusal) (id : Option LifecycleId) (old mid new : View R) → Moves stream old (end_turn id old) mid → new ≡ mid
     → CutTurn old (message_refusal_turn refusal id old) new.events
 told_in_part {R = R} stream refusal id old mid new m same =

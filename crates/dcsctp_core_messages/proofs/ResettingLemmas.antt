@@ -1,4 +1,4 @@
--- Own streams that are prepared to be reset, one after another, and then a flush.
+-- Our own streams that are prepared to be reset, one after another, and then a flush.
 use Rattle.std.proofs.Common.{◌≡◌, ℕ, Option, None, Some, Result, Ok, Err, List, [], ◌∷◌, ◌++◌, length, map, take, refl, sym, ap, subst, ◌∙◌}
 use Rattle.std.proofs.lemmas.List.{append-nil}
 use Rattle.std.proofs.Math.Seq.{take-append_seam}
@@ -29,7 +29,7 @@ use Rattle.dcsctp_core_messages.proofs.SendingLemmas.{any_to}
 -- ---- one stream
 
 module _ {R : Type 0} (stream : R → Stream) (id : ℕ) (a : View R) where
-  -- what the user is told of it
+  -- the user's events of it
   user_told : prepare_events id a.endpoint.queues.queue ≡ map (user_event (ports_of a.endpoint.options)) (prepare_events id a.endpoint.queues.queue)
   user_told = sym (prepare_mapped (emission_bytes (ports_of a.endpoint.options)) id a.endpoint.queues.queue)
 
@@ -169,7 +169,7 @@ module _ {R : Type 0} (stream : R → Stream) (ids : List ℕ) (a : View R) wher
         moves = moves_next stream a b c h.outcome k.outcome (some_options ids a.endpoint h.outcome h.turn) h.moves k.moves;
       }
 
-  -- a growth was refused while they were prepared
+  -- an allocation failed while they were prepared
   pub resets_cut : (events : List (Event (List ℕ))) → None ≡ reset_refusal a.endpoint → CutIn (SomeAt ids) a events → CutIn (ResetsAt ids) a events
   resets_cut events is h =
       let any = any_flush h.outcome.after in

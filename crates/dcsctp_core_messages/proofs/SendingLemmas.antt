@@ -70,7 +70,7 @@ sent_without stream messages a b taken m =
           (subst (λ (e : Endpoint). Moves stream b (still e) b) m.endpoint (moves_still stream b));
     }
 
--- a growth was refused while they were queued
+-- an allocation failed while they were queued
 pub send_cut : {R : Type 0} (messages : List Sending) (a : View R) (events : List (Event (List ℕ))) → CutTurn a (queue_all a.endpoint messages) events → CutIn (SendAt messages) a events
 send_cut messages a events cut =
     let queued : Outcome = queue_all a.endpoint messages in

@@ -60,7 +60,7 @@ pub(crate) fn queue_message<R: Rng>(
     }
 }
 
-// Takes the message of this place or refuses it, and notes which.
+// Takes the message of this place or refuses it, and records which.
 //
 // `Err`: an allocation failed; the first of its events may already have been added.
 fn queue_at<R: Rng>(

@@ -1,4 +1,4 @@
-//! Messages that are refused: why, and what the user is told.
+//! Messages that are refused: why, and what is reported to the user.
 
 ghost use Rattle.std.specs.Prelude.{◌≡◌};
 ghost use Rattle.std.specs.Option.{option_map};
@@ -94,7 +94,7 @@ fn report_refusal<R: Rng>(context: &mut Context<R>, error: SendError) -> Result<
     Ok(())
 }
 
-/// Tells the user that a message of this name is refused: its end, if it has a name, and then why.
+/// Reports to the user that a message of this name is refused: its end, if it has a name, and then why.
 ///
 /// `Err`: an allocation failed; the first of its events may already have been added.
 pub(crate) fn tell_refusal<R: Rng>(

@@ -52,7 +52,7 @@ use Rattle.dcsctp_core_resets.proofs.RequestLemmas.{completed_is, resets_of, has
 use Rattle.dcsctp_core_resets.specs.Resets.{ReConfigAt, last_in, WorksFor, core_asked, asked_at, left_at, incoming_reset_events, DefersReset, DefersTo, TreatsReset, TreatsInQueues, core_settled, request_settled_at, own_reset_events, both_reset_events, handled_reset_events, responses_to, responses_turn, FinishAt}
 use Rattle.dcsctp_core_resets.proofs.SettlingLemmas.{none_numbered}
 
--- ---- the answers, and what waits behind them
+-- ---- the answers, and what waits after them
 
 -- An error in place of both.
 told_of_error : {R E : Type 0} (stream : R → Stream) (old : Context R) (result : Result (Unit {0}) E) (new : Context R) (held : Held) (parameters responses : List ResetParameter)
@@ -71,12 +71,12 @@ pub refused_finish : {R E : Type 0} (stream : R → Stream) (old : Context R) (r
 refused_finish stream old result new held b parameters responses is h =
     subst (λ (x : Bool). TakesOne stream (FinishAt held x parameters responses) old result new) (sym is) (told_of_error stream old result new held parameters responses h)
 
--- the flush where a peer is held
+-- the flush with a peer
 held_flush : (e : Endpoint) (peer : Option Held) (held : Held) (o : Outcome) → peer ≡ Some held → (answers : List Answer) × AnswersTo e peer answers × (o ≡ flush_by e peer answers)
     → (answers : List Answer) × AnswersTo e (Some held) answers × (o ≡ flush_by e (Some held) answers)
 held_flush e peer held o is turn = subst (λ (p : Option Held). (answers : List Answer) × AnswersTo e p answers × (o ≡ flush_by e p answers)) is turn
 
--- What goes out as an answer leaves the peer as it was, and draws nothing.
+-- What is sent as an answer leaves the peer as it was, and draws nothing.
 record Answers (e : Endpoint) (o : Outcome) : Type 0 where
   held : held_in o.after.core ≡ held_in e.core
   ports : ports_of o.after.options ≡ ports_of e.options
@@ -169,7 +169,7 @@ none_below true in_progress found = refl
 none_below false true found = refl
 none_below false false found = refl
 
--- Nothing below has changed, and nothing is told.
+-- Nothing below has changed, and there is no event.
 pub untreated : {R : Type 0} (view : View R) → view ≡ left_at view view.endpoint.queues.transfer []
 untreated view = ap (λ (es : List (Event (List ℕ))). let v : View _ = record view { events = es } in v) (sym (append-nil view.events))
 
@@ -260,7 +260,7 @@ tcb_holds (CookieWait wait) tcb is = absurd (cc)
 tcb_holds (CookieEchoed echoed) tcb is = ap (λ (t : Option TransmissionControlBlock). option_map held_of t) is
 tcb_holds (Open opened) tcb is = ap (λ (t : Option TransmissionControlBlock). option_map held_of t) is
 
--- The answers go out, or a growth was refused.
+-- The answers are sent, or an allocation failed.
 some_sent : {R E : Type 0} (stream : R → Stream) (old : Context R) (result : Result (Unit {0}) E) (new : Context R) (held : Held) (response : ResetParameter) (responses : List ResetParameter) (with_checksum : Bool)
     → held_in (core_of old.state) ≡ Some held → with_checksum ≡ (held.capabilities.zero_checksum_method.0 == 0)
     → Emits with_checksum held.peer.tag (re_config_chunk (map reset_parameter_content (response ∷ responses))) old result new → Tries stream (responses_turn (response ∷ responses)) old result new
@@ -318,7 +318,7 @@ deferred_by {R = R} old (Err fault) new reset same = ap (λ (v : View R). v.even
 
 -- ---- all of it
 
--- a peer that is held, with the own request
+-- a peer that is known, with our own request
 pub record Peer (state : State) : Type 0 where
   pub my : Pair
   pub held : Held
@@ -407,7 +407,7 @@ reset_refused old p parameters events same =
     let any = any_turn (endpoint_of old) p.my p.held parameters in
     record { outcome = any.0; turn = p.turn (endpoint_of old) parameters any.0 any.1; cut = cut_first (view_of old) any.0 events same }
 
--- ---- what the machine makes of it
+-- ---- what the definitions make of it
 
 -- Without an outgoing request no stream is reset.
 incoming_resets : (held : Held) (number : ℕ) (place : RequestPlace) → has_reset (incoming_by held number place).effects ≡ false
@@ -447,7 +447,7 @@ chunk_unrequested : (my : Pair) (reached : Bool) (held : Held) (parameters : Lis
 chunk_unrequested my reached held [] none = refl
 chunk_unrequested my reached held (parameter ∷ parameters) none = unrequested my reached false held (parameter ∷ parameters) none
 
--- What the machine tells of the treatment is what is told.
+-- The treatment's events by the definitions are those that are added.
 abbrev Wanted : Treatment → Option RequestedReset → Type 0
 Wanted treatment reset = (ports : Ports) → map (user_event ports) (treated_events treatment (their_streams reset)) ≡ incoming_reset_events treatment reset
 
@@ -459,7 +459,7 @@ wanted Deferred (Some reset) none = λ ports. refl
 wanted Nothing None none = λ ports. refl
 wanted Nothing (Some reset) none = λ ports. refl
 
--- what is told of the own request, and of both
+-- the events of our own request, and of both
 own_user : (ports : Ports) (answer : requests.OwnAnswer) (streams : List ℕ) → map (user_event ports) (own_events answer streams) ≡ own_reset_events answer streams
 own_user ports own.Unanswered streams = refl
 own_user ports own.InProgress streams = refl
@@ -477,7 +477,7 @@ both_user ports false answer treatment reset streams w =
     ∙ ap (λ (es : List (Event (List ℕ))). es ++ map (user_event ports) (own_events answer streams)) (w ports)
     ∙ ap (λ (es : List (Event (List ℕ))). incoming_reset_events treatment reset ++ es) (own_user ports answer streams)
 
--- behind what the user is told
+-- after the user's events
 responses_behind : (refused : Bool) (e : Endpoint) (told : List (Event Emission)) (held : Held) (parameters responses : List ResetParameter) (answers : List Answer)
     → responses_by refused e told held parameters responses answers ≡ behind [] told (responses_by refused e [] held parameters responses answers)
 responses_behind true e told held parameters responses answers = refl
@@ -503,7 +503,7 @@ works_resets e my held parameters o h = record { left = h.0; below = h.1; answer
 abbrev WorkedAt : {R : Type 0} → Context R → List ResetParameter → HandledRequests → Type 0
 WorkedAt old parameters w = WorksFor (tcb_of old.state) parameters w
 
--- What the code keeps is what the machine makes of the parameters.
+-- What the code keeps is what the definitions make of the parameters.
 kept_is : {R : Type 0} (old : Context R) (p : Peer old.state) (parameters : List ResetParameter) (w : HandledRequests) (h : WorkedAt old parameters w)
     → parameters_handled_in (endpoint_of old) p.my p.held parameters ≡ kept_by p.held (h.effects p.my p.held) w
 kept_is old p parameters w h =
@@ -518,7 +518,7 @@ wanted_of old p parameters w h =
     (λ none. sym (h.treats p.my p.held).has ∙ ap (λ (x : HandledParameters). has_reset x.effects) (sym (kept_is old p parameters w h))
     ∙ chunk_unrequested p.my (is_request_reached (transfer_of old.state) (requested_in parameters)) p.held parameters none)
 
--- Nothing becomes of an own request where there is none.
+-- The only answer of the kind `unanswered` is `Unanswered`.
 kind_none : (answer : requests.OwnAnswer) → own_kind answer ≡ unanswered → answer ≡ own.Unanswered
 kind_none own.Unanswered is = refl
 kind_none own.InProgress is = absurd (cc)
@@ -540,11 +540,11 @@ carried_view old w parameters left =
 abbrev told_by : {R : Type 0} → Context R → HandledRequests → List ResetParameter → List (Event Emission)
 told_by old w parameters = both_answer_events w.is_own_first w.own w.treatment (their_streams (requested_in parameters)) (own_streams (outstanding_of old.state))
 
--- its outcome, from that of what comes behind
+-- its outcome, from that of what comes after
 abbrev all_of : List Effect → List (Event Emission) → Outcome → Outcome
 all_of effects told later = noting effects (behind [] told later)
 
--- where what comes behind begins
+-- where what comes after begins
 begins_there : (answer : OwnAnswer) (e : Endpoint) (asked core : Core) (left : Option Transfer) (held : Held) → core_settled answer asked ≡ core_with e.core held
     → (let moved : Endpoint = own_moved answer (record e { core = asked }) in record moved { core = core_settled answer asked; queues = record moved.queues { transfer = left } }) ≡ resets_handled e answer held left
 begins_there unanswered e asked core left held is = ap (λ (c : Core). let x : Endpoint = record e { core = c; queues = record e.queues { transfer = left } } in x) is
@@ -562,7 +562,7 @@ core_by old p parameters w h =
     p.settled (own_kind w.own) w.last
     ∙ ap (λ (n : Option ℕ). core_with (core_of old.state) (held_out n (held_with p.held w.last))) (ap (left_out (own_kind w.own)) (sym p.own) ∙ sym h.left)
 
--- what becomes of the own request
+-- what becomes of our own request
 kind_by : {R : Type 0} (old : Context R) (p : Peer old.state) (parameters : List ResetParameter) (w : HandledRequests) (h : WorkedAt old parameters w)
     → own_kind w.own ≡ answered_in p.held (kept_by p.held (h.effects p.my p.held) w) parameters
 kind_by old p parameters w h =
@@ -657,7 +657,7 @@ reset_cut old p parameters w h left below events second =
           (cut_behind (view_of old) (carried_view old w parameters left) [] told second.outcome events (adds_told old p parameters w h left) second.cut);
     }
 
--- by whether a growth was refused
+-- by whether an allocation failed
 pub reset_by : {R E : Type 0} (stream : R → Stream) (old mid : Context R) (p : Peer old.state) (parameters : List ResetParameter) (w : HandledRequests) → WorkedAt old parameters w → (left : Option Transfer)
     → TreatsInQueues w.treatment (requested_in parameters) (transfer_of old.state) left → view_of mid ≡ carried_view old w parameters left → (result : Result (Unit {0}) E) (new : Context R)
     → TakesOne stream (FinishAt (held_now p.held w) w.is_refused parameters (reset_parameters w.responses.items)) mid result new → TakesOne stream (ReConfigAt parameters) old result new
@@ -668,7 +668,7 @@ reset_by {R = R} stream old mid p parameters w h left below here (Err fault) new
     reset_cut old p parameters w h left below (view_of new).events
     (subst (λ (v : View R). CutIn (FinishAt (held_now p.held w) w.is_refused parameters (reset_parameters w.responses.items)) v (view_of new).events) here second)
 
--- The peer is held still.
+-- There still is a peer.
 pub still_held : {R : Type 0} (old mid : Context R) (p : Peer old.state) (w : HandledRequests) (parameters : List ResetParameter) (left : Option Transfer) → WorkedAt old parameters w
     → view_of mid ≡ carried_view old w parameters left → held_in (core_of mid.state) ≡ Some (held_now p.held w)
 still_held {R = R} old mid p w parameters left h here =
@@ -679,7 +679,7 @@ pub some_said : (responses : List Parameter) → (length responses == 0) ≡ fal
 some_said [] some = absurd (cc)
 some_said (response ∷ responses) some = refl
 
--- both requests were treated, behind the numbers
+-- both requests were treated, after the numbers
 pub carried_so : {R : Type 0} (old asked mid : Context R) (w : HandledRequests) (reset : Option RequestedReset) (parameters : List ResetParameter) → view_of asked ≡ asked_at w.last (view_of old)
     → reset ≡ requested_in parameters → CarriedAs w reset asked (view_of mid)
     → (left : Option Transfer) × TreatsInQueues w.treatment (requested_in parameters) (transfer_of old.state) left × (view_of mid ≡ carried_view old w parameters left)
@@ -694,7 +694,7 @@ carried_so {R = R} old asked mid w reset parameters here wanted h =
           ∙ ap (λ (r : Option RequestedReset). left_at (request_settled_at (own_kind w.own) (asked_at w.last (view_of old))) h.0 (told r)) wanted,
     )
 
--- What the user is told of both comes first.
+-- The user's events of both come first.
 told_first : (e : Endpoint) (my : Pair) (held : Held) (parameters : List ResetParameter) (o : Outcome) → WorksResets e my held parameters o
     → (more : List (Event Emission)) × (o.events ≡ reset_events_of e parameters (parameters_handled_in e my held parameters).effects ++ more)
 told_first e my held parameters o h =
@@ -704,7 +704,7 @@ told_first e my held parameters o h =
       ap (λ (x : Outcome). x.events) h.is ∙ ap (λ (x : Outcome). x.events) (responses_behind w.is_refused there (reset_events_of e parameters w.effects) w.held parameters w.answers h.answers),
     )
 
--- Where it was cut before both were told, a front part of what is told was added.
+-- If it was cut before both were reported, the first part of their events was added.
 pub carried_cut : {R : Type 0} (old asked mid : Context R) (p : Peer old.state) (w : HandledRequests) (reset : Option RequestedReset) (parameters : List ResetParameter) → WorkedAt old parameters w
     → view_of asked ≡ asked_at w.last (view_of old) → reset ≡ requested_in parameters → (count : ℕ) × ((view_of mid).events ≡ (view_of asked).events ++ take count (handled_reset_events w reset asked))
     → CutIn (ReConfigAt parameters) (view_of old) (view_of mid).events

@@ -1,4 +1,4 @@
--- An own request to reset streams is sent again: what the handler of its timer does is the turn of that timer.
+-- Our own request to reset streams is sent again: what the handler of its timer does is the turn of that timer.
 use Rattle.std.proofs.lemmas.List.{append-nil}
 use Rattle.std.specs.Prelude.{nat_le, if◌then◌else◌}
 use Rattle.std.proofs.Common.{◌≡◌, ◌==◌, ◌+◌, ◌%◌, ◌^◌, ◌<◌, ℕ, Bool, true, false, Option, None, Some, List, [], ◌∷◌, ◌++◌, length, flat_map, refl, sym, ap, subst, ◌∙◌, arith}
@@ -40,7 +40,7 @@ use Rattle.dcsctp_core_resets.proofs.HandlingLemmas.{tcb_holds, emitted_where, e
 
 -- ---- the packet
 
--- the request, as the machine keeps it
+-- the request, as the definitions keep it
 abbrev kept : ResetRequest → OutstandingRequest
 kept request = record { last_tsn = request.last_tsn; streams = stream_numbers request.streams.items; waits_for_retry = request.waits_for_retry }
 
@@ -74,7 +74,7 @@ again_is e peer asked held request number holds asks numbered =
     ∙ ap (λ (a : Option OutstandingRequest). request_again_outcome e (Some held) a) asks
     ∙ ap (λ (n : Option ℕ). request_emitted e held n (reset_again (Some request))) numbered
 
--- The packet went out, if it fits.
+-- The packet was sent, if it fits.
 again_sent : {R : Type 0} (stream : R → Stream) (old new : Context R) (tcb : TransmissionControlBlock) (request : ResetRequest) (with_checksum : Bool) (last_tsn : ℕ) (bytes : List ℕ)
     → tcb_of old.state ≡ Some tcb → tcb.reset_request ≡ Some request → with_checksum ≡ (tcb.capabilities.zero_checksum_method.0 == 0)
     → last_tsn ≡ request.last_tsn → last_tsn < 2 ^ 32 → AllByRecursion IsStream (stream_numbers request.streams.items) → bytes ≡ flat_map (to_be_bytes w16) (stream_numbers request.streams.items)
@@ -135,7 +135,7 @@ renewed_moves stream v held number content bytes true is =
     let m = emitted_where stream v (to_peer held content) bytes true is in record { endpoint = refl; events = m.events; words = m.words; pairs = m.pairs; drawn = m.drawn }
 renewed_moves stream v held number content bytes false is = let m = emitted_where stream v (to_peer held content) bytes false is in record { endpoint = refl; events = m.events; words = m.words; pairs = m.pairs; drawn = m.drawn }
 
--- what the handler leaves, by whether the packet went out
+-- what the handler leaves, by whether the packet was sent
 abbrev left_behind : {R : Type 0} → Bool → Bool → Context R → Context R
 left_behind b is_new mid = record mid { state = renumbered_where b is_new mid.state }
 
@@ -197,7 +197,7 @@ request_sent stream old mid tcb request with_checksum number last_tsn bytes b tr
 
 -- ---- the turn of the timer
 
--- Without a peer, or without a request, nothing goes out.
+-- Without a peer, or without a request, nothing is sent.
 no_peer : (b is_new : Bool) (e : Endpoint) → held_in e.core ≡ None → still e ≡ unless_outcome b is_new e
 no_peer true is_new e none = refl
 no_peer false false e none = sym (ap (λ (p : Option Held). request_again_outcome e p e.outstanding) none)
@@ -235,7 +235,7 @@ peerless (CookieWait wait) none = refl
 peerless (CookieEchoed echoed) none = absurd (cc)
 peerless (Open opened) none = absurd (cc)
 
--- The timer has expired, and what comes of that took place.
+-- The timer has expired, and what follows from that took place.
 pub expired_then : {R : Type 0} (stream : R → Stream) (old mid new : Context R) (b is_new : Bool) → is_new ≡ is_renewed (endpoint_of old) (outstanding_of old.state)
     → b ≡ is_timer_due (endpoint_of old) (own_timer reconfiguration) → b ≡ true
     → view_of mid ≡ where_expired b (request_over (endpoint_of old) (outstanding_of old.state)) (view_of old) → Moves stream (view_of mid) (unless_turn is_new (view_of mid)) (view_of new)
@@ -261,7 +261,7 @@ expired_then {R = R} stream old mid new b is_new renews answer comes left moves 
     same_ports None = refl
     same_ports (Some request) = refl
 
--- The timer has expired, and a growth was refused before anything was told.
+-- The timer has expired, and an allocation failed before any event was added.
 pub expired_cut : {R : Type 0} (old mid new : Context R) (b : Bool) → b ≡ is_timer_due (endpoint_of old) (own_timer reconfiguration) → b ≡ true
     → view_of mid ≡ where_expired b (request_over (endpoint_of old) (outstanding_of old.state)) (view_of old) → view_of new ≡ view_of mid
     → (is_timer_due (endpoint_of old) (own_timer reconfiguration) ≡ true) × CutIn (ExpiryTurn (own_timer reconfiguration)) (view_of old) (view_of new).events

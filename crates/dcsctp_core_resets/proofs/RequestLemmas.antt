@@ -1,4 +1,4 @@
--- What is made of the peer's requests, parameter by parameter, is what the machine makes of them.
+-- What the code makes of the peer's requests, parameter by parameter, is what the definitions make of them.
 use Rattle.std.proofs.Common.{◌≡◌, ◌&&◌, ◌⊎◌, inl, inr, ℕ, ◌+◌, ◌<◌, nat_eq, Bool, true, false, Option, None, List, [], ◌∷◌, ◌++◌, map, length, take, drop, get_or, refl, sym, subst, ap, ◌∙◌, append_assoc, arith, ◌==◌, ◌||◌, not, Some}
 use Rattle.std.proofs.lemmas.List.{append-nil, map-append, take_more, take-append-drop}
 use Rattle.std.proofs.lemmas.Bool.Decides.{nat_tests}
@@ -34,7 +34,7 @@ use Rattle.dcsctp_core.specs.spec.endpoint.ResetOutcomes as outcomes
 pub nothing_treats : IsTreatment Nothing [] []
 nothing_treats = record { has = refl; waits = refl; told = λ theirs own. refl; drawn = refl }
 
--- what effects come to one behind another
+-- what two lists of effects amount to, one after the other
 abbrev pub resets_of : Bool → Bool → Bool
 resets_of true second = true
 resets_of false second = second
@@ -98,7 +98,7 @@ drawn_both (resumes link first last ∷ front) rest none more = drawn_both front
 drawn_both (completes my number ∷ front) rest none more = drawn_both front rest none more
 drawn_both (fails number ∷ front) rest none more = drawn_both front rest none more
 
--- nothing behind
+-- nothing after them
 resets_alone : (b : Bool) → resets_of b false ≡ b
 resets_alone true = refl
 resets_alone false = refl
@@ -116,14 +116,14 @@ accepted_as base last number a b h =
 
 -- ---- one parameter
 
--- no answer to the own request
+-- no answer to our own request
 same_own : (w : HandledRequests) → SameOwn w w
 same_own w = record { outstanding = refl; own = refl; first = refl }
 
 own_then : (a b c : HandledRequests) → SameOwn a b → SameOwn b c → SameOwn a c
 own_then a b c one two = record { outstanding = two.outstanding ∙ one.outstanding; own = two.own ∙ one.own; first = two.first ∙ one.first }
 
--- whether an outgoing request was worked so far
+-- whether an outgoing request was handled so far
 or_not : (b c : Bool) → c ≡ false → b ≡ (b || c)
 or_not true c is = refl
 or_not false c is = sym is
@@ -184,7 +184,7 @@ another_answers : (outstanding : Option ℕ) (number : ℕ) (result : Reconfigur
 another_answers None number result is = refl
 another_answers (Some own) number result is = another_by own number result is
 
--- one to the own request
+-- one to our own request
 own_is : (outstanding : Option ℕ) (number : ℕ) → is_outstanding number outstanding ≡ true → outstanding ≡ Some number
 own_is None number is = absurd (cc)
 own_is (Some own) number is = ap (λ (n : ℕ). Some n) (let same : own ≡ number = grind (arith, nat_tests) in same)
@@ -251,7 +251,7 @@ response_says : (number : ℕ) (answer : ReconfigurationResponseResult) (old new
     → reset_parameters (h.response ∷ []) ≡ reconfiguration_response number answer ∷ []
 response_says number answer old new h = ap (λ (c : ParameterContent). reset_parameter_in c ∷ []) h.says
 
--- a request that was answered, and what stands behind it
+-- a request that was answered, and what comes after it
 answered_then : (my : Pair) (reached has : Bool) (base : Held) (number : ℕ) (a : AnsweredRequest) (first : RequestOutcome) (responses : List ResetParameter) (rest : List ResetParameter)
     → AnswersAs base a first → responses ≡ reconfiguration_response number a.result ∷ []
     → after_request number first (work_parameters my reached has first.held rest) ≡ behind_these first.effects responses (work_parameters my reached has (held_with base a.last) rest)
@@ -321,7 +321,7 @@ incoming_one reached number streams old between new a answers h responses last t
           ∙ ap (λ (o : Option ℕ). behind_these (first base).effects (reset_parameters (h.response ∷ [])) (work_parameters my reached new.has_worked (held_out o (held_with base new.last)) rest)) (sym same.outstanding);
     }
 
--- The first outgoing request is worked.
+-- The first outgoing request is handled.
 second_by : (has : Bool) (parameter : ResetParameter) → is_outgoing parameter ≡ true → (has && is_outgoing parameter) ≡ false → has ≡ false
 second_by true parameter outgoing first = absurd (cc)
 second_by false parameter outgoing first = refl
@@ -331,20 +331,20 @@ not_second has parameter request is first = second_by has (parameter_said parame
 
 -- ---- the parameters so far
 
--- has the own request ended?
+-- has our own request ended?
 abbrev pub has_ended : OwnAnswer → Bool
 has_ended own.Unanswered = false
 has_ended own.InProgress = false
 has_ended own.Performed = true
 has_ended own.Failed = true
 
--- Where the own request stands: as it did, perhaps answered as in progress; or at its end, of which the user is told first, or behind
--- what became of the peer's request.
+-- How far our own request is: as before, perhaps answered as in progress; or at its end, which is reported to the user first, or
+-- after what became of the peer's request.
 pub data OwnStands (start : Option ℕ) (front : List ResetParameter) (w : HandledRequests) : Type 0 where
   awaited : w.outstanding ≡ start → own_kind w.own ≡ own_answer start start (in_progress_among start front) false → ((streams : List ℕ) → own_events w.own streams ≡ []) → OwnStands start front w
   ended : (number : ℕ) → start ≡ Some number → w.outstanding ≡ None → has_ended w.own ≡ true → (w.is_own_first ≡ true) ⊎ (w.has_worked ≡ true) → OwnStands start front w
 
--- What was made of these, whatever stands behind them.
+-- What was made of these, whatever comes after them.
 pub record Progress (reached : Bool) (last : LastRequest) (start : Option ℕ) (front : List ResetParameter) (w : HandledRequests) : Type 0 where
   pub effects : Pair → Held → List Effect
   pub are : AreResponses w.responses.items
@@ -396,7 +396,7 @@ behind_both es fs xs ys rest =
     ap (λ (all : List Effect). record rest { effects = all; answers = xs ++ (ys ++ rest.answers) }) (sym (append_assoc es fs rest.effects))
     ∙ ap (λ (all : List ResetParameter). record rest { effects = (es ++ fs) ++ rest.effects; answers = all }) (sym (append_assoc xs ys rest.answers))
 
--- what the user is told so far, and then nothing more
+-- the user's events so far, and then no more
 told_same : (old new : HandledRequests) (theirs streams : List ℕ) → SameOwn old new → new.treatment ≡ old.treatment
     → both_answer_events new.is_own_first new.own new.treatment theirs streams ≡ both_answer_events old.is_own_first old.own old.treatment theirs streams
 told_same old new theirs streams same is =
@@ -428,7 +428,7 @@ joins true own.Failed t theirs streams early = refl
 joins false own.Failed t theirs streams (inl silent) = absurd (cc)
 joins false own.Failed t theirs streams (inr first) = absurd (cc)
 
--- Nothing was told of the own request, or that comes first.
+-- There is no event of our own request, or it comes first.
 early : (start : Option ℕ) (front : List ResetParameter) (w : HandledRequests) (streams : List ℕ) → OwnStands start front w → w.has_worked ≡ false → (own_events w.own streams ≡ []) ⊎ (w.is_own_first ≡ true)
 early start front w streams (awaited same kind silent) fresh = inl (silent streams)
 early start front w streams (ended number is none kind (inl first)) fresh = inr first
@@ -450,7 +450,7 @@ then_request old new es fs xs ys first nothing before second same =
       drawn = drawn_both es fs first.drawn second.drawn;
     }
 
--- .. then of the own request
+-- .. then of our own request
 quietly : (b : Bool) (a : OwnAnswer) (t : Treatment) (theirs streams : List ℕ) → own_events a streams ≡ [] → both_answer_events b a t theirs streams ≡ treated_events t theirs
 quietly true a t theirs streams silent = ap (λ (xs : List (Event Emission)). xs ++ treated_events t theirs) silent
 quietly false a t theirs streams silent = ap (λ (xs : List (Event Emission)). treated_events t theirs ++ xs) silent ∙ append-nil (treated_events t theirs)
@@ -464,7 +464,7 @@ closes b false a answer t theirs streams silent fresh =
     ∙ sym (append-nil (own_events answer streams))
     ∙ ap (λ (u : Treatment). own_events answer streams ++ treated_events u theirs) (sym (fresh refl))
 
--- what these effects come to of the own request alone
+-- what these effects amount to for our own request alone
 record Tells (answer : OwnAnswer) (effects : List Effect) : Type 0 where
   has : has_reset effects ≡ false
   told : (theirs streams : List ℕ) → reset_events theirs streams effects ≡ own_events answer streams
@@ -507,7 +507,7 @@ then_result InProgress my held number old es xs first silent fresh = then_awaite
 
 -- ---- one more parameter
 
--- where the own request is awaited, an answer to it comes
+-- While our own request is outstanding, there is no event of it.
 silent_of : (start : Option ℕ) (front : List ResetParameter) (w : HandledRequests) (number : ℕ) → OwnStands start front w → w.outstanding ≡ Some number → (streams : List ℕ) → own_events w.own streams ≡ []
 silent_of start front w number (awaited same kind silent) is streams = silent streams
 silent_of start front w number (ended other was none kind first) is streams = absurd (cc)
@@ -585,7 +585,7 @@ by_result ErrorRequestAlreadyInProgress number front old is = ended number refl 
 by_result ErrorBadSequenceNumber number front old is = ended number refl refl refl (first_or_worked old.has_worked)
 by_result InProgress number front old is = awaited is (ap (λ (b : Bool). own_answer (Some number) (Some number) b false) (sym (answered_now number front))) (λ streams. refl)
 
--- what the own request was before
+-- what our own request was before
 start_of : (start : Option ℕ) (front : List ResetParameter) (w : HandledRequests) (number : ℕ) → OwnStands start front w → w.outstanding ≡ Some number → start ≡ Some number
 start_of start front w number (awaited same kind silent) is = sym same ∙ is
 start_of start front w number (ended other was none kind first) is = absurd (cc)
@@ -599,7 +599,7 @@ own_more start front parameter old new effects answers own (brings_answer number
     (subst (λ (p : ResetParameter). OwnStands start (front ++ p ∷ []) (with_result result old)) (sym is)
     (subst (λ (o : Option ℕ). OwnStands o (front ++ reconfiguration_response number result ∷ []) (with_result result old)) (sym (start_of start front old number own awaits)) (by_result result number front old awaits)))
 
--- which parameters are worked
+-- which parameters are handled
 part_one : (has : Bool) (parameter : ResetParameter) (after : Bool) (rest : List ResetParameter) → (has && is_outgoing parameter) ≡ false → after ≡ (has || is_outgoing parameter)
     → handled_part has (parameter ∷ rest) ≡ parameter ∷ handled_part after rest
 part_one true (outgoing_reset_request number answered reset) after rest first is = absurd (cc)
@@ -620,7 +620,7 @@ pub none_yet : (has outgoing : Bool) → has ≡ false → (has && outgoing) ≡
 none_yet true outgoing is = absurd (cc)
 none_yet false outgoing is = refl
 
--- One more was worked.
+-- One more was handled.
 pub one_more : (reached : Bool) (last : LastRequest) (start : Option ℕ) (front : List ResetParameter) (parameter : ResetParameter) (old new : HandledRequests)
     → (old.has_worked && is_outgoing parameter) ≡ false → Progress reached last start front old → HandlesParameter reached parameter old new
     → Progress reached last start (front ++ parameter ∷ []) new
@@ -659,7 +659,7 @@ ended_kind own.InProgress number b is = absurd (cc)
 ended_kind own.Performed number b is = refl
 ended_kind own.Failed number b is = refl
 
--- what became of the own request in the end
+-- what became of our own request in the end
 own_at_end : (start : Option ℕ) (front : List ResetParameter) (w : HandledRequests) → OwnStands start front w → own_kind w.own ≡ own_answer start w.outstanding (in_progress_among start front) (is_completed w.own)
 own_at_end start front w (awaited is kind silent) =
     kind ∙ (still_out start (in_progress_among start front) (is_completed w.own) ∙ ap (λ (o : Option ℕ). own_answer start o (in_progress_among start front) (is_completed w.own)) (sym is))
@@ -782,9 +782,9 @@ none_worked reached last start w done refused =
           ∙ ap (λ (b : Bool). record { held = held_now base w; effects = done.effects my base; answers = reset_parameters w.responses.items; is_refused = b }) (sym refused);
     }
 
--- ---- whether the own request was performed
+-- ---- whether our own request was performed
 
--- is the user told so?
+-- is that reported to the user?
 abbrev performed_among : List (Event Emission) → Bool
 performed_among [] = false
 performed_among (streams_reset_performed streams ∷ events) = true

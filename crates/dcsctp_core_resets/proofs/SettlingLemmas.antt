@@ -1,4 +1,4 @@
--- The own request was answered: what becomes of it, and what the user is told of it and of the peer's request.
+-- Our own request was answered: what becomes of it, and the user's events of it and of the peer's request.
 use Rattle.std.proofs.Common.{◌≡◌, ℕ, Bool, true, false, Option, None, Some, Result, Ok, Err, List, [], ◌∷◌, ◌++◌, length, take, refl, sym, ap, subst, ◌∙◌, append_assoc}
 use Rattle.std.specs.Option.{option_map}
 use Rattle.std.proofs.lemmas.List.{append-nil}
@@ -87,7 +87,7 @@ timer_delayed : (timer : TimerModel) (running : Option RunningTimer) (request : 
 timer_delayed timer running None runs some = absurd (some refl)
 timer_delayed timer running (Some request) runs some = runs
 
--- the view with this own request and this timer
+-- the view with this request of ours and this timer
 abbrev asking : {R : Type 0} → View R → Option OutstandingRequest → Option RunningTimer → View R
 asking view request timer =
     record view { endpoint = record view.endpoint { outstanding = request; timers = record view.endpoint.timers { reconfiguration = timer } } }
@@ -168,7 +168,7 @@ front_of : (front back : List (Event (List ℕ))) → take (length front) (front
 front_of [] back = refl
 front_of (first ∷ front) back = ap (λ (es : List (Event (List ℕ))). first ∷ es) (front_of front back)
 
--- where a growth was refused before the first event
+-- if an allocation failed before the first event
 pub none_told : {R : Type 0} (w : HandledRequests) (reset : Option RequestedReset) (old mid new : Context R) (told : Option SocketEvent) → Settled w old told mid → (view_of new).events ≡ (view_of mid).events
     → (count : ℕ) × ((view_of new).events ≡ (view_of old).events ++ take count (handled_reset_events w reset old))
 none_told w reset old mid new told h same = (0, same ∙ events_same w old mid told h ∙ sym (append-nil (view_of old).events))
@@ -178,14 +178,14 @@ one_told : (old new front back all : List (Event (List ℕ))) → all ≡ front 
 one_told old new front back all is told =
     (length front, told ∙ ap (λ (es : List (Event (List ℕ))). old ++ es) (sym (front_of front back)) ∙ ap (λ (es : List (Event (List ℕ))). old ++ take (length front) es) (sym is))
 
--- both were told
+-- both were reported
 both_told : {R : Type 0} (w : HandledRequests) (reset : Option RequestedReset) (old : Context R) (left : Option Transfer) (front back : List (Event (List ℕ))) → handled_reset_events w reset old ≡ front ++ back
     → left_at (left_at (request_settled_at (own_kind w.own) (view_of old)) left front) left back ≡ left_at (request_settled_at (own_kind w.own) (view_of old)) left (handled_reset_events w reset old)
 both_told {R = R} w reset old left front back is =
     let v : View R = request_settled_at (own_kind w.own) (view_of old) in
     ap (λ (es : List (Event (List ℕ))). let n : View R = record (left_at v left []) { events = es } in n) (append_assoc v.events front back) ∙ ap (λ (es : List (Event (List ℕ))). left_at v left es) (sym is)
 
--- The own request comes first.
+-- Our own request comes first.
 pub own_first : {R E : Type 0} (w : HandledRequests) (reset : Option RequestedReset) (old mid between : Context R) (told : Option SocketEvent) (result : Result (Unit {0}) E) (new : Context R) → w.is_own_first ≡ true
     → Settled w old told mid → view_of between ≡ record (view_of mid) { events = (view_of mid).events ++ events_of_option told } → TreatsReset w.treatment reset between result new → Carried w reset old result new
 own_first {R = R} w reset old mid between told (Ok done) new first h tells treats =

@@ -107,8 +107,8 @@ fn defer_reset(state: &mut State, last_tsn: u32, streams: &[StreamId]) -> Result
     }
 }
 
-// Resets the streams that a request names, and tells the user. `Err`: an allocation failed, and no event was
-// added.
+// Resets the streams that a request names, and reports that to the user. `Err`: an allocation failed, and no
+// event was added.
 fn perform<R: Rng>(
     context: &mut Context<R>,
     request: &OutgoingSsnResetRequestParameter<'_>,
@@ -222,7 +222,7 @@ fn settle<R: Rng>(context: &mut Context<R>, own: OwnAnswer) -> Option<SocketEven
     }
 }
 
-// Tells the user of it, if there is something to tell. `Err`: an allocation failed, and nothing has changed.
+// Reports it to the user, if there is an event. `Err`: an allocation failed, and nothing has changed.
 fn tell<R: Rng>(context: &mut Context<R>, event: Option<SocketEvent>) -> Result<(), AllocError>
     ensures { ReportsEvent event context.old result context.new }
 {
@@ -235,9 +235,9 @@ fn tell<R: Rng>(context: &mut Context<R>, event: Option<SocketEvent>) -> Result<
     }
 }
 
-// Carries out what was decided for our own request and for the streams that the peer wants reset. The user is
-// told of both in the order in which it was decided. `Err`: an allocation failed; the first of its events may
-// already have been added.
+// Carries out what was decided for our own request and for the streams that the peer wants reset. Both are
+// reported to the user in the order in which they were decided. `Err`: an allocation failed; the first of its
+// events may already have been added.
 fn carry_out<R: Rng>(
     context: &mut Context<R>,
     request: Option<OutgoingSsnResetRequestParameter<'_>>,
@@ -356,12 +356,12 @@ fn handle_parameters<R: Rng>(
 
 /// Handles a RE-CONFIG (RFC 6525, section 5.2). Each request of the peer is answered, in one packet, and a
 /// flush follows. An Outgoing SSN Reset Request with the next number resets its streams once everything that
-/// was sent before it is received. The user is told of that. Until then it is in progress, what comes on its
-/// streams that was sent after it waits, and it is handled again when it comes again. For an Incoming SSN Reset
+/// was sent before it is received. That is reported to the user. Until then it is in progress: what was sent
+/// after it on its streams waits, and it is handled again when it comes again. For an Incoming SSN Reset
 /// Request nothing is reset.
 ///
-/// An answer to our outstanding request ends it (section 5.2.7). Its streams are reset, or aren't, of which
-/// the user is told, and both take messages again. A request that is in progress is sent again later.
+/// An answer to our outstanding request ends it (section 5.2.7). Its streams are reset, or aren't, which is
+/// reported to the user, and both take messages again. A request that is in progress is sent again later.
 ///
 /// A chunk without parameters, or with a second Outgoing SSN Reset Request, is reported, and no answer is
 /// sent. What came before the second request was handled. Without a peer nothing happens.

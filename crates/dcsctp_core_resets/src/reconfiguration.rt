@@ -126,7 +126,7 @@ fn send_unless_exhausted<R: Rng>(context: &mut Context<R>, is_new: bool) -> Resu
 
 /// Advances the reconfiguration timer to the present moment, and returns whether it expires. Then our
 /// outstanding request is sent again, if the count of errors allows (RFC 6525, section 5.1.1). With
-/// `Options::follow_rfc` one that the peer has answered as in progress (RFC 6525, section 5.2.7) goes out
+/// `Options::follow_rfc` one that the peer has answered as in progress (RFC 6525, section 5.2.7) is sent again
 /// under the next number.
 ///
 /// `Err`: an allocation failed; the first of its events may already have been added.

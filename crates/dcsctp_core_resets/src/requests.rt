@@ -51,7 +51,7 @@ pub enum OwnAnswer {
     Failed,
 }
 
-/// Where a request's number stands to the last one.
+/// How a request's number compares to that of the last one.
 #[derive(Clone, Copy, Debug, PartialEq, Eq)]
 enum Place {
     /// It is the last one again.
@@ -70,7 +70,7 @@ pub struct AnsweredRequest {
     /// The last request from here on.
     pub last: LastRequest,
 
-    /// What the peer is told.
+    /// The result that the peer gets.
     pub result: ReconfigurationResponseResult,
 
     /// What becomes of the streams.
@@ -105,7 +105,7 @@ pub struct HandledRequests {
     pub responses: Vec<Parameter<'static>>,
 }
 
-// Where the number of a request stands (RFC 6525, section 5.2.1).
+// How the number of a request compares to that of the last one (RFC 6525, section 5.2.1).
 fn place_of(last: u32, number: u32) -> Place
     ensures { in_place result ≡ changes.request_place last number }
 {

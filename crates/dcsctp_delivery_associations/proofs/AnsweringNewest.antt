@@ -61,7 +61,7 @@ module _ (requests : Requests) (their_past : List Effect) (waits : Option Deferr
         unknown = un;
       }
 
-  -- No request has the number behind the newest.
+  -- No request has the number after the newest.
   none_behind : number_to_accept their_past ≡ Some (request_number_at requests.first (length all)) → number_to_accept their_past ≡ Some begun.number → ⊥
   none_behind is expected = (let same : begun.number ≡ request_number_at requests.first (length all) = cc in let below = under (length all) same (omega arith) in omega (arith, below))
 

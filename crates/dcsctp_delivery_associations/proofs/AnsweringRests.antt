@@ -129,7 +129,7 @@ module _ (requests : ℕ → Requests) (mine : Option AssociationIdentity) (past
         stands = λ link is. absurd (cc);
       }
 
-  -- It has the same one, which stands anew.
+  -- It has the same one, of which `StandsSo` holds again.
   pub stays_standing : ((link : AssociationIdentity) → theirs ≡ Some link → StandsSo (requests link.my.tag) (after_effects happened their_past) waits') → AnswersRequests requests mine past theirs (after_effects happened their_past) waits'
   stays_standing stands =
       record {

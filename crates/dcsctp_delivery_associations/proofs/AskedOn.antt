@@ -1,4 +1,4 @@
--- The sender goes on: its request ends, or it begins one.
+-- The sender continues: its request ends, or it begins one.
 use Rattle.std.proofs.Common.{◌≡◌, ℕ, suc, Bool, true, false, ◌<◌, ◌≤◌, ◌+◌, ◌-◌, ◌^◌, Option, Some, List, [], ◌∷◌, ◌++◌, length, length-append, refl, sym, ◌∙◌, ap, subst, inl, inr, arith}
 use Rattle.std.specs.Prelude.{◌⊎◌}
 use Rattle.dcsctp_spec_lemmas.specs.types.declared.association.Pair.{Pair}
@@ -146,7 +146,7 @@ module _ (r : Requests) (their_past : List Effect) (a : (r.asking ≡ nothing_as
           let u = under in
           absurd (omega (arith, long, requests, last, u))
 
-  -- The receiver stands so still. That each request was performed is known by its past.
+  -- `StandsSo` still holds, if the newest request counts as performed where the receiver's past says so.
   pub stands_on : (waits : Option DeferralModel) (between asking : Asking) → MayEnd r their_past between → MayBegin r.first between asking
       → (r.is_interleaved ≡ true → (newest : BegunReset) (earlier : List BegunReset) → r.asking.requests ≡ newest ∷ earlier → HasEffect (performs r.my (request_number_at r.first (length earlier))) their_past → r.asking.is_performed ≡ true)
       → StandsSo r their_past waits → StandsSo (after asking) their_past waits

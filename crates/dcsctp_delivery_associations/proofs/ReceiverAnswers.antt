@@ -106,7 +106,7 @@ module _ (ends : Ends) (pairs : ℕ → Pair) (tag : ℕ) (got : ReceivingEnd) w
             ∙ sym (set_other tag t (record (requests_of ends pairs tag) { asking = asking }) (requests_of ends pairs) ne)
       ]
 
--- ---- an association goes on
+-- ---- an association continues
 
 module _ (ends : Ends) (e : Endpoint) (past : List Effect) (d : Endpoint) (their_past : List Effect) (w : AreAnswered ends e past d their_past) (input : Input) (o : Outcome) (may : IsCall input) (turn : Turn d input o)
     (new_tags : (link old : AssociationIdentity) → HasEffect (holds link) o.effects → HasEffect (holds old) their_past → old.my.tag ≢ link.my.tag) where
@@ -196,7 +196,7 @@ module _ (ends : Ends) (e : Endpoint) (past : List Effect) (d : Endpoint) (their
       Compares Are =
           (number : ℕ) → HasEffect (effects.performs link.peer number) o.effects → (newest : BegunReset) (earlier : List BegunReset) → (ends.sends link.my.tag).asking.requests ≡ newest ∷ earlier → Are number newest.number
 
-      -- where the receiver stands: what it performs is the newest; or it isn't, or messages don't interleave
+      -- how far the receiver is: what it performs is the newest; or it isn't, or messages don't interleave
       abbrev pub Standing : Bool → Type 0
       Standing true = IsInStep (requests_of ends w.pairs link.my.tag) their_past transfer.reassembly.deferral × Compares (λ number newest. number ≡ newest)
       Standing false =
@@ -312,7 +312,7 @@ module _ (ends : Ends) (e : Endpoint) (past : List Effect) (d : Endpoint) (their
             (performs.performs_behind (requests_of ends w.pairs) (identity_in e.core) past link o.effects their_past transfer.reassembly.deferral left.reassembly.deferral found.0 answers_here (no_holds same)
             (λ peer other' h. (let one' = only peer other' h in (one'.0, one'.1 ∙ sym found.2))) found.1 one behind (accept ∙ ap (λ (n : ℕ). Some (next_number n)) (sym found.2)) perform empty)
 
-        -- Where it stands in step what is deferred is in progress.
+        -- If it is in step, what is deferred is in progress.
         by_deferring : (b : Bool) → Standing b → (number : ℕ) (reset : RequestedReset) → came_by input ≡ Some (reset_request number reset) → IsDue their_past number
             → ((peer : Pair) (other : ℕ) → HasEffect (effects.performs peer other) o.effects → ⊥)
             → number_to_accept (after_effects o.effects their_past) ≡ Some (next_number number) → number_to_perform (after_effects o.effects their_past) ≡ Some number

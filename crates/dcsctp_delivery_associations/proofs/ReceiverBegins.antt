@@ -81,7 +81,7 @@ module _ (options : Options) (ends : Ends) (e : Endpoint) (queued : List Message
           some = is.some;
         }
 
-    -- The run goes on to the end of the turn.
+    -- The run continues to the end of the turn.
     opened : DirectionRun options first options.max_receiver_window_buffer_size (joined (ends.sends tag) (new_end options first)) → DirectionRun options first options.max_receiver_window_buffer_size (joined (ends.sends tag) got)
     opened run =
         opens.runs options first options.max_receiver_window_buffer_size (joined (ends.sends tag) (new_end options first))

@@ -1,4 +1,5 @@
--- A turn in which an association of the receiver begins or ends, as what becomes of the sender's requests.
+-- A turn in which an association of the receiver begins or ends, as what becomes of the sender's
+-- requests.
 use Rattle.dcsctp_spec_lemmas.specs.spec.association.Effect as effects
 use Rattle.std.proofs.Common.{◌≡◌, ◌≢◌, ℕ, ◌%◌, ◌^◌, Option, None, Some, List, ◌∷◌, refl, sym, ◌∙◌, ap, subst, arith, inl, inr}
 use Rattle.std.specs.Prelude.{◌⊎◌}

@@ -1,4 +1,5 @@
--- A turn of the receiver after which it has no association: one ends in it, or there is none before. Then its user may read what was left.
+-- A turn of the receiver after which it has no association: one ends in it, or there is none
+-- before. Then its user may read what was left.
 use Rattle.std.proofs.Common.{◌≡◌, ℕ, Option, None, Some, List, [], ◌∷◌, ◌++◌, refl, sym, ◌∙◌, ap, subst, inl, inr}
 use Rattle.std.specs.Prelude.{◌⊎◌}
 use Rattle.dcsctp_spec_lemmas.specs.types.declared.options.Options.{Options}

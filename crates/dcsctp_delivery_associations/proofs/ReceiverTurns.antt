@@ -59,7 +59,7 @@ module _ (options : Options) (ends : Ends) (e : Endpoint) (queued : List Message
   unread_goes : reads_after d input (messages_of reads) ≡ messages_of reads → AreEnds options e queued past packets o.after (after_effects o.effects their_past) (messages_of reads) → Turned
   unread_goes unread goes = subst (λ (l : List MessageContent). AreEnds options e queued past packets o.after (after_effects o.effects their_past) l) (sym unread) goes
 
-  -- ---- an association goes on
+  -- ---- an association continues
 
   module _ (transfer : Transfer) (there : d.queues.transfer ≡ Some transfer) (c : IsCurrentEnd ends d their_past transfer) where
     receives : identity_in o.after.core ≡ identity_in d.core → (left : Transfer) → o.after.queues.transfer ≡ Some left → SomeFit (own_of o.after) → (asking : Asking)
@@ -199,7 +199,7 @@ module _ (options : Options) (ends : Ends) (e : Endpoint) (queued : List Message
           receivers_go_on is_known options (ends.firsts c.link.my.tag) options.max_receiver_window_buffer_size (joined (ends.sends c.link.my.tag) (ends.gets c.link.my.tag)) transfer d input o now there sent newest h.receiver.fits
           (λ begun opening linked. (new begun opening linked).own_small) may turn
 
-      -- What is performed wants what the newest wants where the receiver stands in step.
+      -- If the receiver is in step, what is performed wants what the newest wants.
       newest_so : IsInStep (requests_of ends w.pairs c.link.my.tag) their_past transfer.reassembly.deferral → PerformsNewest (joined (ends.sends c.link.my.tag) (ends.gets c.link.my.tag)) transfer (came_by input) o.effects
       newest_so step done = by_left o.after.queues.transfer refl
         where

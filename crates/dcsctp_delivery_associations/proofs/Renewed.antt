@@ -15,7 +15,7 @@ use Rattle.dcsctp_delivery_associations.proofs.AskedOn.{MayEnd, MayBegin}
 
 -- ---- one association
 
--- its requests once the newest goes on under this number
+-- its requests once the newest continues under this number
 abbrev pub renewed : ℕ → BegunReset → Requests → Requests
 renewed number newest r = record r { asking = asking_renewed number newest r.asking }
 
@@ -49,7 +49,7 @@ module _ (r : Requests) (their_past : List Effect) (a : (r.asking ≡ nothing_as
   renewed_placed n at =
       let below = at.below in record { place = at.place; below = omega (arith, below); is = at.is; newest = λ interleaved last. absurd (omega (arith, last, below)) }
 
-  -- The receiver may be behind then.
+  -- The receiver may not have reached the newest then.
   renewed_stands : (waits : Option DeferralModel) → StandsSo r their_past waits → StandsSo (renewed number newest r) their_past waits
   renewed_stands waits (plain kind some) = plain kind (λ none. absurd (cc))
   renewed_stands waits (in_step step) = in_step (go step)
@@ -73,7 +73,7 @@ module _ (r : Requests) (their_past : List Effect) (a : (r.asking ≡ nothing_as
 
 -- ---- with what ends and begins
 
--- What becomes of the requests in a turn before more are begun: they may end, or the newest goes on under the next number.
+-- What becomes of the requests in a turn before more are begun: they may end, or the newest continues under the next number.
 pub data MayGo (requests : Requests) (their_past : List Effect) : Asking → Type 0 where
   ends_so : (between : Asking) → MayEnd requests their_past between → MayGo requests their_past between
   was_renewed : (newest : BegunReset) (earlier : List BegunReset) (number : ℕ) → requests.asking.requests ≡ newest ∷ earlier → requests.asking.out ≡ 1 → MayGo requests their_past (asking_renewed number newest requests.asking)

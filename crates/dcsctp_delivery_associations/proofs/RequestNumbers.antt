@@ -32,7 +32,7 @@ is_newest first newest earlier requests begun is numbered few has same = go (sub
         let r = number_among first earlier begun n.1 h in
         let here : r.0 ≡ length earlier = same_place first r.0 (length earlier) (sym r.2 ∙ same ∙ n.0) (omega (arith, r.1, f)) (omega (arith, f)) in absurd (omega (arith, here, r.1))
 
--- the number behind the newest
+-- the number after the newest
 pub number_behind : (first : ℕ) (newest : BegunReset) (earlier requests : List BegunReset) → requests ≡ newest ∷ earlier → AreNumbered first requests → next_number newest.number ≡ request_number_at first (length requests)
 number_behind first newest earlier requests is numbered =
     ap next_number (newest_number first newest earlier requests is numbered) ∙ next_place first (length earlier) ∙ ap (λ (l : List BegunReset). request_number_at first (length l)) (sym is)

@@ -31,7 +31,7 @@ use Rattle.dcsctp_delivery_associations.proofs.SenderAsks.{newest_known, asks_on
 use Rattle.dcsctp_delivery_associations.proofs.SenderOpens.{fresh_requests, opens_on, closes_on}
 use Rattle.dcsctp_delivery_associations.proofs.Senders.{link_tag, no_key}
 
--- ---- what is kept of the own requests
+-- ---- what is kept of our requests
 
 small_out : (number : Option ℕ) (own : Own) (asking : Asking) → OutIs number own.again asking → asking.out ≤ 1
 small_out None own asking none = omega (arith, none)
@@ -162,7 +162,7 @@ pub set_end : (ends : Ends) (pairs : ℕ → Pair) (key : ℕ) (end : SendingEnd
     → requests_of (record ends { sends = set_at key end ends.sends }) pairs tag ≡ set_at key new (requests_of ends pairs) tag
 set_end ends pairs key end new is tag = set_ends ends pairs key end ends.gets ends.firsts pairs new is (λ t ne. (refl, refl)) tag
 
--- ---- a turn in which the association goes on or ends
+-- ---- a turn in which the association continues or ends
 
 module _ (ends : Ends) (e : Endpoint) (past : List Effect) (d : Endpoint) (their_past : List Effect) (w : AreAnswered ends e past d their_past) (key_below : (ends.sends (peer_tag e.core)).queues ≡ e.queues)
     (after : Endpoint) (happened : List Effect) (end : SendingEnd) (kind : end.queues.queue.is_interleaved ≡ e.queues.queue.is_interleaved) where

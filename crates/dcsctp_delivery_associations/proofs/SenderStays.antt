@@ -1,4 +1,4 @@
--- A turn of the sender in which its association goes on, or ends.
+-- A turn of the sender in which its association continues, or ends.
 use Rattle.std.proofs.Common.{◌≡◌, ◌≢◌, ℕ, None, List, [], ◌++◌, length, refl, sym, ap, subst, inl, inr}
 use Rattle.std.specs.List.{AllByRecursion}
 use Rattle.std.proofs.lemmas.List.{append-nil}

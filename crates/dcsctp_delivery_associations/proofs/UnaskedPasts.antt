@@ -8,7 +8,7 @@ use Rattle.dcsctp_spec_lemmas.specs.spec.association.Effect.{AssociationIdentity
 use Rattle.dcsctp_spec_lemmas.specs.spec.endpoint.ResetOutcomes.{has_reset}
 use Rattle.dcsctp_delivery_turns.specs.PeerRequests.{NoneAsked}
 
--- Where no association is noted and none ends, the numbers stay.
+-- If nothing is asked, no association is recorded and none ends, the numbers stay.
 pub same_numbers : (happened past : List Effect) → NoneAsked happened → ((link : AssociationIdentity) → HasEffect (effects.holds link) happened → ⊥) → (HasEffect effects.ends happened → ⊥)
     → (number_to_accept (after_effects happened past) ≡ number_to_accept past) × (number_to_perform (after_effects happened past) ≡ number_to_perform past)
 same_numbers [] past none no_holds no_ends = (refl, refl)

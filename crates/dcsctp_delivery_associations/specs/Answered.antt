@@ -1,4 +1,5 @@
--- What becomes of the sender's requests to reset streams (RFC 6525, section 5.2), in all associations of both sides.
+-- What becomes of the sender's requests to reset streams (RFC 6525, section 5.2), in all
+-- associations of both sides.
 use Rattle.std.specs.Prelude.{◌≡◌, ◌≢◌, ◌⊎◌, ◌<◌, ◌≤◌, ◌+◌, ◌%◌, ◌^◌, ℕ, suc, Bool, true, false, Option, None, Some, List, [], ◌∷◌, length}
 use Rattle.dcsctp_spec_lemmas.specs.types.declared.association.Pair.{Pair}
 use Rattle.dcsctp_spec_runs.specs.Past.{HasEffect, number_to_accept, number_to_perform}
@@ -66,12 +67,12 @@ pub record IsRequestNumber (requests : Requests) (number : ℕ) : Type 0 where
   pub is : number ≡ request_number_at requests.first place
   pub newest : requests.is_interleaved ≡ true → suc place ≡ length requests.asking.requests → requests.asking.is_performed ≡ true
 
--- So it is of each that the receiver has performed.
+-- This holds for each that the receiver has performed.
 abbrev pub WerePerformed : Requests → List Effect → Type 0
 WerePerformed requests their_past = (number : ℕ) → HasEffect (performs requests.my number) their_past → IsRequestNumber requests number
 
--- Where the receiver stands: what it has accepted and performed, and what waits there. It may be behind where a request was sent again under
--- other numbers.
+-- How far the receiver is: what it has accepted and performed, and what waits there. It may not have reached the newest request
+-- where one was sent again under other numbers.
 pub data IsInStep (requests : Requests) (their_past : List Effect) (waits : Option DeferralModel) : Type 0 where
   -- It has performed the newest, or none was begun.
   all_performed : number_to_accept their_past ≡ Some (request_number_at requests.first (length requests.asking.requests)) → number_to_perform their_past ≡ None → waits ≡ None
@@ -84,7 +85,7 @@ pub data IsInStep (requests : Requests) (their_past : List Effect) (waits : Opti
       → number_to_accept their_past ≡ Some (request_number_at requests.first (suc place)) → number_to_perform their_past ≡ Some (request_number_at requests.first place) → IsOwn newest.reset waits → requests.asking.is_performed ≡ false
       → IsInStep requests their_past waits
 
--- So it stands, or messages don't interleave.
+-- The receiver is in step; or messages don't interleave, and a request was begun.
 pub data StandsSo (requests : Requests) (their_past : List Effect) (waits : Option DeferralModel) : Type 0 where
   in_step : IsInStep requests their_past waits → StandsSo requests their_past waits
   plain : requests.is_interleaved ≡ false → (requests.asking.requests ≡ [] → ⊥) → StandsSo requests their_past waits

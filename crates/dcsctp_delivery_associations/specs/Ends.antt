@@ -1,5 +1,6 @@
--- All associations of two sockets, in the direction from one to the other: for each verification tag of the receiver, what the sender has
--- sent to it and what the receiver has received under it. A tag serves one association.
+-- All associations of two sockets, in the direction from one to the other: for each verification
+-- tag of the receiver, what the sender has sent to it and what the receiver has received under it.
+-- A tag serves one association.
 use Rattle.std.specs.Prelude.{◌≡◌, ◌≢◌, ◌<◌, ◌≤◌, ◌^◌, ◌⊎◌, ℕ, Option, None, Some, List, [], ◌∷◌, length}
 use Rattle.dcsctp_spec_lemmas.specs.types.declared.options.Options.{Options}
 use Rattle.dcsctp_spec_lemmas.specs.spec.endpoint.Endpoint.{Endpoint}
@@ -91,8 +92,8 @@ abbrev pub AreOfEnds : Ends → List Emission → Type 0
 AreOfEnds ends [] = Unit {0}
 AreOfEnds ends (emission ∷ emissions) = IsOfEnds ends emission × AreOfEnds ends emissions
 
--- The sender, whose peer has the tag `key` now, and which has this below: with these messages queued, this past, and these packets sent.
--- Without an association its end is that of the tag 0.
+-- The sender, whose peer has the tag `key` now, and which has this below: with these messages queued, this past, and these
+-- packets sent. Without an association its end is that of the tag 0.
 pub record Sender (ends : Ends) (key : ℕ) (sender_queues : EndpointQueues) (queued : List Message) (past : List Effect) (packets : List Emission) : Type 0 where
   pub queues_are : (ends.sends key).queues ≡ sender_queues
   pub long : length (ends.sends key).queued ≡ length queued
@@ -106,8 +107,8 @@ pub record Sender (ends : Ends) (key : ℕ) (sender_queues : EndpointQueues) (qu
   pub begun : (tag : ℕ) → tag ≢ 0 → Awaits (ends.sends tag) ⊎ HadPeer past tag (ends.firsts tag)
   pub all_sent : AreOfEnds ends packets
 
--- What an association that begins at the sender has to be: its peer's tag is a new one, and what the receiver had under one of its tags is
--- the matching one.
+-- What must hold of an association that begins at the sender: its peer's tag is a new one, and what the receiver had under one of
+-- its tags is the matching one.
 pub record NewPeer (past their_past : List Effect) (link : AssociationIdentity) : Type 0 where
   pub some : link.peer.tag ≢ 0
   pub small : link.my.first_tsn < 2 ^ 32
@@ -132,7 +133,8 @@ pub record IsCurrentEnd (ends : Ends) (e : Endpoint) (past : List Effect) (trans
   pub tracker : (ends.gets link.my.tag).tracker ≡ transfer.tracker
   pub reassembly : (ends.gets link.my.tag).reassembly ≡ transfer.reassembly
 
--- What can be taken without an association was received under one of the tags, and in an association nothing is left of the last one.
+-- What can be taken without an association was received under one of the tags, and in an association nothing is left of the
+-- last one.
 abbrev pub LeavesReady : (ℕ → ReceivingEnd) → List MessageContent → Option Transfer → Type 0
 LeavesReady gets left None = (left ≡ []) ⊎ ((tag : ℕ) × ((gets tag).reassembly.incoming.ready ≡ left))
 LeavesReady gets left (Some transfer) = left ≡ []
@@ -144,7 +146,8 @@ pub record Receiver (options : Options) (ends : Ends) (e : Endpoint) (past : Lis
   pub were_read : (tag : ℕ) → with_tag tag reads ≡ (ends.gets tag).read
   pub begun : (tag : ℕ) → (ends.gets tag ≡ new_end options (ends.firsts tag)) ⊎ HadTag past tag (ends.firsts tag)
 
--- What an association that begins at the receiver has to be: both tags are new ones.
+-- What must hold of an association that begins at the receiver: both tags are new ones, and what the sender had under one of them
+-- is the matching one.
 pub record NewTag (past their_past : List Effect) (link : AssociationIdentity) : Type 0 where
   pub some : link.my.tag ≢ 0
   pub small : link.peer.first_tsn < 2 ^ 32

@@ -1,4 +1,5 @@
--- What is known of all associations of two sockets, in the direction from one to the other, turn by turn, with interleaving or without.
+-- What is known of all associations of two sockets, in the direction from one to the other, turn by
+-- turn, with interleaving or without.
 use Rattle.std.specs.Prelude.{◌≡◌, ◌≢◌, ◌⊎◌, ◌<◌, ◌-◌, ◌^◌, true, false, Some, List, [], ◌++◌, length, ℕ}
 use Rattle.dcsctp_spec_lemmas.specs.types.declared.options.Options.{Options}
 use Rattle.dcsctp_spec_lemmas.specs.types.Settings.{SameOptions}
@@ -26,11 +27,11 @@ use Rattle.dcsctp_delivery_turns.specs.Sides.{WasSent}
 use Rattle.dcsctp_delivery_associations.specs.Ends.{Ends, NewPeer, NewTag, Between}
 use Rattle.dcsctp_delivery_associations.specs.Reads.{Read, reads_after, messages_of}
 
--- In an association with interleaving no own request to reset streams fails.
+-- In an association with interleaving no request of ours to reset streams fails.
 abbrev pub RefusesNone : Endpoint → Outcome → Type 0
 RefusesNone e o = e.queues.queue.is_interleaved ≡ true → has_refused o.effects ≡ false
 
--- An own request that ends as performed was performed by the peer, or it is the 2^32nd of its association.
+-- A request of ours that ends as performed was performed by the peer, or it is the 2^32nd of its association.
 abbrev pub CompletesPerformed : List Effect → Outcome → Type 0
 CompletesPerformed their_past o = (my : Pair) (number : ℕ) → HasEffect (completes my number) o.effects → HasEffect (performs my number) their_past ⊎ (number ≡ request_number_at my.first_tsn (2 ^ 32 - 1))
 
@@ -50,16 +51,17 @@ pub record AreEnds (options : Options) (e : Endpoint) (queued : List Message) (p
 abbrev pub EndsBegin : Type 0
 EndsBegin = (mine options : Options) → AreEnds options (fresh_endpoint mine) [] [] [] (fresh_endpoint options) [] []
 
--- A turn of the sender leaves them, if an association that begins is of a new tag and of the matching one at the receiver, few requests to
--- reset streams went to each tag, with interleaving none fails, and one that ends as performed was performed by the receiver.
+-- A turn of the sender leaves them, if an association that begins is of a new tag and of the matching one at the receiver, few
+-- requests to reset streams went to each tag, with interleaving none fails, and one that ends as performed was performed by the
+-- receiver.
 abbrev pub SendersTurn : Type 0
 SendersTurn =
     (options : Options) (ends : Ends) (e : Endpoint) (queued : List Message) (past : List Effect) (packets : List Emission) (other : Endpoint) (their_past : List Effect) (reads : List Read) (input : Input) (o : Outcome)
     → Between options ends e queued past packets other their_past reads → AreAnswered ends e past other their_past → ((begun : Begun e o) → IsOpening (came_by input) → identity_in o.after.core ≡ Some (identity_of begun.my begun.held) → NewPeer past their_past (identity_of begun.my begun.held)) → length (queued_after e input queued) < 2 ^ 64 → AsksLittle (packets ++ packets_in o.events)
     → RefusesNone e o → CompletesPerformed their_past o → IsCall input → Turn e input o → AreEnds options o.after (queued_after e input queued) (after_effects o.effects past) (packets ++ packets_in o.events) other their_past (messages_of reads)
 
--- So does one of the receiver, if what is handled in its association was sent in it, each that is noted is of a new tag, and few requests
--- went to each tag.
+-- So does one of the receiver, if what is handled in its association was sent in it, each association that is recorded has a new
+-- tag, and few requests went to each tag.
 abbrev pub ReceiversTurn : Type 0
 ReceiversTurn =
     (options : Options) (ends : Ends) (e : Endpoint) (queued : List Message) (past : List Effect) (packets : List Emission) (other : Endpoint) (their_past : List Effect) (reads : List Read) (input : Input) (o : Outcome)
@@ -68,8 +70,8 @@ ReceiversTurn =
     → ((transfer : Transfer) (link : AssociationIdentity) → other.queues.transfer ≡ Some transfer → identity_in other.core ≡ Some link → WasSent (ends.sends link.my.tag).sent (came_by input)) → IsCall input → Turn other input o
     → AreEnds options e queued past packets o.after (after_effects o.effects their_past) (reads_after other input (messages_of reads))
 
--- Each message that was read, in any association or after it, was queued, and none twice, if fewer than 2^30 chunks of data went to each tag: none
--- assigned 2^31 TSNs.
+-- Each message that was read, in any association or after it, was queued, and none twice, if fewer than 2^30 chunks of data
+-- went to each tag: none assigned 2^31 TSNs.
 abbrev pub EndsDeliver : Type 0
 EndsDeliver =
     (options : Options) (ends : Ends) (e : Endpoint) (queued : List Message) (past : List Effect) (packets : List Emission) (other : Endpoint) (their_past : List Effect) (reads : List Read)

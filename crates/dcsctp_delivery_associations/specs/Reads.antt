@@ -1,4 +1,5 @@
--- What the user of a socket reads, in all its associations and after each has ended: each message with the own tag of its association.
+-- What the user of a socket reads, in all its associations and after each has ended: each message with
+-- our own tag of its association.
 use Rattle.std.specs.Prelude.{◌==◌, if◌then◌else◌, ℕ, List, [], ◌∷◌, ◌++◌}
 use Rattle.dcsctp_spec_lemmas.specs.spec.endpoint.DataOutcomes.{ready_where}
 use Rattle.dcsctp_spec_lemmas.specs.spec.endpoint.Endpoint.{Endpoint}
@@ -13,7 +14,7 @@ reads_after e input reads = reads
 
 -- ---- by the association
 
--- a message that was read, and the own tag of the association that received it
+-- a message that was read, and our own tag of the association that received it
 pub record Read : Type 0 where
   pub tag : ℕ
   pub message : MessageContent

@@ -28,7 +28,7 @@ quiet_fewer history out old new fewer quiet id handed = quiet id (fewer id hande
 
 -- ---- more TSNs are assigned
 
--- what a place of the longer log bears
+-- what a place of the longer log carries
 at_either : {A : Type 0} (more log : List A) (n : ℕ) (x : A) → at_place n (more ++ log) ≡ Some x → (at_place n log ≡ Some x) ⊎ ((m : ℕ) × (at_place m more ≡ Some x))
 at_either [] log n x at = inl at
 at_either (slot ∷ more) log n x at =

@@ -1,4 +1,4 @@
--- The newest request to reset streams goes on under another number.
+-- The newest request to reset streams continues under another number.
 use Rattle.std.proofs.Common.{◌≡◌, ℕ, ◌<◌, Some, List, [], ◌∷◌, ◌++◌, map, take, refl, sym, ◌∙◌, ap, subst, inl, inr}
 use Rattle.dcsctp_spec.specs.Packet.{Content, Emission}
 use Rattle.dcsctp_spec.specs.association.FlushChanges.{reset_request}

@@ -23,7 +23,7 @@ packets_apart [] others = refl
 packets_apart (sent emission ∷ events) others = ap (λ (l : List Emission). emission ∷ l) (packets_apart events others)
 packets_apart (event ∷ events) others = packets_apart events others
 
--- What is told is none.
+-- The events in `told` are no packets.
 pub told_then : (told : List FillingEvent) (others : List (Event Emission)) → packets_in (map filling_event told ++ others) ≡ packets_in others
 told_then [] others = refl
 told_then (amount_is_low stream ∷ told) others = told_then told others

@@ -1,4 +1,5 @@
--- The steps of a sender that begin no reset: packets, retransmissions, and what it learns of what is in flight.
+-- The steps of a sender that begin no reset: packets, retransmissions, and what it learns of what
+-- is in flight.
 use Rattle.std.proofs.Common.{◌≡◌, ℕ, Bool, true, ◌+◌, List, [], ◌∷◌, ◌++◌, map, refl, sym, ◌∙◌, ap, subst, inl, inr}
 use Rattle.std.specs.Prelude.{Option, Some}
 use Rattle.dcsctp_spec.specs.wire.Content.{SackContent}

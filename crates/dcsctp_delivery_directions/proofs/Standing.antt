@@ -28,12 +28,12 @@ pub record IsBehind (history : History) (out id : ℕ) : Type 0 where
   pub names : Resets mark id
   pub below : (n : ℕ) (f : Piece) → at_place n history.log ≡ Some (Some f) → f.message.stream ≡ id → n < mark.bound
 
--- So it is of each stream that is handed out, or none was sent: it was handed out in an earlier association.
+-- This holds for each stream that is handed out, or none was sent: it was handed out in an earlier association.
 abbrev pub AreQuiet : History → ℕ → List Stream → Type 0
 AreQuiet history out streams = (id : ℕ) → is_handed_out (stream_named id streams).pause ≡ true → Unsent history.log id ⊎ IsBehind history out id
 
--- The receiver has received all that came before the newest reset, and nothing on the streams that were handed out for it since it has
--- performed that.
+-- The receiver has received all that came before the newest reset, and nothing on the streams that were handed out for it since
+-- it has performed that.
 pub record IsCleared (history : History) (first cumulative : ℕ) (streams : List Stream) (reassembly : ReassemblyState) : Type 0 where
   pub mark : Mark
   pub earlier : List Mark

@@ -1,5 +1,6 @@
--- One direction of an association, by the relations of the machine: what one side queues and sends, and what the other side receives and
--- its user reads (RFC 9260, section 6), with interleaving or without (RFC 8260).
+-- One direction of an association, by the relations of the machine: what one side queues and sends,
+-- and what the other side receives and its user reads (RFC 9260, section 6), with interleaving or
+-- without (RFC 8260).
 use Rattle.std.specs.Prelude.{◌≡◌, ◌≢◌, ◌<◌, ◌≤◌, ◌+◌, ◌^◌, ℕ, suc, Bool, true, false, not, Option, None, Some, List, [], ◌∷◌, ◌++◌, length}
 use Rattle.dcsctp_spec.specs.wire.Content.{DataContent, IDataContent, SackContent, data_chunk, i_data_chunk, forward_tsn_chunk, i_forward_tsn_chunk}
 use Rattle.dcsctp_spec.specs.types.declared.options.Options.{Options}
@@ -69,7 +70,7 @@ abbrev pub asking_with : Option BegunReset → Asking → Asking
 asking_with None asking = asking
 asking_with (Some begun) asking = record { requests = begun ∷ asking.requests; out = suc asking.out; is_performed = false }
 
--- once the newest request goes on under this number
+-- once the newest request continues under this number
 abbrev pub asking_renewed : ℕ → BegunReset → Asking → Asking
 asking_renewed number newest asking = record asking { requests = record { number = number; reset = newest.reset } ∷ asking.requests; is_performed = false }
 
@@ -94,8 +95,8 @@ pub data DirectionStep (old : Direction) : Direction → Type 0 where
   -- The user queues a message.
   queues : (now : ℕ) (sending : Sending) → Fits (message_of sending) → 0 < length sending.message.payload
       → DirectionStep old (record old { queued = message_of sending ∷ old.queued; queues = record old.queues { queue = sending_queued now sending old.queues.queue } })
-  -- The user sets something, or streams are prepared to be reset; or a reset was performed, or was not. With interleaving it is the only one
-  -- that has no end, and the receiver has performed it.
+  -- The user sets something, or streams are prepared to be reset; or a reset was performed, or was not. With interleaving it is
+  -- the only one that has no end, and the receiver has performed it.
   sets : (setting : Setting) → DirectionStep old (record old { queues = record old.queues { queue = set_in_queue setting old.queues.queue } })
   prepares : (ids : List ℕ) → DirectionStep old (record old { queues = record old.queues { queue = prepared_all ids old.queues.queue } })
   commits : (old.queues.queue.is_interleaved ≡ true → (old.asking.out ≤ 1) × (old.asking.is_performed ≡ true))
@@ -198,7 +199,7 @@ pub record Delivered (queued : List Message) (read : List MessageContent) : Type
   pub were_queued : WereQueued queued places read
   pub once : AreDistinct places
 
--- So it is of every run in which fewer than 2^31 TSNs were assigned.
+-- This holds for every run in which fewer than 2^31 TSNs were assigned.
 abbrev pub DirectionsDeliver : Type 0
 DirectionsDeliver =
     (options : Options) (first size : ℕ) (direction : Direction) → DirectionRun options first size direction → first < 2 ^ 32 → assigned direction < 2 ^ 31 → length direction.queued < 2 ^ 64

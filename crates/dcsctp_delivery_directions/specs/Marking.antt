@@ -1,4 +1,5 @@
--- What was read in an association no longer waits to be sent, so that no later association sends it again.
+-- What was read in an association no longer waits to be sent, so that no later association sends it
+-- again.
 use Rattle.std.specs.Prelude.{◌≡◌, ◌<◌, ◌^◌, ℕ, false, Some, List, length}
 use Rattle.dcsctp_spec.specs.types.declared.options.Options.{Options}
 use Rattle.dcsctp_delivery_sending.specs.Places.{HasEntry, at_place}
@@ -18,7 +19,7 @@ pub record DeliveredForGood (direction : Direction) : Type 0 where
   pub waits_no_longer : (place : ℕ) → HasEntry place delivered.places → WaitsNoLonger place direction.queues.queue.streams
   pub fresh : (place : ℕ) → HasEntry place delivered.places → IsUnspent direction.queued place
 
--- So it is of every run in which fewer than 2^31 TSNs were assigned.
+-- This holds for every run in which fewer than 2^31 TSNs were assigned.
 abbrev pub DirectionsDeliverForGood : Type 0
 DirectionsDeliverForGood =
     (options : Options) (first size : ℕ) (direction : Direction) → DirectionRun options first size direction → first < 2 ^ 32 → assigned direction < 2 ^ 31 → length direction.queued < 2 ^ 64 → DeliveredForGood direction

@@ -1,5 +1,5 @@
--- Requests to reset streams in the packets of a sender (RFC 6525, section 5.1.2): each is one that was begun, and no fewer are sent than
--- were begun.
+-- Requests to reset streams in the packets of a sender (RFC 6525, section 5.1.2): each is one that
+-- was begun, and no fewer are sent than were begun.
 use Rattle.std.specs.Prelude.{◌≡◌, ◌==◌, if◌then◌else◌, ◌≤◌, ◌+◌, ◌⊎◌, ℕ, List, [], ◌∷◌, length}
 use Rattle.dcsctp_spec.specs.types.declared.options.Options.{Options}
 use Rattle.dcsctp_spec.specs.Packet.{Content, re_config, Emission}
@@ -17,7 +17,7 @@ abbrev pub IsOfBegun : List BegunReset → Content → Type 0
 IsOfBegun requests (re_config parameters) = NoRequests parameters ⊎ ((begun : BegunReset) × HasEntry begun requests × (re_config parameters ≡ reset_request begun.number begun.reset))
 IsOfBegun requests content = Unit {0}
 
--- So it is of each that was sent.
+-- This holds for each that was sent.
 abbrev pub RequestsWereBegun : Type 0
 RequestsWereBegun =
     (options : Options) (first size : ℕ) (direction : Direction) → DirectionRun options first size direction
@@ -26,7 +26,7 @@ RequestsWereBegun =
 
 -- ---- how many are sent
 
--- 1 if one of these parameters is a request to reset own streams, else 0
+-- 1 if one of these parameters is a request to reset its sender's streams, else 0
 abbrev pub one_if_asked : List ResetParameter → ℕ
 one_if_asked [] = 0
 one_if_asked (outgoing_reset_request number answered reset ∷ parameters) = 1

@@ -53,7 +53,7 @@ numbered_interleaved : (piece : Piece) (unordered : Bool) (mid fsn : ℕ) → pi
 numbered_interleaved piece true mid fsn kind is same same' = (kind, is, same, same')
 numbered_interleaved piece false mid fsn kind is same same' = (kind, is, same, same')
 
--- the number among the fragments, and the protocol, where the one field stands for both
+-- the number among the fragments, and the protocol, which share one field
 fsn_read : (b : Bool) (ppid fsn : ℕ) (piece : Piece) → b ≡ is_beginning piece → fsn ≡ piece.fsn → (piece.start ≡ 0 → piece.fsn ≡ 0) → fsn_of b ((if b then ppid else fsn) % 2 ^ 32) ≡ piece.fsn % 2 ^ 32
 fsn_read true ppid fsn piece begins is first = (let none : piece.fsn ≡ 0 = first (eqb-true piece.start 0 (sym begins)) in omega (arith, none))
 fsn_read false ppid fsn piece begins is first = ap (λ (k : ℕ). k % 2 ^ 32) is

@@ -1,4 +1,5 @@
--- A stream that was reset stays clear: nothing of it comes any more, and what is for other streams leaves it alone.
+-- A stream that was reset stays clear: nothing of it comes any more, and what is for other streams
+-- leaves it alone.
 use Rattle.std.proofs.Common.{◌≡◌, ◌≢◌, ◌==◌, ℕ, Bool, true, false, ◌<◌, ◌≤◌, ◌+◌, ◌%◌, ◌^◌, List, [], ◌∷◌, ◌++◌, refl, sym, ◌∙◌, ap, arith, length, subst, inl, inr}
 use Rattle.std.specs.Prelude.{◌&&◌, not, if◌then◌else◌, Option, None, Some}
 use Rattle.std.proofs.lemmas.Bool.Decides.{nat_tests, eqb_tells}

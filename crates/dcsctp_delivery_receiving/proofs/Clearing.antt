@@ -18,7 +18,7 @@ use Rattle.dcsctp_delivery_receiving.specs.Received.{AreBeyond, WaitBeyond, Carr
 use Rattle.dcsctp_delivery_receiving.proofs.Clear.{skips_others, left_clear}
 use Rattle.dcsctp_delivery_receiving.proofs.Kept.{kept_later}
 
--- The TSN of an offset that lies beyond the last one before the mark is behind the mark.
+-- A TSN beyond the last one before the mark is after the mark.
 offset_behind : (first offset bound : ℕ) → first < 2 ^ 32 → offset < 2 ^ 31 → bound < 2 ^ 31 → is_tsn_beyond ((first + offset) % 2 ^ 32) ((first + bound + (2 ^ 32 - 1)) % 2 ^ 32) ≡ true → bound ≤ offset
 offset_behind first offset bound small few near beyond = grind (arith, nat_tests, beyond)
 

@@ -1,4 +1,4 @@
--- What was received of a peer stays so as it goes on.
+-- What was received of a peer stays so as the peer's history continues.
 use Rattle.std.proofs.Common.{◌≡◌, ℕ, Bool, true, false, ◌≤◌, ◌+◌, List, [], ◌∷◌, length, arith, subst, inl, inr}
 use Rattle.std.specs.Prelude.{◌⊎◌, Option, None, Some}
 use Rattle.std.specs.List.{AllByRecursion}
@@ -16,8 +16,8 @@ use Rattle.dcsctp_delivery_receiving.specs.Rows.{IsPieceRow, AreRows, Spent}
 use Rattle.dcsctp_delivery_receiving.specs.Ready.{IsNumberedAs, IsOn, IsApart, ReadsMids, NamesCurrent}
 use Rattle.dcsctp_delivery_receiving.specs.Received.{Carries, CarriesCurrent, IsTsn, kept_entries, SkipsLater, SkipsWait, ForwardsWait, DefersData}
 
--- All pieces of a history are in a later one, each current one still is current, and the other marks are of resets that began later, or of
--- known ones under another number.
+-- All pieces of a history are in a later one, each current one still is current, and the other marks are of resets that began
+-- later, or of known ones under another number.
 pub record GoesOn (history wider : History) : Type 0 where
   pub stays : (n : ℕ) (slot : Slot) → at_place n history.log ≡ Some slot → at_place n wider.log ≡ Some slot
   pub current : (n : ℕ) (f : Piece) → at_place n history.log ≡ Some (Some f) → IsCurrent history f → IsCurrent wider f

@@ -48,7 +48,7 @@ eight_on n k j entry rest is =
     let same : n ≡ suc (suc (suc (suc (suc (suc (suc (suc (8 * k + j)))))))) = omega arith in
     ap (λ (m : ℕ). drop m (entry_bytes true entry ++ rest)) same
 
--- an entry is read where it stands
+-- an entry is read at its place
 entry_read : (history : History) (passed : ℕ) (queued : List Message) → Cut queued history.log → AllByRecursion Fits queued → (entries : List ((ℕ × Bool) × ℕ)) → AreForwardEntries true history passed entries → (k : ℕ) → k < length entries
     → SkipsEntry history passed (messages_skipped_to (skipped_messages_at k (flat_map (entry_bytes true) entries)))
 entry_read history passed queued cut fit [] names k below = absurd (omega arith)

@@ -30,7 +30,7 @@ were_more queued more (p ∷ places) (c ∷ contents) were = (
   were_more queued more places contents were.1,
 )
 
--- ---- a history that goes on
+-- ---- a history that continues
 
 module _ (queued more : List Message) (history wider : History) (goes : GoesOn history wider) where
   wait_more : (got : List ℕ) (id : ℕ) (places : List ℕ) (wholes : List WholeModel) → WaitQueued queued history got id places wholes → WaitQueued (more ++ queued) wider got id places wholes
@@ -145,7 +145,7 @@ received_asked queued history (Some begun) ids bound first read tracker reassemb
     }) first read tracker reassembly
     (λ n f at kind aged. (let past = r.old n f at kind aged in record { mark = past.mark; has = inr past.has; names = past.names; below = past.below; passed = past.passed })) r
 
--- ---- a reset goes on under another number
+-- ---- a reset continues under another number
 
 pub received_renewed : (queued : List Message) (history : History) (number : ℕ) (renewed : Mark) (first : ℕ) (read : List ℕ) (tracker : TrackerState) (reassembly : ReassemblyState) → HasEntry renewed history.marks
     → HasReceived queued history first read tracker reassembly → HasReceived queued (with_renewed number renewed history) first read tracker reassembly

@@ -1,4 +1,5 @@
--- What is kept of FORWARD-TSNs until a deferred reset is performed: what holds of each entry that came holds of each that is kept.
+-- What is kept of FORWARD-TSNs until a deferred reset is performed: what holds of each entry that
+-- came holds of each that is kept.
 use Rattle.std.proofs.Common.{◌≡◌, ℕ, Bool, true, false, ◌+◌, List, [], ◌∷◌, map, refl, Ordering, Less, Equal, Greater}
 use Rattle.std.specs.Prelude.{if◌then◌else◌, Option, None, Some}
 use Rattle.std.specs.BTreeMap.{insert_entry}

@@ -1,4 +1,4 @@
--- The MIDs of a log of I-DATA are read right, and tell its messages apart.
+-- The MIDs of a log of I-DATA are read right, and distinguish its messages.
 use Rattle.std.proofs.Common.{◌≡◌, ◌==◌, ℕ, Bool, true, false, ◌<◌, ◌+◌, ◌-◌, ◌≤◌, ◌%◌, ◌^◌, List, [], ◌∷◌, refl, sym, ◌∙◌, ap, arith, subst}
 use Rattle.std.specs.Prelude.{Some, min, nat_le, if◌then◌else◌}
 use Rattle.std.proofs.lemmas.Bool.{eqb-true}
@@ -49,7 +49,7 @@ module _ (history : History) (id : ℕ) (is_unordered : Bool) (n : ℕ) (f : Pie
       }) in
       near_read (history.floors id is_unordered) f.mid number (w.from n f at on kind current) (w.below n f at on kind current) (reads (history.floors id is_unordered) w)
 
--- ---- messages that are told apart
+-- ---- messages are distinguished by their numbers
 
 same_mid : (start one other number : ℕ) → start ≤ one → one < start + 2 ^ 31 → start ≤ other → other < start + 2 ^ 31 → number % 2 ^ 32 ≡ one % 2 ^ 32 → number % 2 ^ 32 ≡ other % 2 ^ 32 → one ≡ other
 same_mid start one other number from below from' below' is is' = omega (arith, is, is')

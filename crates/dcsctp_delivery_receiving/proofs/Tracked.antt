@@ -22,7 +22,7 @@ is_missing from number (range ∷ ranges) beyond up =
     let before : nat_le range.first number ≡ false = (let above = beyond.0 in grind (arith, nat_tests)) in
     grind (arith, rest, before)
 
--- what is received goes on from where all is
+-- the TSN after the cumulative one isn't received
 all_received : (cumulative number : ℕ) (ranges : List TsnRange) → IsBeyond cumulative ranges → is_received cumulative (cumulative + 1) ranges ≡ false
 all_received cumulative number ranges beyond =
     let missing = is_missing cumulative (cumulative + 1) ranges beyond (omega arith) in

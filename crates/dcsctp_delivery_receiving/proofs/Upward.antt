@@ -1,4 +1,5 @@
--- The cumulative TSN of a receiver never goes back, and a FORWARD-TSN that passes nothing leaves what was received.
+-- The cumulative TSN of a receiver never goes back, and a FORWARD-TSN that passes nothing leaves
+-- what was received.
 use Rattle.std.proofs.Common.{◌≡◌, ℕ, Bool, true, false, ◌≤◌, ◌+◌, ◌-◌, ◌%◌, ◌^◌, List, sym, ap, arith, subst, length}
 use Rattle.std.specs.Prelude.{◌&&◌}
 use Rattle.dcsctp_spec_lemmas.specs.types.declared.arrivals.SkippedTo.{SkippedTo}

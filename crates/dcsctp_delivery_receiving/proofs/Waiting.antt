@@ -128,7 +128,8 @@ module _ (queued : List Message) (history : History) (got : List ℕ) where
 
   -- ---- what a part leaves on its stream
 
-  -- These became ready besides: `all` are the places of the messages that were read or are ready, `places` of those that are ready.
+  -- These became ready besides: `all` are the places of the messages that were read or are ready, `places` of those that are
+  -- ready.
   pub record Leaves (all places : List ℕ) (id : ℕ) (waiting : List WholeModel) (after : List MessageContent) : Type 0 where
     pub more : List ℕ
     pub waits : List ℕ

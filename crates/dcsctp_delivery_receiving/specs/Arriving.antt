@@ -1,5 +1,5 @@
--- What a chunk of data says as it is received, and a chunk that passes TSNs, which the peer sent (RFC 9260, section 3.3.1, RFC 3758,
--- section 3.2, and RFC 8260, sections 2.1 and 2.3.1).
+-- What a chunk of data says as it is received, and a chunk that passes TSNs, which the peer sent
+-- (RFC 9260, section 3.3.1, RFC 3758, section 3.2, and RFC 8260, sections 2.1 and 2.3.1).
 use Rattle.std.specs.Prelude.{◌≢◌, ℕ, List, [], true, false}
 use Rattle.std.specs.List.{AllByRecursion}
 use Rattle.dcsctp_spec_lemmas.specs.wire.Content.{DataContent, IDataContent}

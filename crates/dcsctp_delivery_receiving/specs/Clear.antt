@@ -1,4 +1,5 @@
--- A stream of the receiver that was reset, on which nothing more comes before the sender learns of it (RFC 6525, section 5.2.2).
+-- A stream of the receiver that was reset, on which nothing more comes before the sender learns of
+-- it (RFC 6525, section 5.2.2).
 use Rattle.std.specs.Prelude.{◌≡◌, ◌≢◌, ◌⊎◌, ◌<◌, ◌≤◌, ◌+◌, ◌-◌, ◌%◌, ◌^◌, ℕ, true, Option, None, Some, List, [], ◌∷◌, length}
 use Rattle.std.specs.List.{AllByRecursion}
 use Rattle.dcsctp_spec_lemmas.specs.types.declared.arrivals.SkippedTo.{SkippedTo}

@@ -1,5 +1,6 @@
--- What the reassembly queue has ready is what the peer's user queued, each message once (RFC 9260, section 6.6, RFC 3758, section 3.6, and
--- RFC 6525, section 5.2.2), with interleaving or without (RFC 8260).
+-- What the reassembly queue has ready is what the peer's user queued, each message once (RFC 9260,
+-- section 6.6, RFC 3758, section 3.6, and RFC 6525, section 5.2.2), with interleaving or without
+-- (RFC 8260).
 use Rattle.std.specs.Prelude.{◌≡◌, ◌<◌, ◌≤◌, ◌+◌, ◌%◌, ◌^◌, ℕ, Bool, true, false, Some, List, [], ◌∷◌, ◌++◌}
 use Rattle.std.specs.List.{AllByRecursion}
 use Rattle.dcsctp_spec_lemmas.specs.types.queues.Messages.{MessageContent}
@@ -16,8 +17,8 @@ use Rattle.dcsctp_delivery_sending.specs.Places.{HasEntry, at_place}
 use Rattle.dcsctp_delivery_sending.specs.Log.{Message, Piece, Mark, History, Resets, is_beginning, is_end, piece_bytes, Cut}
 use Rattle.dcsctp_delivery_receiving.specs.Rows.{AreRows, Spent, IsQueued}
 
--- With interleaving the piece is of an ordered or of an unordered message, sent since the last reset of its stream, and its part has the
--- number of that, without wrap.
+-- With interleaving the piece is of an ordered or of an unordered message, sent since the last reset of its stream, and its
+-- part has the number of that, without wrap.
 abbrev pub IsNumberedAs : History → Bool → Piece → ℕ → Type 0
 IsNumberedAs history is_unordered piece number =
     piece.is_interleaved ≡ true → (piece.message.is_unordered ≡ is_unordered) × (number % 2 ^ 32 ≡ piece.mid % 2 ^ 32) × IsCurrent history piece
@@ -34,8 +35,8 @@ IsApart history stream piece number = (piece.message.stream ≡ stream) × IsNum
 abbrev pub IsOfStream : Piece → ℕ → Type 0
 IsOfStream piece number = (piece.message.stream ≡ number) × (piece.is_interleaved ≡ false)
 
--- The log is of I-DATA, and the messages of a stream, ordered or not, that were sent since its last reset have numbers from this one on,
--- fewer than 2^31.
+-- The log is of I-DATA, and the messages of a stream, ordered or not, that were sent since its last reset have numbers from
+-- this one on, fewer than 2^31.
 pub record IsWindow (history : History) (id : ℕ) (is_unordered : Bool) (start : ℕ) : Type 0 where
   pub kinds : AreOfKind true history.log
   pub from : (n : ℕ) (f : Piece) → at_place n history.log ≡ Some (Some f) → f.message.stream ≡ id → f.message.is_unordered ≡ is_unordered → IsCurrent history f → start ≤ f.mid
@@ -78,8 +79,8 @@ WaitQueued queued history got stream (place ∷ places) [] = ⊥
 WaitQueued queued history got stream (place ∷ places) (whole ∷ wholes) =
     IsQueued queued history.log got (IsOn history stream) place whole × WaitQueued queued history got stream places wholes
 
--- `base` is the number that the reassembly queue has for the first TSN. The parts of a stream lie by the number of their message first.
--- Those of ordered messages of DATA then lie by their TSNs. For I-DATA `base` makes no difference.
+-- `base` is the number that the reassembly queue has for the first TSN. The parts of a stream lie by the number of their
+-- message first. Those of ordered messages of DATA then lie by their TSNs. For I-DATA `base` makes no difference.
 abbrev pub ordered_base : ℕ → ℕ → ℕ
 ordered_base base number = fragment_place number base
 
@@ -100,8 +101,8 @@ pub record StreamHolds (queued : List Message) (history : History) (got : List �
   pub rows : StreamRows history got base id stream
   pub wait : WaitQueued queued history got id places stream.waiting
 
--- All that is held of what was received is of what the peer's user queued. `got` has the offsets of the TSNs that were handled, and `read`
--- the places of the messages that the user has read. No message was read, is ready or waits twice.
+-- All that is held of what was received is of what the peer's user queued. `got` has the offsets of the TSNs that were handled,
+-- and `read` the places of the messages that the user has read. No message was read, is ready or waits twice.
 pub record HoldsAll (queued : List Message) (history : History) (got : List ℕ) (base : ℕ) (read : List ℕ) (streams : ℕ → StreamModel) (unordered : List RunModel) (ready : List MessageContent) : Type 0 where
   pub waits : ℕ → List ℕ
   pub streams_hold : (id : ℕ) → StreamHolds queued history got base id (waits id) (streams id)
@@ -111,12 +112,13 @@ pub record HoldsAll (queued : List Message) (history : History) (got : List ℕ)
   pub spent : (place : ℕ) → HasEntry place (read ++ places) → Spent history.log got place
   pub once : (id : ℕ) → AreDistinct ((read ++ places) ++ waits id)
 
--- So it is of the received messages of an association.
+-- This holds for the received messages of an association.
 abbrev pub HoldsIncoming : List Message → History → List ℕ → ℕ → List ℕ → IncomingModel → Type 0
 HoldsIncoming queued history got base read incoming =
     HoldsAll queued history got base read (λ id. stream_on id incoming.streams) incoming.unordered incoming.ready
 
--- The chunk of a piece is numbered by whether its message is unordered; that of an interleaved one says two of the piece's numbers.
+-- The chunk of a piece is numbered by whether its message is unordered; that of an interleaved one says two of the piece's
+-- numbers.
 abbrev pub IsNumbered : Piece → Numbering → Type 0
 IsNumbered piece Unordered = (piece.is_interleaved ≡ false) × (piece.message.is_unordered ≡ true)
 IsNumbered piece (Ordered ssn) = (piece.is_interleaved ≡ false) × (piece.message.is_unordered ≡ false)
@@ -132,8 +134,8 @@ pub record SkipsPlain (history : History) : Type 0 where
   pub at : at_place number history.log ≡ Some (Some piece)
   pub kind : piece.is_interleaved ≡ false
 
--- The message of the entry of an I-FORWARD-TSN is one of the log. So many TSNs are passed, none together with one before a reset that names
--- the stream.
+-- The message of the entry of an I-FORWARD-TSN is one of the log. So many TSNs are passed, none together with one before a
+-- reset that names the stream.
 pub record SkipsMessage (history : History) (passed id : ℕ) (is_unordered : Bool) (mid : ℕ) : Type 0 where
   pub number : ℕ
   pub piece : Piece
@@ -144,7 +146,7 @@ pub record SkipsMessage (history : History) (passed id : ℕ) (is_unordered : Bo
   pub is : mid ≡ piece.mid % 2 ^ 32
   pub within : (mark : Mark) → HasEntry mark history.marks → Resets mark piece.message.stream → number < mark.bound → passed ≤ mark.bound
 
--- So it is of an entry,
+-- This holds for an entry,
 abbrev pub SkipsEntry : History → ℕ → SkippedTo → Type 0
 SkipsEntry history passed (Ssn id ssn) = SkipsPlain history
 SkipsEntry history passed (Mid id is_unordered mid) = SkipsMessage history passed id.0 is_unordered mid
@@ -159,7 +161,7 @@ abbrev pub SkipsCurrent : (history : History) (passed : ℕ) (entry : SkippedTo)
 SkipsCurrent history passed (Ssn id ssn) skips = Unit {0}
 SkipsCurrent history passed (Mid id is_unordered mid) skips = IsCurrent history skips.piece
 
--- So it is of an entry,
+-- This holds for an entry,
 abbrev pub NamesCurrent : History → ℕ → SkippedTo → Type 0
 NamesCurrent history passed entry = (skips : SkipsEntry history passed entry) × SkipsCurrent history passed entry skips
 

@@ -1,5 +1,5 @@
--- What an association has received of its peer's messages, with the data tracker, and with what waits for the end of a deferred reset
--- (RFC 6525, section 5.2.2).
+-- What an association has received of its peer's messages, with the data tracker, and with what
+-- waits for the end of a deferred reset (RFC 6525, section 5.2.2).
 use Rattle.std.specs.Prelude.{◌≡◌, ◌<◌, ◌≤◌, ◌+◌, ◌%◌, ◌^◌, ℕ, Bool, true, Option, None, Some, List, [], ◌∷◌, ◌++◌, length, map}
 use Rattle.std.specs.List.{AllByRecursion}
 use Rattle.dcsctp_spec_lemmas.specs.types.declared.arrivals.SkippedTo.{SkippedTo}
@@ -105,8 +105,8 @@ pub record IsPast (history : History) (first cumulative id number : ℕ) : Type 
   pub below : number < mark.bound
   pub passed : tracked first mark.bound ≤ cumulative + 1
 
--- All that an association has received whose peer has this log. `taken` has the offsets that the tracker knows, `got` those that the
--- reassembly queue has handled, and `later` those that wait for the end of a deferred reset.
+-- All that an association has received whose peer has this log. `taken` has the offsets that the tracker knows, `got` those
+-- that the reassembly queue has handled, and `later` those that wait for the end of a deferred reset.
 pub record HasReceived (queued : List Message) (history : History) (first : ℕ) (read : List ℕ) (tracker : TrackerState) (reassembly : ReassemblyState) : Type 0 where
   pub taken : List ℕ
   pub got : List ℕ
@@ -182,7 +182,7 @@ pub record ReadsQueued (queued : List Message) (history : History) (first : ℕ)
   pub fresh : HasEntry place read → ⊥
   pub received : HasReceived queued history first (read ++ place ∷ []) tracker (with_ready messages reassembly)
 
--- So it is of the first message that is ready.
+-- This holds for the first message that is ready.
 abbrev pub TakingReads : Type 0
 TakingReads =
     (queued : List Message) (history : History) (first : ℕ) (read : List ℕ) (tracker : TrackerState) (reassembly : ReassemblyState) (message : MessageContent) (messages : List MessageContent)

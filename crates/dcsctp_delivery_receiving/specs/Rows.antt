@@ -5,8 +5,8 @@ use Rattle.dcsctp_spec_lemmas.specs.spec.queues.Numbers.{fragment_place}
 use Rattle.dcsctp_delivery_sending.specs.Places.{HasEntry, at_place}
 use Rattle.dcsctp_delivery_sending.specs.Log.{Message, Piece, Slot, is_beginning, is_end, piece_bytes}
 
--- Where the part of a piece lies: by its TSN, or with interleaving by the number of its message and by how many parts come before it
--- (RFC 8260, section 2.1). `base` gives the place of the first TSN for each number of a message.
+-- Where the part of a piece lies: by its TSN, or with interleaving by the number of its message and by how many parts come
+-- before it (RFC 8260, section 2.1). `base` gives the place of the first TSN for each number of a message.
 abbrev pub PlacedBy : Bool → (ℕ → ℕ) → ℕ → ℕ → ℕ → ℕ → Type 0
 PlacedBy false base offset fsn number place = place ≡ base number + offset
 PlacedBy true base offset fsn number place = place ≡ fragment_place number (fsn % 2 ^ 32)

@@ -1,4 +1,5 @@
--- The data tracker tells new TSNs from those that were received, while fewer than 2^31 are assigned (RFC 9260, sections 1.6 and 6.2).
+-- The data tracker distinguishes new TSNs from received ones, while fewer than 2^31 are assigned (RFC
+-- 9260, sections 1.6 and 6.2).
 use Rattle.std.specs.Prelude.{◌≡◌, ◌<◌, ◌≤◌, ◌+◌, ◌-◌, ◌%◌, ◌^◌, ℕ, Bool, true, List, ◌∷◌}
 use Rattle.dcsctp_spec_lemmas.specs.spec.queues.Numbers.{number_near}
 use Rattle.dcsctp_spec_lemmas.specs.spec.queues.Ranges.{IsBeyond}

@@ -11,7 +11,7 @@ pub fn ready_was_queued()
     ensures { ReadyWasQueued }
 {}
 
-/// So it is with what becomes ready by a FORWARD-TSN, whatever it says, or by an I-FORWARD-TSN.
+/// This holds for what becomes ready by a FORWARD-TSN, whatever it says, or by an I-FORWARD-TSN.
 pub fn skipping_keeps()
     ensures { SkippingKeeps }
 {}
@@ -21,8 +21,8 @@ pub fn resetting_keeps()
     ensures { ResettingKeeps }
 {}
 
-/// The data tracker tells TSNs that are new from those that were received, and the reassembly queue finds the number of
-/// each, while fewer than 2^31 are assigned.
+/// The data tracker distinguishes new TSNs from received ones, and the reassembly queue finds the number of each, while
+/// fewer than 2^31 are assigned.
 pub fn tsns_are_told_apart()
     ensures fresh { NewTsnsAreNew }
     ensures passing { PassingKeeps }

@@ -1,4 +1,4 @@
--- A reset of own streams that a flush begins.
+-- A reset of our streams that a flush begins.
 use Rattle.std.proofs.Common.{◌≡◌, ℕ, zero, suc, true, ◌<◌, ◌+◌, ◌-◌, ◌%◌, ◌^◌, List, [], ◌∷◌, length, map, take, refl, sym, ap, arith, subst, inl, inr}
 use Rattle.std.specs.Prelude.{Option, None, Some, slice_get}
 use Rattle.dcsctp_spec.specs.types.declared.association.Held.{Held}

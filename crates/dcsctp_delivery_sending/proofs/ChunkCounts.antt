@@ -38,7 +38,7 @@ pub one_at_most : (u : Option UnderWay) → going u ≤ 1
 one_at_most None = omega arith
 one_at_most (Some under_way) = omega arith
 
--- no more TSNs are taken, and none stands in the packet
+-- no more TSNs are taken, and none is added to the packet
 record Fewer (old new : Stage) : Type 0 where
   less : tsns_of new.waiting new.queue.outstanding.items ≤ tsns_of old.waiting old.queue.outstanding.items
   tsns : new.tsns ≡ old.tsns

@@ -125,7 +125,7 @@ counts_rest streams u waiting mid front is next =
     counts_else : (id : ℕ) (b : Bool) → Other u.stream_id.0 waiting.is_unordered id b → counts id b ≡ 0
     counts_else id b other = set_elsewhere u.stream_id.0 waiting.is_unordered 1 (λ id b. 0) id b other
 
--- so it is of what waits, and of what an earlier association left under way
+-- this holds for what waits, and for what an earlier association left under way
 pub counts_anew : (history : History) (streams : List Stream) (u : Option UnderWay) → CountsMessages history streams u → Begins true streams u
 counts_anew history streams u counts = go u counts.going
   where

@@ -24,7 +24,7 @@ pub drops_keep_under_way : {P : Type 0} (now : ℕ) (old : SendQueueState) (even
 drops_keep_under_way now old events new none = refl
 drops_keep_under_way now old events new (more events' queue place message drops next front expired) = drops_keep_under_way now old events' queue drops
 
--- what is left of the message under way is dropped, and a TSN may stand for its end
+-- the rest of the message under way is dropped, and its end may take a TSN
 module _ (queued : List Message) (log : List Slot) (old : SendQueueState) (stream message_id : ℕ) (named : IsMessageUnderWay old stream message_id) (queue_holds : HoldsQueued queued log old.streams old.under_way) where
   left : List Stream
   left = (without_rest named.place named.under_way.sent named.message old).streams

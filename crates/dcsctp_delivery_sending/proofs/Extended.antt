@@ -42,7 +42,7 @@ pub record Extends (old new : History) : Type 0 where
   pub at : (n : ℕ) (slot : Slot) → at_place n old.log ≡ Some slot → at_place n new.log ≡ Some slot
   pub size : length old.log ≤ length new.log
   pub marks : (mark : Mark) → HasEntry mark old.marks → HasEntry mark new.marks
-  -- A later reset lies behind all TSNs of the earlier history, or is one of that under another number.
+  -- A later reset comes after all TSNs of the earlier history, or is one of its resets under another number.
   pub later : (mark : Mark) → HasEntry mark new.marks → IsAsOne old mark ⊎ (length old.log ≤ mark.bound)
 
 pub extends_grown : (more : List Slot) (history : History) → Extends history (log_extended more history)
@@ -69,7 +69,7 @@ extends_noted (Some begun) ids bound more history low =
       later = λ mark has. elim has [ inl e ↦ inr (let is : mark.bound ≡ bound = ap (λ (m : Mark). m.bound) e in omega (arith, low)) | inr old ↦ inl (as_itself history mark old) ];
     }
 
--- a reset that goes on under another number
+-- a reset that continues under another number
 pub extends_renewed : (number : ℕ) (renewed : Mark) (history : History) → HasEntry renewed history.marks → Extends history (with_renewed number renewed history)
 extends_renewed number renewed history known =
     record { at = λ n slot at. at; size = omega arith; marks = λ mark has. inr has; later = λ mark has. inl (as_renewed history number renewed mark known has) }

@@ -1,4 +1,4 @@
--- Messages that are abandoned: their ends may take TSNs, which bear no piece.
+-- Messages that are abandoned: their ends may take TSNs, which carry no piece.
 use Rattle.std.proofs.Common.{◌≡◌, ℕ, Bool, true, false, ◌+◌, List, [], ◌∷◌, ◌++◌, length, refl, sym, ◌∙◌, ap, subst, inl, inr}
 use Rattle.std.specs.Prelude.{Option, None, Some}
 use Rattle.dcsctp_spec.specs.types.declared.progress.Change.TheVariants.{Abandon}
@@ -20,7 +20,7 @@ use Rattle.dcsctp_delivery_sending.proofs.Discarding.{discards_numbered, discard
 use Rattle.dcsctp_delivery_sending.proofs.Places.{at_either}
 use Rattle.dcsctp_delivery_sending.proofs.Stages.{with_none, bears_grown, bears_changed, cut_none}
 
--- More TSNs may have been assigned that bear no piece.
+-- More TSNs may have been assigned that carry no piece.
 pub record Ends (queued : List Message) (history : History) (first acknowledged : ℕ) (new : Stage) : Type 0 where
   pub more : List Slot
   pub stands : Stands queued (log_extended more history) first acknowledged new
@@ -103,7 +103,7 @@ gives_up_ends queued history first acknowledged now place old new stands gives =
           });
     }
 
--- messages that are given up take TSNs that bear no piece
+-- messages that are given up take TSNs that carry no piece
 give_up_steps : (queued : List Message) (history : History) (first acknowledged now : ℕ) (old new : Stage) → Stands queued history first acknowledged old → StageSteps (GivesUpFirst now) old new → Ends queued history first acknowledged new
 give_up_steps queued history first acknowledged now old new stands none = end queued history first acknowledged old stands
 give_up_steps queued history first acknowledged now old new stands (more between _ steps step) =

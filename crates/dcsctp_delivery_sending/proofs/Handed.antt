@@ -1,4 +1,5 @@
--- Which streams are handed out to be reset, while the user queues and sets something, and when a reset ends.
+-- Which streams are handed out to be reset, while the user queues and sets something, and when a
+-- reset ends.
 use Rattle.std.proofs.Common.{◌≡◌, ◌==◌, ℕ, Bool, true, false, List, [], ◌∷◌, map, refl, sym, ◌∙◌, subst}
 use Rattle.std.specs.Prelude.{nat_lt, if◌then◌else◌}
 use Rattle.dcsctp_spec.specs.types.declared.sending.Pause.{Pause}

@@ -18,7 +18,7 @@ fresh_going queued log streams None g = tt
 fresh_going queued log streams (Some u) g =
     record { place = g.place; message = g.message; at = g.at; unfinished = g.unfinished; begun = g.begun; there = g.there; came = inl refl; front = g.front }
 
--- the numbers go on
+-- the numbers continue
 pub begins_again : (b : Bool) (history : History) (streams : List Stream) (u : Option UnderWay) → CountsWhere b history streams u → Begins b streams u
 begins_again true history streams u counts = counts_anew history streams u counts
 begins_again false history streams u counts = record { floors = λ id is_unordered. 0; counts = tt }

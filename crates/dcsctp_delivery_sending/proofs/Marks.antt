@@ -17,7 +17,7 @@ use Rattle.dcsctp_delivery_sending.proofs.Places.{decide, at_cases, at_stays}
 use Rattle.dcsctp_delivery_sending.proofs.Streams.{newest_at}
 use Rattle.dcsctp_delivery_sending.proofs.Stages.{with_none}
 
--- After one more TSN no reset lies behind all of them.
+-- Once one more TSN is assigned, no reset comes after all TSNs.
 pub pends_later : (slot : Slot) (history : History) (first : ℕ) (under_way : Option UnderWay) (reset_begun : Bool) → AreMarks history first under_way → Pends (with_slot slot history) reset_begun
 pends_later slot history first under_way reset_begun marks mark has is = let within : mark.bound ≤ length history.log = (marks mark has).within in absurd (omega (arith, is))
 
@@ -50,7 +50,7 @@ named_end history own part n whole =
       mid = n.mid;
     }
 
--- No reset of its stream lies between a message under way and its end: the newest piece lies behind all of these.
+-- No reset of its stream lies between a message under way and its end: the newest piece comes after all these resets.
 pub end_whole : {P : Type 0} (queued : List Message) (history : History) (first own : ℕ) (old new : SendQueueState) (part : Fragment) (before after : List (Event P)) → HoldsQueued queued history.log old.streams old.under_way
     → AreMarks history first old.under_way → Discards old part.stream part.message_id before new after → (n : IsNamedFragment history own part)
     → (mark : Mark) → HasEntry mark history.marks → Resets mark n.piece.message.stream → n.number < mark.bound → length history.log < mark.bound
@@ -71,7 +71,7 @@ end_whole queued history first own old new part before after queue_holds marks d
 
 -- ---- the next piece
 
--- The message under way goes on with the piece.
+-- The message under way continues with the piece.
 pub record GoesOn (going : Option UnderWay) (piece : Piece) : Type 0 where
   pub under_way : UnderWay
   pub is : going ≡ Some under_way

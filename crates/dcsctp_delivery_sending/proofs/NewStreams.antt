@@ -47,7 +47,7 @@ inserted s (first ∷ streams) = go (nat_lt first.id s.id) (inserted s streams)
         later zero le = absurd (omega arith)
         later (suc q) le = rest.behind q (omega arith)
 
--- which stream stands at a place then: the new one, or an earlier one
+-- which stream is at a place then: the new one, or an earlier one
 data At (s : Stream) (old new : List Stream) (place q : ℕ) : Type 0 where
   new_one : q ≡ place → stream_at new q ≡ s → At s old new place q
   old_one : (k : ℕ) → stream_at new q ≡ stream_at old k → ((q < place) × (k ≡ q)) ⊎ ((place < q) × (k + 1 ≡ q)) → At s old new place q

@@ -1,4 +1,4 @@
--- A history stays true once a reset of own streams is noted in it.
+-- A history stays true once a reset of our streams is recorded in it.
 use Rattle.std.proofs.Common.{◌≡◌, ℕ, Bool, true, false, List, ◌++◌, ap}
 use Rattle.std.specs.Prelude.{Option, None, Some}
 use Rattle.dcsctp_spec.specs.types.declared.sending.UnderWay.{UnderWay}
@@ -12,7 +12,7 @@ use Rattle.dcsctp_delivery_sending.specs.Pieces.{HoldsQueued}
 use Rattle.dcsctp_spec.specs.queues.SendQueue.{SendQueueState}
 use Rattle.dcsctp_delivery_sending.proofs.GivingUp.{append_twice, grown_twice}
 
--- what was noted between two parts of the log may be noted after them
+-- a reset that is recorded between two parts of the log may be recorded after both
 pub marked_twice : (begun : Option BegunReset) (ids : List ℕ) (bound : ℕ) (newer older : List Slot) (history : History) → with_mark begun ids bound (log_extended (newer ++ older) history) ≡ log_extended newer (with_mark begun ids bound (log_extended older history))
 marked_twice None ids bound newer older history = grown_twice newer older history
 marked_twice (Some begun) ids bound newer older history = ap (λ (l : List Slot). with_mark (Some begun) ids bound (record history { log = l })) (append_twice newer older history.log)
@@ -29,7 +29,7 @@ numbers_marked : (begun : BegunReset) (ids : List ℕ) (bound : ℕ) (history : 
 numbers_marked begun ids bound history queue numbers =
     record { kinds = numbers.kinds; counts = counts_marked begun ids bound history queue.is_interleaved queue.streams queue.under_way numbers.counts; kept = numbers.kept }
 
--- what was said of the stage before it is noted, and what is said with it
+-- what holds of the stage before the reset is recorded, and what holds once it is
 pub stands_marked : (begun : Option BegunReset) (ids : List ℕ) (bound : ℕ) (queued : List Message) (history : History) (first acknowledged : ℕ) (stage : Stage) → HoldsQueued queued history.log stage.waiting.streams stage.waiting.under_way → Cut queued history.log
     → Bears (with_mark begun ids bound history) first acknowledged stage.queue.outstanding → Pends (with_mark begun ids bound history) stage.queue.reset_begun → AreMarks (with_mark begun ids bound history) first stage.waiting.under_way
     → Numbered history stage.waiting → stage.queue.outstanding.is_interleaved ≡ stage.waiting.is_interleaved → Stands queued (with_mark begun ids bound history) first acknowledged stage

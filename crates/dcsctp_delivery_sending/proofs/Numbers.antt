@@ -157,7 +157,7 @@ numbered_stay history old new kind going stay numbers =
       kept = subst (λ (u : Option UnderWay). KeptWhere new.streams u) (sym going) (kept_stays old.under_way old.streams new.streams stay numbers.kept);
     }
 
--- the message under way ends, and a TSN may stand for that
+-- the message under way ends, and its end takes a TSN
 counts_ended : (history : History) (u : Option UnderWay) (streams : List Stream) → CountsMessages history streams u → CountsMessages (with_slot None history) streams None
 counts_ended history u streams counts =
     record {

@@ -1,4 +1,5 @@
--- Which streams are handed out to be reset, while a flush is under way: the request in its first packet alone hands streams out.
+-- Which streams are handed out to be reset, while a flush is under way: the request in its first
+-- packet alone hands streams out.
 use Rattle.std.proofs.Common.{◌≡◌, ℕ, Bool, true, false, List, [], ◌++◌, map, refl, ◌∙◌, ap, inl, inr}
 use Rattle.std.specs.Prelude.{Option, None, Some}
 use Rattle.dcsctp_spec.specs.Packet.{Plain, Emission}
@@ -24,7 +25,7 @@ fills_where_paused : (now : ℕ) (b : Bool) (old new : Stage) → FillsWhere b n
 fills_where_paused now true old new fills id = fills_paused now old new fills id
 fills_where_paused now false old new fills id = elim fills [ inl e ↦ same_paused old new (ap (λ (s : Stage). s.waiting) e) id | inr e ↦ fills_paused now old new e id ]
 
--- so it is of one packet, before the request and after it
+-- this holds for one packet, before the request and after it
 pub gave_up_paused : (ask : Ask) (e : Endpoint) (draft : Emission) (transfer : Transfer) (answer : Answer) (gives : Gives ask e draft transfer answer) → PausesStay e.queues.queue.streams gives.gave_up.waiting.streams
 gave_up_paused ask e draft transfer answer gives id =
     gives_up_where_paused (may_forward ask e transfer.retransmission) e.moment (room_in e (filled draft (plain_contents gives.sacks))) transfer (stage_of e.queues.queue transfer.retransmission [] 0) gives.gave_up gives.next

@@ -38,7 +38,7 @@ at_below n y (x ∷ l) at = elim (at_cases n x y l at) [ inl e ↦ omega (arith,
 pub at_stays : {A : Type 0} (n : ℕ) (x y : A) (l : List A) → at_place n l ≡ Some y → at_place n (x ∷ l) ≡ Some y
 at_stays n x y l at = at_old n x l (at_below n y l at) ∙ at
 
--- what stands among the newer ones or the older ones
+-- an item is among the newer ones or the older ones
 pub at_either : {A : Type 0} (newer older : List A) (n : ℕ) (x : A) → at_place n (newer ++ older) ≡ Some x → ((k : ℕ) × (at_place k newer ≡ Some x)) ⊎ (at_place n older ≡ Some x)
 at_either [] older n x at = inr at
 at_either (y ∷ newer) older n x at =

@@ -238,5 +238,3 @@ module _ (queued : List Message) (log : List Slot) (max place : ℕ) (queue : Se
             going = part_going next_going refl refl refl refl e;
             room = part_room next_going refl;
           }
-
--- a message is begun, or the one under way goes on

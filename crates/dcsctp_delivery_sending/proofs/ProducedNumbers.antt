@@ -42,7 +42,7 @@ numbered_begun place message under_way queue sent kind = go (under_way.sent == 0
     go true e = ap (λ (b : Bool). slice_set queue.streams place (served (next_turn queue) (stream_counted b message.is_unordered (stream_at queue.streams place)))) kind
     go false e = absurd (cc)
 
--- one that goes on is not
+-- one that continues is not
 numbered_on : (place : ℕ) (message : Waiting) (under_way : UnderWay) (queue : SendQueueState) → 0 < under_way.sent → (begun_numbered place message under_way queue).streams ≡ queue.streams
 numbered_on place message under_way queue some =
     elim (eqb_tells under_way.sent 0) [ inl e ↦ absurd (let none : under_way.sent ≡ 0 = e.1 in omega arith) | inr e ↦ go (under_way.sent == 0) e.0 ]

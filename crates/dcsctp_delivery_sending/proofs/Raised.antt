@@ -1,4 +1,5 @@
--- What is in flight, and the resets that were begun, where floors are raised by a reset that was performed; and where nothing was done yet.
+-- What is in flight, and the resets that were begun, where floors are raised by a reset that was
+-- performed; and where nothing was done yet.
 use Rattle.std.proofs.Common.{ℕ, Bool, arith, inl}
 use Rattle.std.specs.Prelude.{Option, None, Some}
 use Rattle.dcsctp_spec.specs.types.declared.sending.UnderWay.{UnderWay}

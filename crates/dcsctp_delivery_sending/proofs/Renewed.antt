@@ -1,4 +1,4 @@
--- What is queued and in flight stands as before where a reset that was begun goes on under another number.
+-- What is queued and in flight stays as it was when a begun reset continues under another number.
 use Rattle.std.proofs.Common.{◌≡◌, ℕ, Bool, true, false, ◌<◌, ◌+◌, length, slice_get, sym, subst, inl, inr}
 use Rattle.std.specs.Prelude.{Option, None, Some, List}
 use Rattle.dcsctp_spec.specs.types.declared.sending.UnderWay.{UnderWay}

@@ -33,7 +33,7 @@ is_same true false e = absurd (cc)
 is_same false true e = absurd (cc)
 is_same false false e = refl
 
--- the stream of a number that stands somewhere, whatever is else
+-- the stream with a number, if there is one: then the default doesn't matter
 found_default : (d e : Stream) (id q : ℕ) (streams : List Stream) → q < length streams → (stream_at streams q).id ≡ id → found_in d id streams ≡ found_in e id streams
 found_default d e id q [] within is = absurd (omega arith)
 found_default d e id zero (s ∷ streams) within is = elim (eqb_tells s.id id) [ inl t ↦ rw t.0 refl | inr t ↦ absurd (t.1 is) ]
@@ -144,7 +144,7 @@ numbered_hold queued enabled queue waits = go queue.under_way refl (is_other que
     start : SendQueueState
     start = record queue { is_interleaved = enabled }
 
-    -- so it is with these streams
+    -- this holds for these streams
     so : (streams : List Stream) (u : Option UnderWay) → HoldsQueued queued [] streams u → Begins enabled streams u → KeptWhere streams u → QueueWaits queued (record start { streams = streams; under_way = u })
     so streams u queue_holds begins kept = record { floors = begins.floors; holds = record { queue_holds = queue_holds; next = waits.holds.next; numbers = numbered_new (record start { streams = streams; under_way = u }) begins kept } }
 

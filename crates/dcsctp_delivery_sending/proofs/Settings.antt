@@ -1,4 +1,4 @@
--- What is set, and resets of own streams, leave what waits.
+-- What is set, and resets of our streams, leave what waits.
 use Rattle.std.proofs.Common.{◌≡◌, ℕ, Bool, true, false, ◌<◌, ◌≤◌, ◌+◌, ◌*◌, ◌%◌, ◌^◌, List, length, map, refl, ◌∙◌, ap, arith}
 use Rattle.std.specs.Prelude.{Option, None, Some, if◌then◌else◌}
 use Rattle.dcsctp_spec.specs.types.queues.SendStreams.{Stream, front_of, unused, committed, rolled_back}
@@ -47,9 +47,9 @@ setting_hold queued history (longest_message bytes) queue queues = queues
 
 -- ---- the end of a reset
 
--- what was handed out begins anew, and the others stay
+-- streams that were handed out begin again at 0, and the others stay
 module _ (streams : List Stream) (id : ℕ) where
-  -- so it is with the stream of this number
+  -- this holds for the stream of this number
   NextWas : Bool → Stream → Stream → Type 0
   NextWas b old new = next_mid b new ≡ (if is_handed_out old.pause then 0 else next_mid b old)
 

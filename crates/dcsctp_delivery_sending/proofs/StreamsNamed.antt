@@ -74,7 +74,7 @@ module _ (P : Stream → Stream → Type 0) (id : ℕ) where
       go true e = each (stream_named id queue.streams)
       go false e = found_inserted (unused 0 0 0) (unused other queue.default_priority queue.default_threshold) each (fresh (unused 0 0 0) (unused other queue.default_priority queue.default_threshold) refl refl refl refl) queue.streams e
 
--- the first stream of a number is the one that stands at its place
+-- the first stream with a number is the one at this place, if numbers are distinct
 pub found_at : (d : Stream) (place : ℕ) (streams : List Stream) → place < length streams
     → ((p q : ℕ) → p < length streams → q < length streams → (stream_at streams p).id ≡ (stream_at streams q).id → p ≡ q)
     → found_in d (stream_at streams place).id streams ≡ stream_at streams place

@@ -7,7 +7,7 @@ use Rattle.dcsctp_spec.specs.queues.Retransmission.{RetransmissionState, after_e
 use Rattle.dcsctp_delivery_sending.specs.Log.{History}
 use Rattle.dcsctp_delivery_sending.specs.Stages.{Bears}
 
--- What a SACK leaves in flight bears what the log has.
+-- What a SACK leaves in flight carries what the log has.
 abbrev pub AcknowledgingKeeps : Type 0
 AcknowledgingKeeps =
     (history : History) (first acknowledged now cumulative window : ℕ) (blocks : List GapAckBlock) (old new : RetransmissionState) → is_sack_valid old cumulative ≡ true → Bears history first acknowledged old.outstanding

@@ -1,5 +1,6 @@
--- How many TSNs an association assigns, by the DATA and I-DATA chunks that its sender sends (RFC 9260, section 6.1): at most two for each,
--- since the end of a message that is abandoned takes one that is never sent (RFC 3758, section 3.5).
+-- How many TSNs an association assigns, by the DATA and I-DATA chunks that its sender sends (RFC
+-- 9260, section 6.1): at most two for each, since the end of a message that is abandoned takes one
+-- that is never sent (RFC 3758, section 3.5).
 use Rattle.std.specs.Prelude.{◌==◌, if◌then◌else◌, ◌≤◌, ◌+◌, ◌*◌, ℕ, Option, None, Some, List, [], ◌∷◌, length}
 use Rattle.dcsctp_spec.specs.wire.Content.{data_chunk, i_data_chunk}
 use Rattle.dcsctp_spec.specs.types.declared.sending.UnderWay.{UnderWay}

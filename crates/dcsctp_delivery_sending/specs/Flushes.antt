@@ -1,5 +1,5 @@
--- A flush sends pieces of what was queued, and nothing else as data (RFC 9260, section 6.1). It may begin a reset of own streams (RFC
--- 6525, section 5.1.2).
+-- A flush sends pieces of what was queued, and nothing else as data (RFC 9260, section 6.1). It may
+-- begin a reset of our streams (RFC 6525, section 5.1.2).
 use Rattle.std.specs.Prelude.{◌≡◌, ◌<◌, ◌≤◌, ◌⊎◌, ◌+◌, ◌-◌, ◌%◌, ◌^◌, ℕ, Bool, true, false, Option, None, Some, List, [], ◌∷◌, length}
 use Rattle.dcsctp_spec.specs.wire.Content.{DataContent, IDataContent, data_chunk, i_data_chunk, forward_tsn_chunk, i_forward_tsn_chunk}
 use Rattle.dcsctp_spec.specs.endpoint.Event.{Event, packets_in}
@@ -69,7 +69,7 @@ pub record IsForward (is_interleaved : Bool) (history : History) (first tsn : �
   pub is : streams ≡ flat_map (entry_bytes is_interleaved) entries
   pub names : AreForwardEntries is_interleaved history passed.passed entries
 
--- A chunk of data carries what its TSN bears, and one that passes TSNs passes assigned ones.
+-- A chunk of data carries what its TSN carries, and one that passes TSNs passes assigned ones.
 abbrev pub SaysPlain : History → ℕ → Plain → Type 0
 SaysPlain history first (unworked (data_chunk chunk)) = IsData history.log first chunk
 SaysPlain history first (unworked (i_data_chunk chunk)) = IsInterleaved history.log first chunk
@@ -77,13 +77,14 @@ SaysPlain history first (unworked (forward_tsn_chunk tsn streams)) = IsForward f
 SaysPlain history first (unworked (i_forward_tsn_chunk tsn streams)) = IsForward true history first tsn streams
 SaysPlain history first chunk = Unit {0}
 
--- A reset of own streams was begun with this request.
+-- A reset of our streams was begun with this request.
 pub record IsBegun (history : History) (number : ℕ) (reset : RequestedReset) : Type 0 where
   pub mark : Mark
   pub has : HasEntry mark history.marks
   pub is : mark.begun ≡ record { number = number; reset = reset }
 
--- Each request to reset streams among these parameters is one of a reset that was begun. None asks for a reset of incoming streams.
+-- Each request to reset streams among these parameters is one of a reset that was begun. None asks for a reset of incoming
+-- streams.
 abbrev pub AreBegun : History → List ResetParameter → Type 0
 AreBegun history [] = Unit {0}
 AreBegun history (outgoing_reset_request number answered reset ∷ parameters) = IsBegun history number reset × AreBegun history parameters
@@ -121,7 +122,7 @@ NoRequests (outgoing_reset_request number answered reset ∷ parameters) = ⊥
 NoRequests (incoming_reset_request number streams ∷ parameters) = ⊥
 NoRequests (parameter ∷ parameters) = NoRequests parameters
 
--- So it is of any chunk of a packet,
+-- This holds for any chunk of a packet,
 abbrev pub NoContent : Content → Type 0
 NoContent (plain chunk) = NoPlain chunk
 NoContent (re_config parameters) = NoRequests parameters
@@ -134,7 +135,7 @@ NoData (content ∷ contents) = NoContent content × NoData contents
 
 -- ---- what an endpoint has
 
--- What is in flight is of the log, if there is a peer.
+-- What is in flight is in the log, if there is a peer.
 abbrev pub InFlight : History → ℕ → ℕ → Option Transfer → Type 0
 InFlight history first acknowledged None = length history.log ≡ acknowledged
 InFlight history first acknowledged (Some transfer) = Bears history first acknowledged transfer.retransmission.outstanding
@@ -144,7 +145,7 @@ abbrev pub PendsWhere : History → Option Transfer → Type 0
 PendsWhere history None = Unit {0}
 PendsWhere history (Some transfer) = Pends history transfer.retransmission.reset_begun
 
--- What waits was queued, and what is in flight is of the log.
+-- What waits was queued, and what is in flight is in the log.
 pub record QueuesFollowLog (queued : List Message) (history : History) (first acknowledged : ℕ) (sender_queues : EndpointQueues) : Type 0 where
   pub queue_holds : HoldsQueued queued history.log sender_queues.queue.streams sender_queues.queue.under_way
   pub cut : Cut queued history.log
@@ -156,7 +157,7 @@ pub record QueuesFollowLog (queued : List Message) (history : History) (first ac
 
 -- ---- what a flush leaves
 
--- the reset of own streams that a flush began: its first packet alone may have the request
+-- the reset of our streams that a flush began: its first packet alone may have the request
 abbrev pub reset_begun_by : List Answer → Option BegunReset
 reset_begun_by [] = None
 reset_begun_by (answer ∷ answers) = answer.begun
@@ -166,9 +167,9 @@ abbrev pub NamedBy : Option BegunReset → List ℕ → ℕ → Type 0
 NamedBy None ids id = ⊥
 NamedBy (Some begun) ids id = is_named ids id ≡ true
 
--- More TSNs may have been assigned, and all data that was sent is of the log. It is sent after the last reset of its stream, which isn't
--- handed out to be reset again. The reset that was begun, if one was, stands in the history with the TSNs that were assigned before
--- it. The streams that are handed out now were before, or were handed out for it.
+-- More TSNs may have been assigned, and all data that was sent is in the log. It is sent after the last reset of its stream,
+-- which isn't handed out to be reset again. The reset that was begun, if one was, is in the history, with the TSNs that were
+-- assigned before it. The streams that are handed out now were before, or were handed out for it.
 pub record SendsLogged (queued : List Message) (history : History) (first acknowledged : ℕ) (old : SendQueueState) (begun : Option BegunReset) (after : EndpointQueues) (events : List (Event Emission)) : Type 0 where
   pub more : List Slot
   pub ids : List ℕ
@@ -181,7 +182,7 @@ pub record SendsLogged (queued : List Message) (history : History) (first acknow
   pub kept : AreKept after.queue.streams more
   pub handed : (id : ℕ) → is_handed_out (stream_named id after.queue.streams).pause ≡ true → (is_handed_out (stream_named id old.streams).pause ≡ true) ⊎ NamedBy begun ids id
 
--- So it is of a flush whose first packet has no other data.
+-- This holds for a flush whose first packet has no other data.
 abbrev pub FlushesSendPieces : Type 0
 FlushesSendPieces =
     (queued : List Message) (history : History) (first acknowledged : ℕ) (e : Endpoint) (draft : Emission) (answers : List Answer) → QueuesFollowLog queued history first acknowledged e.queues

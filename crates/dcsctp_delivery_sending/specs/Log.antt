@@ -1,5 +1,5 @@
--- The log of an association: which piece of which message each TSN bears that its sender has assigned (RFC 9260, section 6.9). Lists have
--- the newest first.
+-- The log of an association: which piece of which message each TSN carries that its sender has
+-- assigned (RFC 9260, section 6.9). Lists have the newest first.
 use Rattle.std.specs.Prelude.{◌≡◌, ◌==◌, ◌<◌, ◌≤◌, ◌+◌, ◌%◌, ℕ, Bool, true, false, Option, None, Some, List, [], ◌∷◌, ◌++◌, length, take, drop, ◌^◌}
 use Rattle.dcsctp_delivery_sending.specs.Places.{at_place}
 use Rattle.std.specs.List.{AllByRecursion}
@@ -30,7 +30,7 @@ pub record Piece : Type 0 where
   -- Was it sent as I-DATA (RFC 8260)?
   pub is_interleaved : Bool
 
--- What a TSN bears. The end of a message that is abandoned takes a TSN too, and is never sent.
+-- What a TSN carries. The end of a message that is abandoned takes a TSN too, and is never sent.
 abbrev pub Slot : Type 0
 Slot = Option Piece
 
@@ -44,7 +44,7 @@ is_end piece = (piece.start + piece.size) == length piece.message.payload
 abbrev pub piece_bytes : Piece → List ℕ
 piece_bytes piece = take piece.size (drop piece.start piece.message.payload)
 
--- what the newest TSN bears
+-- what the newest TSN carries
 abbrev pub newest : List Slot → Option Slot
 newest [] = None
 newest (slot ∷ earlier) = Some slot
@@ -57,7 +57,7 @@ pub record IsPiece (queued : List Message) (piece : Piece) : Type 0 where
   pub within : piece.start + piece.size ≤ length piece.message.payload
   pub first : piece.start ≡ 0 → piece.fsn ≡ 0
 
--- The TSN before this one bears what comes before the piece in its message.
+-- The TSN before this one carries what comes before the piece in its message.
 pub record HasBefore (log : List Slot) (number : ℕ) (piece : Piece) : Type 0 where
   pub earlier : ℕ
   pub is : earlier + 1 ≡ number
@@ -69,8 +69,9 @@ pub record HasBefore (log : List Slot) (number : ℕ) (piece : Piece) : Type 0 w
   pub mid : before.mid ≡ piece.mid
   pub fsn : (before.fsn + 1) % 2 ^ 32 ≡ piece.fsn % 2 ^ 32
 
--- The log is one of messages that were queued. The pieces of a message follow one another; only the first TSN of an association may bear
--- the rest of a message whose beginning was sent in an earlier one. Of two messages of a stream the one that is begun later was queued later.
+-- The log is one of messages that were queued. The pieces of a message follow one another; only the first TSN of an association
+-- may carry the rest of a message whose beginning was sent in an earlier one. Of two messages of a stream the one that is begun
+-- later was queued later.
 pub record Cut (queued : List Message) (log : List Slot) : Type 0 where
   pub pieces : (n : ℕ) (f : Piece) → at_place n log ≡ Some (Some f) → IsPiece queued f
   pub rows : (n : ℕ) (f : Piece) → 0 < n → at_place n log ≡ Some (Some f) → 0 < f.start → HasBefore log n f
@@ -79,7 +80,7 @@ pub record Cut (queued : List Message) (log : List Slot) : Type 0 where
 
 -- ---- what the sender of an association has done
 
--- a reset of own streams that was begun (RFC 6525, section 5.1.2): how many TSNs were assigned before it, and its request
+-- a reset of our streams that was begun (RFC 6525, section 5.1.2): how many TSNs were assigned before it, and its request
 pub record Mark : Type 0 where
   pub bound : ℕ
   pub begun : BegunReset
@@ -87,19 +88,19 @@ pub record Mark : Type 0 where
   pub ids : List ℕ
 
 pub record History : Type 0 where
-  -- what its TSNs bear
+  -- what its TSNs carry
   pub log : List Slot
-  -- the resets of own streams that it has begun, newest first
+  -- the resets of its streams that it has begun, newest first
   pub marks : List Mark
-  -- From which numbers the messages of a stream are counted since its last reset, ordered and unordered ones apart. They have no wrap: after
-  -- a reset they go on at a multiple of 2^32 above all earlier ones.
+  -- From which numbers the messages of a stream are counted since its last reset, ordered and unordered ones apart. They don't
+  -- wrap: after a reset they continue at a multiple of 2^32 above all earlier ones.
   pub floors : ℕ → Bool → ℕ
 
 -- more TSNs were assigned
 abbrev pub log_extended : List Slot → History → History
 log_extended more history = record history { log = more ++ history.log }
 
--- one more was, which bears this
+-- one more was, which carries this
 abbrev pub with_slot : Slot → History → History
 with_slot slot history = record history { log = slot ∷ history.log }
 

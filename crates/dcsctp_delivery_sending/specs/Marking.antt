@@ -1,4 +1,5 @@
--- Messages that are marked as spent: they were read in an earlier association, and no piece of them is sent again.
+-- Messages that are marked as spent: they were read in an earlier association, and no piece of them
+-- is sent again.
 use Rattle.std.specs.Prelude.{◌≡◌, ◌≢◌, ◌==◌, ℕ, true, if◌then◌else◌, Some, List, [], ◌∷◌, length, ◌<◌, zero, suc, Bool, false}
 use Rattle.dcsctp_spec.specs.types.queues.SendStreams.{Waiting, Stream, stream_at}
 use Rattle.dcsctp_delivery_sending.specs.Places.{at_place}

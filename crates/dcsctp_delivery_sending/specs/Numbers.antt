@@ -1,5 +1,6 @@
--- How messages are numbered with interleaving: no two of a stream have one number in an association, among ordered messages and among
--- unordered ones (RFC 8260, section 2.1). A stream that is reset goes on from a new floor.
+-- How messages are numbered with interleaving: no two of a stream have one number in an association,
+-- among ordered messages and among unordered ones (RFC 8260, section 2.1). After a reset the numbers
+-- of a stream continue from a new floor.
 use Rattle.std.specs.Prelude.{◌≡◌, ◌<◌, ◌≤◌, ◌+◌, ◌%◌, ◌^◌, ℕ, Bool, true, false, Option, None, Some, List, length}
 use Rattle.dcsctp_spec.specs.types.declared.sending.UnderWay.{UnderWay}
 use Rattle.dcsctp_spec.specs.types.declared.sending.Pause.{Pause}
@@ -56,8 +57,8 @@ abbrev pub LastIs : History → List Stream → (ℕ → Bool → ℕ) → Optio
 LastIs history streams counts None = Unit {0}
 LastIs history streams counts (Some under_way) = IsLastBegun history streams counts under_way
 
--- Messages are counted apart for each stream, and for ordered and unordered messages. `counts` are how many messages have a number since
--- the stream was reset: one for each TSN at most, and the one that was under way where the association began.
+-- Messages are counted apart for each stream, and for ordered and unordered messages. `counts` are how many messages have a
+-- number since the stream was reset: one for each TSN at most, and the one that was under way where the association began.
 pub record CountsMessages (history : History) (streams : List Stream) (under_way : Option UnderWay) : Type 0 where
   pub counts : ℕ → Bool → ℕ
   pub few : (id : ℕ) (is_unordered : Bool) → counts id is_unordered ≤ length history.log + 1
@@ -77,7 +78,7 @@ CountsWhere true history streams under_way = CountsMessages history streams unde
 abbrev pub AreOfKind : Bool → List Slot → Type 0
 AreOfKind is_interleaved log = (n : ℕ) (f : Piece) → at_place n log ≡ Some (Some f) → f.is_interleaved ≡ is_interleaved
 
--- So it is of the piece of this TSN, if it bears one.
+-- This holds for the piece of this TSN, if it carries one.
 abbrev pub KindAt : Bool → List Slot → ℕ → Type 0
 KindAt is_interleaved log number = (f : Piece) → at_place number log ≡ Some (Some f) → f.is_interleaved ≡ is_interleaved
 
@@ -92,8 +93,8 @@ abbrev pub IsOfKind : Bool → Option Transfer → Type 0
 IsOfKind is_interleaved None = Unit {0}
 IsOfKind is_interleaved (Some transfer) = transfer.retransmission.outstanding.is_interleaved ≡ is_interleaved
 
--- The log of an association in which fewer than 2^31 TSNs were assigned, as its receiver sees it: all is DATA; or all is I-DATA, and
--- pieces under one number are of one message. No number is far above the floor of its stream.
+-- The log of an association in which fewer than 2^31 TSNs were assigned, as its receiver sees it: all is DATA; or all is
+-- I-DATA, and pieces under one number are of one message. No number is far above the floor of its stream.
 pub data IsUnambiguous (history : History) : Type 0 where
   plain : AreOfKind false history.log → IsUnambiguous history
   interleaved : AreOfKind true history.log → length history.log < 2 ^ 31
@@ -101,6 +102,6 @@ pub data IsUnambiguous (history : History) : Type 0 where
       → ((m n : ℕ) (f g : Piece) → at_place m history.log ≡ Some (Some f) → at_place n history.log ≡ Some (Some g) → f.message.stream ≡ g.message.stream
       → f.message.is_unordered ≡ g.message.is_unordered → f.mid ≡ g.mid → f.place ≡ g.place) → IsUnambiguous history
 
--- So it is of each such log.
+-- This holds for each such log.
 abbrev pub LogsAreUnambiguous : Type 0
 LogsAreUnambiguous = (history : History) (queue : SendQueueState) → Numbered history queue → length history.log < 2 ^ 31 → IsUnambiguous history

@@ -1,4 +1,5 @@
--- What the send queue hands out are the pieces of the messages that its user queued, one after another (RFC 9260, section 6.9).
+-- What the send queue hands out are the pieces of the messages that its user queued, one after
+-- another (RFC 9260, section 6.9).
 use Rattle.std.specs.Prelude.{◌≡◌, ◌⊎◌, ◌==◌, ◌<◌, ◌+◌, ◌%◌, ◌^◌, ℕ, true, false, Option, None, Some, List, [], ◌∷◌, length, drop, if◌then◌else◌}
 use Rattle.dcsctp_spec.specs.endpoint.Event.{Event}
 use Rattle.dcsctp_spec.specs.types.declared.sending.UnderWay.{UnderWay}
@@ -80,8 +81,8 @@ abbrev pub Going : List Message → List Slot → List Stream → Option UnderWa
 Going queued log streams None = Unit {0}
 Going queued log streams (Some under_way) = IsGoing queued log streams under_way
 
--- The queue holds messages that were queued, each once and in order. What is not begun was queued after all pieces of its stream. No two
--- streams have one number.
+-- The queue holds messages that were queued, each once and in order. What is not begun was queued after all pieces of its
+-- stream. No two streams have one number.
 pub record HoldsQueued (queued : List Message) (log : List Slot) (streams : List Stream) (under_way : Option UnderWay) : Type 0 where
   pub wait : (q : ℕ) → AllQueued queued (stream_at streams q).id (stream_at streams q).messages
   pub ascend : (q : ℕ) → Ascend (stream_at streams q).messages

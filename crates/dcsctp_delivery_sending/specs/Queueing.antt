@@ -1,4 +1,5 @@
--- What a user queues waits after the rest, under the next identifier; it outlasts settings, resets and associations.
+-- What a user queues waits after the rest, under the next identifier; it outlasts settings, resets
+-- and associations.
 use Rattle.std.specs.Prelude.{◌≡◌, ◌<◌, ◌+◌, ◌*◌, ◌^◌, ℕ, Bool, false, List, if◌then◌else◌, ◌∷◌, length}
 use Rattle.dcsctp_spec.specs.types.queues.SendStreams.{Stream}
 use Rattle.dcsctp_spec.specs.queues.SendQueue.{SendQueueState, queue_restarted}

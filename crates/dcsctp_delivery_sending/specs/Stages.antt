@@ -1,4 +1,4 @@
--- What is in flight bears what the log has, while packets are filled (RFC 9260, section 6.1).
+-- What is in flight carries what the log has, while packets are filled (RFC 9260, section 6.1).
 use Rattle.std.specs.Prelude.{◌≡◌, ◌<◌, ◌≤◌, ◌+◌, ◌-◌, ◌%◌, ◌^◌, ℕ, Bool, true, Option, None, Some, List, [], ◌∷◌, ◌++◌, length, map, slice_get}
 use Rattle.dcsctp_spec.specs.Packet.{Plain, unworked}
 use Rattle.dcsctp_spec.specs.queues.Chunks.{AreChunksOfTsns, chunk_said}
@@ -19,8 +19,8 @@ abbrev pub SaysSlot : Fragment → Slot → Type 0
 SaysSlot part None = part.payload ≡ []
 SaysSlot part (Some piece) = CarriesPiece part piece
 
--- The fragment of this TSN is of the message of a piece of the log, and has its number. A reset that names its stream lies between
--- messages.
+-- The fragment of this TSN is of the message of a piece of the log, and has its number. A reset that names its stream lies
+-- between messages.
 pub record IsNamedFragment (history : History) (own : ℕ) (part : Fragment) : Type 0 where
   pub number : ℕ
   pub piece : Piece
@@ -31,7 +31,7 @@ pub record IsNamedFragment (history : History) (own : ℕ) (part : Fragment) : T
   pub unordered : part.is_unordered ≡ piece.message.is_unordered
   pub mid : part.mid % 2 ^ 32 ≡ piece.mid % 2 ^ 32
 
--- The fragment says what the TSN bears that is so many after the first.
+-- The fragment says what the TSN carries that is so many after the first.
 pub record SaysAt (log : List Slot) (number : ℕ) (part : Fragment) : Type 0 where
   pub slot : Slot
   pub at : at_place number log ≡ Some slot
@@ -51,8 +51,8 @@ pub record Bears (history : History) (first acknowledged : ℕ) (outstanding : O
 abbrev pub Pends : History → Bool → Type 0
 Pends history reset_begun = (mark : Mark) → HasEntry mark history.marks → mark.bound ≡ length history.log → reset_begun ≡ true
 
--- The reset that was begun names a last TSN, the last that was assigned before it, and the fields of its streams. A message of these streams
--- lies before it, or behind it.
+-- The reset that was begun names the last TSN that was assigned before it, and the fields of its streams. A message of these
+-- streams is wholly before it, or wholly after it.
 pub record IsMark (history : History) (first : ℕ) (under_way : Option UnderWay) (mark : Mark) : Type 0 where
   pub within : mark.bound ≤ length history.log
   pub last : mark.begun.reset.last_tsn ≡ (first + mark.bound + (2 ^ 32 - 1)) % 2 ^ 32
@@ -65,7 +65,7 @@ pub record IsMark (history : History) (first : ℕ) (under_way : Option UnderWay
 abbrev pub AreMarks : History → ℕ → Option UnderWay → Type 0
 AreMarks history first under_way = (mark : Mark) → HasEntry mark history.marks → IsMark history first under_way mark
 
--- What waits was queued, and what is in flight is of the log.
+-- What waits was queued, and what is in flight is in the log.
 pub record Stands (queued : List Message) (history : History) (first acknowledged : ℕ) (stage : Stage) : Type 0 where
   pub queue_holds : HoldsQueued queued history.log stage.waiting.streams stage.waiting.under_way
   pub cut : Cut queued history.log

@@ -1,5 +1,5 @@
--- How many TSNs what waits may take: at most one for each byte, and one for the end of each message that is abandoned (RFC 9260,
--- section 6.9, and RFC 3758, section 3.5).
+-- How many TSNs what waits may take: at most one for each byte, and one for the end of each message
+-- that is abandoned (RFC 9260, section 6.9, and RFC 3758, section 3.5).
 use Rattle.std.specs.Prelude.{◌≤◌, ◌+◌, ℕ, suc, Option, None, Some, List, [], ◌∷◌, length}
 use Rattle.dcsctp_spec.specs.types.declared.sending.UnderWay.{UnderWay}
 use Rattle.dcsctp_spec.specs.types.queues.SendStreams.{Waiting, Stream}

@@ -46,7 +46,8 @@ pub fn numbers_tell_apart()
 {}
 
 /// A message that is queued waits after the others of its stream, under the next identifier. What waits outlasts
-/// settings, resets of own streams, and the association. After a reset the numbers of a stream go on from a new floor.
+/// settings, resets of our streams, and the association. After a reset the numbers of a stream continue from a new
+/// floor.
 pub fn queueing_keeps()
     ensures added { QueueingKeeps }
     ensures kept { KeptQueuesHold }

@@ -1,5 +1,5 @@
-//! The log of an association: which piece of which message each TSN bears that its sender assigns. What waits in
-//! the send queue was queued, what is in flight and what a packet carries is of the log. TSNs are counted.
+//! The log of an association: which piece of which message each TSN carries that its sender assigns. What waits in
+//! the send queue was queued, what is in flight and what a packet carries is in the log. TSNs are counted.
 #![tactic(auto)]
 
 mod laws;

@@ -1,4 +1,5 @@
--- Each action of a socket keeps the kinds of what is in flight, and sends only chunks that were negotiated.
+-- Each action of a socket keeps the kinds of what is in flight, and sends only chunks that were
+-- negotiated.
 use Rattle.std.proofs.Common.{◌≡◌, ℕ, Bool, true, false, Option, None, Some, List, [], ◌∷◌, ◌++◌, map, refl, sym, ap, ◌∙◌, subst, append-nil}
 use Rattle.std.specs.List.{AllByRecursion}
 use Rattle.dcsctp_spec_lemmas.specs.types.declared.capabilities.Capabilities.{Capabilities}
@@ -22,7 +23,7 @@ use Rattle.dcsctp_delivery_sending.proofs.Packets.{out_below}
 use Rattle.dcsctp_delivery_shown.proofs.InFlight.{IsOf, fills_where_is, begun_is, at_once_is, sack_is}
 use Rattle.dcsctp_delivery_shown.proofs.Allowed.{MayGo, AllAllowed, AreAllowed, all_append, no_data_goes, plain_go, request_goes, sacks_go, data_goes, forwards_go}
 
--- So it is of what is in flight, if there is an association.
+-- This holds for what is in flight, if there is an association.
 abbrev pub TransferIs : Capabilities → Option Transfer → Type 0
 TransferIs kinds None = Unit {0}
 TransferIs kinds (Some transfer) = IsOf kinds transfer.retransmission

@@ -167,7 +167,7 @@ module _ (law : ChunksAreControlled) (kinds : Capabilities) where
       calm_act e turns (chunks_calm e packet.tag (shutdown_acks_in packet.contents) [] turns (acks_calm packet.tag packet.contents) tt taken) known h
   admitted_act mine e packet (refused text) turns own are allowed h fit known taken = calm_act e turns (of_turns IsCalm e (refusal text ∷ []) turns (tt, tt) taken) known h
 
-  -- So it is of the bytes of a packet that the other socket sent.
+  -- This holds for the bytes of a packet that the other socket sent.
   pub packet_acts : (mine : Options) (e : Endpoint) (bytes : List ℕ) (was : Packet) (turns : List Transition) → SameOptions mine e.options → ContentsAre kinds (offer_of mine) was.contents
       → AllAllowed kinds was.contents → ((packet : PacketContent) → IsPacket (wire_options e.options) packet bytes → packet_in packet ≡ was) → EndpointIs kinds e → AllOpenFitting turns → AlongTurns Known e turns
       → HandleInput e bytes turns → ActIs kinds e turns

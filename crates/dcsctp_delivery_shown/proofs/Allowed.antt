@@ -1,4 +1,5 @@
--- A flush sends chunks of the kinds that were negotiated, and no others (RFC 8260, section 2.2.1; RFC 3758, section 3.3.1).
+-- A flush sends chunks of the kinds that were negotiated, and no others (RFC 8260, section 2.2.1;
+-- RFC 3758, section 3.3.1).
 use Rattle.std.proofs.Common.{◌≡◌, ℕ, Bool, true, false, Option, None, Some, List, [], ◌∷◌, ◌++◌, length, refl, sym, ◌∙◌, subst}
 use Rattle.std.specs.Prelude.{if◌then◌else◌, nat_lt, nat_le, ◌&&◌}
 use Rattle.std.specs.List.{AllByRecursion}

@@ -1,4 +1,5 @@
--- An association that begins by a packet of the other socket is of the kinds that both negotiate (RFC 9260, section 5.1).
+-- An association that begins by a packet of the other socket is of the kinds that both negotiate
+-- (RFC 9260, section 5.1).
 use Rattle.std.proofs.Common.{◌≡◌, ℕ, Bool, true, false, Option, None, Some, Result, Ok, Err, List, [], ◌∷◌, refl, sym, ap, ◌∙◌, subst, inl, inr}
 use Rattle.dcsctp_spec_lemmas.specs.types.declared.association.Held.{Held}
 use Rattle.dcsctp_spec_lemmas.specs.types.declared.association.Pair.{Pair}
@@ -115,7 +116,7 @@ module _ (kinds : Capabilities) where
       subst (λ (c : Change). HasEffect (holds (identity_of begun.my begun.held)) c.effects) controlled.1.2
       (noted_happened (holds (identity_of begun.my begun.held)) controlled.0.effects (subst (HasEffect (holds (identity_of begun.my begun.held))) controlled.2.effects noted))
 
-  -- So it is of one that a chunk begins; its first TSN fits its field, as all that the turn leaves does.
+  -- This holds for one that a chunk begins; its first TSN fits its field, as all that the turn leaves does.
   pub begins_so : ChunksAreControlled → (e : Endpoint) (tag : ℕ) (content : Content) (o : Outcome) → FrontKinds (offer_of e.options) content → (IsOpening (Some content) → FitsCore o.after.core) → ContentTurn e tag content o → BeginsSo kinds e (Some content) o
   begins_so law e tag (init_ack theirs cookie) o front fits turn = λ begun opening linked.
       let controlled : ControlledChunk e tag (init_ack theirs cookie) o = law e tag (init_ack theirs cookie) o turn tt in (

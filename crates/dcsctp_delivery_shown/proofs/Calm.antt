@@ -1,4 +1,5 @@
--- What the turns of a socket note of associations, and that turns without an INIT ACK or COOKIE ECHO note none.
+-- Which associations the turns of a socket record, and that those without an INIT ACK or COOKIE ECHO
+-- record none.
 use Rattle.std.proofs.Common.{◌≡◌, ◌≢◌, Option, None, Some, List, [], ◌∷◌, ◌++◌, refl, sym, ap, ◌∙◌, subst, inl, inr, append_assoc}
 use Rattle.std.specs.List.{AllByRecursion}
 use Rattle.dcsctp_spec_lemmas.specs.types.declared.capabilities.Capabilities.{Capabilities}
@@ -23,7 +24,7 @@ use Rattle.dcsctp_delivery_shown.proofs.Turns.{EndpointIs, IsCalm, calm_step, ca
 
 -- ---- each turn
 
--- What a turn notes of associations: at most one, and that first. It is there after the turn, and wasn't before.
+-- A turn records at most one association, and that first. It is there after the turn, and wasn't before.
 pub record GoodTurn (e : Endpoint) (t : Transition) : Type 0 where
   pub options : SameOptions e.options t.outcome.after.options
   pub first : FirstAlone t.outcome.effects
@@ -64,7 +65,7 @@ noted_alone (accepts number ∷ effects) first = noted_none effects first
 noted_alone (performs peer number ∷ effects) first = noted_none effects first
 noted_alone (resumes link own last ∷ effects) first = noted_none effects first
 
--- So it is of each turn that moves the association as the machine does.
+-- This holds for each turn that moves the association as the machine does.
 pub good_turn : EffectsMean → (e : Endpoint) (t : Transition) → Moves e t.outcome → GoodTurn e t
 good_turn law e t (it_rests core options effects told) =
     record {
@@ -93,14 +94,14 @@ none_among [] without = tt
 none_among (holds link ∷ effects) without = absurd (without link (inl refl))
 none_among (effect ∷ effects) without = (tt, none_among effects (λ link has. without link (inr has)))
 
--- A turn that begins no association notes none.
+-- A turn that begins no association records none.
 pub none_noted : (came : Option Content) (e : Endpoint) (t : Transition) → GoodTurn e t → (IsOpening came → ⊥) → MovesLink came e t.outcome → HoldsNone t.outcome.effects
 none_noted came e t good unopened (link_stays is) = none_among t.outcome.effects (λ link has. good.anew link has (sym is ∙ good.held link has))
 none_noted came e t good unopened (link_ends none) = none_among t.outcome.effects (λ link has. (let both : None ≡ Some link = sym none ∙ good.held link has in absurd (cc)))
 none_noted came e t good unopened (link_begins begun opening linked) = absurd (unopened opening)
 
 module _ (kinds : Capabilities) where
-  -- The turns note no association; their kinds are kept.
+  -- The turns record no association; their kinds are kept.
   pub record Calm (e : Endpoint) (turns : List Transition) : Type 0 where
     pub none : HoldsNone (effects_of turns)
     pub is : EndpointIs kinds (after_all e turns)
@@ -120,7 +121,7 @@ module _ (kinds : Capabilities) where
 
 -- ---- an act
 
--- The turns note no association; or one, which wasn't there before them and is there after them.
+-- The turns record no association; or one, which wasn't there before them and is there after them.
 pub data Notes (e : Endpoint) (turns : List Transition) : Type 0 where
   notes_none : HoldsNone (effects_of turns) → Notes e turns
   notes_one : (link : AssociationIdentity) (front later : List Effect) → effects_of turns ≡ front ++ holds link ∷ later → HoldsNone front → HoldsNone later → identity_in e.core ≢ Some link → identity_in (after_all e turns).core ≡ Some link
@@ -134,7 +135,7 @@ pub record ActIs (kinds : Capabilities) (e : Endpoint) (turns : List Transition)
 pub of_calm : (kinds : Capabilities) (e : Endpoint) (turns : List Transition) → Calm kinds e turns → ActIs kinds e turns
 of_calm kinds e turns calm = record { notes = notes_none calm.none; is = calm.is; says = calm.says }
 
--- a turn in front that leaves the association and notes none
+-- a turn before these that keeps the association and records none
 front_notes : (e : Endpoint) (t : Transition) (turns : List Transition) → HoldsNone t.outcome.effects → identity_in t.outcome.after.core ≡ identity_in e.core → Notes t.outcome.after turns → Notes e (t ∷ turns)
 front_notes e t turns none same (notes_none others) = notes_none (none-append t.outcome.effects (effects_of turns) none others)
 front_notes e t turns none same (notes_one link front later is front_none later_none other there) =

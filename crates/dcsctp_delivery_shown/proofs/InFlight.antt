@@ -1,4 +1,5 @@
--- What is in flight stays of the kinds that were negotiated: sent as I-DATA or not, and abandoned or not (RFC 8260; RFC 3758).
+-- What is in flight stays of the kinds that were negotiated: sent as I-DATA or not, and abandoned
+-- or not (RFC 8260; RFC 3758).
 use Rattle.std.proofs.Common.{◌≡◌, ℕ, Bool, true, false, Option, None, Some, List, sym, ap, ◌∙◌, subst, inl, inr}
 use Rattle.std.specs.Prelude.{if◌then◌else◌, nat_lt, ◌⊎◌, ◌-◌}
 use Rattle.std.specs.Option.{option_map}

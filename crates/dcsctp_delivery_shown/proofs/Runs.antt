@@ -1,4 +1,5 @@
--- Over an honest run each association that a side notes is shown, so the tags of what is shown are those of all.
+-- Over an honest run each association that a side records is shown, so the tags of what is shown are
+-- those of all.
 use Rattle.std.proofs.Common.{◌≡◌, Bool, true, false, List, [], ◌∷◌, ◌++◌, refl, subst}
 use Rattle.std.specs.Prelude.{Option, ◌&&◌}
 use Rattle.dcsctp_spec_lemmas.specs.types.declared.capabilities.Capabilities.{Capabilities}

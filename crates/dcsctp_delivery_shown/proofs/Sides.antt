@@ -1,4 +1,4 @@
--- What a side has noted of associations, and what it has shown, act by act.
+-- Which associations a side has recorded, and which it has shown, act by act.
 use Rattle.std.proofs.Common.{◌≡◌, ◌≢◌, List, [], ◌∷◌, ◌++◌, refl, sym, ap, ◌∙◌, subst, inl, inr}
 use Rattle.std.specs.Prelude.{Option, Some}
 use Rattle.dcsctp_spec_lemmas.specs.types.declared.capabilities.Capabilities.{Capabilities}
@@ -30,7 +30,8 @@ abbrev pub IsNewest : Option AssociationIdentity → List (Option AssociationIde
 IsNewest now [] = ⊥
 IsNewest now (entry ∷ earlier) = entry ≡ now
 
--- What a side has noted, its past, was shown; and if each tag of what was shown serves one association, so does each of what was noted.
+-- Each association that a side has recorded was shown. And if each tag of those that were shown serves one association, so does
+-- each tag of those that were recorded.
 pub record PastIs (past : List Effect) (shown : List (Option AssociationIdentity)) : Type 0 where
   pub among : (link : AssociationIdentity) → HasEffect (holds link) past → WasShown link shown
   pub each : ServeOnce shown → Each IsOfNewTags past
@@ -41,7 +42,7 @@ pub record SideIs (kinds : Capabilities) (mine : Options) (turns : List Transiti
   pub newest : IsNewest (identity_in (endpoint_after mine turns).core) shown
   pub past : PastIs (noted_past turns) shown
 
--- ---- where no association is noted
+-- ---- where no association is recorded
 
 has_before : (link : AssociationIdentity) (effects past : List Effect) → HoldsNone effects → HasEffect (holds link) (after_effects effects past) → HasEffect (holds link) past
 has_before link effects past none has = elim (in_after (holds link) effects past has) [ inl now ↦ absurd (not_among link effects none now) | inr before ↦ before ]

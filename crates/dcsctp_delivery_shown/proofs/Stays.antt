@@ -1,4 +1,5 @@
--- The association that a packet begins with is there when the packet is over: what follows the first chunk ends none.
+-- The association that a packet begins with is there when the packet is over: what follows the
+-- first chunk ends none.
 use Rattle.std.proofs.Common.{◌≡◌, ◌==◌, ℕ, Bool, true, false, cond, Option, None, Some, List, [], ◌∷◌, refl, sym, ap, ◌∙◌, subst}
 use Rattle.dcsctp_spec_lemmas.specs.wire.Content.{ParameterContent, data_chunk, i_data_chunk, sack_chunk, error_chunk, forward_tsn_chunk, i_forward_tsn_chunk}
 use Rattle.dcsctp_spec_lemmas.specs.types.declared.capabilities.Capabilities.{Capabilities}
@@ -170,7 +171,7 @@ module _ (kinds : Capabilities) where
     follows_calm (cookie_echo bytes) may opening = may
     follows_calm content may opening = opening
 
-    -- what a turn behind the first chunk leaves
+    -- what a turn after the first chunk leaves
     record Left (e : Endpoint) (t : Transition) : Type 0 where
       linked : identity_in t.outcome.after.core ≡ identity_in e.core
       is : EndpointIs kinds t.outcome.after
@@ -196,7 +197,7 @@ module _ (kinds : Capabilities) where
     after_link packet_end e turns Others h others rest = end_link e turns h rest
     after_link dropped_rest e turns Others h others rest = ap (λ (ts : List Transition). identity_in (after_all e ts).core) rest
 
-    -- The chunks behind the first, and the end of the packet.
+    -- The chunks after the first, and the end of the packet.
     pub rest_link : (e : Endpoint) (tag : ℕ) (contents : List Content) (turns : List Transition) → AllMayFollow contents → AllAllowed kinds contents → EndpointIs kinds e → ChunkTurns e tag contents (packet_ends ∷ []) turns
         → identity_in (after_all e turns).core ≡ identity_in e.core
     rest_link e tag [] turns may allowed h taken = end_link e turns h taken

@@ -1,4 +1,5 @@
--- One act of a side, where the other side sent what was negotiated: at most one association begins, and it stays.
+-- One act of a side, where the other side sent what was negotiated: at most one association begins,
+-- and it stays.
 use Rattle.std.proofs.Common.{◌≡◌, ℕ, zero, suc, List, [], ◌∷◌, refl, sym, subst}
 use Rattle.std.specs.Prelude.{Option, None, Some}
 use Rattle.std.specs.List.{slice_get}

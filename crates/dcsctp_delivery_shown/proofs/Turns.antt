@@ -34,8 +34,8 @@ abbrev pub LinkIs : Capabilities → Option AssociationIdentity → Type 0
 LinkIs kinds None = Unit {0}
 LinkIs kinds (Some link) = SameKinds link.capabilities kinds
 
--- Its association, if there is one, is of these kinds, and so is what is in flight; what it keeps of its own requests to reset streams is
--- of some that were begun.
+-- Its association, if there is one, is of these kinds, and so is what is in flight; what it keeps of its own requests to reset
+-- streams is of some that were begun.
 pub record EndpointIs (kinds : Capabilities) (e : Endpoint) : Type 0 where
   pub linked : LinkIs kinds (identity_in e.core)
   pub left : TransferIs kinds e.queues.transfer
@@ -99,12 +99,12 @@ module _ (kinds : Capabilities) where
 
   -- ---- what a turn makes
 
-  -- What is in flight, and what is kept of own requests.
+  -- What is in flight, and what is kept of our requests.
   record InsideIs (i : Inside) : Type 0 where
     left : TransferIs kinds i.queues.transfer
     asks : SomeFit i.own
 
-  -- What is kept fits what was begun, once the own request has ended.
+  -- What is kept fits what was begun, once our request has ended.
   ends_fit : (happened : List Effect) (old new : Inside) → OwnEnds happened old new → SomeFit old.own → SomeFit new.own
   ends_fit happened old new ended h =
       let after = own_ends_fit happened old new h.first h.asking ended h.fits in
@@ -122,7 +122,7 @@ module _ (kinds : Capabilities) where
   peer_resets came happened old _ h (reset_now done parameters reset handled asked transfer reassembly known reached leaves) =
       record { left = of_known kinds transfer old.queues.transfer known h.left; asks = h.asks }
 
-  -- what is in flight after actions, what is kept of own requests, and what was sent
+  -- what is in flight after actions, what is kept of our requests, and what was sent
   record MadeIs (new : Inside) (packets : List Emission) : Type 0 where
     inside_is : InsideIs new
     says : AreAllowed kinds packets

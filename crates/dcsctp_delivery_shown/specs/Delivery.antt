@@ -1,4 +1,5 @@
--- What a user reads is what its peer's user sent, throughout each run of two sockets, by what the sockets show.
+-- What a user reads is what its peer's user sent, throughout each run of two sockets, by what the
+-- sockets show.
 use Rattle.std.specs.Prelude.{List, [], ◌∷◌}
 use Rattle.dcsctp_spec_lemmas.specs.types.declared.options.Options.{Options}
 use Rattle.dcsctp_spec_lemmas.specs.types.declared.schedule.Side.{Side}
@@ -8,15 +9,15 @@ use Rattle.dcsctp_theorem_sockets.specs.Agreement.{AreUsable, AreFresh}
 use Rattle.dcsctp_delivery_sockets.specs.Delivery.{AreInMemory, SendsLittle, NoneRefused, Delivers}
 use Rattle.dcsctp_delivery_shown.specs.Shown.{ShownTagsServeOnce}
 
--- All that delivery asks of a run, beside what agreement asks: each verification tag serves one association, not too much is sent to it,
--- and with interleaving no own request to reset streams fails.
+-- All that delivery asks of a run, beside what agreement asks: each verification tag serves one association, not too much is
+-- sent to it, and with interleaving no own request to reset streams fails.
 pub record AllowsDelivery (options : Both Options) (run : List PerformedAct) : Type 0 where
   pub tags : ShownTagsServeOnce options run
   pub little : (side : Side) → SendsLittle (of_side side options) (of_side side (turns_after run))
   pub refused : NoneRefused options (turns_after run)
 
--- At the end of each first part of the run that is honest and allows it, with no tag drawn twice, what each user read is what the other
--- sent.
+-- At the end of each first part of the run that is honest and allows it, with no tag drawn twice, what each user read is what
+-- the other sent.
 abbrev pub DeliverThroughout : Both Options → List PerformedAct → Type 0
 DeliverThroughout options [] = Unit {0}
 DeliverThroughout options (worked ∷ earlier) =

@@ -1,4 +1,5 @@
--- The associations that a socket shows after each act, and that each verification tag serves one of them (RFC 9260, section 5.3.1).
+-- The associations that a socket shows after each act, and that each verification tag serves one of
+-- them (RFC 9260, section 5.3.1).
 use Rattle.std.specs.Prelude.{◌≡◌, ◌≢◌, ◌⊎◌, Option, None, Some, List, [], ◌∷◌, map}
 use Rattle.dcsctp_spec_lemmas.specs.types.declared.association.Association.{Association}
 use Rattle.dcsctp_spec_lemmas.specs.types.declared.association.Held.{Held}

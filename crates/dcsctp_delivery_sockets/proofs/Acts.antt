@@ -44,7 +44,7 @@ queued_grows e (t ∷ turns) queued =
     let first = ap (λ (l : List Message). length l) (input_adds e t.input queued) ∙ length-append (queued_after e t.input []) queued in
     omega (arith, rest, first)
 
--- the packets of a turn and of those behind it
+-- the packets of a turn and of those after it
 packets_apart : (packets : List Emission) (t : Transition) (turns : List Transition) → (packets ++ packets_in t.outcome.events) ++ packets_in (events_of turns) ≡ packets ++ packets_in (events_of (t ∷ turns))
 packets_apart packets t turns = append_assoc packets (packets_in t.outcome.events) (packets_in (events_of turns)) ∙ ap (λ (l : List Emission). packets ++ l) (sym (packets_in-append t.outcome.events (events_of turns)))
 

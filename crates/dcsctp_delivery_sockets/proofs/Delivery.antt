@@ -1,4 +1,5 @@
--- Over an honest run in which each tag serves one association, what a user reads is what its peer's user sent.
+-- Over an honest run in which each tag serves one association, what a user reads is what its peer's
+-- user sent.
 use Rattle.std.proofs.Common.{◌≡◌, ℕ, zero, suc, List, [], ◌∷◌, ◌++◌, refl, sym, ◌∙◌, ap, subst, inl, inr}
 use Rattle.std.specs.Prelude.{Option, None, Some}
 use Rattle.std.specs.List.{slice_get}

@@ -1,4 +1,4 @@
--- What a socket noted knows the requests of its peer, turn by turn.
+-- What a socket recorded gives the numbers of its peer's requests, turn by turn.
 use Rattle.std.proofs.Common.{◌≡◌, ◌==◌, ℕ, Bool, true, false, Some, List, [], ◌∷◌, ◌++◌, refl, sym, ◌∙◌, ap, subst}
 use Rattle.std.specs.Prelude.{if◌then◌else◌}
 use Rattle.std.proofs.lemmas.Bool.Decides.{Decides-eqb}
@@ -159,6 +159,6 @@ run_through options (t ∷ turns) e past ran along =
     subst (RanTo options (after_all t.outcome.after turns)) (sym (after_effects-append t.outcome.effects (effects_of turns) past))
     (run_through options turns t.outcome.after (after_effects t.outcome.effects past) (next_run options e past t ran along.0) along.1)
 
--- What it noted knows the requests of its peer.
+-- What it recorded gives the numbers of its peer's requests.
 pub ran_knows : (options : Options) (e : Endpoint) (past : List Effect) → RanTo options e past → KnowsPeerIn past e.core
 ran_knows options e past ran = subst (λ (p : List Effect). KnowsPeerIn p e.core) ran.noted_is (subst (KnowsPeerIn (noted (side_after options ran.steps).past)) ran.core (run_knows options ran.steps ran.is_run))

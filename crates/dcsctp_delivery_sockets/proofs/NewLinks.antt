@@ -72,7 +72,7 @@ fit_open : (turns : List Transition) → AllByRecursion Fits turns → AllOpenFi
 fit_open [] fit = tt
 fit_open (turn ∷ turns) fit = ((λ opening. fit.0.after.core), fit_open turns fit.1)
 
--- What stands before the chunks of a packet leaves all that fits.
+-- The turn before the chunks of a packet leaves numbers that fit their fields.
 begun_fits : (e : Endpoint) (core : Core) (has : Bool) (o : Outcome) → FitsEndpoint e → BeginTurn e core has o → FitsEndpoint o.after
 begun_fits e closed has o h turn = subst (λ (x : Outcome). FitsEndpoint x.after) (sym turn) h
 begun_fits e (cookie_wait my) has o h turn = subst (λ (x : Outcome). FitsEndpoint x.after) (sym turn) h
@@ -96,7 +96,7 @@ admitted_open law e packet shutdown_acks_alone turns h good taken =
     fit_open turns (chunk_turns_fit law e packet.tag (shutdown_acks_in packet.contents) [] turns taken h good.tag (acks_sendable packet.contents good.contents) nothing_ends).turns_fit
 admitted_open law e packet (refused text) turns h good taken = inputs_open e (refusal text ∷ []) turns (tt, tt) taken
 
--- So it is of a packet that was sent.
+-- This holds for a packet that was sent.
 pub packet_opens : OfferReadsBack → (e : Endpoint) (bytes : List ℕ) (emission : Emission) (turns : List Transition) → FitsEndpoint e → IsSendable emission
     → ((packet : PacketContent) → IsPacket (wire_options e.options) packet bytes → packet_in packet ≡ emission.packet) → HandleInput e bytes turns → AllOpenFitting turns
 packet_opens law e bytes emission _ h good is (unreadable turns none taken) = inputs_open e (arrival ∷ refusal unreadable_text ∷ []) turns (tt, (tt, tt)) taken
@@ -128,7 +128,7 @@ not_zero n some zero = absurd (omega arith)
 
 -- ---- its tags are new
 
--- Each association that was noted is of another own tag than those before.
+-- Each association that was recorded has another own tag than those before.
 new_noted : (effects past : List Effect) → Each IsOfNewTags (after_effects effects past) → (link old : AssociationIdentity) → HasEffect (holds link) effects → HasEffect (holds old) past → old.my.tag ≢ link.my.tag
 new_noted [] past each link old has before = absurd has
 new_noted (effect ∷ effects) past each link old (inl is) before =
@@ -143,7 +143,7 @@ pub matched_swapped : (mine theirs : List Effect) → MatchByTags mine theirs �
 matched_swapped mine theirs matched link other has has' (inl e) = (let both = matched other link has' has (inr (sym e)) in (sym both.1, sym both.0))
 matched_swapped mine theirs matched link other has has' (inr e) = (let both = matched other link has' has (inl (sym e)) in (sym both.1, sym both.0))
 
--- The association that a turn begins was noted first in it.
+-- The association that a turn begins was recorded first in it.
 noted_first : (e : Endpoint) (o : Outcome) (begun : Begun e o) (rest past : List Effect)
     → after_effects (o.effects ++ rest) past ≡ after_effects (begun.later ++ rest) (holds (identity_of begun.my begun.held) ∷ past)
 noted_first e o begun rest past = ap (λ (effects : List Effect). after_effects (effects ++ rest) past) begun.noted
@@ -191,7 +191,8 @@ module _ (e : Endpoint) (o : Outcome) (begun : Begun e o) (rest past their_past 
 after_first : (first rest past : List Effect) → after_effects (first ++ rest) past ≡ after_effects rest (after_effects first past)
 after_first first rest past = after_effects-append first rest past
 
--- Each own request that was performed, as far as this past knows, the other side has performed; or it is the 2^32nd of its association.
+-- Each own request that was performed, as far as this past knows, the other side has performed; or it is the 2^32nd of its
+-- association.
 abbrev pub AllPerformed : List Effect → List Effect → Type 0
 AllPerformed past their_past = (my : Pair) (number : ℕ) → HasEffect (completes my number) past → HasEffect (performs my number) their_past ⊎ (number ≡ request_number_at my.first_tsn (2 ^ 32 - 1))
 

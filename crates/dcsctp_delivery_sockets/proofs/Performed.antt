@@ -1,4 +1,5 @@
--- Each own request of a socket that ended as performed was performed by the other socket, or it is the 2^32nd of its association.
+-- Each own request of a socket that ended as performed was performed by the other socket, or it is
+-- the 2^32nd of its association.
 use Rattle.std.proofs.Common.{◌≢◌, ℕ, List, [], ◌∷◌, ◌++◌, sym, subst, inl, inr, arith}
 use Rattle.std.specs.List.{AllByRecursion}
 use Rattle.dcsctp_spec_lemmas.specs.types.declared.association.Pair.{Pair}
@@ -28,7 +29,7 @@ use Rattle.dcsctp_delivery_sockets.proofs.NewLinks.{AllPerformed}
 
 -- ---- one side
 
--- What was performed was noted.
+-- What was performed was recorded.
 performs_noted : (peer : Pair) (number : ℕ) (past : List Effect) → HasEffect (performs peer number) past → HasEffect (performs peer number) (noted past)
 performs_noted peer number past has = (performed-noted past (completes peer number ∷ []) ((λ few. has), tt)).0 (omega arith)
 

@@ -1,4 +1,5 @@
--- What a user reads is what its peer's user sent, over every list of honest acts of two sockets, with interleaving or without.
+-- What a user reads is what its peer's user sent, over every list of honest acts of two sockets,
+-- with interleaving or without.
 use Rattle.std.specs.Prelude.{◌≡◌, ◌≢◌, ◌⊎◌, ◌<◌, ◌-◌, ◌^◌, ℕ, List, length}
 use Rattle.std.specs.List.{AllByRecursion}
 use Rattle.dcsctp_spec_lemmas.specs.types.declared.options.Options.{Options}
@@ -61,9 +62,9 @@ pub record TagsServeOnce (turns : Both (List Transition)) : Type 0 where
 
 -- ---- how much is sent
 
--- Fewer than 2^30 chunks of data, new or sent again, went to each verification tag: then an association assigns fewer than 2^31 TSNs, which
--- are told apart (RFC 9260, section 1.6). Fewer than 2^32 - 1 requests to reset streams went to each, new or sent again. And fewer than
--- 2^64 messages were sent.
+-- Fewer than 2^30 chunks of data, new or sent again, went to each verification tag: then an association assigns fewer than 2^31
+-- TSNs, which can be distinguished (RFC 9260, section 1.6). Fewer than 2^32 - 1 requests to reset streams went to each, new or
+-- sent again. And fewer than 2^64 messages were sent.
 pub record SendsLittle (options : Options) (turns : List Transition) : Type 0 where
   pub messages : length (messages_sent_in (fresh_endpoint options) turns) < 2 ^ 64
   pub chunks : (tag : ℕ) → chunks_to tag (packets_in (events_of turns)) < 2 ^ 30
@@ -71,11 +72,11 @@ pub record SendsLittle (options : Options) (turns : List Transition) : Type 0 wh
 
 -- ---- with interleaving
 
--- In an association with interleaving no own request to reset streams fails in this turn (OnStreamsResetFailed).
+-- In an association with interleaving no request of its own to reset streams fails in this turn (OnStreamsResetFailed).
 abbrev pub IsUnrefused : Endpoint → Transition → Type 0
 IsUnrefused e turn = RefusesNone e turn.outcome
 
--- So it is of each turn of both sides.
+-- This holds for each turn of both sides.
 abbrev pub NoneRefused : Both Options → Both (List Transition) → Type 0
 NoneRefused options turns = (side : Side) → AlongTurns IsUnrefused (fresh_endpoint (of_side side options)) (of_side side turns)
 
@@ -87,13 +88,14 @@ pub record TurnsAllowDelivery (options : Both Options) (turns : Both (List Trans
   pub little : (side : Side) → SendsLittle (of_side side options) (of_side side turns)
   pub refused : NoneRefused options turns
 
--- What this side's user read is what the other's user sent, and no message was read twice, in any association or after it has ended.
+-- What this side's user read is what the other's user sent, and no message was read twice, in any association or after it has
+-- ended.
 abbrev pub Delivers : Both Options → Both (List Transition) → Side → Type 0
 Delivers options turns side =
     IsDelivered (messages_sent_in (fresh_endpoint (of_other side options)) (of_other side turns)) (read_of (fresh_endpoint (of_side side options)) (of_side side turns))
 
--- So it is at the end of a run that is honest, in which no tag was drawn twice, each served one association, little was sent, and with
--- interleaving no request to reset streams failed.
+-- So it is at the end of a run that is honest, in which no tag was drawn twice, each served one association, little was sent,
+-- and with interleaving no request to reset streams failed.
 abbrev pub SocketsDeliver : Type 0
 SocketsDeliver =
     (options : Both Options) (run : List PerformedAct) → AreUsable options → AreInMemory (acts_of run) → SocketRun options run → AreHonest (acts_of run) → AreFresh (turns_after run) → TurnsAllowDelivery options (turns_after run)

@@ -1,4 +1,5 @@
--- Where the COOKIE ECHO of a socket goes, and what its packets have after their first chunk (RFC 9260, section 5.1).
+-- Where the COOKIE ECHO of a socket goes, and what its packets have after their first chunk (RFC
+-- 9260, section 5.1).
 use Rattle.std.specs.Prelude.{◌≡◌, ℕ, List, [], ◌∷◌, Ok}
 use Rattle.dcsctp_spec_lemmas.specs.types.declared.options.Options.{Options}
 use Rattle.dcsctp_spec_lemmas.specs.types.declared.schedule.Side.{Side}
@@ -16,7 +17,7 @@ pub record IsOfMaker (tag : ℕ) (bytes : List ℕ) : Type 0 where
   pub reads : cookie_at bytes ≡ Ok cookie
   pub under : tag ≡ cookie.maker.tag
 
--- So it is of a chunk that is a COOKIE ECHO.
+-- This holds for a chunk that is a COOKIE ECHO.
 abbrev pub FrontGoes : ℕ → Content → Type 0
 FrontGoes tag (cookie_echo bytes) = IsOfMaker tag bytes
 FrontGoes tag content = Unit {0}
@@ -39,7 +40,7 @@ ContentsGo tag (content ∷ contents) = FrontGoes tag content × AllMayFollow co
 abbrev pub GoesToMaker : Emission → Type 0
 GoesToMaker emission = ContentsGo emission.packet.tag emission.packet.contents
 
--- So it is of each packet of either side, over every honest run with fresh tags.
+-- This holds for each packet of either side, over every honest run with fresh tags.
 abbrev pub EchoesGoToMakers : Type 0
 EchoesGoToMakers =
     (options : Both Options) (run : List PerformedAct) → AreUsable options → SocketRun options run → AreHonest (acts_of run) → AreFresh (turns_after run) → (side : Side)

@@ -1,4 +1,5 @@
--- A packet that a sender sent, handled by the receiver: what is handled in an association was sent in it.
+-- A packet that a sender sent, handled by the receiver: what is handled in an association was sent
+-- in it.
 use Rattle.std.specs.Prelude.{◌≢◌, ◌<◌, ◌^◌, List, [], ◌∷◌, length, ◌≡◌, Some}
 use Rattle.dcsctp_spec_lemmas.specs.types.declared.options.Options.{Options}
 use Rattle.dcsctp_spec_lemmas.specs.types.Settings.{SameOptions}
@@ -25,8 +26,8 @@ abbrev pub reads_through : Endpoint → List Transition → List MessageContent 
 reads_through e [] reads = reads
 reads_through e (turn ∷ turns) reads = reads_through turn.outcome.after turns (reads_after e turn.input reads)
 
--- Each turn starts with these options, and an association that begins in it is of new tags, and of the matching ones at the other side. The
--- past knows the peer's requests, and each association that is noted is of a new own tag.
+-- Each turn starts with these options, and an association that begins in it has new tags, and the matching ones at the other
+-- side. The past knows the peer's requests, and each association that is recorded has a new own tag.
 abbrev pub AreNewTags : Options → List Effect → List Effect → Endpoint → List Transition → Type 0
 AreNewTags options their_past past e [] = Unit {0}
 AreNewTags options their_past past e (turn ∷ turns) =

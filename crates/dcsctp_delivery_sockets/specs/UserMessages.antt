@@ -1,4 +1,5 @@
--- What the user of a socket sends and reads, turn by turn, and when what one user read is what the other sent.
+-- What the user of a socket sends and reads, turn by turn, and when what one user read is what the
+-- other sent.
 use Rattle.std.specs.Prelude.{◌≡◌, ℕ, Option, None, Some, List, [], ◌∷◌, ◌++◌, slice_get}
 use Rattle.dcsctp_spec_lemmas.specs.spec.endpoint.CallTurns.{Transition}
 use Rattle.dcsctp_spec_lemmas.specs.spec.endpoint.DataOutcomes.{ready_where}

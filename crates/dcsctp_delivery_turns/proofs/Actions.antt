@@ -26,7 +26,7 @@ use Rattle.dcsctp_delivery_turns.proofs.Begun.{grows_then, grows_not, grows_by, 
 abbrev pub Goes : Option Content → ℕ → Endpoint → Outcome → Type 0
 Goes came to e o = Becomes came to (λ queued. queued) (λ read. read) e o
 
--- the outcome that goes on from what is inside
+-- the outcome that follows from what is inside, by actions
 abbrev pub MakesTo : Option Content → ℕ → Inside → Outcome → Type 0
 MakesTo came to old o = MakesPackets came to old (packets_in o.events) (inside o.after)
 
@@ -126,7 +126,7 @@ module _ (came : Option Content) (to : ℕ) where
   makes_behind old words events o none makes =
       subst (λ (l : List Emission). MakesPackets came to old l (inside o.after)) (sym (packets_in-append events o.events ∙ ap (λ (l : List Emission). l ++ packets_in o.events) none)) makes
 
-  -- an end after this, which leaves the own requests
+  -- an end after this, which keeps our requests
   pub ended : (e : Endpoint) (before : Outcome) (event : Event Emission) → packets_in (event ∷ []) ≡ [] → own_of before.after ≡ own_of e → MakesTo came to (inside e) before → Goes came to e (ended_outcome before event)
   ended e before event none kept makes =
       ends refl (λ read. refl) (inside before.after) kept

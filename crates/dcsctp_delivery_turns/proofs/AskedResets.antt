@@ -1,4 +1,5 @@
--- A request of the peer to reset streams: it is performed, is in progress, or was answered before (RFC 6525, section 5.2.2).
+-- A request of the peer to reset streams: it is performed, is in progress, or was answered before
+-- (RFC 6525, section 5.2.2).
 use Rattle.dcsctp_spec_lemmas.specs.spec.association.Effect as effects
 use Rattle.std.proofs.Common.{◌≡◌, ◌==◌, ℕ, Bool, true, false, cond, Option, None, Some, List, [], ◌∷◌, ◌++◌, inl, inr, refl, sym, ◌∙◌, subst, ap}
 use Rattle.std.proofs.lemmas.Bool.Decides.{Decides-eqb}

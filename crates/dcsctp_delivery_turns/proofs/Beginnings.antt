@@ -52,7 +52,7 @@ input_more e (timer_expires timer) queued = omega arith
 input_more e (time_passes moment) queued = omega arith
 input_more e (restores state) queued = omega arith
 
--- ---- what is known of the own requests
+-- ---- what is known of our requests
 
 -- Nothing was begun yet where an association begins.
 pub nothing_fits : (first : ℕ) (again : RequestedReset) → first < 2 ^ 32 → AsksFit first (Some (record { number = None; next = first; again = again })) nothing_asked

@@ -1,4 +1,4 @@
--- What a flush leaves of the own requests to reset streams (RFC 6525, section 5.1.2).
+-- What a flush leaves of our requests to reset streams (RFC 6525, section 5.1.2).
 use Rattle.std.proofs.Common.{◌≡◌, ℕ, ◌+◌, ◌%◌, ◌^◌, suc, Bool, true, false, Option, None, Some, List, [], ◌∷◌, ◌++◌, length, length-append, map, refl, sym, ◌∙◌, ap, subst, append_assoc, arith}
 use Rattle.std.specs.Prelude.{take}
 use Rattle.dcsctp_spec_lemmas.specs.types.declared.association.Held.{Held}

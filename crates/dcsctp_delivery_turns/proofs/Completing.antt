@@ -1,4 +1,4 @@
--- Which own request ends as performed in a turn.
+-- Which request of ours ends as performed in a turn.
 use Rattle.dcsctp_spec_lemmas.specs.spec.association.Effect as effects
 use Rattle.std.proofs.Common.{◌≡◌, ◌⊎◌, inl, inr, ℕ, Bool, true, false, cond, Option, None, Some, List, [], ◌∷◌, ◌++◌, refl, sym, ◌∙◌, ap, subst}
 use Rattle.std.proofs.lemmas.Bool.{eqb-true}
@@ -166,7 +166,7 @@ module _ (my : Pair) (number : ℕ) where
 
   -- ---- the turn of RE-CONFIG
 
-  -- The flush behind it ends none.
+  -- The flush after it ends none.
   sent_none : (refused : Bool) (e : Endpoint) (told : List (Event Emission)) (held : Held) (parameters responses : List ResetParameter) (answers : List Answer) → ResponseAnswers refused e held responses answers
       → Completed (responses_by refused e told held parameters responses answers).effects → ⊥
   sent_none true e told held parameters responses answers allowed has = has

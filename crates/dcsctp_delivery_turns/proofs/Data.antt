@@ -108,7 +108,7 @@ module _ (came : Option Content) (calm : IsCalm came) (to : ℕ) where
   fast_makes false e held transfer o tag known turn = subst (MakesTo came to (inside e)) (sym turn) (rests came to (inside e))
   fast_makes true e held transfer o tag known turn = subst (MakesTo came to (inside e)) (sym turn.is) (out_makes e held transfer o turn tag known turn.chunks refl)
 
-  -- The association goes on, by actions.
+  -- The association continues, by actions.
   pub record Continues (e : Endpoint) (o : Outcome) : Type 0 where
     pub linked : identity_in o.after.core ≡ identity_in e.core
     pub makes : MakesTo came to (inside e) o

@@ -89,7 +89,7 @@ pub queue_all_core : (e : Endpoint) (sendings : List Sending) → (queue_all e s
 queue_all_core e [] = refl
 queue_all_core e (sending ∷ sendings) = queue_all_core (queue_one e sending).after sendings ∙ queue_one_core e sending (sending_refusal e sending)
 
--- What is kept of the own requests stays.
+-- What is kept of our requests stays.
 queue_one_own : (e : Endpoint) (sending : Sending) (refusal : Option MessageRefusal) → own_of (queue_by e sending refusal).after ≡ own_of e
 queue_one_own e sending None = refl
 queue_one_own e sending (Some refusal) = refl

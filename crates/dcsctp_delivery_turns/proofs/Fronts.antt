@@ -1,4 +1,5 @@
--- What a RE-CONFIG does before all else, as steps of both sides: the own request ends, and streams of the peer are reset.
+-- What a RE-CONFIG does before all else, as steps of both sides: our request ends, and streams of the
+-- peer are reset.
 use Rattle.dcsctp_delivery_directions.specs.Directions as directions
 use Rattle.std.proofs.Common.{◌≡◌, ◌≤◌, ◌+◌, ◌%◌, ◌^◌, ℕ, suc, Bool, true, false, Option, None, Some, List, ◌∷◌, length, refl, sym, ◌∙◌, ap, subst, arith}
 use Rattle.dcsctp_spec_lemmas.specs.spec.Packet.{Content}
@@ -18,7 +19,7 @@ use Rattle.dcsctp_delivery_turns.specs.Sides.{DirectionSteps, stays, receiving}
 use Rattle.dcsctp_delivery_turns.proofs.Begun.{next_again}
 use Rattle.dcsctp_delivery_turns.proofs.Sides.{one_step, all_steps}
 
--- ---- what is kept of the own requests
+-- ---- what is kept of our requests
 
 out_small : (number : Option ℕ) (again : RequestedReset) (asking : Asking) → OutIs number again asking → asking.out ≤ 1
 out_small None again asking out = omega arith
@@ -30,13 +31,13 @@ is_asking first found own asking is fits = subst (λ (f : Option Own). AsksFit f
 ended_fits : (first : ℕ) (own : Own) (asking : Asking) → IsAsking first own asking → IsAsking first (ended_own own) (all_ended asking)
 ended_fits first own asking fits = record { numbers = fits.numbers; next = fits.next; out = refl }
 
--- Something that was begun fits what is kept once the own request has ended.
+-- Something that was begun fits what is kept once our request has ended.
 pub own_ends_fit : (happened : List Effect) (old new : Inside) (first : ℕ) (asking : Asking) → OwnEnds happened old new → AsksFit first old.own asking → (after : Asking) × AsksFit first new.own after
 own_ends_fit happened old _ first asking unended fits = (asking, fits)
 own_ends_fit happened old _ first asking (committed completed own is) fits = (all_ended asking, ended_fits first own asking (is_asking first old.own own asking is fits))
 own_ends_fit happened old _ first asking (rolled_back refused own is) fits = (all_ended asking, ended_fits first own asking (is_asking first old.own own asking is fits))
 
--- The request that has no end is the newest, and goes on under the next number.
+-- The request that has no end is the newest, and continues under the next number.
 pub record Renews (first : ℕ) (own : Own) (asking : Asking) : Type 0 where
   pub newest : BegunReset
   pub earlier : List BegunReset

@@ -40,7 +40,7 @@ is_the_peer false true tie false e = absurd (cc)
 is_the_peer false false true zero e = absurd (cc)
 is_the_peer false false false zero e = absurd (cc)
 
--- What waits to be sent is kept, or starts anew.
+-- What waits to be sent is kept, or starts again.
 pub kept_or_anew : (b : Bool) (e : Endpoint) (cookie : Cookie)
     → (queue_where b e cookie ≡ numbered_for (interleaves e cookie) e.queues.queue) ⊎ (queue_where b e cookie ≡ numbered_for (interleaves e cookie) (queue_restarted e.queues.queue))
 kept_or_anew true e cookie = inr refl

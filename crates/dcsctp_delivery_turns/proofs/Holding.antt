@@ -1,4 +1,4 @@
--- An association that a turn notes is there after it.
+-- An association that a turn records exists after it.
 use Rattle.std.proofs.Common.{◌≡◌, sym, ℕ, Bool, true, false, cond, Some, List, [], ◌∷◌, inl, inr, refl, subst}
 use Rattle.dcsctp_spec_lemmas.specs.types.declared.association.Pair.{Pair}
 use Rattle.dcsctp_spec_lemmas.specs.types.declared.word.Word.{Word}
@@ -52,7 +52,7 @@ module _ (noted : Effect) (Is : Core → Type 0) (undrawn : (pair : Pair) → no
   by_act : (e : Endpoint) (act : Act) (o : Outcome) → ControlledAct e act o → Stays o
   by_act e act o turn has = by_turn e _ o (acted act turn.0 refl) turn.1 has
 
-  -- ---- turns that note no association
+  -- ---- turns that record no association
 
   same_none : (o other : Outcome) → o ≡ other → (Holds other.effects → ⊥) → Stays o
   same_none o other is none has = absurd (none (subst (λ (x : Outcome). Holds x.effects) is has))

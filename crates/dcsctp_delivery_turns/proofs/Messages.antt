@@ -28,7 +28,7 @@ use Rattle.dcsctp_delivery_turns.proofs.Fixed.{prepared_none, queue_all_core, qu
 use Rattle.dcsctp_delivery_turns.proofs.Data.{to_link, turn_link, flush_makes, to_makes}
 
 module _ (came : Option Content) (calm : IsCalm came) (to : ℕ) where
-  -- ---- own streams that the user resets
+  -- ---- our streams that the user resets
 
   resets_where_goes : (refusal : Option ResetRefusal) (e : Endpoint) (ids : List ℕ) (o : Outcome) → IsPeerTag e.core to → OwnResetsWhere refusal e ids o → Goes came to e o
   resets_where_goes None e ids o at turn =

@@ -28,7 +28,7 @@ use Rattle.dcsctp_delivery_turns.proofs.Handshake.{aborting_goes}
 use Rattle.dcsctp_delivery_turns.proofs.Data.{data_goes, i_data_goes, sack_goes, forward_goes, i_forward_goes, delay_goes, loss_goes}
 
 module _ (came : Option Content) (calm : IsCalm came) (to : ℕ) where
-  -- ---- chunks that speak of no association
+  -- ---- chunks that concern no association
 
   unknown_goes : (e : Endpoint) (core : Core) (type : ℕ) (chunk : List ℕ) (reported : Bool)
       → Goes came to e (record (cond reported (unknown_chunk_outcome e core type chunk) (still e)) { following = after_unknown type })
@@ -95,7 +95,7 @@ module _ (came : Option Content) (calm : IsCalm came) (to : ℕ) where
   own_held (cookie_echoed my own cookie) request held is = (let same : own ≡ held = cc in ap (λ (h : Held). Some (own_with h request)) same)
   own_held (open_in phase my own) request held is = (let same : own ≡ held = cc in ap (λ (h : Held). Some (own_with h request)) same)
 
-  -- The request goes on under the next number.
+  -- The request continues under the next number.
   asking_own : (core : Core) (request : Option OutstandingRequest) (own : Own) → own_in core request ≡ Some own → own_in (core_asking core) request ≡ Some (renewed_own own)
   asking_own closed request own is = absurd (cc)
   asking_own (cookie_wait my) request own is = absurd (cc)

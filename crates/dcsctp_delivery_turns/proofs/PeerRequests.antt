@@ -1,4 +1,5 @@
--- The turn of a RE-CONFIG, as what it does with the peer's requests to reset streams (RFC 6525, section 5.2.2).
+-- The turn of a RE-CONFIG, as what it does with the peer's requests to reset streams (RFC 6525,
+-- section 5.2.2).
 use Rattle.std.proofs.Common.{◌≡◌, ℕ, Bool, true, false, cond, Option, None, Some, List, [], ◌∷◌, ◌++◌, refl, sym, ◌∙◌, subst, ap}
 use Rattle.dcsctp_spec_lemmas.specs.wire.declared.reconfiguration.ReconfigurationResponseResult.{ReconfigurationResponseResult}
 use Rattle.dcsctp_spec_lemmas.specs.wire.declared.reconfiguration.ReconfigurationResponseResult.TheVariants.{SuccessNothingToDo, SuccessPerformed, Denied, ErrorWrongSSN, ErrorRequestAlreadyInProgress, ErrorBadSequenceNumber, InProgress}
@@ -21,9 +22,9 @@ use Rattle.dcsctp_delivery_turns.specs.PeerRequests.{NoneAsked}
 use Rattle.dcsctp_delivery_turns.proofs.Received.{Left, alike, flush_left}
 use Rattle.dcsctp_delivery_turns.proofs.Waiting.{unasked_append, begun_unasked, StillWaits, all_wait, wait_then, AsksNothing, emitted, flushed}
 
--- ---- what is behind its effects
+-- ---- what comes after its effects
 
--- A flush may begin an own request.
+-- A flush may begin a request of ours.
 sent_behind : (refused : Bool) (e : Endpoint) (told : List (Event Emission)) (held : Held) (parameters responses : List ResetParameter) (answers : List Answer) → ResponseAnswers refused e held responses answers
     → (begun : Option BegunReset) × ((responses_by refused e told held parameters responses answers).effects ≡ begun_effects begun)
 sent_behind true e told held parameters responses answers allowed = (None, refl)

@@ -15,7 +15,7 @@ use Rattle.dcsctp_delivery_turns.specs.Actions.{has_refused}
 
 -- ---- effects one after another
 
--- an own reset that is performed is one of the turn's effects
+-- a reset of ours that is performed is one of the turn's effects
 pub completed_among : (happened later : List Effect) → has_completed happened ≡ true → has_completed (happened ++ later) ≡ true
 completed_among [] later is = absurd (cc)
 completed_among (effects.completes my number ∷ happened) later is = refl
@@ -148,7 +148,7 @@ pub chunk_answers : (my : Pair) (reached : Bool) (held : Held) (parameters : Lis
 chunk_answers my reached held [] = tt
 chunk_answers my reached held (parameter ∷ parameters) = parameters_answer my reached false held (parameter ∷ parameters)
 
--- ---- what becomes of the own request
+-- ---- what becomes of our request
 
 -- its number before and after effects: it stays, or one of them is its end
 abbrev pub Said : Option ℕ → Option ℕ → List Effect → Type 0

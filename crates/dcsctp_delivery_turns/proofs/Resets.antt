@@ -65,7 +65,7 @@ waits_same : (request : Option OutstandingRequest) → reset_again (option_map w
 waits_same None = refl
 waits_same (Some request) = refl
 
--- an own request with these three
+-- a request of ours with these three
 abbrev some_own : Option ℕ → ℕ → RequestedReset → Option Own
 some_own number next again = Some (record { number = number; next = next; again = again })
 

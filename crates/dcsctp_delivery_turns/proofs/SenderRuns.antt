@@ -53,7 +53,7 @@ module _ (options : Options) (first size : ℕ) (direction : Direction) (e : End
       → Made (came_by input) to (ledger_of direction.queued old.queues [] [] asking) start last queued ([] ++ packets_in o.events) read → AreAddressed to (packets_in o.events)
   addressed to old asking start last queued read made = data_goes_to_peer (came_by input) to _ _ tt made.actions
 
-  -- The turn goes on after these steps.
+  -- The turn continues after these steps.
   goes_further : identity_in o.after.core ≡ identity_in e.core → (worked : Inside) (asking : Asking) → IsBetween o.effects direction.asking asking → worked.queues.queue.is_interleaved ≡ e.queues.queue.is_interleaved
       → AsksFit first worked.own asking → DirectionRun options first size (sending_by direction worked asking)
       → MakesAlso (came_by input) (peer_tag e.core) (queued_after e input) (read_after e input) worked (packets_in o.events) (inside o.after) → SenderTurns options first size direction e input o

@@ -1,4 +1,5 @@
--- The turns in which no RE-CONFIG is handled: no request of the peer is accepted or performed, and what waits for one waits still.
+-- The turns in which no RE-CONFIG is handled: no request of the peer is accepted or performed, and
+-- what waits for one waits still.
 use Rattle.std.proofs.Common.{◌≡◌, ℕ, Bool, true, false, Option, None, Some, List, [], ◌∷◌, refl, sym, ◌∙◌, subst, ap}
 use Rattle.dcsctp_spec_lemmas.specs.wire.Content.{SackContent, no_user_data}
 use Rattle.dcsctp_spec_lemmas.specs.types.declared.arrivals.SkippedTo.{SkippedTo}

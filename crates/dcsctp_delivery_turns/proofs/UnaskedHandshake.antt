@@ -21,7 +21,7 @@ use Rattle.dcsctp_delivery_turns.proofs.Handshake.{kept_or_anew}
 use Rattle.dcsctp_delivery_turns.proofs.Tags.{flush_link}
 use Rattle.dcsctp_delivery_turns.proofs.Waiting.{AsksNothing, rests, said, emitted, flushed, flushed_behind, ended}
 
--- No request of the peer is accepted or performed, and the association goes on or ends; or another one begins.
+-- No request of the peer is accepted or performed, and the association continues or ends; or another one begins.
 pub data CalmTurns (came : Option Content) (e : Endpoint) (o : Outcome) : Type 0 where
   goes_on : AsksNothing e.queues.transfer o → CalmTurns came e o
   begins : (begun : Begun e o) → IsOpening came → identity_in o.after.core ≡ Some (identity_of begun.my begun.held) → AsksNothing (Some (begun_transfer e o begun)) o → CalmTurns came e o

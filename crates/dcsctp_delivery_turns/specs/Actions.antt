@@ -1,5 +1,5 @@
--- What a turn of a socket does to its queues, action by action. Each action is a step of the direction on which the socket sends, and of
--- the one on which it receives (specs/Sides).
+-- What a turn of a socket does to its queues, action by action. Each action is a step of the
+-- direction on which the socket sends, and of the one on which it receives (specs/Sides).
 use Rattle.std.specs.Prelude.{◌≡◌, ◌≢◌, ◌<◌, ◌⊎◌, ℕ, Bool, true, false, Option, None, Some, List, [], ◌∷◌, ◌++◌, length}
 use Rattle.std.specs.List.{AllByRecursion}
 use Rattle.dcsctp_spec_lemmas.specs.wire.Content.{DataContent, IDataContent, SackContent, data_chunk, i_data_chunk, forward_tsn_chunk, i_forward_tsn_chunk}
@@ -42,8 +42,8 @@ use Rattle.dcsctp_delivery_directions.specs.Directions.{Asking, asking_with, is_
 use Rattle.dcsctp_delivery_turns.specs.Asking.{Own, own_of, renewed_own, AsksFit, AskingGrows}
 use Rattle.dcsctp_delivery_turns.specs.Tags.{IsPeerTag}
 
--- What a socket has queued since it was made, newest first; its queues and trackers; what it has sent in its association, and what its user
--- has read in it, oldest first; and the requests to reset streams that it has begun in it.
+-- What a socket has queued since it was made, newest first; its queues and trackers; what it has sent in its association, and
+-- what its user has read in it, oldest first; and the requests to reset streams that it has begun in it.
 pub record Ledger : Type 0 where
   pub queued : List Message
   pub queues : EndpointQueues
@@ -183,7 +183,7 @@ has_refused [] = false
 has_refused (fails number ∷ effects) = true
 has_refused (effect ∷ effects) = has_refused effects
 
--- What the peer answers to the own request, if these are the effects of the turn.
+-- What the peer answers to our request, if these are the effects of the turn.
 pub data OwnEnds (happened : List Effect) (old : Inside) : Inside → Type 0 where
   unended : OwnEnds happened old old
   committed : has_completed happened ≡ true → (own : Own) → old.own ≡ Some own → OwnEnds happened old (record { queues = record old.queues { queue = queue_committed old.queues.queue }; own = Some (ended_own own) })
@@ -229,9 +229,9 @@ IsOpening (Some (init_ack theirs cookie)) = Unit {0}
 IsOpening (Some (cookie_echo cookie)) = Unit {0}
 IsOpening came = ⊥
 
--- What becomes of the association of a socket in a turn: it goes on, or there is none and none begins; its own request goes on under the
--- next number, in a packet of its own, and nothing else happens; it ends after its last packets, and no own request begins or ends before;
--- or another one begins, and takes its place.
+-- What becomes of a socket's association in a turn. It continues, or there is none and none begins. Or our request continues
+-- under the next number, in a packet of its own, and nothing else happens. Or the association ends after its last packets, and no
+-- request of ours begins or ends before. Or another one begins, and takes its place.
 pub data Becomes (came : Option Content) (to : ℕ) (adds : List Message → List Message) (taken : List MessageContent → List MessageContent) (e : Endpoint) (o : Outcome) : Type 0 where
   goes_on : IsCalm came → identity_in o.after.core ≡ identity_in e.core → MakesAlso came to adds taken (inside e) (packets_in o.events) (inside o.after) → Becomes came to adds taken e o
   works_resets : identity_in o.after.core ≡ identity_in e.core → (between worked : Inside) → OwnEnds o.effects (inside e) between → PeerResets came o.effects between worked
@@ -245,8 +245,8 @@ pub data Becomes (came : Option Content) (to : ℕ) (adds : List Message → Lis
       → (again : RequestedReset) → MakesPackets came begun.held.peer.tag (record { queues = opening_queues e o begun; own = Some (record { number = None; next = begun.my.first_tsn; again = again }) }) (packets_in o.events) (inside o.after)
       → Becomes came to adds taken e o
 
--- The messages of a call fit their fields, as those in memory do; no snapshot is restored; and a request to reset streams is sent again
--- by its timer alone, under its number or the next one.
+-- The messages of a call fit their fields, as those in memory do; no snapshot is restored; and a request to reset streams is
+-- sent again by its timer alone, under its number or the next one.
 abbrev pub IsCall : Input → Type 0
 IsCall (user_sends sendings) = AllByRecursion (λ sending. Fits (message_of sending)) sendings
 IsCall (act_input (request_again reset)) = ⊥
@@ -254,6 +254,6 @@ IsCall (act_input (request_renewed reset)) = ⊥
 IsCall (restores state) = ⊥
 IsCall input = Unit {0}
 
--- So it is of each turn.
+-- This holds for each turn.
 abbrev pub TurnsAreActions : Type 0
 TurnsAreActions = (e : Endpoint) (input : Input) (o : Outcome) → IsCall input → Turn e input o → Becomes (came_by input) (peer_tag e.core) (queued_after e input) (read_after e input) e o

@@ -10,7 +10,7 @@ use Rattle.dcsctp_delivery_sending.specs.Flushes.{NoData}
 abbrev pub IsAddressed : ℕ → Emission → Type 0
 IsAddressed to emission = NoData emission.packet.contents ⊎ ((emission.packet.tag ≡ to) × NoEnd emission.packet.contents)
 
--- So it is of each packet.
+-- This holds for each packet.
 abbrev pub AreAddressed : ℕ → List Emission → Type 0
 AreAddressed to [] = Unit {0}
 AreAddressed to (emission ∷ emissions) = IsAddressed to emission × AreAddressed to emissions
@@ -19,6 +19,6 @@ AreAddressed to (emission ∷ emissions) = IsAddressed to emission × AreAddress
 abbrev pub DataGoesToPeer : Type 0
 DataGoesToPeer = (came : Option Content) (to : ℕ) (old new : Ledger) → AreAddressed to old.sent → Actions came to old new → AreAddressed to new.sent
 
--- Such a packet with data has the own tag, if all its chunks are handled and it doesn't begin with a COOKIE ECHO.
+-- Such a packet with data has our own tag, if all its chunks are handled and it doesn't begin with a COOKIE ECHO.
 abbrev pub AddressedTagsAreOwn : Type 0
 AddressedTagsAreOwn = (core : Core) (packet : Packet) → NoEnd packet.contents → is_echo_in_front packet.contents ≡ false → admits core packet ≡ all_chunks → packet.tag ≡ own_tag core

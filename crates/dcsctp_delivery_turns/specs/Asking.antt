@@ -1,4 +1,5 @@
--- What a socket keeps of its own requests to reset streams, and what it has begun of them in its association (RFC 6525, section 5.1.2).
+-- What a socket keeps of its own requests to reset streams, and what it has begun of them in its
+-- association (RFC 6525, section 5.1.2).
 use Rattle.std.specs.Prelude.{◌≡◌, ◌+◌, ◌%◌, ◌^◌, ℕ, Option, None, Some, List, [], ◌∷◌, ◌++◌, length, false}
 use Rattle.dcsctp_spec_lemmas.specs.types.declared.association.Held.{Held}
 use Rattle.dcsctp_spec_lemmas.specs.spec.endpoint.Endpoint.{Endpoint, Core, closed, cookie_wait, cookie_echoed, open_in, OutstandingRequest}
@@ -27,7 +28,7 @@ own_in (open_in phase my held) request = Some (own_with held request)
 abbrev pub own_of : Endpoint → Option Own
 own_of e = own_in e.core e.outstanding
 
--- once the request that has no end goes on under the next number
+-- once the request that has no end continues under the next number
 abbrev pub renewed_own : Own → Own
 renewed_own own = record own { number = Some own.next; next = next_number own.next }
 
@@ -60,7 +61,7 @@ abbrev pub AsksFit : ℕ → Option Own → Asking → Type 0
 AsksFit first None asking = Unit {0}
 AsksFit first (Some own) asking = IsAsking first own asking
 
--- So it is with some requests.
+-- This holds for some requests.
 pub record SomeFit (own : Option Own) : Type 0 where
   pub first : ℕ
   pub asking : Asking

@@ -1,4 +1,5 @@
--- An own request to reset streams that ends as performed is the one that had no end (RFC 6525, section 5.2.7).
+-- A request of ours to reset streams that ends as performed is the one that had no end (RFC 6525,
+-- section 5.2.7).
 use Rattle.std.specs.Prelude.{◌≡◌, ℕ, Some}
 use Rattle.dcsctp_spec_lemmas.specs.types.declared.association.Pair.{Pair}
 use Rattle.dcsctp_spec_lemmas.specs.spec.endpoint.Endpoint.{Endpoint}

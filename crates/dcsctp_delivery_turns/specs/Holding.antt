@@ -1,4 +1,4 @@
--- An association that a turn notes is there after it.
+-- An association that a turn records exists after it.
 use Rattle.std.specs.Prelude.{◌≡◌, Some}
 use Rattle.dcsctp_spec_lemmas.specs.spec.endpoint.Endpoint.{Endpoint, closed}
 use Rattle.dcsctp_spec_lemmas.specs.spec.endpoint.Outcome.{Outcome}
@@ -7,10 +7,10 @@ use Rattle.dcsctp_spec_lemmas.specs.spec.endpoint.Turn.{Input, Turn}
 use Rattle.dcsctp_spec_lemmas.specs.spec.association.Effect.{AssociationIdentity, holds, ends, identity_in}
 use Rattle.dcsctp_delivery_turns.specs.Actions.{IsCall}
 
--- An association that is noted in a turn is there after it.
+-- An association that is recorded in a turn exists after it.
 abbrev pub HoldsMean : Type 0
 HoldsMean = (e : Endpoint) (input : Input) (o : Outcome) (link : AssociationIdentity) → IsCall input → Turn e input o → HasEffect (holds link) o.effects → identity_in o.after.core ≡ Some link
 
--- Where an end is noted there is none.
+-- After a turn that records an end there is none.
 abbrev pub EndsMean : Type 0
 EndsMean = (e : Endpoint) (input : Input) (o : Outcome) → IsCall input → Turn e input o → HasEffect ends o.effects → o.after.core ≡ closed

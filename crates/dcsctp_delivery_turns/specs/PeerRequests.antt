@@ -54,8 +54,8 @@ IsPlainRequest came = Unit {0}
 abbrev pub IsDue : List Effect → ℕ → Type 0
 IsDue past number = (number_to_accept past ≡ Some number) ⊎ (number_to_perform past ≡ Some number)
 
--- What a turn does with the peer's requests in the association of this link, after this past, if this waits for a reset before it and that
--- after it.
+-- What a turn does with the peer's requests in the association of this link, after this past, if this waits for a reset before
+-- it and that after it.
 pub data PeerTurns (link : AssociationIdentity) (past : List Effect) (e : Endpoint) (input : Input) (o : Outcome) (old new : Option DeferralModel) : Type 0 where
   -- Nothing is asked.
   asks_nothing : NoneAsked o.effects → SameWaits old new → PeerTurns link past e input o old new
@@ -71,7 +71,7 @@ pub data PeerTurns (link : AssociationIdentity) (past : List Effect) (e : Endpoi
   -- Another association begins.
   begins_anew : (begun : Begun e o) → IsOpening (came_by input) → identity_in o.after.core ≡ Some (identity_of begun.my begun.held) → NoneAsked o.effects → new ≡ None → PeerTurns link past e input o old new
 
--- So it is of each turn in an association.
+-- This holds for each turn in an association.
 abbrev pub PeersTurn : Type 0
 PeersTurn =
     (e : Endpoint) (input : Input) (o : Outcome) (past : List Effect) (link : AssociationIdentity) (transfer left : Transfer) → KnowsPeerIn past e.core → IsPlainRequest (came_by input) → IsCall input → Turn e input o

@@ -46,16 +46,16 @@ new_direction options first size queued sender_queues acknowledged sent =
       asking = nothing_asked;
     }
 
--- What was begun, once the own request has ended or goes on under the next number, or as it was.
+-- What was begun: as it was, or once our request has ended or continues under the next number.
 pub data IsBetween (happened : List Effect) (old : Asking) : Asking → Type 0 where
   as_it_was : IsBetween happened old old
   once_performed : has_completed happened ≡ true → IsBetween happened old (all_ended old)
   once_refused : has_refused happened ≡ true → IsBetween happened old (all_ended old)
   once_renewed : (newest : BegunReset) (earlier : List BegunReset) (number : ℕ) → old.requests ≡ newest ∷ earlier → old.out ≡ 1 → number ≡ next_number newest.number → IsBetween happened old (asking_renewed number newest old)
 
--- A run goes on by a turn of the sender; or the association ends after its last packets, and there is none; or another one begins, whoever
--- receives, and whatever that side has done before. All data goes to the peer's tag. Where an association ends or begins, what no longer
--- waits may be marked as spent.
+-- A turn of the sender continues the run; or the association ends after its last packets, and there is none; or another one
+-- begins, whoever receives, and whatever that side has done before. All data goes to the peer's tag. When an association ends or
+-- begins, what no longer waits may be marked as spent.
 pub data SenderTurns (options : Options) (first size : ℕ) (direction : Direction) (e : Endpoint) (input : Input) (o : Outcome) : Type 0 where
   run_goes_on : identity_in o.after.core ≡ identity_in e.core → AreAddressed (peer_tag e.core) (packets_in o.events) → o.after.queues.queue.is_interleaved ≡ e.queues.queue.is_interleaved
       → (acknowledged : ℕ) (between asking : Asking) → IsBetween o.effects direction.asking between → AskingGrows between asking → AsksFit first (own_of o.after) asking
@@ -80,7 +80,7 @@ EndsPerformed e o asking = has_completed o.effects ≡ true → e.queues.queue.i
 abbrev pub OpensSmall : Endpoint → Input → Outcome → Type 0
 OpensSmall e input o = (begun : Begun e o) → IsOpening (came_by input) → identity_in o.after.core ≡ Some (identity_of begun.my begun.held) → begun.my.first_tsn < 2 ^ 32
 
--- So it is of each turn, also of a closed socket, with a direction on which nothing is in flight.
+-- This holds for each turn, also of a closed socket, with a direction on which nothing is in flight.
 abbrev pub SendersGoOn : Type 0
 SendersGoOn =
     (options : Options) (first size : ℕ) (direction : Direction) (e : Endpoint) (input : Input) (o : Outcome) → DirectionRun options first size direction → first < 2 ^ 32 → direction.queues ≡ e.queues
@@ -119,7 +119,7 @@ pub record IsNewest (direction : Direction) (transfer : Transfer) (reset : Reque
   pub asks : newest.reset ≡ reset
   pub own : IsOwn reset transfer.reassembly.deferral
 
--- So it is of a request that is performed in this turn.
+-- This holds for a request that is performed in this turn.
 abbrev pub PerformsNewest : Direction → Transfer → Option Content → List Effect → Type 0
 PerformsNewest direction transfer came happened =
     has_reset happened ≡ true → (parameters : List ResetParameter) (reset : RequestedReset) → came ≡ Some (re_config parameters) → requested_in parameters ≡ Some reset
@@ -137,15 +137,15 @@ PerformedBy is_known input o direction asking =
     (is_reset : Bool) × (is_reset ≡ false → has_reset o.effects ≡ false ⊎ IsCalm (came_by input)) × (is_reset ≡ true → has_reset o.effects ≡ true)
     × (asking ≡ performed_where is_known is_reset direction.asking)
 
--- A run goes on by a turn of the receiver, where what is handled was sent; or the association ends, maybe after it has received more; or
--- another one begins.
+-- A turn of the receiver continues the run, if what it handles was sent; or the association ends, maybe after it has received
+-- more; or another one begins.
 pub data ReceiverTurns (is_known : Bool) (options : Options) (first size : ℕ) (direction : Direction) (transfer : Transfer) (e : Endpoint) (input : Input) (o : Outcome) : Type 0 where
   receiver_goes_on : identity_in o.after.core ≡ identity_in e.core → (left : Transfer) → o.after.queues.transfer ≡ Some left → SomeFit (own_of o.after) → (asking : Asking) → PerformedBy is_known input o direction asking
       → DirectionRun options first size (record (receiving direction left (read_after e input direction.read)) { asking = asking }) → ReceiverTurns is_known options first size direction transfer e input o
   receiver_ends : identity_in o.after.core ≡ None → o.after.queues.transfer ≡ None → ((read : List MessageContent) → read_after e input read ≡ read) → ReceiverTurns is_known options first size direction transfer e input o
   receiver_begins : OpensAssociation e input o → ReceiverTurns is_known options first size direction transfer e input o
 
--- So it is of each turn.
+-- This holds for each turn.
 abbrev pub ReceiversGoOn : Type 0
 ReceiversGoOn =
     (is_known : Bool) (options : Options) (first size : ℕ) (direction : Direction) (transfer : Transfer) (e : Endpoint) (input : Input) (o : Outcome) → DirectionRun options first size (receiving direction transfer direction.read)

@@ -1,4 +1,5 @@
--- The actions of a socket (specs/Actions) as steps of two directions: the one on which it sends, and the one on which it receives.
+-- The actions of a socket (specs/Actions) as steps of two directions: the one on which it sends,
+-- and the one on which it receives.
 use Rattle.std.specs.Prelude.{◌≡◌, ◌⊎◌, ℕ, Option, Some, List}
 use Rattle.dcsctp_spec_lemmas.specs.wire.Content.{ChunkContent, data_chunk, i_data_chunk, forward_tsn_chunk, i_forward_tsn_chunk}
 use Rattle.dcsctp_spec_lemmas.specs.types.declared.options.Options.{Options}
@@ -19,7 +20,7 @@ pub data DirectionSteps (old : Direction) : Direction → Type 0 where
   stays : DirectionSteps old old
   moves : (between new : Direction) → DirectionSteps old between → DirectionStep between new → DirectionSteps old new
 
--- Steps go on from a run.
+-- Steps continue a run.
 abbrev pub StepsGoOn : Type 0
 StepsGoOn = (options : Options) (first size : ℕ) (old new : Direction) → DirectionRun options first size old → DirectionSteps old new → DirectionRun options first size new
 

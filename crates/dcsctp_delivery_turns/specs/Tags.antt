@@ -1,4 +1,5 @@
--- Data is handled under the own tag alone, unless its packet begins with a COOKIE ECHO (RFC 9260, sections 5.2.4 and 8.5).
+-- Data is handled only under our own tag, unless its packet begins with a COOKIE ECHO (RFC 9260,
+-- sections 5.2.4 and 8.5).
 use Rattle.std.specs.Prelude.{◌≡◌, ℕ, false, None, List, [], ◌∷◌, Ok}
 use Rattle.dcsctp_spec_lemmas.specs.spec.Admission.{all_chunks, admits, first_abort, first_shutdown_complete, is_echo_in_front, is_single_init}
 use Rattle.dcsctp_spec_lemmas.specs.spec.Cookie.{Cookie, cookie_at}
@@ -10,8 +11,8 @@ use Rattle.dcsctp_spec_lemmas.specs.spec.Packet.{Packet, Emission}
 use Rattle.dcsctp_spec_lemmas.specs.spec.endpoint.CookieEchoOutcomes.{CookieEchoTurn}
 use Rattle.dcsctp_spec_lemmas.specs.spec.endpoint.FlushOutcomes.{Answer, FlushAnswers, flush_of}
 
--- So it is of a packet whose chunks are all handled, that has no ABORT and no SHUTDOWN COMPLETE, doesn't begin with a COOKIE ECHO and isn't
--- one INIT.
+-- This holds for a packet whose chunks are all handled, that has no ABORT and no SHUTDOWN COMPLETE, doesn't begin with a COOKIE
+-- ECHO and isn't one INIT.
 abbrev pub TagsAreOwn : Type 0
 TagsAreOwn =
     (core : Core) (packet : Packet) → first_abort packet.contents ≡ None → first_shutdown_complete packet.contents ≡ None → is_echo_in_front packet.contents ≡ false

@@ -8,15 +8,15 @@ ghost use Rattle.dcsctp_delivery_turns.specs.Runs.{ReceiversBegin, ReceiversGoOn
 ghost use Rattle.dcsctp_delivery_turns.specs.Sides.{StepsGoOn, ActionsSend, ActionsReceive};
 ghost use Rattle.dcsctp_delivery_turns.specs.Tags.{TagsAreOwn, EchoesBearOwnTag, FlushesGoToPeer};
 
-/// A flush goes to the peer's tag, and what a packet with data says is handled under the own tag alone (RFC 9260,
-/// sections 5.2.4 and 8.5).
+/// A flush goes to the peer's tag, and a packet with data is handled only under our own tag (RFC 9260, sections 5.2.4
+/// and 8.5).
 pub fn tags_are_own()
     ensures admitted { TagsAreOwn }
     ensures echoed { EchoesBearOwnTag }
     ensures sent { FlushesGoToPeer }
 {}
 
-/// Each turn of a socket is a list of actions, by which its association goes on, ends, or gives way to another one.
+/// Each turn of a socket is a list of actions, by which its association continues, ends, or is replaced by another.
 pub fn turns_are_actions()
     ensures { TurnsAreActions }
 {}
@@ -28,14 +28,14 @@ pub fn actions_are_steps()
     ensures receives { ActionsReceive }
 {}
 
-/// All data of an association goes to its peer's tag, in packets that are admitted under the own tag alone, but for one
-/// that begins with a COOKIE ECHO.
+/// All data of an association goes to its peer's tag, in packets that are admitted only under the receiver's own tag,
+/// except one that begins with a COOKIE ECHO.
 pub fn data_goes_to_peer()
     ensures sent { DataGoesToPeer }
     ensures admitted { AddressedTagsAreOwn }
 {}
 
-/// A run of a direction goes on by every turn of either side; or the association ends, or gives way to another one.
+/// Every turn of either side continues a run of a direction; or the association ends, or is replaced by another.
 pub fn runs_go_on()
     ensures made { SendersBegin }
     ensures sends { SendersGoOn }
@@ -44,7 +44,7 @@ pub fn runs_go_on()
     ensures idle { ReceiversBegin }
 {}
 
-/// An own request to reset streams that ends as performed is the one that had no end, of the association that the
+/// A request of ours to reset streams that ends as performed is the one that had no end, of the association that the
 /// socket holds (RFC 6525, section 5.2.7).
 pub fn own_requests_complete()
     ensures { CompletesOwn }

@@ -444,7 +444,7 @@ get_take_append_next zero es fs within = refl
 get_take_append_next (suc at) [] fs within = absurd (omega arith)
 get_take_append_next (suc at) (e ∷ es) fs within = get_take_append_next at es fs (omega arith)
 
--- the entry that was put at a position, and the one that it pushed behind it
+-- the entry that was put at a position, and the one that it pushed back
 pub get_put : {X : Type 0} (at : ℕ) (e : X) (es : List X) → at ≤ length es → slice_get (take at es ++ e ∷ drop at es) at ≡ Some e
 get_put at e es within = get_take_append at es (e ∷ drop at es) within
 
@@ -476,7 +476,7 @@ link_next i f [] within = absurd (omega arith)
 link_next zero f (e ∷ es) within = refl
 link_next (suc i) f (e ∷ es) within = ap (λ rest. e ∷ rest) (link_next i f es (omega arith))
 
--- an entry taken out, and then the one that was behind it
+-- an entry taken out, and then the one that was after it
 pub take_both : {X : Type 0} (i : ℕ) (es : List X) → take i (take i es ++ drop (suc i) es) ++ drop (suc i) (take i es ++ drop (suc i) es) ≡ take i es ++ drop (suc (suc i)) es
 take_both zero [] = refl
 take_both (suc i) [] = refl
@@ -484,7 +484,7 @@ take_both zero (e ∷ []) = refl
 take_both zero (e ∷ (f ∷ es)) = refl
 take_both (suc i) (e ∷ es) = ap (λ rest. e ∷ rest) (take_both i es)
 
--- ---- what the entries stand for
+-- ---- what the entries represent
 
 pub get-map : {X Y : Type 0} (f : X → Y) (at : ℕ) (es : List X) → slice_get (map f es) at ≡ option_map f (slice_get es at)
 get-map f at [] = refl

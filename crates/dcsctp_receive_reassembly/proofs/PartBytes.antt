@@ -38,7 +38,7 @@ bytes_dropped zero (first ∷ runs) run is =
     omega (arith, same, sum_by-cons run_bytes first runs)
 bytes_dropped (suc at) (first ∷ runs) run is = bytes_dropped at runs run is
 
--- the runs that stay in front, and the run that joins behind them
+-- the runs that stay in front, and the run that joins after them
 in_front : (at : ℕ) (runs : List RunModel) (o : Option RunModel) (part : PartModel) → slice_get runs at ≡ o → runs_bytes (take (suc at) runs) ≡ runs_bytes (take (front_end (is_some (following o part)) (suc at)) runs) + bytes_of (following o part)
 in_front at runs None part is = omega arith
 in_front at runs (Some run) part is = go (follows run part)
@@ -53,7 +53,7 @@ bytes_in_front : (at : ℕ) (runs : List RunModel) (part : PartModel) → runs_b
 bytes_in_front zero runs part = omega arith
 bytes_in_front (suc at) runs part = in_front at runs (slice_get runs at) part refl
 
--- the runs that stay behind, and the run that joins in front of them
+-- the runs that stay after it, and the run that joins in front of them
 behind : (at : ℕ) (runs : List RunModel) (o : Option RunModel) (part : PartModel) → slice_get runs at ≡ o → runs_bytes (drop at runs) ≡ bytes_of (preceding part o) + runs_bytes (drop (back_start (is_some (preceding part o)) at) runs)
 behind at runs None part is = omega arith
 behind at runs (Some run) part is = go (precedes part run)

@@ -152,7 +152,7 @@ within_some first at [] begins = absurd begins
 within_some first zero (run ∷ runs) begins = omega arith
 within_some first (suc at) (run ∷ runs) begins = omega (arith, within_some first at runs begins)
 
--- the next run begins behind the place
+-- the next run begins after the place
 pub next_behind : (place next : ℕ) (es : List (ℕ × Run)) → Ascends es → RunBeginsAt next (slice_get (map run_model es) (count_up_to place es)) → place < next
 next_behind place next es ascends begins =
     let there = found next (count_up_to place es) es begins in
@@ -204,7 +204,7 @@ kept_behind at next part behind after runs es old new front is left ascends writ
     ∙ put_again at (single_run part) (run_model (part.place, after)) runs (drop (suc at) runs) (omega (arith, within_some next at runs front.begins))
     ∙ ap (λ run. take at runs ++ run ∷ drop (suc at) runs) (made ∙ ap (λ o. merged None part o) next_is)
 
--- The next run was taken out behind the one at `first`.
+-- The next run, after the one at `first`, was taken out.
 pub record NextTaken (at first next : ℕ) (runs : List RunModel) (es fs : List (ℕ × Run)) : Type 0 where
   pub before : RunBeginsAt first (entry_before at runs)
   pub behind : RunBeginsAt next (slice_get runs at)
@@ -260,7 +260,7 @@ as_long first run other es fs ascends ascends' same is is' =
 room_in : (count : ℕ) (o : Option Run) (run : Run) → RoomIn count o → o ≡ Some run → length run.others.items + count ≤ deque_capacity run.others
 room_in count o run room is = subst (λ o. RoomIn count o) is room
 
--- there is room in the longer of two runs, the one in front or the one behind
+-- there is room in the longer of two runs, the one in front or the one after it
 pub room_in_front : (first next : ℕ) (front back : Run) (old new : BTreeMap ℕ Run) → Ascends old.entries → Ascends new.entries → map run_model new.entries ≡ map run_model old.entries → get nat_cmp old first ≡ Some front → get nat_cmp old next ≡ Some back → length back.others.items ≤ length front.others.items → HasRoomForRun first (length back.others.items + 2) new → CanLinkAt first next new
 room_in_front first next front back old new ascends ascends' same is is' shorter room = λ front' back' there there'.
     let fronts = as_long first front front' old.entries new.entries ascends ascends' same is there in

@@ -48,7 +48,7 @@ AddsPart-whole at part old new before behind joins_before joins_behind whole pla
           );
     }
 
--- a part that is held already
+-- a part that is there already
 pub AddsPart-dropped : (at : ℕ) (part : PartModel) (old : List RunModel) → IsRunPlace at part.place old → is_held_before at old part.place ≡ true → AddsPart part old part_dropped old
 AddsPart-dropped at part old place held = record { at = at; place = place; adds = (held, refl); alone = λ begins ends. refl }
 

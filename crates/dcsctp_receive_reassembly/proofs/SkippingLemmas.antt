@@ -148,7 +148,7 @@ SkipsAll-none incoming =
 pub Balances-both : (old between new : Incoming) → Balances old between → Balances between new → Balances old new
 Balances-both old between new first second = λ within. omega (arith, first within, second (omega (arith, first within)))
 
--- ---- streams that begin anew
+-- ---- streams that start again
 
 -- one of the streams that are named is forgotten, and then the others
 pub forgotten_step : (first : ℕ) (rest : List ℕ) (id : ℕ) (before after : StreamModel) → after ≡ (if first == id then new_stream id else before) → (if is_named rest id then new_stream id else after) ≡ (if is_named (first ∷ rest) id then new_stream id else before)

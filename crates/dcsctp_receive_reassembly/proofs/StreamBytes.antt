@@ -152,7 +152,7 @@ skipped_bytes (Mid id false mid) stream =
 skipped_bytes (Mid id true mid) stream =
     omega (arith, parted_bytes (λ run. nat_le run.number (number_near stream.last_unordered mid)) stream.unordered)
 
--- the runs in front that are dropped, and those behind them
+-- the runs in front that are dropped, and those after them
 pub placed_bytes : (place : ℕ) (runs : List RunModel) → runs_bytes (up_to_place place runs) + runs_bytes (behind_place place runs) ≡ runs_bytes runs
 placed_bytes place [] = refl
 placed_bytes place (run ∷ runs) = go (nat_le run.first place) (placed_bytes place runs)

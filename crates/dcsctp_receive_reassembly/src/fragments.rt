@@ -13,8 +13,8 @@ use std::alloc::{AllocError, Global};
 use std::collections::BTreeMap;
 use std::marker::Model;
 
-/// The parts of the messages of one stream. Those of a message stand together, and the messages ascend by
-/// their numbers, so that what is skipped is a front. A contract sees the runs of parts.
+/// The parts of the messages of one stream. Those of one message are next to each other, and the messages
+/// ascend by their numbers, so that what is skipped is a front. A contract sees the runs of parts.
 #[derive(Drop)]
 pub struct Fragments {
     runs: BTreeMap<u128, Run>,

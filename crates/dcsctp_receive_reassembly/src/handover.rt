@@ -38,7 +38,7 @@ pub fn ordered_streams(
     Ok(list)
 }
 
-// The stream of a snapshot: its next ordered message has the number that stands there.
+// The stream of a snapshot: its next ordered message has the number that the snapshot gives.
 fn restored_stream(alloc: Global, state: &HandoverOrderedStream) -> Stream
     ensures { stream_model result ≡ restored_stream state.now.id (state.now ∷ []) }
 {
@@ -61,7 +61,7 @@ fn put_stream(
     Ok(())
 }
 
-/// The streams of a snapshot. If one stands twice there, the first counts. `Err`: an allocation failed.
+/// The streams of a snapshot. If one is listed twice, the first entry counts. `Err`: an allocation failed.
 pub fn restored_streams(
     alloc: Global,
     states: &[HandoverOrderedStream],

@@ -52,7 +52,7 @@ pub fn take_over(run: &mut Run, behind: Run)
     run.has_end = has_end;
 }
 
-// The part and the run behind go behind the parts of a run, in which there is room.
+// Appends the part, and then the parts of `behind`, to those of a run that has room for them.
 fn link_behind(run: &mut Run, payload: Vec<u8>, behind: Run)
     requires { length run.old.others.items + 2 + length behind.others.items ≤ deque_capacity run.old.others }
     ensures { (first next : ℕ) (part : PartModel) → part.payload ≡ payload.items → run_model (first, run.new) ≡ merged (Some (run_model (first, run.old))) part (Some (run_model (next, behind))) }
@@ -79,8 +79,8 @@ fn move_in_front(front: &mut VecDeque<Vec<u8>>, others: &mut VecDeque<Vec<u8>>)
     }
 }
 
-// The part and the parts of a run but the first go in front of the run behind, in which there is room. The
-// run takes them over.
+// Puts the parts of `run` except its first, and then the part, in front of the parts of `behind`, which has
+// room for them. `run` takes them all over.
 fn link_in_front(run: &mut Run, payload: Vec<u8>, behind: Run)
     requires { length run.old.others.items + 2 + length behind.others.items ≤ deque_capacity behind.others }
     ensures { (first next : ℕ) (part : PartModel) → part.payload ≡ payload.items → run_model (first, run.new) ≡ merged (Some (run_model (first, run.old))) part (Some (run_model (next, behind))) }

@@ -4,7 +4,7 @@
 ghost use Rattle.std.specs.Prelude.{◌≡◌, ◌+◌, ◌%◌, ◌/◌, ◌^◌, ◌<◌, ◌≤◌};
 ghost use Rattle.dcsctp_api.specs.spec.queues.Numbers.{number_near, short_number_near, short_number_from, fragment_place, is_tsn_beyond};
 
-/// The number that a 32-bit number stands for. The two agree modulo 2^32.
+/// The unwrapped number of a 32-bit one, nearest to the reference. The two agree modulo 2^32.
 pub fn number_near(reference: u64, number: u32) -> u64
     ensures { result ≡ number_near reference number }
 {
@@ -16,7 +16,7 @@ pub fn number_near(reference: u64, number: u32) -> u64
     }
 }
 
-/// The number that a 16-bit number stands for. The two agree modulo 2^16.
+/// The unwrapped number of a 16-bit one, nearest to the reference. The two agree modulo 2^16.
 pub fn short_number_near(reference: u64, number: u16) -> u64
     ensures { result ≡ short_number_near reference number }
 {
@@ -28,7 +28,7 @@ pub fn short_number_near(reference: u64, number: u16) -> u64
     }
 }
 
-/// The first number from the reference on that a 16-bit number can stand for: the two agree modulo 2^16.
+/// The unwrapped number of a 16-bit one, the first from the reference on. The two agree modulo 2^16.
 pub fn short_number_from(reference: u64, number: u16) -> u64
     ensures is { result ≡ short_number_from reference number }
     ensures from { reference ≤ result }

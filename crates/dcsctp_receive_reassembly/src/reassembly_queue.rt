@@ -132,8 +132,8 @@ impl ReassemblyQueue {
         Ok(())
     }
 
-    /// A queue that was just made goes on with the streams of the snapshot, behind its last TSN. If a stream
-    /// stands twice there, the first counts. `Err`: an allocation failed, and nothing has changed.
+    /// A queue that was just made continues with the streams of the snapshot, after its last TSN. If a stream
+    /// is listed twice, the first entry counts. `Err`: an allocation failed, and nothing has changed.
     pub fn restore_from_state(&mut self, rx: &HandoverReceive) -> Result<(), AllocError>
         requires { self.old.incoming.streams ≡ [] }
         ensures ok { OnOk result (RestoresReassembly (received_part rx.now) self.old self.new) }

@@ -1,4 +1,4 @@
-//! Messages that are skipped (RFC 3758, section 3.6; RFC 8260, section 2.3.1), and streams that start anew
+//! Messages that are skipped (RFC 3758, section 3.6; RFC 8260, section 2.3.1), and streams that start again
 //! (RFC 6525, section 5.2.2).
 
 ghost use Rattle.std.specs.Prelude.{◌≡◌, ◌==◌, ◌||◌, ℕ, ◌+◌, ◌-◌, ◌<◌, ◌≤◌, ◌++◌, map, length, OnOk, OnErr, IsSome, if◌then◌else◌};
@@ -115,7 +115,7 @@ fn skip_on(
     stream.skip(entry, ready)
 }
 
-// Forgets the stream, so that it starts anew, and returns how many bytes it had, at most `usize::MAX`.
+// Forgets the stream, so that it starts again, and returns how many bytes it had, at most `usize::MAX`.
 fn forget_stream(streams: &mut BTreeMap<u16, Stream>, id: StreamId) -> usize
     ensures streams { (other : ℕ) → stream_on other (map entry_of streams.new.entries) ≡ (if id.0 == other then new_stream other else stream_on other (map entry_of streams.old.entries)) }
     ensures bytes { streams_bytes (map entry_of streams.new.entries) + kept_stream_bytes (stream_on id.0 (map entry_of streams.old.entries)) ≡ streams_bytes (map entry_of streams.old.entries) }
@@ -250,7 +250,7 @@ impl Incoming {
             .saturating_sub(forgotten);
     }
 
-    /// Forgets the streams that are named, so that they start anew; an empty list names all.
+    /// Forgets the streams that are named, so that they start again; an empty list names all.
     pub fn reset_streams(&mut self, streams: &[StreamId])
         ensures resets { ResetsStreams (stream_numbers streams.now) (incoming_of self.old) (incoming_of self.new) }
         ensures bytes { Balances self.old self.new }

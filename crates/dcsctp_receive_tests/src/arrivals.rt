@@ -42,7 +42,7 @@ pub enum Step {
     /// The reset of these streams waits for the data up to this TSN. None named: all.
     Defers(u32, &'static [StreamId]),
 
-    /// These streams start anew. None named: all.
+    /// These streams start again. None named: all.
     Resets(&'static [StreamId]),
 
     /// The next message has these bytes.
@@ -63,7 +63,7 @@ pub enum Step {
     /// A snapshot has this last TSN of it, and these streams.
     Shows(u32, &'static [HandoverOrderedStream]),
 
-    /// A new queue with a window of that many bytes goes on from a snapshot: the last TSN, and the streams.
+    /// A new queue with a window of that many bytes continues from a snapshot: the last TSN, and the streams.
     Restores(usize, u32, &'static [HandoverOrderedStream]),
 }
 

@@ -1,4 +1,4 @@
-//! What a snapshot has of a queue, and how a new queue goes on from it.
+//! What a snapshot has of a queue, and how a new queue continues from it.
 
 use crate::arrivals::Part::{First, Last, Whole};
 use crate::arrivals::Step::{Add, Begins, Counts, Gives, Restores, Rests, Shows, Skips};

@@ -18,7 +18,7 @@ pub enum Step {
     /// new?
     Receives(&'static [u32], bool),
 
-    /// Data of this TSN, which is valid, is received, with the I flag or without it. Its packet goes on.
+    /// Data of this TSN, which is valid, is received, with the I flag or without it. More of its packet follows.
     Observes(u32, bool),
 
     /// A FORWARD-TSN of this TSN is received: does it move the cumulative TSN?
@@ -56,8 +56,8 @@ pub enum Step {
     /// A snapshot has this last TSN of it, and whether data was received.
     Shows(u32, bool),
 
-    /// A new tracker, whose first TSN is this one, goes on from a snapshot: the last TSN, and whether data
-    /// was received.
+    /// A new tracker, whose first TSN is this one, continues from a snapshot: the last TSN, and whether data was
+    /// received.
     Restores(u32, u32, bool),
 }
 

@@ -1,4 +1,4 @@
-//! A reassembly queue, as the tests of this crate use it. Each check notes in the row what fails.
+//! A reassembly queue, as the tests of this crate use it. Each check records in the row what fails.
 
 use crate::arrivals::Part;
 use dcsctp_api::types::{HandoverOrderedStream, HandoverReceive};
@@ -154,7 +154,7 @@ impl Receiver {
         row.same(rx.ordered_streams.as_slice(), streams);
     }
 
-    /// Replaces it with a new one, which goes on from what a snapshot has.
+    /// Replaces it with a new one, which continues from what a snapshot has.
     pub fn restore(
         &mut self,
         row: &mut Row,

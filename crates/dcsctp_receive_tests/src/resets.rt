@@ -1,4 +1,4 @@
-//! Streams that start anew, what waits for that, and the receive window.
+//! Streams that start again, what waits for that, and the receive window.
 
 use crate::arrivals::Part::{First, Last, Whole};
 use crate::arrivals::Step::{

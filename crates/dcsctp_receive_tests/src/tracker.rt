@@ -1,4 +1,4 @@
-//! A data tracker, as the tests of this crate use it. Each check notes in the row what fails.
+//! A data tracker, as the tests of this crate use it. Each check records in the row what fails.
 
 use dcsctp_api::types::{HandoverReceive, Options, SocketTime};
 use dcsctp_receive_tracker::DataTracker;
@@ -46,7 +46,7 @@ impl Tracker {
         self.received.update_rto(Duration::from_millis(millis));
     }
 
-    // Data of this TSN is received, which has to be valid; returns whether it is new.
+    // Data of this TSN is received, which must be valid; returns whether it is new.
     fn takes(&mut self, row: &mut Row, tsn: u32, immediate_ack: bool) -> bool {
         if !self.received.is_tsn_valid(tsn) {
             row.same((tsn, "isn't valid"), (tsn, "is valid"));
@@ -150,7 +150,7 @@ impl Tracker {
         );
     }
 
-    /// Replaces it with a new one, which goes on from what a snapshot has.
+    /// Replaces it with a new one, which continues from what a snapshot has.
     pub fn restore(&mut self, first: u32, last: u32, is_seen: bool) {
         let mut rx = HandoverReceive::empty(self.alloc);
         rx.last_cumulative_acked_tsn = last;

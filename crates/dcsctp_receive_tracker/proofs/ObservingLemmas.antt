@@ -1,4 +1,4 @@
--- What is received from now on, as the machine says it.
+-- What is received from now on, as the definitions say it.
 use Rattle.std.proofs.Common.{◌≡◌, ◌==◌, ◌<◌, ◌-◌, ◌^◌, ◌+◌, ℕ, zero, suc, nat_lt, slice_get, Option, Some, Bool, true, false, not, ◌||◌, List, [], ◌∷◌, map, length, refl, sym, ap, ◌∙◌, arith}
 use Rattle.std.specs.Bool.{IsTrue}
 use Rattle.std.proofs.lemmas.Bool.Decides.{nat_tests}

@@ -29,7 +29,7 @@ take_behind (suc i) e (x ∷ xs) ys within = ap (λ rest. x ∷ rest) (take_behi
 
 -- ---- a range that is written
 
--- a range is written, and the entry of the one behind the number removed
+-- a range is written, and the entry of the one after the number removed
 pub joins_behind : (written : ℕ → List (ℕ × ℕ)) (number : ℕ) (behind : Option TsnRange) (next : TsnRange) (mid new : List (ℕ × ℕ)) → behind ≡ Some next → mid ≡ written next.last → Ascends mid → new ≡ remove_entry (is_at (nat_cmp next.first)) mid → Joins written number behind new
 joins_behind written number behind next mid new is wrote sorted removed =
     subst (λ (b : Option TsnRange). Joins written number b new) (sym is)
@@ -94,7 +94,7 @@ module _ (from number : ℕ) (es : List (ℕ × ℕ)) (sorted : Ascends es) (ord
   filled : (i : ℕ) (e : ℕ × ℕ) → slice_get es i ≡ Some e → e.0 ≤ e.1
   filled i e is = (IsBeyond-rest from i ranges (range_of e) (drop (suc i) ranges) ordered (drop-at i ranges (range_of e) (range_at i e es is))).1
 
-  -- the first range behind the number
+  -- the first range after the number
   first_behind : (range : TsnRange) → slice_get (drop at ranges) 0 ≡ Some range → slice_get es at ≡ Some (range.first, range.last)
   first_behind range is = entry_of (slice_get es at) range (sym (get-map range_of at es) ∙ (sym (get_drop at ranges) ∙ is))
 
@@ -121,7 +121,7 @@ module _ (from number : ℕ) (es : List (ℕ × ℕ)) (sorted : Ascends es) (ord
   pub is_in-before : (e : ℕ × ℕ) → entry_before at es ≡ Some e → number ≤ e.1 → is_in number ranges ≡ true
   is_in-before e is below = inside_at at e is ((count_places number es sorted).before e is) below
 
-  -- no range begins right behind the number
+  -- no range begins right after the number
   apart : lookup (is_at (nat_cmp (number + 1))) es ≡ None → IsBeyond number (drop at ranges)
   apart none =
       IsBeyond-later (end_of from (take at ranges)) number (drop at ranges) (IsBeyond-drop at from ranges ordered)

@@ -16,7 +16,7 @@ end_of number (range ∷ ranges) = end_of range.last ranges
 
 -- ---- joined lists
 
--- the first ranges, and the others behind them
+-- the first ranges, and the others after them
 pub IsBeyond-take : (i from : ℕ) (ranges : List TsnRange) → IsBeyond from ranges → IsBeyond from (take i ranges)
 IsBeyond-take zero from ranges beyond = tt
 IsBeyond-take (suc i) from [] beyond = tt
@@ -123,7 +123,7 @@ is_in-before number from (range ∷ ranges) beyond before =
     let filled : range.first ≤ range.last = beyond.1 in
     rw (below_test range.first range.last number (omega arith)) (is_in-before number range.last ranges beyond.2 (omega arith))
 
--- a number that is in no range up to a place, nor behind it
+-- a number that is in no range up to a place, nor in one after it
 pub is_in-neither : (number from i : ℕ) (ranges : List TsnRange) → IsBeyond from ranges → end_of from (take i ranges) < number → is_in number (drop i ranges) ≡ false → is_in number ranges ≡ false
 is_in-neither number from i ranges beyond before behind =
     ap (λ all. is_in number all) (sym (take-append-drop i ranges))
@@ -181,7 +181,7 @@ Adds-earlier from number i ranges range rest beyond past at touching =
     ∙ or_swapped (nat_le range.first other && nat_le other range.last) (other == number) (is_in other rest)
     ∙ ap (λ tail. is_in other tail || (other == number)) (sym at))
 
--- behind the last of a range, and not touching the next
+-- right after the last number of a range, and not touching the next range
 pub Adds-later : (from number i : ℕ) (ranges : List TsnRange) (range : TsnRange) (rest : List TsnRange) → IsBeyond from ranges → drop i ranges ≡ range ∷ rest → range.last + 1 ≡ number → IsBeyond number rest → AddsToRanges from number ranges (take i ranges ++ record { first = range.first; last = number } ∷ rest)
 Adds-later from number i ranges range rest beyond at touching apart =
     let back : IsBeyond (end_of from (take i ranges)) (range ∷ rest) = subst (λ tail. IsBeyond (end_of from (take i ranges)) tail) at (IsBeyond-drop i from ranges beyond) in
@@ -209,7 +209,7 @@ Adds-between from number i ranges range next rest beyond at before after =
 
 -- ---- places
 
--- the item at a place, and those behind it
+-- the item at a place, and those after it
 pub drop-at : {X : Type 0} (i : ℕ) (xs : List X) (x : X) → slice_get xs i ≡ Some x → drop i xs ≡ x ∷ drop (suc i) xs
 drop-at i [] x is = absurd (cc)
 drop-at zero (y ∷ xs) x is =
@@ -217,7 +217,7 @@ drop-at zero (y ∷ xs) x is =
     ap (λ first. first ∷ xs) same
 drop-at (suc i) (y ∷ xs) x is = drop-at i xs x is
 
--- what is left behind a range lies beyond it
+-- the ranges after one are beyond it
 pub IsBeyond-rest : (from i : ℕ) (ranges : List TsnRange) (range : TsnRange) (rest : List TsnRange) → IsBeyond from ranges → drop i ranges ≡ range ∷ rest → (end_of from (take i ranges) + 1 < range.first) × (range.first ≤ range.last) × IsBeyond range.last rest
 IsBeyond-rest from i ranges range rest beyond at = subst (λ tail. IsBeyond (end_of from (take i ranges)) tail) at (IsBeyond-drop i from ranges beyond)
 
@@ -255,7 +255,7 @@ beyond_first reached (first ∷ ranges) range is later spaced =
     let same : range ≡ first = cc in
     (subst (λ (r : TsnRange). reached + 1 < r.first) same later, spaced.0, spaced.1)
 
--- ---- the number behind the cumulative one
+-- ---- the number after the cumulative one
 
 next_test : (cumulative number other : ℕ) → number ≡ cumulative + 1 → nat_le other number ≡ (nat_le other cumulative || (other == number))
 next_test cumulative number other next = grind (arith, nat_tests)

@@ -25,7 +25,7 @@ impl DataTracker {
         rx.last_cumulative_acked_tsn = self.last_cumulative_acked_tsn();
     }
 
-    /// A tracker that was just made goes on behind the last TSN of the snapshot. Nothing is to be
+    /// A tracker that was just made continues after the last TSN of the snapshot. Nothing is to be
     /// acknowledged.
     pub fn restore_from_state(&mut self, rx: &HandoverReceive)
         requires { self.old.ranges ≡ [] }

@@ -121,8 +121,8 @@ fn set_last(ranges: &mut BTreeMap<u64, u64>, first: u64, last: u64)
     }
 }
 
-// The range that begins at `first` goes on to the number. If another one begins right after the number, the
-// two become one.
+// Extends the range that begins at `first` up to the number. If another one begins right after the number,
+// the two become one.
 fn extend(ranges: &mut BTreeMap<u64, u64>, first: u64, number: u64, behind: Option<TsnRange>)
     ensures { Joins (set_value (is_at (nat_cmp first)) ranges.old.entries) number behind ranges.new.entries }
 {

@@ -82,7 +82,7 @@ impl<R: BufRead> Script<R> {
     }
 }
 
-// May the byte stand in a line?
+// May a line have this byte?
 fn is_printable(byte: u8) -> bool
     ensures { IsTrue result ↔ ((32 ≤ byte) × (byte ≤ 126)) }
 {

@@ -41,7 +41,7 @@ pub fn limit(text: &str, most: u64) -> Option<Option<u64>>
     }
 }
 
-// Does a plus stand in front?
+// Does the text begin with a plus?
 fn has_plus(text: &str) -> bool
     ensures { IsTrue result ↔ HasPlus text.now }
 {

@@ -103,7 +103,7 @@ fn kind_name(kind: ErrorKind) -> &'static str {
     }
 }
 
-// Prints a list of streams, joined by commas; an empty one stands for all of them.
+// Prints a list of streams, joined by commas; an empty one means all of them.
 fn print_streams<W: Write>(
     side: &str,
     what: &str,

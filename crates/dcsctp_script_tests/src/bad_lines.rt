@@ -17,7 +17,7 @@ static SCRIPTS: [(&str, &str, &str); 3] = [
     ),
 ];
 
-// Runs a script, which has to print these lines and to end at a bad one.
+// Runs a script, which must print these lines and end at a bad one.
 fn ends_at_a_bad_line(rt: &impl Abort, alloc: Global, name: &str, script: &str, lines: &str) {
     let mut printed = Vec::new(alloc);
     let ended = run_script(alloc, &mut script.as_bytes(), &mut printed);

@@ -49,7 +49,7 @@ impl Write for FailingWriter {
     }
 }
 
-// Runs a script whose reading fails with this error: these lines have to be printed, and this to be the
+// Runs a script whose reading fails with this error: these lines must be printed, and this must be the
 // status.
 fn breaks_reading(rt: &impl Abort, alloc: Global, kind: io::ErrorKind, lines: &str, code: u8) {
     let mut reader = FailingReader {
@@ -94,7 +94,7 @@ struct Writes {
     failures: u32,
 }
 
-// Runs the script: the run has to end, and what was taken to be the first part of as many answers.
+// Runs the script: the run must end, and what was taken must be the first part of as many answers.
 fn breaks_writing(rt: &impl Abort, alloc: Global, writes: &Writes) {
     let script = writes
         .line

@@ -40,7 +40,7 @@ static SCRIPTS: [(&str, &str, &str, u8); 7] = [
     ),
 ];
 
-// Runs a script, which has to print these lines and to end with this status.
+// Runs a script, which must print these lines and end with this status.
 fn prints(rt: &impl Abort, alloc: Global, name: &str, script: &str, lines: &str, code: u8) {
     let mut printed = Vec::new(alloc);
     let ended = run_script(alloc, &mut script.as_bytes(), &mut printed);
@@ -72,7 +72,7 @@ static REFUSALS: [(u32, &str); 4] = [
     (32 + 64 + 256, "B refused E8 stream_reset_deferred\n"),
 ];
 
-// A refusal for these reasons has to be printed by this line.
+// A refusal for these reasons must be printed by this line.
 fn is_printed(rt: &impl Abort, alloc: Global, reasons: u32, line: &str) {
     let mut printed = Vec::new(alloc);
     let refusal = HandoverError::NotReady(HandoverReadiness(reasons));

@@ -79,7 +79,7 @@ fn event_of(rt: &impl Abort, alloc: Global, told: PrintedEvent) -> SocketEvent {
     }
 }
 
-// The event has to be printed by this line.
+// The event must be printed by this line.
 fn is_printed(rt: &impl Abort, alloc: Global, event: &SocketEvent, line: &str) {
     let mut printed = Vec::new(alloc);
     print_event(Side::B, 5, event, &mut printed).expect(rt, line);

@@ -130,7 +130,7 @@ static FLAGS: [(&str, &str); 6] = [
     ("follow_rfc", "true"),
 ];
 
-// Clears this flag if all are set: they have to be so then.
+// Clears this flag while all are set: the flags must then be as expected.
 fn clears(rt: &impl Abort, name: &str, expected: [bool; 6]) {
     let mut options = options_with(rt, &FLAGS);
     holds(rt, name, set_option(&mut options, name, "false"));

@@ -241,7 +241,7 @@ none_marked (x ∷ xs) each =
     let all = sum_by-cons marked_count x xs in
     omega arith
 
--- no item is marked, before the cursor and behind it
+-- no item is marked, neither before the cursor nor from it on
 pub none_marked_around : (cursor : ℕ) (items : List Item) → NoneMarkedBefore cursor items → NoneMarkedBetween cursor (length items) items → marked_items items ≡ 0
 none_marked_around cursor items before behind =
     none_marked items (λ k item is. elim (le_or_lt cursor k) [ inl h ↦ behind k item h (slice_get_within items k item is) is | inr h ↦ before k item h is ])

@@ -53,7 +53,7 @@ borne test message_id place items holds tested k item from to at =
     let found = tested item (ap (slice_get items) (sym here) ∙ at) in
     same_by item.fragment.message_id message_id (sym found ∙ holds)
 
--- no item is behind the last
+-- no item is after the last
 pub none_behind : (items : List Item) (place : ℕ) (item : Item) → length items ≤ place → slice_get items place ≡ Some item → ⊥
 none_behind [] place item few at = cc
 none_behind (x ∷ xs) zero item few at = omega arith

@@ -152,7 +152,7 @@ newest_first count blocks items found last =
     (λ k x holds. elim (holds.0) [ inl first ↦ ((omega arith, first), holds.1) | inr named ↦ absurd named ])
     last
 
--- an item that is awaited, behind which none is
+-- an item that is awaited, after which none is
 pub last_awaited : (items : List Item) (start end place : ℕ) (item : Item) → start < place → place ≤ end → slice_get items (place - 1) ≡ Some item → is_unacknowledged item.progress.state ≡ true → ((k : ℕ) (x : Item) → place ≤ k → k < end → slice_get items k ≡ Some x → is_unacknowledged x.progress.state ≡ true → ⊥) → IsLastAt (λ k x. IsPlaceWithin start end k × (is_unacknowledged x.progress.state ≡ true)) items (place - 1)
 last_awaited items start end place item from to at awaited none_behind =
     record {

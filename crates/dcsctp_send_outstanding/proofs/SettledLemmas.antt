@@ -25,7 +25,7 @@ use Rattle.dcsctp_send_outstanding.proofs.ReportLemmas.{has_item, last_either}
 
 -- ---- one item
 
--- a miss leaves an item that it leaves where the SACK tells of it
+-- if a miss leaves an item as it is, it does so whether or not the SACK reports on the item
 miss_is_same : (b : Bool) (progress : Progress) → missed progress.state progress ≡ progress → missed_where b progress ≡ progress
 miss_is_same true progress same = same
 miss_is_same false progress same = refl
@@ -122,7 +122,7 @@ none_left_changed change (suc start) (suc end) [] left = refl
 none_left_changed change (suc start) (suc end) (x ∷ xs) left =
     ap (λ ys. x ∷ ys) (none_left_changed change start end xs (λ k item from to at. left (suc k) item (omega arith) (omega arith) at))
 
--- a change of a row, and of the row behind it
+-- a change of a row, and of the row after it
 pub changed_joined : (change : Change) (start place end : ℕ) (items : List Item) → start ≤ place → place ≤ end → changed_between change place end (changed_between change start place items) ≡ changed_between change start end items
 changed_joined change zero zero zero items from to = refl
 changed_joined change zero zero (suc end) items from to = refl
@@ -223,7 +223,7 @@ kept_with_named is_interleaved cursor items totals old named kept settled =
 
 -- ---- what the blocks name
 
--- What the change leaves at a place comes of the item there.
+-- What is at a place after the change is the item from before, or the changed one.
 comes_of : (change : Change) (start end : ℕ) (items : List Item) (k : ℕ) (y : Item) → slice_get (changed_between change start end items) k ≡ Some y → (x : Item) × ((slice_get items k ≡ Some x) × (((IsPlaceWithin start end k → ⊥) × (y ≡ x)) ⊎ (y ≡ changed_item change x)))
 comes_of change zero zero items k y h = (y, (h, inl (λ within. let to = within.1 in absurd (omega arith), refl)))
 comes_of change zero (suc end) [] k y h = absurd (cc)

@@ -26,7 +26,7 @@ fn state_again(is_abandoned: bool, acked: bool, is_lost: bool) -> ItemState
     }
 }
 
-// What led there. Misses count anew, and each SACK tells whether the item is missing.
+// The item's progress. Misses are counted from 0 again, since each SACK reports whether the item is missing.
 fn progress_again(part: &HandoverOutstandingData) -> Progress
     ensures { result ≡ record {
       state = state_again part.now.is_abandoned part.now.acked (part.now.is_to_be_retransmitted || part.now.is_nacked);

@@ -11,7 +11,7 @@ use std::marker::Model;
 /// What was sent under one TSN.
 #[derive(Drop)]
 pub struct Item {
-    /// What its chunk says. The payload is empty if it stands for the end of an abandoned message.
+    /// What its chunk says. The payload is empty if the item only marks the end of an abandoned message.
     pub fragment: DataToSend,
 
     /// How far it is.

@@ -87,7 +87,7 @@ impl NamedPlaces {
         self.rows.is_empty()
     }
 
-    /// The first row from this one on that ends behind the place.
+    /// The first row from this one on that ends after the place.
     pub fn row_from(&self, row: usize, place: usize) -> usize {
         let rows = self.rows.as_slice();
         let mut row = row;

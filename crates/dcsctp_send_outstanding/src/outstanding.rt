@@ -234,8 +234,8 @@ impl Outstanding {
         self.change_at(change, place);
     }
 
-    // The first item from the place on that the change doesn't leave as it is, as far as the named places
-    // tell from this row on. Before that, the row that tells it.
+    // How far from the place on the change leaves all items as they are, as the named places from this row on
+    // show: the row that shows it, and the place after the last of these items.
     fn left_until(&self, change: Change, place: usize, row: usize) -> (usize, usize)
         ensures from { place ≤ result.1 }
         ensures left { IsLeftBetween change place result.1 self.now.items }

@@ -1,4 +1,4 @@
-//! What is settled: what a SACK has acknowledged, and what needn't be told again. Blocks of later SACKs name it anew.
+//! What is settled: acknowledged by a SACK, and not to be acknowledged again. Blocks of later SACKs name it again.
 
 ghost use Rattle.std.specs.Prelude.{◌≡◌};
 ghost use Rattle.dcsctp_send_outstanding.specs.Settled.{is_settled, leaves_settled, is_left_by, is_unsettled_by};

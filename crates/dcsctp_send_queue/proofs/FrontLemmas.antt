@@ -1,4 +1,4 @@
--- Lemmas on a front part of what is told.
+-- Lemmas on the first part of a list of events.
 use Rattle.std.proofs.Common.{◌≡◌, ◌∙◌, ℕ, List, ◌++◌, append_assoc, sym, ap}
 use Rattle.dcsctp_api.specs.spec.endpoint.Event.{Event}
 use Rattle.dcsctp_send_streams.specs.Telling.{TellsFront}
@@ -13,7 +13,7 @@ front_left before whole more after tells =
       told = tells.told;
     }
 
--- something was told before
+-- some events came before
 pub front_right : (before first between whole after : List (Event (List ℕ))) → between ≡ before ++ first → TellsFront between whole after → TellsFront before (first ++ whole) after
 front_right before first between whole after is tells =
     record {

@@ -18,7 +18,7 @@ pub can_go_on-set : (streams : List Stream) (p : ℕ) (s : Stream) (under_way : 
 can_go_on-set streams p s None can same front = tt
 can_go_on-set streams p s (Some u) can same front = under_way_set streams p s u can same front (stream_at-either streams p can.place s can.within)
 
--- where a stream stands after another was put in
+-- where a stream is after another was inserted
 pub record MovedTo (streams more : List Stream) (k : ℕ) : Type 0 where
   pub to : ℕ
   pub within : to < length more
@@ -120,7 +120,7 @@ produced_goes queue place max message u false e lt is front some =
     let less = not_last (length message.payload - u.sent) max e in
     part_goes queue place max (u.sent == 0) u (record u { next_fsn = (u.next_fsn + 1) % 2 ^ 32; sent = u.sent + max }) message lt is front refl (omega arith) (omega (arith, less))
 
--- the message of a fragment can go on, where it isn't fully sent
+-- the message of a fragment can continue, if it isn't fully sent
 pub can_go_on-produced : (queue : SendQueueState) (place max : ℕ) (message : Waiting) (u : UnderWay) → place < length queue.streams → (stream_at queue.streams place).id ≡ u.stream_id.0
     → front_of (stream_at queue.streams place).messages ≡ Some message → 0 < max
     → CanGoOn (produced place max message u queue).streams (produced place max message u queue).under_way

@@ -146,7 +146,7 @@ pub can_go_on-cut : (streams : List Stream) (p : ℕ) (s : Stream) (under_way : 
 can_go_on-cut streams p s None can same kept = tt
 can_go_on-cut streams p s (Some u) can same kept = pause_at streams p s u can same kept (stream_at-either streams p can.place s can.within)
 
--- the message under way goes on where its stream is paused
+-- the message under way can still continue once a stream is paused
 pub can_go_on-pause : (queue : SendQueueState) (p : ℕ) → p < length queue.streams → CanGoOn queue.streams queue.under_way → CanGoOn (after_pause p queue).streams (after_pause p queue).under_way
 can_go_on-pause queue p lt can =
     let size = size_not_begun p queue in
@@ -155,7 +155,7 @@ can_go_on-pause queue p lt can =
     let P : List Stream → Type 0 = λ z. CanGoOn z queue.under_way in
     subst P (sym same) (can_go_on-cut queue.streams p (prepared_stream size kept (stream_at queue.streams p)) queue.under_way can refl refl)
 
--- the message under way goes on after a pause, or where memory was wanting
+-- the message under way can still continue after a pause, or after an allocation failed
 pub can_go_on-after_pause : {T E : Type 0} (r : Result T E) (old new : Backlog) (p : ℕ) → OnOk r (queue_of new ≡ after_pause p (queue_of old)) → OnErr r (new ≡ old) → p < length old.streams → CanGoOn old.streams old.under_way → CanGoOn new.streams new.under_way
 can_go_on-after_pause (Ok v) old new p ok err lt can =
     subst (λ (q : SendQueueState). CanGoOn q.streams q.under_way) (sym ok) (can_go_on-pause (queue_of old) p lt can)

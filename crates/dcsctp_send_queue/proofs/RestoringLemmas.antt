@@ -24,7 +24,7 @@ none_waits true true true is = sym is
 none_waits true false true is = sym is
 none_waits false b true is = sym is
 
--- A message that goes on was sent in part, and it is the first of its stream.
+-- A message that continues was sent in part, and it is the first of its stream.
 goes_on-sent : (sent : ℕ) (a b : Bool) → (nat_lt 0 sent && not a && not b) ≡ true → (0 < sent) × (b ≡ false)
 goes_on-sent sent a b is = (some_sent sent a b is, none_waits (nat_lt 0 sent) a b is)
 
@@ -76,7 +76,7 @@ again_new d [] id rest message u is none same begun less = again_front d [] id r
 again_new d (x ∷ xs) id rest message u is none same begun less =
     again_new_by (nat_lt x.id d.id) d x xs id rest message u is none same begun less (again_new d xs id rest message u is none same begun less)
 
--- A message that is the first of its stream can go on.
+-- A message that is the first of its stream can continue.
 under_way_again : (queue : SendQueueState) (id rest : ℕ) (message : Waiting) (u : UnderWay) → is_some (front_of (queue_stream queue id).messages) ≡ false
     → u.stream_id.0 ≡ id → 0 < u.sent → u.sent < length message.payload → IsUnderWay (stream_changed id (with_rest message rest) (used queue id)) u
 under_way_again queue id rest message u none same begun less = go (is_used id queue.streams) refl
@@ -86,7 +86,7 @@ under_way_again queue id rest message u none same begun less = go (is_used id qu
     go true e = again_used (unused id queue.default_priority queue.default_threshold) queue.streams id rest message u e none same begun less
     go false e = again_new (unused id queue.default_priority queue.default_threshold) queue.streams id rest message u refl refl same begun less
 
--- A message of the snapshot that goes on can go on.
+-- A message of the snapshot that is to continue can do so.
 pub restored_goes : (now rest : ℕ) (part : QueuedPart) (queue : SendQueueState) (message : Waiting) (u : UnderWay) (streams : List Stream) → is_part_continued part queue ≡ true
     → part.remaining_offset < length part.payload → message ≡ waiting_again now part → u ≡ progress_again part
     → streams ≡ stream_changed part.stream_id (with_rest message rest) (used queue part.stream_id) → IsUnderWay streams u

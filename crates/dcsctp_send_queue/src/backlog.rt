@@ -166,7 +166,7 @@ impl Backlog {
         }
     }
 
-    /// Tells which amounts fall to their thresholds if that much leaves the stream.
+    /// Reports which amounts fall to their thresholds if that much leaves the stream.
     pub fn tell_low(&self, events: &mut Events, place: usize, size: usize) -> Result<(), AllocError>
         requires { place < length self.now.streams }
         ensures ok { OnOk result (contents events.new ≡ contents events.old ++ part_events place size (queue_of self.now)) }

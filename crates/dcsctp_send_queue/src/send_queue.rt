@@ -260,8 +260,8 @@ impl SendQueue {
         Ok(())
     }
 
-    /// Puts what the snapshot has, restored at the moment `now`, in the place of what waits. A message of
-    /// which a part was sent goes on there if it is the first of its stream, and no other goes on. Thresholds
+    /// Replaces what waits with what the snapshot has, restored at the moment `now`. A message of which a part
+    /// was sent continues after that part if it is the first of its stream, and no other continues. Thresholds
     /// stay, as do priorities of streams that the snapshot doesn't name. `Err`: an allocation failed, and only
     /// some of it is restored.
     pub fn restore_from_state(

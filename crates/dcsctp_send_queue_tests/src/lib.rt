@@ -2,7 +2,7 @@
 //! rules.
 //!
 //! A test is a text with a line for each step, which one runner goes through (`script`). A table in the code
-//! would have to be proved, and so would a function for each test.
+//! would need a proof, and so would a function for each test.
 #![tactic(auto)]
 
 #[cfg(test)]

@@ -1,6 +1,6 @@
 //! What a test does to a queue and what it expects of it, as a text with a line for each step.
 //!
-//! `# NAME` names the test that follows. An empty line is skipped. S stands for a stream.
+//! `# NAME` names the test that follows. An empty line is skipped. S is a stream.
 //!
 //!     begin N N [by-rfc]          a new queue: the threshold of each stream, and that of all together; it follows
 //!                                 the RFCs if the line says so
@@ -42,7 +42,7 @@ use dcsctp_testing::run_text;
 use std::alloc::AllocGlobal;
 use std::process::Abort;
 
-/// Takes the lines of a text. After one that fails it goes on at the next `begin`, and at the end it fails.
+/// Takes the lines of a text. After one that fails it continues at the next `begin`, and at the end it fails.
 pub fn run<R: Abort + AllocGlobal>(rt: &R, text: &'static str) {
     let mut sender = Sender::new(rt.alloc(), &Options::default());
     if let Err(fault) = run_text(rt.alloc(), &mut sender, text) {

@@ -93,7 +93,7 @@ dropped_lessens f (suc count) (x ∷ xs) =
 
 -- ---- an item that no SACK has acknowledged
 
--- What the change leaves at a place comes of the item there.
+-- What is at a place after the change is the item from before, or the changed one.
 comes_of : (change : Change) (start end : ℕ) (items : List Item) (k : ℕ) (y : Item) → slice_get (changed_between change start end items) k ≡ Some y
     → (x : Item) × ((slice_get items k ≡ Some x) × ((y ≡ x) ⊎ (y ≡ changed_item change x)))
 comes_of change zero zero items k y h = (y, (h, inl refl))
@@ -339,7 +339,7 @@ is_less n m is = grind (arith, nat_tests)
 contradicts : (n m : ℕ) → false ≡ nat_lt n m → n < m → ⊥
 contradicts n m is less = grind (arith, nat_tests)
 
--- The numbers of items tell whether it is an answer.
+-- The counts of items show whether it is an answer.
 pub says_answer : (count limit : ℕ) (newest : Option ℕ) (blocks : List GapAckBlock) (items left : List Item) (b : Bool) → left ≡ left_of count limit newest blocks items → b ≡ nat_lt (never_acknowledged_items left) (never_acknowledged_items items)
     → SaysAnswer b count blocks items
 says_answer count limit newest blocks items left true is counts =

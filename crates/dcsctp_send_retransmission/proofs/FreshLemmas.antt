@@ -5,7 +5,7 @@ use Rattle.dcsctp_send_outstanding.specs.Outstanding.{SendsNext}
 use Rattle.dcsctp_api.specs.spec.queues.Outstanding.{OutstandingState}
 use Rattle.dcsctp_send_outstanding.specs.Fresh.{tsns_from, AllFresh, SendsFresh, EndsFresh}
 
--- the outstanding items with these behind them
+-- the outstanding items with these after them
 abbrev pub with_fresh : OutstandingState → List Item → OutstandingState
 with_fresh outstanding fresh = record outstanding { items = outstanding.items ++ fresh }
 

@@ -1,4 +1,4 @@
--- Lemmas on which messages are given up.
+-- Lemmas on which messages are abandoned.
 use Rattle.std.proofs.Common.{◌≡◌, ◌∙◌, ◌⊎◌, inl, inr, Ok, Err, ℕ, zero, suc, ◌+◌, ◌<◌, ◌≤◌, ◌&&◌, Bool, true, false, Some, List, [], ◌∷◌, ◌++◌, length, refl, ap, sym, subst, arith}
 use Rattle.std.specs.List.{slice_get}
 use Rattle.std.specs.declared.alloc.AllocError.{AllocError}
@@ -48,7 +48,7 @@ stays (suc start) (suc end) [] k x at before = absurd (cc)
 stays (suc start) (suc end) (y ∷ ys) zero x at before = before x at
 stays (suc start) (suc end) (y ∷ ys) (suc k) x at before = stays start end ys k x at before
 
--- one that is given up isn't awaited
+-- one that is abandoned isn't awaited
 given_up : (start end : ℕ) (items : List Item) (k : ℕ) (x : Item) → start ≤ k → k < end → slice_get (changed_between Abandon start end items) k ≡ Some x → is_unacknowledged x.progress.state ≡ false
 given_up zero zero items k x from to at = absurd (omega arith)
 given_up zero (suc end) [] k x from to at = absurd (cc)
@@ -133,7 +133,7 @@ scans_none now stage =
 abbrev pub NotDueAt : ℕ → ℕ → RetransmissionState → Type 0
 NotDueAt now place queue = (x : Item) → slice_get queue.outstanding.items place ≡ Some x → is_abandonment_due now queue.partial_reliability x ≡ false
 
--- the item at the place is given up where it's due
+-- the item at the place is abandoned if it is due
 pub scans_at : {A : Type 0} (done : A) (now place : ℕ) (initial old new : Stage) (item : Item) → Scans now place initial old → slice_get old.queue.outstanding.items place ≡ Some item → (due : Bool) → is_abandonment_due now old.queue.partial_reliability item ≡ due → GivesUpIf now place old new due (Ok done) → Scans now place initial new × NotDueAt now place new.queue
 scans_at done now place initial old new item scans at true is gives =
     let up = gives_up_at now place old new gives in (
@@ -176,7 +176,7 @@ scans_on now place initial at scans here =
       grown = scans.grown;
     }
 
--- it is awaited: all behind it stay
+-- it is awaited: all after it stay
 pub scanned_to : (now place : ℕ) (initial at : Stage) (item : Item) → Scans now place initial at → NotDueAt now place at.queue → slice_get at.queue.outstanding.items place ≡ Some item → is_unacknowledged item.progress.state ≡ true → NoneDue now at.queue
 scanned_to now place initial at item scans settled here awaited k is =
     let due : true ≡ false = sym is.due ∙ not_due_there k is.item is.at is.none_awaited in

@@ -89,7 +89,7 @@ end_stays : (old new : OutstandingState) (place : ℕ) (item : Item) → MayAddE
 end_stays old new place item (inl same) at = ap (λ (m : OutstandingState). slice_get m.items place) same ∙ at
 end_stays old new place item (inr ends) at = ap (λ (m : OutstandingState). slice_get m.items place) ends.grows ∙ slice_get_stays old.items ends.item place item at
 
--- where a lost message is given up, fewer wait to be sent again
+-- when a lost message is abandoned, fewer wait to be sent again
 pub gives_up_fewer : (place : ℕ) (old new : RetransmissionState) → AbandonsItems place old new → IsMarkedAt place old.outstanding.items → marked_items new.outstanding.items < marked_items old.outstanding.items
 gives_up_fewer place old new up at =
     let items = ap (λ (q : RetransmissionState). marked_items q.outstanding.items) up.is in

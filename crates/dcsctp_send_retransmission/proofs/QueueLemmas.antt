@@ -31,23 +31,23 @@ acknowledged_is count blocks limit newest old mid left new ack is_mid is_left is
     let left_is : left ≡ without_first_items count (missed_until count limit newest (with_items (covered count blocks old.outstanding.items) old)) = is_left ∙ ap (without_first_items count) is_mid in
     is_new ∙ ap (λ (a : Acknowledged). grown_by a left) is_ack ∙ ap (λ (q : RetransmissionState). grown_by (congestion_acknowledgement count old q) q) left_is
 
--- what is told of one item
+-- the events for one item
 abbrev pub told_of : Item → List (Event (List ℕ))
 told_of item = lifecycle_events_by item.fragment.lifecycle (ends_delivery item)
 
--- what is told of one more item
+-- the events for one more item
 pub delivered_further : (items : List Item) (k : ℕ) (item : Item) → slice_get items k ≡ Some item → delivered_events {P = List ℕ} (take (suc k) items) ≡ delivered_events (take k items) ++ told_of item
 delivered_further [] k item is = absurd (cc)
 delivered_further (x ∷ xs) zero item is = ap (λ (y : Item). told_of y ++ []) (let e : x ≡ item = cc in e) ∙ append-nil (told_of item)
 delivered_further (x ∷ xs) (suc k) item is =
     ap (λ (ys : List (Event (List ℕ))). told_of x ++ ys) (delivered_further xs k item is) ∙ sym (append_assoc (told_of x) (delivered_events (take k xs)) (told_of item))
 
--- what is told of a first part of the items is told first of all
+-- the events for the first part of the items come first
 delivered_append : (front rest : List Item) → delivered_events {P = List ℕ} (front ++ rest) ≡ delivered_events front ++ delivered_events rest
 delivered_append [] rest = refl
 delivered_append (x ∷ xs) rest = ap (λ (ys : List (Event (List ℕ))). told_of x ++ ys) (delivered_append xs rest) ∙ sym (append_assoc (told_of x) (delivered_events xs) (delivered_events rest))
 
--- A front part is told of an item, once all before it were told of.
+-- The first part of an item's events were added, after all events for the items before it.
 pub front_further : (items : List Item) (k count : ℕ) (item : Item) (start told telling : List (Event (List ℕ))) → k < count → slice_get items k ≡ Some item → told ≡ start ++ delivered_events (take k items) → TellsFront told (told_of item) telling
     → TellsFront start (delivered_events (take count items)) telling
 front_further items k count item start told telling within at is tells =
@@ -65,7 +65,7 @@ front_further items k count item start told telling within at is tells =
     take_parts : (xs : List Item) (k n : ℕ) → k ≤ n → take n xs ≡ take k xs ++ take (n - k) (drop k xs)
     take_parts xs k n le = let e : n ≡ k + (n - k) = omega arith in ap (λ (m : ℕ). take m xs) e ∙ take-add k (n - k) xs
 
--- no item is lost where a message is given up
+-- no item is lost when a message is abandoned
 pub gives_up_grows : (place : ℕ) (old new : RetransmissionState) → AbandonsItems place old new → length old.outstanding.items ≤ length new.outstanding.items
 gives_up_grows place old new up =
     let same = ap (λ (q : RetransmissionState). length q.outstanding.items) up.is in

@@ -48,7 +48,7 @@ messages_reads entry rest fits =
     let number : u32_at 4 bytes ≡ entry.mid = from_be_bytes-to_be_bytes_4 entry.mid fits.1 in
     same_messages (u16_at 0 bytes) (lowest_bit (u16_at 2 bytes)) (u32_at 4 bytes) entry.stream_id entry.is_unordered entry.mid stream flag number
 
--- what is behind the first entry
+-- what is after the first entry
 behind : (front rest : List ℕ) (a b : ℕ) → a ≡ length front + b → drop a (front ++ rest) ≡ drop b rest
 behind front rest a b is = ap (λ (n : ℕ). drop n (front ++ rest)) is ∙ drop-append-add front rest b
 

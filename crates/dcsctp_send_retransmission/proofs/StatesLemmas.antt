@@ -68,7 +68,7 @@ goes_at (Ok false) now place Step start old new waiting events before after next
 goes_at (Err error) now place Step start old new waiting events before after next embed steps stays sends err =
     record { at = stage old waiting events before.tsns.items before.room; steps = steps; queue = err; refused = inl (refl, refl) }
 
--- a change behind the first item
+-- a change after the first item
 first_stays : (change : Change) (start end : ℕ) (items : List Item) → is_first_marked (changed_between change (suc start) end items) ≡ is_first_marked items
 first_stays change start zero items = refl
 first_stays change start (suc end) [] = refl
@@ -95,7 +95,7 @@ sends_first_later restarts tsn zero old items new later is first = absurd (later
 sends_first_later true tsn (suc place) old items new later is first = (first.0, ap is_first_marked is ∙ (first_stays (SendAgain tsn) place (suc place + 1) items ∙ first.1))
 sends_first_later false tsn (suc place) old items new later is first = ap is_first_marked is ∙ (first_stays (SendAgain tsn) place (suc place + 1) items ∙ first)
 
--- a new item goes out
+-- a new item is sent
 pub sends_new : (now max : ℕ) (old : RetransmissionState) (before after : Packet) (place size tsn : ℕ) (new : OutstandingState) (waiting left : SendQueueState) (events telling : List SocketEvent)
     → SendsItem now max old.reset_begun old.outstanding waiting (contents events) new left (contents telling) tsn → place ≡ length old.outstanding.items
     → IfSome (slice_get new.items place) (λ item. size ≡ item_size (header new) item) → max ≡ payload_room (header old.outstanding) before.room
@@ -146,7 +146,7 @@ refuses_rest items last waiting told telling true is_false room refused = absurd
 refuses_rest items last waiting told telling false is_false room (inl nothing) = inl nothing
 refuses_rest items last waiting told telling false is_false room (inr stops) = inr (room, stops)
 
--- Room for a payload is room for a word of it.
+-- Room for a payload is room for four bytes of it.
 pub may_add : (max : ℕ) (old : RetransmissionState) (waiting : SendQueueState) (events : List SocketEvent) (tsns : List ℕ) (room : ℕ) → can_send old ≡ true → marked_items old.outstanding.items ≡ 0
     → length old.outstanding.items + 1 < 2 ^ 31 → 0 < max → max ≡ (min room 65532 - header old.outstanding) / 4 * 4 → MayAdd (stage old waiting events tsns room)
 may_add max old waiting events tsns room allowed none_marked few some is =

@@ -1,4 +1,4 @@
-//! What the peer is told to wait for no longer (RFC 3758, section 3.5; RFC 8260, section 2.3.1).
+//! What the peer needn't wait for any more (RFC 3758, section 3.5; RFC 8260, section 2.3.1).
 
 ghost use Rattle.std.specs.Prelude.{◌≡◌, IfOk};
 ghost use Rattle.std.specs.List.{flat_map};
@@ -73,7 +73,7 @@ fn all_messages_bytes(alloc: Global, messages: &[SkippedMessages]) -> Result<Vec
 impl ForwardTsn {
     ghost use Rattle.dcsctp_send_retransmission.specs.SkippedBytes.{skipped_bytes, ReadsAs};
 
-    /// The list of what is skipped, as it stands in the chunk.
+    /// The list of what is skipped, as the chunk has it.
     pub fn skipped_bytes(&self, alloc: Global) -> Result<Vec<u8>, AllocError>
         ensures bytes { IfOk result (λ bytes. bytes.items ≡ skipped_bytes self.now.skipped) }
         ensures reads { IfOk result (λ bytes. ReadsAs self.now.skipped bytes.items) }

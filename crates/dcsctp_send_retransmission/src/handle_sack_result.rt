@@ -5,7 +5,7 @@ use std::time::Duration;
 /// What a SACK led to.
 #[derive(Clone, Copy, Debug)]
 pub enum HandleSackResult {
-    /// Its cumulative TSN is behind or was never sent. Nothing has changed.
+    /// Its cumulative TSN is old, or was never sent. Nothing has changed.
     Invalid,
 
     /// It was taken into account.

@@ -12,7 +12,7 @@ pub use handle_sack_result::HandleSackResult;
 pub use packet::Packet;
 pub use retransmission_queue::RetransmissionQueue;
 
-// What stands below, for the crates above.
+// Lower crates, re-exported for those above.
 pub use dcsctp_api as api;
 pub use dcsctp_api::{types, wire};
 pub use dcsctp_send_queue as send_queue;

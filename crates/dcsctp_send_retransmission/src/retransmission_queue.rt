@@ -138,7 +138,7 @@ impl RetransmissionQueue {
         self.outstanding.next_tsn().wrapping_sub(1)
     }
 
-    /// The receive window that the peer told last, in bytes.
+    /// The receive window that the peer reported last, in bytes.
     pub fn peer_window(&self) -> usize
         ensures { result ≡ self.now.peer_window }
     {
@@ -234,8 +234,8 @@ impl RetransmissionQueue {
         flying == 0 || (flying < self.congestion.cwnd && flying < self.peer_window)
     }
 
-    /// Notes that outgoing streams are reset: no FORWARD-TSN goes beyond that, since numbers start anew after
-    /// the last assigned TSN (RFC 6525, section 5.1.2).
+    /// Records that outgoing streams are reset: no FORWARD-TSN goes beyond that, since message numbers start
+    /// again after the last assigned TSN (RFC 6525, section 5.1.2).
     pub fn begin_reset_streams(&mut self)
         ensures { self.new ≡ with_reset_begun self.old }
     {
@@ -260,7 +260,7 @@ impl RetransmissionQueue {
     /// doesn't, and nothing changes.
     ///
     /// Once it expires, all that was in flight is marked to be sent again, and the congestion window is one
-    /// MTU (RFC 9260, section 6.3.3). The timer goes on for twice as long as before, at most
+    /// MTU (RFC 9260, section 6.3.3). The timer runs again, for twice as long as before and at most
     /// `max_timer_backoff_duration` of the options.
     pub fn handle_timeout(&mut self, now: SocketTime) -> bool
         ensures answer { result ≡ expires_at now self.old.timer.running }

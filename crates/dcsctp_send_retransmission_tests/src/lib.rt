@@ -2,7 +2,7 @@
 //! computed by hand from the formulas of RFC 9260, sections 6.3.1 and 7.2, and RFC 3758.
 //!
 //! A test is a text with a line for each step, which one runner goes through (`script`). A table in the code
-//! would have to be proved, and so would a function for each test.
+//! would need a proof, and so would a function for each test.
 #![tactic(auto)]
 
 #[cfg(test)]

@@ -322,7 +322,7 @@ impl Line {
         }
     }
 
-    // Takes a line on what is given up, or on the timer.
+    // Takes a line on what is abandoned, or on the timer.
     fn take_forward(&mut self, row: &mut Row, keyword: &str) {
         match keyword {
             "time-out" => {

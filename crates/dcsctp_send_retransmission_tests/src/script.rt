@@ -1,6 +1,6 @@
 //! What a test does to the two queues and what it expects of them, as a text with a line for each step.
 //!
-//! `# NAME` names the test that follows. An empty line is skipped. S stands for a stream.
+//! `# NAME` names the test that follows. An empty line is skipped. S is a stream.
 //!
 //!     begin N N N N               new queues: the first TSN, the peer's window, and whether partial
 //!                                 reliability and interleaving were negotiated
@@ -12,7 +12,7 @@
 //!     send N [TSN, ..]            what goes into a packet of N bytes
 //!     send-fast N [TSN, ..]       the same, as a fast retransmission
 //!     sack N N valid N            a SACK of this cumulative TSN and window
-//!     sack-block N N N N valid N  the same, behind the offsets of the first and last TSN of a gap ack block
+//!     sack-block N N N N valid N  the same, after the offsets of the first and last TSN of a gap ack block
 //!     time-out is-over N          is the retransmission timer over?
 //!     begin-reset                 outgoing streams are reset
 //!     forward due N               is a FORWARD-TSN due?
@@ -25,8 +25,8 @@
 //!     snapshot NUMBERS            what it says
 //!     part N NUMBERS              what it has of the item at that place
 //!     part-expires N TIME         the milliseconds after which that item is abandoned, as `Debug` writes it
-//!     restore N N N               new queues at this moment, with the same two flags as `begin`, which go on
-//!                                 from the snapshot
+//!     restore N N N               new queues at this moment, with the same two flags as `begin`, which
+//!                                 continue from the snapshot
 //!
 //! NUMBERS are some of the names that `line` and `line/snapshot` list, in that order, with a number after each.
 //! For a flag it is 1 for yes, 0 for no. `expires` and `ago` are in milliseconds, and `rtt` in nanoseconds.
@@ -36,7 +36,7 @@ use dcsctp_testing::run_text;
 use std::alloc::AllocGlobal;
 use std::process::Abort;
 
-/// Takes the lines of a text. After one that fails it goes on at the next `begin`, and at the end it fails.
+/// Takes the lines of a text. After one that fails it continues at the next `begin`, and at the end it fails.
 pub fn run<R: Abort + AllocGlobal>(rt: &R, text: &'static str) {
     let mut line = Line::new(rt.alloc(), 0, 0, (false, false));
     if let Err(fault) = run_text(rt.alloc(), &mut line, text) {

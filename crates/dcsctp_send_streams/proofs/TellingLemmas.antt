@@ -1,4 +1,4 @@
--- Lemmas on a front part of what is told.
+-- Lemmas on the first part of a list of events.
 use Rattle.std.proofs.Common.{◌≡◌, ◌∙◌, ℕ, List, ◌++◌, append_assoc, sym, ap}
 use Rattle.dcsctp_api.specs.spec.endpoint.Event.{Event}
 use Rattle.dcsctp_send_streams.specs.Telling.{TellsFront}
@@ -6,7 +6,7 @@ use Rattle.dcsctp_send_streams.specs.Telling.{TellsFront}
 abbrev Events : Type 0
 Events = List (Event (List ℕ))
 
--- Something was told before, and more was to follow.
+-- Some events came before, and more were to follow.
 pub front_within : (before told events whole part later after : Events) → events ≡ before ++ told → whole ≡ told ++ (part ++ later) → TellsFront events part after → TellsFront before whole after
 front_within before told events whole part later after is parts tells =
     record {

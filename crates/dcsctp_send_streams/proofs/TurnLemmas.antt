@@ -46,7 +46,7 @@ above_by : (z y t : Turn) (b : Bool) → comes_after z t ≡ false → comes_aft
 above_by z y t false h g e = refl
 above_by z y t true h g e = let c = comes_after-trans y z t e h in cc
 
--- what comes behind a turn that isn't asked after another isn't either
+-- if a turn of the list doesn't come after another turn, neither does any later one
 pub above_too : (turns : List Turn) (t d : Turn) (m : ℕ) → IsOrdered turns → comes_after (get_or turns m d) t ≡ false → (k : ℕ) → m < k → k < length turns → comes_after (get_or turns k d) t ≡ false
 above_too turns t d m ordered h k lt within =
     let g = ordered_at turns m k d ordered lt within in

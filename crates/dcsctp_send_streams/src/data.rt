@@ -46,7 +46,7 @@ pub struct DataToSend {
     /// The moment after which the message is abandoned; none: it never is.
     pub expires_at: Option<SocketTime>,
 
-    /// The name under which events tell how the message fares.
+    /// The id by which events report what becomes of the message.
     pub lifecycle_id: Option<LifecycleId>,
 }
 

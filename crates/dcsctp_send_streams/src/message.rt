@@ -173,14 +173,14 @@ impl QueuedMessage {
         self.is_unordered
     }
 
-    /// The name under which events tell how it fares.
+    /// The id by which events report what becomes of it.
     pub fn lifecycle_id(&self) -> Option<LifecycleId>
         ensures { option_map lifecycle_number result ≡ self.now.lifecycle }
     {
         self.lifecycle_id
     }
 
-    /// Tells that it was abandoned before it was fully sent, if it has a name.
+    /// Reports that it was abandoned before it was fully sent, if it has a lifecycle id.
     pub fn tell_expired(&self, events: &mut Events) -> Result<(), AllocError>
         ensures ok { OnOk result (contents events.new ≡ contents events.old ++ expiry_events self.now) }
         ensures err { OnErr result (TellsFront (contents events.old) (expiry_events self.now) (contents events.new)) }
@@ -192,7 +192,7 @@ impl QueuedMessage {
         Ok(())
     }
 
-    /// Tells that it was fully sent, if it has a name.
+    /// Reports that it was fully sent, if it has a lifecycle id.
     pub fn tell_fully_sent(&self, events: &mut Events) -> Result<(), AllocError>
         ensures ok { OnOk result (contents events.new ≡ contents events.old ++ sent_events self.now) }
         ensures err { OnErr result (TellsFront (contents events.old) (sent_events self.now) (contents events.new)) }

@@ -190,7 +190,7 @@ impl OutgoingStream {
         size
     }
 
-    /// Tells that its messages, except for that many of the oldest, are abandoned.
+    /// Reports that its messages, except for that many of the oldest, are abandoned.
     pub fn tell_dropped(&self, events: &mut Events, kept: usize) -> Result<(), AllocError>
         ensures ok { OnOk result (contents events.new ≡ contents events.old ++ expiries (drop kept self.now.messages)) }
         ensures err { OnErr result (TellsFront (contents events.old) (expiries (drop kept self.now.messages)) (contents events.new)) }

@@ -8,7 +8,7 @@ ghost use Rattle.dcsctp_send_streams.specs.Turns.{IsOrdered, IsTurnPlace, HoldsT
 
 use dcsctp_api::types::Turn;
 
-// How many of the turns, which stand in order, come after the given one.
+// How many of the turns, which are in order, come after the given one.
 fn place_of(turns: &[Turn], turn: Turn) -> usize
     requires { IsOrdered turns.now }
     ensures { IsTurnPlace turns.now turn result }

@@ -10,7 +10,7 @@ use dcsctp_spec::types::{BackoffAlgorithm, SocketTime};
 use std::marker::Model;
 use std::time::Duration;
 
-// May a timer go on that has expired that often?
+// May a timer that has expired this often run again?
 fn goes_on(max_restarts: Option<u32>, expiries: u64) -> bool
     ensures { result ≡ may_restart max_restarts expiries }
 {
@@ -101,7 +101,7 @@ impl Timer {
 
     /// A timer that doesn't run. Once started it runs for `duration`.
     ///
-    /// After it has expired it goes on for as long as `backoff` says, at most `max_backoff`. It does so no
+    /// Once it expires it runs again, for as long as `backoff` says and at most `max_backoff`. It restarts no
     /// more than `max_restarts` times; `None` is no limit.
     pub fn new(
         duration: Duration,
@@ -168,7 +168,7 @@ impl Timer {
     /// Advances the timer to `now`, and returns whether it expires. Before its deadline it doesn't, and
     /// nothing changes.
     ///
-    /// A timer that expires goes on from `now`, as its backoff says; if its restarts are used up, it stops.
+    /// A timer that expires runs again from `now`, as its backoff says; with no restart left, it stops.
     pub fn expire(&mut self, now: SocketTime) -> bool
         ensures answer { result ≡ expires_at now self.old.running }
         ensures left { self.new ≡ record self.old { running = running_after now self.old.running } }

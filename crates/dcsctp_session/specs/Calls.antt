@@ -1,4 +1,5 @@
--- What the calls of a session do: the call of its socket takes place, what was taken is kept, and the status says how it ended.
+-- What the calls of a session do: the call of its socket takes place, what was taken is kept, and
+-- the status says how it ended.
 use Rattle.std.specs.Prelude.{◌≡◌, ◌⊎◌, ◌<◌, ℕ, Bool, true, false, IsOk, List, Option, Some, None, Result, Ok, Err, option_map}
 use Rattle.rand_chacha.specs.ChaCha.{of_seed}
 use Rattle.dcsctp_core.specs.types.Settings.{IsValid}
@@ -31,7 +32,8 @@ use Rattle.dcsctp_session.specs.Views.{view, words_ahead, nothing_taken}
 
 -- ---- the first call
 
--- A closed socket with these options, whose random words come from the seed. Its clock was set to a moment, and nothing was taken.
+-- A closed socket with these options, whose random words come from the seed. Its clock was set to a moment, and nothing was
+-- taken.
 pub record IsCreated (numbers : OptionsRecord) (seed : List ℕ) (moment : ℕ) (session : Session) : Type 0 where
   pub sized : has_options_size numbers ≡ true
   pub options : Options

@@ -5,7 +5,7 @@ use Rattle.std.specs.Global.{Vec}
 use Rattle.dcsctp_session.specs.declared.status.Status.{Status}
 use Rattle.dcsctp_session.specs.declared.status.Status.TheVariants as statuses
 
--- Numbers are copied to the front of a buffer; or it is too small and stays as it is. How many there are is told.
+-- Numbers are copied to the front of a buffer; or it is too small and stays as it is. `told` is how many there are.
 abbrev pub Copies : List ℕ → List ℕ → Status → List ℕ → ℕ → Type 0
 Copies numbers old status new told =
     (told ≡ length numbers)
@@ -17,7 +17,8 @@ abbrev pub CopiesTaken : Option (List ℕ) → List ℕ → Status → List ℕ 
 CopiesTaken None old status new told = (status ≡ statuses.NothingToCopy) × (told ≡ 0) × (new ≡ old)
 CopiesTaken (Some numbers) old status new told = Copies numbers old status new told
 
--- Where bytes lie is told, and how many there are: a `Vec` owns its items where its pointer is. Without any only a length of 0 is.
+-- A pointer to the bytes is written, and `told` is how many there are: a `Vec` owns its items where its pointer is. Without bytes
+-- the pointer stays, and `told` is 0.
 abbrev pub ShowsPlace : Option (Vec ℕ) → Ptr → Status → Ptr → ℕ → Type 0
 ShowsPlace None old status new told = (status ≡ statuses.NothingToCopy) × (told ≡ 0) × (new ≡ old)
 ShowsPlace (Some bytes) old status new told = (status ≡ statuses.Done) × (told ≡ length bytes.items) × (new ≡ bytes.ptr)

@@ -1,4 +1,4 @@
--- What the call of a session does that sends several messages, and what it tells of each.
+-- The call of a session that sends several messages, and the status that it reports of each.
 use Rattle.std.specs.Prelude.{◌≡◌, ◌⊎◌, ◌++◌, ℤ, Bool, true, false, nat_lt, List, [], ◌∷◌, map, length, drop, Option, None, Some, Result, Ok, Err}
 use Rattle.dcsctp_core.specs.types.declared.message.SendOptions.{SendOptions}
 use Rattle.dcsctp_core.specs.types.queues.Messages.{MessageContent}
@@ -20,9 +20,9 @@ use Rattle.dcsctp_session.specs.Views.{view}
 abbrev pub outgoing_content : OutgoingRecord → MessageContent
 outgoing_content message = record { stream = message.stream_id; ppid = message.ppid; payload = message.payload.now }
 
--- ---- what is told
+-- ---- what is reported
 
--- what is told of a message that is refused for this, or taken
+-- the status of a message that is refused for this, or taken
 abbrev pub refusal_status : Option MessageRefusal → Status
 refusal_status None = statuses.Done
 refusal_status (Some empty_payload) = statuses.EmptyPayload
@@ -30,7 +30,7 @@ refusal_status (Some (message_too_large bytes limit)) = statuses.MessageTooLarge
 refusal_status (Some shutting_down) = statuses.ShuttingDown
 refusal_status (Some resource_exhaustion) = statuses.ResourceExhaustion
 
--- what is told of each of these, which are sent one after another
+-- the status of each of these, which are sent one after another
 abbrev pub statuses_of : Endpoint → List Sending → List Status
 statuses_of e [] = []
 statuses_of e (message ∷ messages) = refusal_status (sending_refusal e message) ∷ statuses_of (queue_one e message).after messages
@@ -52,7 +52,8 @@ results_after (Err fault) before = before
 
 -- ---- the call
 
--- The messages are sent in one turn, and of each the status says whether it was taken.
+-- The messages are sent in one turn, and each has a status that says whether it was taken. Or an allocation failed, or the socket
+-- had failed before.
 abbrev pub ManyCall : List MessageContent → SendOptions → UserView → Result (List Status) SocketFault → UserView → Type 0
 ManyCall messages options old outcome new =
     UserCalls (send_many_call messages options) (λ each. each ≡ statuses_of old.endpoint (map (sending_of options) messages)) old outcome new

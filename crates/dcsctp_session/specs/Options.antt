@@ -10,7 +10,7 @@ use Rattle.dcsctp_core.specs.types.declared.message.SendOptions.{SendOptions}
 use Rattle.dcsctp_session.specs.declared.options.OptionsRecord.{OptionsRecord}
 use Rattle.dcsctp_session.specs.declared.options.SendOptionsRecord.{SendOptionsRecord}
 
--- the greatest number of nanoseconds of a field, which stands for none as well
+-- the greatest number of nanoseconds of a field, which means none as well
 abbrev pub never : ℕ
 never = 2 ^ 64 - 1
 

@@ -8,10 +8,10 @@ ghost use Rattle.dcsctp_session.specs.Options.{SaysOptions, ShowsOptions, ShowsD
 use dcsctp_socket::{LifecycleId, Options, SendOptions, ZeroChecksumAlternateErrorDetectionMethod};
 use std::time::Duration;
 
-// Stands for `None` in a time.
+// Means `None` in a time.
 const NEVER: u64 = 0xffff_ffff_ffff_ffff;
 
-// Stands for `None` in a limit.
+// Means `None` in a limit.
 const NO_LIMIT: u32 = 0xffff_ffff;
 
 // The bytes of an `OptionsRecord`.
@@ -87,7 +87,7 @@ fn duration(nanos: u64) -> Duration
     Duration::from_nanos(nanos)
 }
 
-// The same of nanoseconds that may stand for `None`.
+// The same of nanoseconds that may mean `None`.
 fn optional_duration(nanos: u64) -> Option<Duration>
     ensures { option_map as_nanos result ≡ optional_nanos nanos }
 {
@@ -97,7 +97,7 @@ fn optional_duration(nanos: u64) -> Option<Duration>
     Some(duration(nanos))
 }
 
-// The number that stands for a limit.
+// The number that encodes a limit.
 fn limit_value(limit: Option<u32>) -> u32
     ensures { result ≡ limit_number limit }
 {
@@ -107,7 +107,7 @@ fn limit_value(limit: Option<u32>) -> u32
     }
 }
 
-// The limit that a number stands for.
+// The limit that a number encodes.
 fn limit(number: u32) -> Option<u32>
     ensures { result ≡ optional_limit number }
 {
@@ -118,7 +118,7 @@ fn limit(number: u32) -> Option<u32>
 }
 
 impl OptionsRecord {
-    /// The numbers that stand for the default options, but that `follow_rfc` is on: a caller in C has no port
+    /// The numbers that encode the default options, except that `follow_rfc` is on: a caller in C has no port
     /// to follow.
     pub fn standard() -> OptionsRecord
         ensures { ShowsDefault result }
@@ -128,7 +128,7 @@ impl OptionsRecord {
         OptionsRecord::of(&options)
     }
 
-    /// The numbers that stand for the options.
+    /// The numbers that encode the options.
     pub fn of(options: &Options) -> OptionsRecord
         ensures { ShowsOptions result options.now }
     {
@@ -180,7 +180,7 @@ impl OptionsRecord {
         self.size == SIZE
     }
 
-    /// The options that the numbers stand for. They may be invalid. An option that has no effect is as by
+    /// The options that the numbers encode. They may be invalid. An option that has no effect is as by
     /// default.
     pub fn options(&self) -> Options
         ensures { SaysOptions self.now result }
@@ -249,7 +249,7 @@ impl SendOptionsRecord {
         self.flags < 8 && self.reserved == 0
     }
 
-    /// The options that the numbers stand for.
+    /// The options that the numbers encode.
     pub fn options(&self) -> SendOptions
         ensures { SaysSendOptions self.now result }
     {

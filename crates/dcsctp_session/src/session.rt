@@ -62,7 +62,7 @@ fn moment(nanos: u64) -> SocketTime
 }
 
 impl Session {
-    /// A closed socket, whose clock stands at `now`, in nanoseconds. Its random words come from ChaCha20 with
+    /// A closed socket, whose clock is at `now`, in nanoseconds. Its random words come from ChaCha20 with
     /// this seed.
     ///
     /// `Status::WrongSize`: the record has another size than that of this library, and nothing else of it was

@@ -34,7 +34,7 @@ pub bind_some : {A B : Type 0} (o : Option A) (f : A → Option B) (y : B) → (
 bind_some (Some x) f y e = (x, refl, e)
 bind_some None f y e = absurd cc
 
--- What follows from a step that didn't fail: it took a value, and the next one goes on with the rest.
+-- What follows from a step that didn't fail: it took a value, and the next one continues with the rest.
 pub step_by : {A B : Type 0} {G : Type 0} {bytes_of : A → List ℕ} {value_at : List ℕ → Option (A × List ℕ)} {Fits : A → Type 0}
     → ((bytes : List ℕ) (value : A) (rest : List ℕ) → AreBytes bytes → value_at bytes ≡ Some (value, rest) → Took bytes_of Fits bytes value rest)
     → (next : A × List ℕ → Option B) (bytes : List ℕ) (end : B) → AreBytes bytes → (value_at bytes >>= next) ≡ Some end

@@ -1,4 +1,4 @@
--- The seal behind bytes is read as it was written.
+-- The seal after bytes is read as it was written.
 use Rattle.std.proofs.Common.{◌≡◌, ℕ, ◌-◌, ◌+◌, ◌^◌, ◌<◌, Bool, true, false, List, [], ◌++◌, length, take, drop, Option, Ok, Err, refl, sym, ap, ◌∙◌, append_assoc, arith}
 use Rattle.std.specs.Int.{Width, w16, w32, from_be_bytes, to_be_bytes}
 use Rattle.std.proofs.lemmas.List.{take_at, drop_at, length-append, append-nil}
@@ -18,7 +18,7 @@ checked_len : (front : List ℕ) → length (checked front) ≡ length front + 4
 unfolding checked number_bytes
 checked_len front = length-append front (to_be_bytes w32 (crc32c_of front))
 
--- what stands before it, and itself
+-- the bytes before the check value, and the check value itself
 record Cut (bytes front : List ℕ) : Type 0 where
   before : take (length bytes - 4) bytes ≡ front
   check : drop (length bytes - 4) bytes ≡ to_be_bytes w32 (crc32c_of front)
@@ -36,7 +36,7 @@ cut bytes front e =
 pub too_short : (bytes front : List ℕ) → length bytes < 4 → bytes ≡ checked front → ⊥
 too_short bytes front lt e = omega (arith, ap length e, checked_len front)
 
--- The number that was read isn't the check value of what stands before it.
+-- The number that was read isn't the check value of the bytes before it.
 pub not_checked : (bytes head check front : List ℕ) (read sum : ℕ) → head ≡ take (length bytes - 4) bytes → check ≡ drop (length bytes - 4) bytes
     → read ≡ from_be_bytes w32 check → sum ≡ crc32c_of head → sum < 2 ^ 32 → (read ≡ sum → ⊥) → bytes ≡ checked front → ⊥
 not_checked bytes head check front read sum head-is check-is read-is sum-is lt differs e =
@@ -82,7 +82,7 @@ same_parts body mark other its len e =
       marks = sym (drop_at body mark (length body) refl) ∙ ap (drop (length body)) e ∙ drop_at other its (length body) (sym n);
     }
 
--- Less stands before the check value than a fingerprint.
+-- Fewer bytes come before the check value than a fingerprint has.
 pub no_room : (bytes front body mark : List ℕ) (len : ℕ) → bytes ≡ checked front → length front < len → length mark ≡ len → bytes ≡ checked (body ++ mark) → ⊥
 no_room bytes front body mark len e lt at other =
     let same : front ≡ body ++ mark = sym (cut bytes front e).before ∙ (cut bytes (body ++ mark) other).before in
@@ -110,7 +110,7 @@ split_field {A} {value_at = value_at} field x y rest others fx fy e =
     let same : (x, rest) ≡ (y, others) = some_is _ _ (sym (field.again x rest fx) ∙ ap value_at e ∙ field.again y others fy) in
     (ap (λ (p : A × List ℕ). p.0) same, ap (λ (p : A × List ℕ). p.1) same)
 
--- the fields of a fingerprint, one behind the other
+-- the fields of a fingerprint, one after the other
 abbrev fields : Options → List ℕ
 fields options =
     number_bytes w16 options.local_port ++ (number_bytes w16 options.remote_port ++ (number_bytes w16 options.announced_maximum_incoming_streams ++ (number_bytes w16 options.announced_maximum_outgoing_streams

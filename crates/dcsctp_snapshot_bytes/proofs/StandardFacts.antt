@@ -1,4 +1,5 @@
--- Examples written out by hand from the table of the format: a wrong rule in specs/ would not check here.
+-- Examples written out by hand from the table of the format: a wrong rule in specs/ would not check
+-- here.
 use Rattle.std.proofs.Common.{◌≡◌, ℕ, ◌++◌, negsuc, true, false, List, [], ◌∷◌, Some, None, refl}
 use Rattle.std.specs.Prelude.{codes, replicate}
 use Rattle.std.specs.Int.{w32}

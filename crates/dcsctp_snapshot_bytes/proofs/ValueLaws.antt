@@ -1,4 +1,5 @@
--- The fields of a snapshot that are made of numbers: what is read of each was written so, and what was written is read again.
+-- The fields of a snapshot that are made of numbers: what is read of each was written so, and what
+-- was written is read again.
 use Rattle.std.proofs.Common.{◌≡◌, ℕ, zero, suc, ◌^◌, ◌<◌, ◌≤◌, ℤ, Bool, true, false, ltb, List, [], ◌∷◌, ◌++◌, length, take, drop, Option, Some, None, refl, ap, subst, ◌∙◌, append_assoc, arith, FitsSigned}
 use Rattle.std.specs.Prelude.{IfSome}
 use Rattle.std.specs.Int.{w32, w64, cast_signed, cast_unsigned}
@@ -79,7 +80,7 @@ payload_takes bytes payload rest fits e =
 pub payload_field : IsField payload_bytes payload_at fits_payload
 payload_field = record { again = payload_again; takes = payload_takes }
 
--- ---- a value behind a flag
+-- ---- a value after a flag
 
 abbrev pub fits_optional : {A : Type 0} → (A → Type 0) → Option A → Type 0
 fits_optional Fits value = IfSome value Fits

@@ -1,4 +1,5 @@
--- The fields of a snapshot as bytes: how each kind is written, and how it is read from the front of bytes, with what it leaves.
+-- The fields of a snapshot as bytes: how each kind is written, and how it is read from the front of
+-- bytes, with what it leaves.
 use Rattle.std.specs.Prelude.{ℕ, zero, suc, ℤ, Bool, true, false, List, [], ◌∷◌, ◌++◌, length, take, drop, Option, Some, None, nat_lt, if◌then◌else◌}
 use Rattle.std.specs.List.{flat_map}
 use Rattle.std.specs.Int.{Width, w32, w64, byte_len, to_be_bytes, from_be_bytes, cast_unsigned, cast_signed}
@@ -61,7 +62,7 @@ payload_at bytes = do
   count ← number_of_width w64 bytes
   if nat_lt (length count.1) count.0 then None else Some (take count.0 count.1, drop count.0 count.1)
 
--- the value behind a flag that was read
+-- the value after a flag that was read
 abbrev pub behind_flag : {A : Type 0} → (List ℕ → Option (A × List ℕ)) → Bool → List ℕ → Option (Option A × List ℕ)
 behind_flag value_at false bytes = Some (None, bytes)
 behind_flag value_at true bytes = do

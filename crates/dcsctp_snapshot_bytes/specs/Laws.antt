@@ -45,7 +45,7 @@ pub record FitsFingerprint (options : Options) : Type 0 where
   pub outgoing_streams : options.announced_maximum_outgoing_streams < 2 ^ 16
   pub zero_checksum_method : options.zero_checksum_alternate_error_detection_method.0 < 2 ^ 32
 
--- the options that have to be the same
+-- the options that must be the same
 pub record IsSameEnd (a b : Options) : Type 0 where
   pub local_port : a.local_port ≡ b.local_port
   pub remote_port : a.remote_port ≡ b.remote_port

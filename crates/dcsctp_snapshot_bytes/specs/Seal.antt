@@ -1,4 +1,5 @@
--- The seal of a snapshot: the options that have to be the same where an association goes on, and a check value of all before it.
+-- The seal of a snapshot: the options that must be the same where an association continues, and a check
+-- value of all before it.
 use Rattle.std.specs.Prelude.{◌≡◌, ◌≢◌, ℕ, List, ◌++◌, length}
 use Rattle.std.specs.Int.{w16, w32}
 use Rattle.dcsctp_wire_checksum.specs.Crc32c.{crc32c_of}
@@ -9,7 +10,7 @@ use Rattle.dcsctp_snapshot_bytes.specs.Fields.{number_bytes, flag_bytes}
 
 -- ---- written
 
--- the options that have to be the same
+-- the options that must be the same
 unfoldable pub fingerprint : Options → List ℕ
 fingerprint options =
     number_bytes w16 options.local_port  -- 2
@@ -35,7 +36,7 @@ sealed options body = checked (body ++ fingerprint options)
 
 -- ---- read
 
--- No bytes with a fingerprint stand before their check value.
+-- The bytes don't end with a fingerprint and the check value of all before it.
 abbrev pub IsBroken : List ℕ → Type 0
 IsBroken bytes = (body mark : List ℕ) → length mark ≡ fingerprint_len → bytes ≢ checked (body ++ mark)
 

@@ -1,4 +1,4 @@
--- A snapshot as bytes. After each field stands how many bytes it has.
+-- A snapshot as bytes. A comment after each field says how many bytes it has.
 use Rattle.std.specs.Prelude.{ℕ, Bool, true, false, List, ◌++◌}
 use Rattle.std.specs.Int.{w16, w32, w64}
 use Rattle.dcsctp_types.specs.declared.snapshot.HandoverSocketState.{HandoverSocketState}

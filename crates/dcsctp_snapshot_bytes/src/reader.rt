@@ -123,7 +123,7 @@ impl<'a> Reader<'a> {
         Ok(bytes)
     }
 
-    /// A number of two bytes behind a flag.
+    /// A number of two bytes after a flag.
     #[tactic(auto, unfolding(crate::specs::Fields::optional_at))]
     pub(crate) fn optional_u16(&mut self) -> Result<Option<u16>, ReadError>
         ensures { ReadsValue (λ value. value) (optional_at (number_of_width w16)) self.old.rest.now result self.new.rest.now }
@@ -135,7 +135,7 @@ impl<'a> Reader<'a> {
         }
     }
 
-    /// A number of four bytes behind a flag.
+    /// A number of four bytes after a flag.
     #[tactic(auto, unfolding(crate::specs::Fields::optional_at))]
     pub(crate) fn optional_u32(&mut self) -> Result<Option<u32>, ReadError>
         ensures { ReadsValue (λ value. value) (optional_at (number_of_width w32)) self.old.rest.now result self.new.rest.now }
@@ -147,7 +147,7 @@ impl<'a> Reader<'a> {
         }
     }
 
-    /// A number of four bytes with a sign, behind a flag.
+    /// A number of four bytes with a sign, after a flag.
     #[tactic(auto, unfolding(crate::specs::Fields::optional_at))]
     pub(crate) fn optional_i32(&mut self) -> Result<Option<i32>, ReadError>
         ensures { ReadsValue (λ value. value) (optional_at signed_at) self.old.rest.now result self.new.rest.now }

@@ -1,5 +1,5 @@
-//! The seal behind a snapshot's bytes: the options that have to be the same where an association goes on, and
-//! a check value of all before it.
+//! The seal after a snapshot's bytes: the options that must be the same where an association continues, and a
+//! check value of all before it.
 
 ghost use Rattle.std.specs.Prelude.{◌≡◌, ◌≢◌, ℕ, List, ◌++◌, OnOk, MatchOption, MatchResult};
 ghost use Rattle.dcsctp_snapshot_bytes.specs.Seal.{fingerprint, checked, sealed, AreBytesRefused};
@@ -23,7 +23,7 @@ const FINGERPRINT_LEN: usize = 14;
 
 const CHECK_LEN: usize = 4;
 
-// The options that have to be the same.
+// The options that must be the same.
 #[tactic(auto, unfolding(crate::specs::Seal::fingerprint, crate::specs::Fields::number_bytes, crate::specs::Fields::flag_bytes))]
 fn fingerprint(options: &Options) -> [u8; FINGERPRINT_LEN]
     ensures { result ≡ fingerprint options.now }
@@ -74,7 +74,7 @@ pub fn seal(bytes: &mut Vec<u8>, options: &Options) -> Result<(), AllocError>
     bytes.extend_from_slice(&check.to_be_bytes())
 }
 
-// What stands before the check value, if that is right.
+// The bytes before the check value, if that is right.
 fn before_check(bytes: &[u8]) -> Option<&[u8]>
     ensures { MatchOption result
         ((front : List ℕ) → bytes.now ≢ checked front)

@@ -195,7 +195,7 @@ fn read_state(alloc: Global, bytes: &[u8]) -> Result<SocketHandoverState, ReadEr
 }
 
 /// The snapshot that the bytes are, as `to_bytes` writes it. `None` if they are none: the magic or the
-/// version is another one, they end too early or go on, or a flag is neither 0 nor 1.
+/// version is another one, they are too few or too many, or a flag is neither 0 nor 1.
 ///
 /// A count reserves no memory: lists take at most a small multiple of the bytes.
 pub fn from_bytes(alloc: Global, bytes: &[u8]) -> Result<Option<SocketHandoverState>, AllocError>

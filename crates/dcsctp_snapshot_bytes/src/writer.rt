@@ -60,7 +60,7 @@ pub(crate) fn write_payload(out: &mut Vec<u8>, bytes: &[u8]) -> Result<(), Alloc
     out.extend_from_slice(bytes)
 }
 
-/// A number of two bytes behind a flag.
+/// A number of two bytes after a flag.
 #[tactic(auto, unfolding(crate::specs::Fields::optional_bytes))]
 pub(crate) fn write_optional_u16(out: &mut Vec<u8>, value: Option<u16>) -> Result<(), AllocError>
     ensures bytes { OnOk result (out.new.items ≡ out.old.items ++ optional_bytes (number_bytes w16) value) }
@@ -73,7 +73,7 @@ pub(crate) fn write_optional_u16(out: &mut Vec<u8>, value: Option<u16>) -> Resul
     }
 }
 
-/// A number of four bytes behind a flag.
+/// A number of four bytes after a flag.
 #[tactic(auto, unfolding(crate::specs::Fields::optional_bytes))]
 pub(crate) fn write_optional_u32(out: &mut Vec<u8>, value: Option<u32>) -> Result<(), AllocError>
     ensures bytes { OnOk result (out.new.items ≡ out.old.items ++ optional_bytes (number_bytes w32) value) }
@@ -86,7 +86,7 @@ pub(crate) fn write_optional_u32(out: &mut Vec<u8>, value: Option<u32>) -> Resul
     }
 }
 
-/// A number of four bytes with a sign, behind a flag.
+/// A number of four bytes with a sign, after a flag.
 #[tactic(auto, unfolding(crate::specs::Fields::optional_bytes))]
 pub(crate) fn write_optional_i32(out: &mut Vec<u8>, value: Option<i32>) -> Result<(), AllocError>
     ensures bytes { OnOk result (out.new.items ≡ out.old.items ++ optional_bytes signed_bytes value) }

@@ -123,7 +123,7 @@ fn each_front_and_one_byte_more_are_refused(rt: HostRuntime) {
     }
 }
 
-/// The check value of nothing is 0, so four zeros have it; but no fingerprint stands before it.
+/// The check value of nothing is 0, so four zeros have it; but there is no fingerprint before it.
 #[test]
 fn a_check_value_without_a_fingerprint_is_refused(rt: HostRuntime) {
     let read = unseal(&[0, 0, 0, 0], &Options::default());
@@ -199,7 +199,7 @@ fn each_option_of_the_seal_is_compared(rt: HostRuntime) {
     }
 }
 
-/// What may differ where an association goes on: how long a packet is, whether the RFCs are followed, and so on.
+/// What may differ where an association continues: how long a packet is, whether the RFCs are followed, and so on.
 #[test]
 fn no_other_option_is_compared(rt: HostRuntime) {
     let other = Options {

@@ -24,8 +24,8 @@ fn an_association_is_shut_down_over_a_bad_link(rt: HostRuntime) {
     }
 }
 
-// The numbers count the packets of A and of B from the shutdown on; 0 stands for none. The last messages are
-// in flight then, so that some packets carry DATA and SACKs.
+// The numbers count the packets of A and of B from the shutdown on; 0 means none. The last messages are in
+// flight then, so that some packets carry DATA and SACKs.
 #[test]
 fn each_packet_of_a_shutdown_may_be_lost_and_any_two(rt: HostRuntime) {
     for closing in [Closing::ByOne, Closing::ByBoth] {

@@ -150,7 +150,7 @@ impl End {
         snapshot
     }
 
-    /// Goes on with another socket, if that is due and the present one is ready. Does it?
+    /// Continues with another socket, if that is due and the present one is ready. Does it?
     pub fn hand_over(
         &mut self,
         rt: &impl Abort,
@@ -189,7 +189,7 @@ impl End {
         self.resets.are_performed(rt, streams);
     }
 
-    // Handles what the socket tells: a packet leaves, and nothing may go wrong.
+    // Handles an event of the socket: a packet leaves, and nothing may go wrong.
     fn hear(&mut self, rt: &impl Abort, now: SocketTime, event: SocketEvent) {
         match event {
             SocketEvent::SendPacket(packet) => self.link.put(rt, now, packet),
@@ -205,7 +205,7 @@ impl End {
         }
     }
 
-    /// Handles all that the socket tells.
+    /// Handles all events of the socket.
     pub fn drain(&mut self, rt: &impl Abort, now: SocketTime) {
         for _ in 0..MOST_EVENTS {
             let Some(event) = self.socket.poll_event() else {
@@ -215,8 +215,8 @@ impl End {
         }
     }
 
-    /// Tells the socket this moment. Its events so far have been taken. Before its deadline nothing happens, and the
-    /// deadline stays. From then on there is a later one, or none.
+    /// Advances the socket to this moment. Its events so far have been taken. Before its deadline nothing happens, and
+    /// the deadline stays. From then on there is a later one, or none.
     pub fn advance(&mut self, rt: &impl Abort, now: SocketTime) {
         let deadline = self.socket.poll_timeout();
         self.socket.advance_time(now).expect(rt, "the time");
@@ -253,7 +253,7 @@ impl End {
         }
     }
 
-    /// Everything was sent, nothing waits, and what has to arrive has arrived. The end was connected once,
+    /// Everything was sent, nothing waits, and what must arrive has arrived. The end was connected once,
     /// and closed once if an end has shut it down. On the wire there was nothing strange. If messages may be
     /// abandoned, some are missing, and a FORWARD-TSN said so; that isn't certain if nothing is lost.
     /// Elsewhere neither is so. If some are unordered, some came after later ones.

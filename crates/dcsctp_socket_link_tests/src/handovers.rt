@@ -1,4 +1,4 @@
-//! The handovers of an end to another process: when they are due, and the socket that goes on.
+//! The handovers of an end to another process: when they are due, and the socket that continues.
 
 use crate::run::{Handing, Run};
 use dcsctp_socket::api::handover::SocketHandoverState;
@@ -59,7 +59,7 @@ impl Handovers {
         self.are_due(number) && self.next().saturating_add(may_wait) <= number
     }
 
-    /// Notes what went along.
+    /// Records what went along.
     pub fn note(&mut self, state: &SocketHandoverState) {
         let waiting = state.tx.queued_messages.len();
         let in_flight = state.tx.outstanding_data.len();
@@ -87,7 +87,7 @@ impl Handovers {
     }
 }
 
-/// A socket that was handed over tells that it is closed, and no more: its peer isn't told.
+/// A socket that was handed over reports that it is closed, and no more: nothing is sent to its peer.
 pub fn is_left(rt: &impl Abort, socket: &mut Socket<Xoshiro256PlusPlus>) {
     let told = socket.poll_event();
     assert!(rt;
@@ -97,8 +97,8 @@ pub fn is_left(rt: &impl Abort, socket: &mut Socket<Xoshiro256PlusPlus>) {
     assert!(rt; socket.poll_event().is_none(), "more than the end is told");
 }
 
-/// Another socket with the same options, which goes on from this snapshot at this moment. First it tells that
-/// it is connected.
+/// Another socket with the same options, which continues from this snapshot at this moment. First it reports
+/// that it is connected.
 pub fn restored(
     rt: &impl Abort,
     alloc: Global,
@@ -113,7 +113,7 @@ pub fn restored(
     socket
 }
 
-// A closed socket goes on from this snapshot.
+// A closed socket continues from this snapshot.
 fn goes_on(
     rt: &impl Abort,
     socket: &mut Socket<Xoshiro256PlusPlus>,

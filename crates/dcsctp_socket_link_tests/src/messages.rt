@@ -116,8 +116,8 @@ impl Messages {
         }
     }
 
-    /// The receiver is told that a stream was reset: the reset was under way, and all messages before it that
-    /// may not be abandoned have arrived.
+    /// The receiver reports that a stream was reset: the reset was under way, and all messages before it that may
+    /// not be abandoned have arrived.
     pub fn is_reset(&mut self, rt: &impl Abort, stream: u16) {
         let Some(behind_reset) = self.behind_reset.get_mut(usize::from(stream)) else {
             return;
@@ -136,8 +136,8 @@ impl Messages {
         }
     }
 
-    // Notes the number of a message that has arrived: none comes before a reset after which it was sent, and
-    // an ordered one has to come after those before it on its stream.
+    // Records the number of a message that has arrived: none comes before a reset after which it was sent, and
+    // an ordered one must come after those before it on its stream.
     fn note(&mut self, rt: &impl Abort, number: usize, planned: &Planned) {
         let stream = usize::from(planned.stream % 4);
         let after = number.saturating_add(1);
@@ -159,7 +159,7 @@ impl Messages {
         self.after_last[stream] = after;
     }
 
-    /// Notes that a message has arrived: whole, once, and in its place.
+    /// Records that a message has arrived: whole, once, and in its place.
     pub fn arrives(&mut self, rt: &impl Abort, message: &Message) {
         let number = message.ppid.0 as usize;
         let planned = *self.planned.get(number).expect(rt, "no such message");
@@ -176,7 +176,7 @@ impl Messages {
         }
     }
 
-    /// How many are missing that have to arrive, and how many of the others.
+    /// How many are missing that must arrive, and how many of the others.
     pub fn missing(&self) -> (usize, usize) {
         let mut reliable = 0usize;
         let mut limited = 0usize;

@@ -1,4 +1,4 @@
-//! The streams that an end resets, and what it is told of resets.
+//! The streams that an end resets, and the resets that are reported to it.
 
 use crate::messages::Messages;
 use crate::run::{Resetting, Run};
@@ -6,7 +6,7 @@ use dcsctp_socket::StreamId;
 use std::alloc::Global;
 use std::process::Abort;
 
-/// The resets of one end, in the order of its calls and of what it is told.
+/// The resets of one end, in the order of its calls and of its events.
 #[derive(Drop)]
 pub struct Resets {
     alloc: Global,
@@ -22,7 +22,7 @@ pub struct Resets {
     /// How many requests were performed.
     pub requests: u32,
 
-    // The streams of the other end that were reset, and how many of them were noted.
+    // The streams of the other end that were reset, and how many of them were recorded.
     told: Vec<u16>,
     noted: usize,
 }
@@ -58,7 +58,7 @@ impl Resets {
         is_for_messages && self.calls < number / 8
     }
 
-    /// The stream that comes next, if no other has to be empty for its reset.
+    /// The stream that comes next, if no other needs to be empty for its reset.
     pub fn next_alone(&self) -> Option<StreamId> {
         if self.plan != Resetting::AmongMessages {
             return None;
@@ -105,18 +105,18 @@ impl Resets {
         Some(streams)
     }
 
-    /// It is told that its own streams were reset.
+    /// It reports that its own streams were reset.
     pub fn are_performed(&mut self, rt: &impl Abort, streams: &[StreamId]) {
         put(rt, &mut self.performed, streams);
         self.requests = self.requests.wrapping_add(1);
     }
 
-    /// It is told that streams of the other end were reset.
+    /// It reports that streams of the other end were reset.
     pub fn are_told(&mut self, rt: &impl Abort, streams: &[StreamId]) {
         put(rt, &mut self.told, streams);
     }
 
-    /// Notes what it was told of the streams of the other end, which has sent these messages.
+    /// Records the resets of the streams of the other end, which has sent these messages.
     pub fn note(&mut self, rt: &impl Abort, sent: &mut Messages) {
         for at in self.noted..self.told.len() {
             let stream = *self.told.get(at).expect(rt, "no such stream");
@@ -125,7 +125,7 @@ impl Resets {
         self.noted = self.told.len();
     }
 
-    /// All streams that were to be reset were reset, and both ends were told so once of each, in order.
+    /// All streams that were to be reset were reset, and each was reported once at both ends, in order.
     pub fn are_over(&self, rt: &impl Abort, run: &Run, other: &Resets) {
         let asked = self.asked.as_slice();
         let (name, seed) = (run.name, run.seed);

@@ -1,5 +1,5 @@
 //! Streams that are reset (RFC 6525), again and again, while messages go both ways. A reset separates the
-//! messages before it from those after it, and either end is told of it once.
+//! messages before it from those after it, and is reported once at either end.
 
 use crate::run::{Effort, PLAIN, Resetting};
 use crate::simulation::{runs, runs_each};

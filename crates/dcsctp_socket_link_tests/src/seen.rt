@@ -62,7 +62,7 @@ fn begins_ordered(chunk: &[u8]) -> bool {
     byte(chunk, 1) / 2 % 4 == 1
 }
 
-// Is there a checksum? A field of zero stands for none (RFC 9653, section 4).
+// Is there a checksum? A field of zero means none (RFC 9653, section 4).
 fn has_checksum(packet: &[u8]) -> bool {
     for at in 8..12 {
         if packet.get(at).copied() != Some(0) {
@@ -95,7 +95,7 @@ impl Seen {
         }
     }
 
-    // Is this TSN behind all before it? What is sent again has its old one.
+    // Is this TSN after all before it? What is sent again has its old one.
     fn is_new(&self, tsn: u32) -> bool {
         match self.last_tsn {
             None => true,
@@ -103,7 +103,7 @@ impl Seen {
         }
     }
 
-    // Notes the number of an ordered message that begins. With interleaving it has four bytes, else two.
+    // Records the number of an ordered message that begins. With interleaving it has four bytes, else two.
     fn note_number(&mut self, chunk: &[u8]) {
         let number = if self.interleaving {
             four_bytes(chunk, 12)
@@ -119,8 +119,8 @@ impl Seen {
         *next = number.wrapping_add(1);
     }
 
-    // Notes a chunk of data: its TSN, its stream and the number of its message (RFC 9260, section 3.3.1, and RFC 8260,
-    // section 2.1).
+    // Records a chunk of data: its TSN, its stream and the number of its message (RFC 9260, section 3.3.1, and
+    // RFC 8260, section 2.1).
     fn note_data(&mut self, chunk: &[u8]) {
         self.data = self.data.saturating_add(1);
         let tsn = four_bytes(chunk, 4);
@@ -140,7 +140,7 @@ impl Seen {
         }
     }
 
-    // Notes a chunk: DATA is of kind 0, I-DATA of 64, FORWARD-TSN of 192, and I-FORWARD-TSN of 194.
+    // Records a chunk: DATA is of kind 0, I-DATA of 64, FORWARD-TSN of 192, and I-FORWARD-TSN of 194.
     fn note_chunk(&mut self, chunk: &[u8]) {
         match (byte(chunk, 0), self.interleaving) {
             (0, false) | (64, true) => self.note_data(chunk),
@@ -152,7 +152,7 @@ impl Seen {
         }
     }
 
-    /// Notes a packet. INIT and COOKIE ECHO, of kinds 1 and 10, have a checksum in any case (RFC 9653, section 5.2).
+    /// Records a packet. INIT and COOKIE ECHO, of kinds 1 and 10, have a checksum in any case (RFC 9653, section 5.2).
     pub fn note(&mut self, packet: &[u8]) {
         let first = packet.get(12).copied();
         let needs_checksum = !self.zero_checksum || first == Some(1) || first == Some(10);

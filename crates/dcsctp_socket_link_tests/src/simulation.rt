@@ -108,7 +108,7 @@ fn numbers_of(rt: &impl Abort, end: &End) -> (u32, u32, u32) {
     )
 }
 
-// All that this end had to reset was reset, and reported once at either end, by requests whose numbers follow
+// All that this end was to reset was reset, and reported once at either end, by requests whose numbers follow
 // one another.
 fn resets_are_over(rt: &impl Abort, run: &Run, end: &End, other: &End) {
     end.resets.are_over(rt, run, &other.resets);

@@ -51,7 +51,7 @@ pub enum Act {
     /// It gives this stream this threshold of bytes.
     SetsThreshold(u16, usize),
 
-    /// It is told this moment.
+    /// Its time is advanced to this moment.
     Passes(u64),
 
     /// The same, and this is the moment for which it waits.
@@ -63,10 +63,10 @@ pub enum Act {
     /// It is handed over, and closes. Its snapshot is kept.
     HandsOver,
 
-    /// It goes on from the snapshot that was kept.
+    /// It continues from the snapshot that was kept.
     Restores,
 
-    /// It goes on from a snapshot by which the peer can't reset streams.
+    /// It continues from a snapshot by which the peer can't reset streams.
     RestoresPlain,
 
     /// It takes no memory for this: in a marked run every allocation is refused meanwhile.
@@ -85,7 +85,7 @@ pub enum Memoryless {
     /// It is to shut down, and is closed or does so already.
     ShutsDown,
 
-    /// It is told this moment, at which nothing is due or which is over.
+    /// Its time is advanced to this moment, at which nothing is due or which is over.
     Passes(u64),
 
     /// This is the moment for which it waits.
@@ -97,10 +97,10 @@ pub enum Memoryless {
     /// It is to be handed over, and isn't ready.
     RefusesHandover(HandoverReadiness),
 
-    /// It is to go on from a snapshot, and isn't closed.
+    /// It is to continue from a snapshot, and isn't closed.
     RefusesRestore,
 
-    /// It goes on from the snapshot of a closed socket.
+    /// It continues from the snapshot of a closed socket.
     RestoresNothing,
 
     /// A message may have so many bytes.
@@ -116,7 +116,7 @@ pub enum Memoryless {
     Shows(Shown),
 }
 
-/// One step: which side, what it does, and what it tells then.
+/// One step: which side, what it does, and its events then.
 pub type Step = (Name, Act, &'static [ExpectedEvent]);
 
 /// An exchange.
@@ -150,7 +150,7 @@ impl Exchange {
         }
     }
 
-    /// What a side tells in a step: nothing if it is the other side's.
+    /// The events of a side in a step: none if it is the other side's.
     pub fn tells_at(&self, name: Name, index: usize) -> &'static [ExpectedEvent] {
         match self.steps.get(index) {
             Some((side, _, tells)) if *side == name => tells,
@@ -158,7 +158,7 @@ impl Exchange {
         }
     }
 
-    /// Is the event that of this place in what a side tells in a step?
+    /// Is the event that of this place among the events of a side in a step?
     pub fn is_told_at(&self, name: Name, index: usize, place: usize, event: &SocketEvent) -> bool {
         match self.tells_at(name, index).get(place) {
             Some(told) => is_told(event, told),

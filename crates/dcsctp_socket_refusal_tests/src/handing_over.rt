@@ -1,4 +1,4 @@
-//! Sides that are handed over, and go on from a snapshot.
+//! Sides that are handed over, and continue from a snapshot.
 
 use crate::side::Side;
 use dcsctp_socket::api::handover::{HandoverSocketState, SocketHandoverState};
@@ -18,7 +18,7 @@ fn plain_snapshot(alloc: Global) -> SocketHandoverState {
     state
 }
 
-/// Restores a socket from a snapshot, which has to be valid.
+/// Restores a socket from a snapshot, which must be valid.
 pub fn restore_from(
     rt: &impl Abort,
     socket: &mut Socket<Counting>,
@@ -30,7 +30,7 @@ pub fn restore_from(
 }
 
 impl Side {
-    /// Is handed over, which has to be done. The snapshot is kept.
+    /// Is handed over, which must succeed. The snapshot is kept.
     pub fn hand_over(&mut self, rt: &impl Abort) -> Result<(), SocketFault> {
         match self.socket.get_handover_state_and_close()? {
             Ok(state) => self.snapshot = Some(state),
@@ -39,7 +39,7 @@ impl Side {
         Ok(())
     }
 
-    /// Goes on from the snapshot that was kept, which has to be done.
+    /// Continues from the snapshot that was kept, which must succeed.
     pub fn restore(&mut self, rt: &impl Abort) -> Result<(), SocketFault> {
         let Some(state) = self.snapshot.take() else {
             panic!(rt; "{:?}: no snapshot", self.name)

@@ -32,7 +32,7 @@ pub static LONG_EXCHANGE: Exchange = Exchange {
         (A, Takes, &[Packet(&[COOKIE_ECHO])]),
         (B, Takes, &[Event("connected", 0), Packet(&[COOKIE_ACK])]),
         (A, Takes, &[Event("connected", 0)]),
-        // What is set is told to nobody.
+        // Settings are reported to nobody.
         (A, SetsPriority(2, 300), &[]),
         (B, SetsThreshold(1, 500), &[]),
         // A short message, a long one of 1,160, 1,160 and 680 bytes, and an unordered one. A stream whose last byte
@@ -54,7 +54,7 @@ pub static LONG_EXCHANGE: Exchange = Exchange {
             Sends(3, 20, Unordered),
             &[Event("low", 3), Packet(&[DATA])],
         ),
-        // The first packet with data is acknowledged at once, and from there on every second one (RFC 9260, section 6.2).
+        // The first packet with data is acknowledged at once, and after it every second one (RFC 9260, section 6.2).
         (B, Takes, &[Packet(&[SACK])]),
         (B, Takes, &[]),
         (B, Takes, &[Packet(&[SACK])]),
@@ -89,8 +89,8 @@ pub static LONG_EXCHANGE: Exchange = Exchange {
         (B, Expires(600), &[Packet(&[SACK])]),
         (A, Passes(600), &[]),
         (A, Takes, &[]),
-        // A lost message that isn't sent again. The peer is told not to wait for it, and acknowledges that as it
-        // does data, here along with data of its own (RFC 3758, sections 3.5 and 3.6).
+        // A lost message that isn't sent again. The peer learns not to wait for it, and acknowledges that as it does
+        // data, here along with data of its own (RFC 3758, sections 3.5 and 3.6).
         (
             B,
             Sends(2, 35, SentOnce(6)),

@@ -19,8 +19,8 @@ use dcsctp_refusal_testing::{
 };
 use dcsctp_socket::{HandoverReadiness, ResetStreamsError};
 
-/// Calls that change nothing, in each phase (RFC 9260, section 4). No clock goes back: T1 runs from the moment 30 on, and
-/// the heartbeat interval from 40 on.
+/// Calls that change nothing, in each phase (RFC 9260, section 4). No clock goes back: T1 runs from the moment 30 on,
+/// and the heartbeat interval from 40 on.
 pub static EACH_PHASE: Exchange = Exchange {
     hands_over_data: false,
     messages_to_a: &[(1, 20)],
@@ -186,7 +186,7 @@ pub static QUERIES: Exchange = Exchange {
     ],
 };
 
-/// A reset that the peer doesn't support. B goes on from a snapshot that says so.
+/// A reset that the peer doesn't support. B continues from a snapshot that says so.
 pub static UNSUPPORTED_RESET: Exchange = Exchange {
     hands_over_data: false,
     messages_to_a: &[],

@@ -16,12 +16,12 @@ use dcsctp_testing::Counting;
 use std::alloc::Global;
 use std::process::Abort;
 
-// This call has to return that the socket has failed.
+// This call must return that the socket has failed.
 fn fails(rt: &impl Abort, name: &str, fault: Option<SocketFault>) {
     assert_eq!(rt; fault, Some(SocketFault::Failed), "{name}");
 }
 
-// Both calls of a handover have to return that the socket has failed.
+// Both calls of a handover must return that the socket has failed.
 fn handovers_fail(rt: &impl Abort, alloc: Global, socket: &mut Socket<Counting>) {
     let state = SocketHandoverState::empty(alloc);
     let restored = restore_from(rt, socket, &state);
@@ -38,8 +38,8 @@ fn sends_fail(rt: &impl Abort, socket: &mut Socket<Counting>, handed: Handed) {
     fails(rt, "send_many", socket.send_many(several, &plain).err());
 }
 
-// Each call that can return that the socket has failed has to do so. On one that hasn't, they would add
-// events and change what queries answer.
+// Each call that can return that the socket has failed must do so. On one that hasn't, they would add events
+// and change what queries answer.
 fn each_call_fails(rt: &impl Abort, own: &mut Side) {
     let handed = own.handed(rt);
     let socket = &mut own.socket;
@@ -59,8 +59,8 @@ fn each_call_fails(rt: &impl Abort, own: &mut Side) {
     handovers_fail(rt, own.alloc, &mut own.socket);
 }
 
-// The events from before this step have to come, and then the first part of those of the step. Later calls
-// add none, and change nothing that a query answers.
+// The events from before this step must come, and then the first part of those of the step. Later calls add
+// none, and change nothing that a query answers.
 fn keeps_events(rt: &impl Abort, own: &mut Side, index: usize) {
     let before = ask(&own.socket, StreamId(2));
     each_call_fails(rt, own);
@@ -76,7 +76,7 @@ fn keeps_events(rt: &impl Abort, own: &mut Side, index: usize) {
     );
 }
 
-// That many messages, which were ready before this step, have to come, with those that became so in it.
+// That many messages, which were ready before this step, must come, with those that became so in it.
 // Nothing is left then, and what can be set without memory is set.
 fn keeps_messages(rt: &impl Abort, own: &mut Side, index: usize, ready: usize) {
     let count = own.socket.messages_ready_count();
@@ -97,7 +97,7 @@ fn keeps_messages(rt: &impl Abort, own: &mut Side, index: usize, ready: usize) {
     );
 }
 
-// The other side goes on: its events don't change what its queries answer, and it connects if it is closed. For that
+// The other side continues: its events don't change what its queries answer, and it connects if it is closed. For that
 // it needs memory.
 fn goes_on(rt: &impl Abort, other: &mut Side, index: usize) {
     let before = ask(&other.socket, StreamId(2));
@@ -118,7 +118,7 @@ fn goes_on(rt: &impl Abort, other: &mut Side, index: usize) {
 }
 
 /// In this step an allocation failed in a call of one side, which had that many ready messages before. What
-/// is promised for this has to be kept. The other side has reported all that it has to, and goes on.
+/// is promised for this must hold. The other side has reported all that it must, and continues.
 pub fn keeps_promises(
     rt: &impl Abort,
     own: &mut Side,

@@ -33,7 +33,7 @@ fn new_side(
 }
 
 // Takes a step of one side, and returns whether no allocation failed in it. If the test's own allocation
-// failed, the steps before have told all that the table says, and no socket has failed.
+// failed, the steps before have brought all events of the table, and no socket has failed.
 fn take_step(rt: &impl Abort, own: &mut Side, other: &mut Side, index: usize, act: Act) -> bool {
     let ready = own.socket.messages_ready_count();
     match own.act(rt, other, index, act) {

@@ -1,6 +1,6 @@
 //! Exchanges of one subject each, computed by hand for the default options.
 //!
-//! Bytes that are no packet stand where the next event is to need new room: there is room for 4 events, and for twice
+//! Bytes that are no packet come where the next event is to need new room: there is room for 4 events, and for twice
 //! as many each time.
 
 use crate::exchange::Act::{
@@ -104,8 +104,8 @@ pub static REPEATED_REQUEST: Exchange = Exchange {
     ],
 };
 
-/// B is handed over and goes on, with streams that were used and a message in flight. Before that each call is refused
-/// that isn't for such a state.
+/// B is handed over and continues, with streams that were used and a message in flight. Before that each call is
+/// refused that isn't for such a state.
 pub static HANDOVER: Exchange = Exchange {
     hands_over_data: true,
     messages_to_a: &[(2, 30), (2, 40), (2, 50)],
@@ -153,17 +153,17 @@ pub static HANDOVER: Exchange = Exchange {
         (B, Sends(2, 40, Plain), &[Event("low", 2), Packet(&[DATA])]),
         (A, Takes, &[]),
         (B, WithoutMemory(RefusesRestore), &[]),
-        // B is handed over: 4 events wait before that, and 8 before it goes on.
+        // B is handed over: 4 events wait before that, and 8 before it continues.
         (B, TakesNoPackets(4), &[Event("unreadable", 0); 4]),
         (B, HandsOver, &[Event("closed", 0)]),
         (B, TakesNoPackets(3), &[Event("unreadable", 0); 3]),
         (B, Restores, &[Event("connected", 0)]),
         (B, WithoutMemory(RefusesRestore), &[]),
-        // The acknowledgement of what was in flight comes to the socket that goes on.
+        // The acknowledgement of what was in flight comes to the socket that continues.
         (A, Expires(200), &[Packet(&[SACK])]),
         (B, Passes(200), &[]),
         (B, Takes, &[]),
-        // Both streams go on, too.
+        // Both streams continue, too.
         (B, Sends(2, 50, Plain), &[Event("low", 2), Packet(&[DATA])]),
         (A, Takes, &[]),
         (A, Reads(3), &[]),

@@ -145,7 +145,7 @@ impl Side {
         Ok(())
     }
 
-    // Sends a message, which has to be taken.
+    // Sends a message, which must be taken.
     fn send(&mut self, rt: &impl Abort, stream: u16, size: u16, how: How) -> Answer {
         let message = message(self.alloc, stream, size)?;
         match self.socket.send(message, &options(how)) {
@@ -157,7 +157,7 @@ impl Side {
         }
     }
 
-    // Sends several messages, which have to be taken.
+    // Sends several messages, which must be taken.
     fn send_many(&mut self, rt: &impl Abort, rows: &[(u16, u16)]) -> Answer {
         let mut messages = Vec::with_capacity(self.alloc, rows.len())?;
         for (stream, size) in rows {
@@ -172,7 +172,7 @@ impl Side {
         }
     }
 
-    // Resets streams, which has to be taken.
+    // Resets streams, which must be taken.
     fn reset(&mut self, rt: &impl Abort, ids: &[StreamId]) -> Result<(), SocketFault> {
         let answer = self.socket.reset_streams(ids)?;
         assert_eq!(rt; answer, Ok(()), "a reset of streams");
@@ -185,8 +185,8 @@ impl Side {
             .set_buffered_amount_low_threshold(StreamId(stream), bytes)
     }
 
-    /// Takes the events of this step, which have to be the first part of what the table says. Returns whether
-    /// they were all of it.
+    /// Takes the events of this step, which must be the first part of those of the table. Returns whether they
+    /// were all of them.
     pub fn hear_step(&mut self, rt: &impl Abort, index: usize) -> bool {
         for place in 0..self.exchange.tells_at(self.name, index).len() {
             if !self.hear_one(rt, index, place) {
@@ -196,7 +196,7 @@ impl Side {
         true
     }
 
-    // Takes one event, which has to be that of this place, and returns whether there was one.
+    // Takes one event, which must be that of this place, and returns whether there was one.
     fn hear_one(&mut self, rt: &impl Abort, index: usize, place: usize) -> bool {
         match self.socket.poll_event() {
             None => false,
@@ -217,7 +217,7 @@ impl Side {
         }
     }
 
-    /// Takes the events from before this step, which have to be all that the table says.
+    /// Takes the events from before this step, which must be all those of the table.
     pub fn hear(&mut self, rt: &impl Abort, end: usize) {
         for index in self.heard..end {
             let is_whole = self.hear_step(rt, index);
@@ -244,7 +244,7 @@ impl Side {
             .copied()
     }
 
-    /// Takes that many messages, which have to be ready, and those of the table, whole and in order.
+    /// Takes that many messages, which must be ready, and those of the table, whole and in order.
     pub fn read(&mut self, rt: &impl Abort, count: usize) {
         for _ in 0..count {
             let Some(found) = self.socket.get_next_message() else {

@@ -16,7 +16,7 @@ use std::hash::{DefaultHasher, Hash, Hasher};
 use std::process::Abort;
 use std::time::Duration;
 
-// Each of these has to be so. One test of all of them is proved once.
+// Each of these must be so. One test of all of them is proved once.
 fn are_so(rt: &impl Abort, rows: &[(&str, bool)]) {
     for (name, is_so) in rows {
         assert!(rt; *is_so, "{name}");

@@ -7,8 +7,8 @@ use dcsctp_socket::{SocketFault, StreamId};
 use std::alloc::{AllocError, Global};
 use std::fmt::Debug;
 
-/// What isn't as the line says that is taken. It is noted, and the line goes on: a number that is none is 0, and a text
-/// that is missing is empty. Whoever goes through the lines looks for it after each.
+/// What isn't as the line says that is taken. It is recorded, and the line continues: a number that is none is 0, and a
+/// text that is missing is empty. Whoever goes through the lines looks for it after each.
 pub struct Notes {
     alloc: Global,
     fault: Option<String>,
@@ -32,12 +32,12 @@ impl Notes {
         self.alloc
     }
 
-    /// Takes what was noted of a line. It is empty if there was no memory for it.
+    /// Takes what was recorded of a line. It is empty if there was no memory for it.
     pub fn take_fault(&mut self) -> Option<String> {
         self.fault.take()
     }
 
-    // The first note of a line counts.
+    // The first fault of a line counts.
     fn note(&mut self, text: Result<String, AllocError>) {
         if self.fault.is_none() {
             self.fault = Some(text.unwrap_or(String::new(self.alloc)));
@@ -54,14 +54,14 @@ impl Notes {
         self.note(format!(in self.alloc; "found:    {found}\n    expected: {expected}"));
     }
 
-    /// The two have to be equal.
+    /// The two must be equal.
     pub fn same(&mut self, found: &str, expected: &str) {
         if found != expected {
             self.found(found, expected);
         }
     }
 
-    /// The value has to be shown as this text.
+    /// The value must be shown as this text.
     pub fn shows<T: Debug>(&mut self, value: &T, expected: &str) {
         match format!(in self.alloc; "{value:?}") {
             Ok(found) => self.same(&found, expected),
@@ -69,7 +69,7 @@ impl Notes {
         }
     }
 
-    /// A call of a socket has to be made, and its answer to be shown as this text.
+    /// A call of a socket must be made, and its answer must be shown as this text.
     pub fn answers<T: Debug>(&mut self, outcome: &Result<T, SocketFault>, expected: &str) {
         match outcome {
             Ok(answer) => self.shows(answer, expected),
@@ -77,12 +77,12 @@ impl Notes {
         }
     }
 
-    /// A call of a socket has to be made.
+    /// A call of a socket must be made.
     pub fn made(&mut self, outcome: Result<(), SocketFault>) {
         self.answers(&outcome, "()");
     }
 
-    /// There has to be memory.
+    /// There must be memory.
     pub fn has_memory(&mut self, has_memory: bool) {
         if !has_memory {
             self.fails("out of memory");

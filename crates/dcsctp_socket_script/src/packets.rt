@@ -5,7 +5,7 @@
 //! ```text
 //! INIT             the bytes of this name, below
 //! 0a0b             these bytes
-//! @7=0a0b          what stands from byte 7 on is replaced by these bytes
+//! @7=0a0b          what is there from byte 7 on is replaced by these bytes
 //! ^9               bit 9 is turned, which is the second lowest of byte 1
 //! ..32             the packet is cut to 32 bytes, or filled up to them with zeros
 //! ```

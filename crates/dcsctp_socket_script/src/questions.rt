@@ -4,7 +4,7 @@ use crate::notes::Notes;
 use dcsctp_socket::{DcSctpSocket, Socket};
 use dcsctp_testing::TwoWords;
 
-/// A question has to be answered so.
+/// A question must be answered so.
 pub fn is_asked(notes: &mut Notes, socket: &mut Socket<TwoWords>, question: &str, expected: &str) {
     match question {
         "message" => notes.shows(&next_message(socket), expected),
@@ -37,7 +37,7 @@ fn is_asked_of_counts(
     }
 }
 
-/// A question about a stream has to be answered so.
+/// A question about a stream must be answered so.
 pub fn is_asked_of_stream(
     notes: &mut Notes,
     socket: &Socket<TwoWords>,

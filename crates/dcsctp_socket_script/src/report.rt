@@ -1,10 +1,10 @@
-//! What came of the tests of a text.
+//! The results of the tests of a text.
 
 ghost use Rattle.std.specs.Prelude.{◌≡◌, ◌<◌};
 
 use std::alloc::Global;
 
-/// How the test fares whose lines are gone through.
+/// The state of the test whose lines are taken.
 #[derive(Clone, Copy, Debug, PartialEq, Eq)]
 pub enum Progress {
     /// No test has begun.
@@ -13,11 +13,11 @@ pub enum Progress {
     /// All lines were as they say so far.
     Passing,
 
-    /// A line wasn't. Those that follow are passed over.
+    /// A line wasn't. Those that follow are skipped.
     Failed,
 }
 
-/// What came of the tests so far.
+/// The results of the tests so far.
 pub struct Report {
     alloc: Global,
     progress: Progress,
@@ -63,7 +63,7 @@ impl Report {
         }
     }
 
-    /// How the test fares.
+    /// The state of the test.
     pub fn progress(&self) -> Progress {
         self.progress
     }

@@ -1,5 +1,5 @@
-//! Texts of tests: what is done to two sockets, and which events and answers they have to give. Any other line fails,
-//! and with it its test.
+//! Texts of tests: what is done to two sockets, and which events and answers they must give. Any other line fails, and
+//! with it its test.
 //!
 //! ```text
 //! == NAME                     two new sockets, closed: A draws 100 and 6, which make tag 7 and first TSN 100, and
@@ -7,19 +7,19 @@
 //! option NAME VALUE           two new sockets, closed, with this option as well
 //! sending NAME VALUE          messages that are sent from here on have this option as well
 //! sending all default         .. have no option
-//! each N..M LINE; LINE ..     these lines, once for each number from N to M - 1, which stands for '#'
+//! each N..M LINE; LINE ..     these lines, once for each number from N to M - 1, which replaces '#'
 //! A opens                     A is connected to a peer of tag 9, and the four packets of it are compared
 //! A meets B                   A connects to B, by four packets of any bytes
 //! // ..                       a comment
 //! ```
 //!
-//! In any of them `{N TEXT}` stands for N times that text. All other lines begin with `A` or `B`, and then say one of
-//! these. PACKET is as in `packets`, and a value stands as `Debug` shows it.
+//! In any of them `{N TEXT}` is N times that text. All other lines begin with `A` or `B`, and then say one of these.
+//! PACKET is as in `packets`, and a value is as `Debug` shows it.
 //!
 //! ```text
 //! sends PACKET                the next event is this packet
 //! sends any, sends any of N   the next event is a packet, of N bytes
-//! tells EVENT                 the next event is this one; UNREADABLE and NO_INIT stand for two in `told`
+//! tells EVENT                 the next event is this one; UNREADABLE and NO_INIT are short for two in `told`
 //! takes-too PACKET            is handed this packet, while events wait
 //! message = ..                takes a message, which has this stream, protocol and length
 //! state = .., tag = .., association = .., pairs = .., failed = .., longest = .., mtu = ..
@@ -50,12 +50,12 @@ use crate::stage::Stage;
 use dcsctp_script_lines::number;
 use std::alloc::{AllocError, Global};
 
-// The lines that `A opens` stands for.
+// The lines for `A opens`.
 const OPENS: &str =
     "A connects; A sends INIT; A takes INIT_ACK; A sends COOKIE_ECHO; A takes COOKIE_ACK; \
     A tells OnConnected";
 
-// The lines that `A meets B` stands for.
+// The lines for `A meets B`.
 const MEETS: &str =
     "A connects; A sends any; B receives; B sends any; A receives; A sends any; B receives; \
     B tells OnConnected; B sends any; A receives; A tells OnConnected";
@@ -183,7 +183,7 @@ impl Run {
         }
     }
 
-    // Was a fault of the line noted?
+    // Was a fault of the line recorded?
     fn look(&mut self, line: &str) {
         if let Some(fault) = self.notes.take_fault() {
             self.report.fail(self.number, line, &fault);
@@ -191,7 +191,7 @@ impl Run {
     }
 }
 
-// The numbers and the lines behind `each`.
+// The numbers and the lines after `each`.
 fn range_of(text: &str) -> Option<(u64, u64, &str)> {
     let (numbers, lines) = text.split_once(' ')?;
     let (from, to) = numbers.split_once("..")?;
@@ -215,7 +215,7 @@ fn spelled_out(alloc: Global, line: &str) -> Result<String, AllocError> {
     Ok(spelled)
 }
 
-// What is behind a brace: a number, a text and the end of both, or anything else.
+// What is after a brace: a number, a text and the end of both, or anything else.
 fn spell(spelled: &mut String, part: &str) -> Result<(), AllocError> {
     let Some((count, text, behind)) = repeated(part) else {
         spelled.push_str("{")?;

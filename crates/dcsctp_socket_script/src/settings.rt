@@ -68,7 +68,7 @@ impl Settings {
     }
 }
 
-/// A closed socket that draws these words. None, and that is noted, if the options are not valid or memory is out.
+/// A closed socket that draws these words. None, and that is recorded, if the options are not valid or memory is out.
 pub fn new_socket(
     notes: &mut Notes,
     options: &Options,

@@ -1,4 +1,4 @@
-//! What a socket tells next.
+//! The next event of a socket.
 
 use crate::notes::Notes;
 use crate::packets::{digits_of, packet_of};
@@ -18,7 +18,7 @@ pub fn is_quiet(notes: &mut Notes, socket: &mut Socket<TwoWords>) {
     }
 }
 
-/// The next event has to be this one, which is no packet.
+/// The next event must be this one, which is no packet.
 pub fn tells(notes: &mut Notes, socket: &mut Socket<TwoWords>, event: &str) {
     let expected = match event {
         "UNREADABLE" => UNREADABLE,
@@ -45,7 +45,7 @@ fn is_found(notes: &mut Notes, packet: &[u8], expected: &str) {
     }
 }
 
-/// The next event has to be this packet, or one of that many bytes, and is returned; no bytes if it is no packet.
+/// The next event must be this packet, or one of that many bytes, and is returned; no bytes if it is no packet.
 pub fn sends(notes: &mut Notes, socket: &mut Socket<TwoWords>, words: &str) -> Vec<u8> {
     match socket.poll_event() {
         Some(SocketEvent::SendPacket(packet)) => {

@@ -4,7 +4,7 @@
 use std::fmt::Debug;
 use std::process::Abort;
 
-/// The two have to be equal.
+/// The two must be equal.
 pub fn same<T: PartialEq + Debug + Drop>(rt: &impl Abort, name: &str, found: T, expected: T) {
     assert!(rt;
         found == expected,

@@ -9,8 +9,8 @@ use dcsctp_testing::TwoWords;
 use std::alloc::{AllocGlobal, Global};
 use std::process::Abort;
 
-// What the client sends, an INIT of tag 7 and first TSN 100, and a COOKIE ECHO; and in between the answer of its peer, an
-// INIT ACK of tag 9 and first TSN 200. Another program computed the checksums.
+// What the client sends, an INIT of tag 7 and first TSN 100, and a COOKIE ECHO; and in between the answer of its peer,
+// an INIT ACK of tag 9 and first TSN 200. Another program computed the checksums.
 const INIT: &str =
     "1388138800000000645350c70100001e0000000700500000ffffffff00000064c00000048008000682c00000";
 
@@ -35,7 +35,7 @@ fn incoming(rt: &impl Abort, alloc: Global) -> Vec<Vec<u8>> {
     Vec::from_array(alloc, [no_packet, init_ack]).expect(rt, "no packets")
 }
 
-// INIT and COOKIE ECHO have to come, and an error.
+// INIT and COOKIE ECHO must come, and an error.
 fn connects(rt: &impl Abort, alloc: Global, told: &SocketOutput) {
     let [init, cookie_echo] = told.packets.as_slice() else {
         rt.panic("there are not two packets")

@@ -6,7 +6,7 @@ use std::alloc::Global;
 use std::fmt::Display;
 use std::process::Abort;
 
-// `Display` has to write this text.
+// `Display` must write this text.
 fn is_displayed_as<T: Display>(rt: &impl Abort, alloc: Global, value: &T, expected: &str) {
     let text = format!(in alloc; "{value}").expect(rt, "memory for the text");
     same(rt, "Display", text.as_str(), expected);

@@ -1,5 +1,5 @@
--- Outside examples of which packets are worked, computed by the definitions: a wrong line in specs/Admission
--- would not check here (RFC 9260, sections 8.4, 8.5 and 8.5.1).
+-- Outside examples of which packets are handled, computed by the definitions: a wrong line in
+-- specs/Admission would not check here (RFC 9260, sections 8.4, 8.5 and 8.5.1).
 use Rattle.std.proofs.Common.{◌≡◌, ℕ, true, false, List, [], ◌∷◌, refl}
 use Rattle.std.specs.Prelude.{codes}
 use Rattle.std.specs.Fmt.{padded_integral, digits, char_count}
@@ -89,7 +89,7 @@ reflected_abort_in_closed : admits closed (packet 0 (abort true [] ∷ [])) ≡ 
 unfolding packet abort_is_wrong
 reflected_abort_in_closed = refl
 
--- In Closed the own tag is 0, and all chunks are worked with the ABORT.
+-- In Closed our tag is 0, and all chunks are handled with the ABORT.
 abort_in_closed : admits closed (packet 0 (an_init ∷ abort false [] ∷ a_data_chunk ∷ [])) ≡ all_chunks
 unfolding packet an_init a_data_chunk
 abort_in_closed = refl

@@ -1,5 +1,5 @@
--- Outside examples of the turns of a packet, worked by hand and computed by the definitions: a wrong rule in specs/ would
--- not check here.
+-- Outside examples of the turns of a packet, worked out by hand and computed by the definitions: a
+-- wrong rule in specs/ would not check here.
 use Rattle.std.proofs.Common.{◌≡◌, true, false, List, [], ◌∷◌, refl}
 use Rattle.dcsctp_types.specs.wire.Content.{data_chunk, sack_chunk}
 use Rattle.dcsctp_types.specs.declared.association.Pair.{Pair}
@@ -14,7 +14,7 @@ use Rattle.dcsctp_spec.specs.endpoint.CallTurns.{Transition, transition, IsTurn,
 
 -- ---- before the chunks
 
--- a SHUTDOWN, and behind it a DATA chunk or a SACK chunk
+-- a SHUTDOWN, and after it a DATA chunk or a SACK chunk
 abbrev with_data : List Content
 with_data = shutdown 5 ∷ plain (unworked (data_chunk (record { flags = record { is_end = true; is_beginning = true; is_unordered = false; immediate_ack = false }; tsn = 9; stream_id = 0; ssn = 0; ppid = 0; payload = 65 ∷ [] }))) ∷ []
 
@@ -42,13 +42,13 @@ data_rests e mine held o = refl
 abbrev worked_first : Outcome → Transition
 worked_first o = transition (chunk_input 7 cookie_ack) o
 
--- Where it goes on, the second has its turn.
+-- Where the next chunk follows, the second has its turn.
 second_is_worked : (e : Endpoint) (ends : List Input) (turns : List Transition) → let o : Outcome = record (still e) { following = next_chunk } in
     ChunkTurns e 7 (cookie_ack ∷ shutdown_ack ∷ []) ends (worked_first o ∷ turns)
     ≡ (IsTurn e (chunk_input 7 cookie_ack) (worked_first o) × ChunkTurns e 7 (shutdown_ack ∷ []) ends turns)
 second_is_worked e ends turns = refl
 
--- Where no other chunk is worked, the packet's end comes all the same;
+-- Where no other chunk is handled, the packet's end comes all the same;
 end_comes : (e : Endpoint) (ends : List Input) (turns : List Transition) → let o : Outcome = record (still e) { following = packet_end } in
     ChunkTurns e 7 (cookie_ack ∷ shutdown_ack ∷ []) ends (worked_first o ∷ turns)
     ≡ (IsTurn e (chunk_input 7 cookie_ack) (worked_first o) × Turns e ends turns)

@@ -109,7 +109,7 @@ incoming_request_is_14 : bytes_of (re_config (incoming_reset_request 0x01020304 
 unfolding parameter_bytes parameters_len parameter_chunk_bytes
 incoming_request_is_14 = refl
 
--- No stream number stands for all streams.
+-- A list without stream numbers means all streams.
 request_for_all_streams : bytes_of (re_config (incoming_reset_request 0x01020304 [] ∷ [])) ≡ 130 ∷ 0 ∷ 0 ∷ 12 ∷ 0 ∷ 14 ∷ 0 ∷ 8 ∷ 1 ∷ 2 ∷ 3 ∷ 4 ∷ []
 unfolding parameter_bytes parameters_len parameter_chunk_bytes
 request_for_all_streams = refl
@@ -118,7 +118,7 @@ response_is_16 : bytes_of (re_config (reconfiguration_response 0x01020304 InProg
 unfolding parameter_bytes parameters_len parameter_chunk_bytes
 response_is_16 = refl
 
--- The padding of a request counts where a response stands behind it, and doesn't where it is the last.
+-- The padding of a request counts where a response follows it, and doesn't where it is the last.
 request_before_response : bytes_of (re_config (outgoing_reset_request 1 2 (record { last_tsn = 3; streams = 4 ∷ [] }) ∷ reconfiguration_response 5 SuccessPerformed ∷ []))
     ≡ 130 ∷ 0 ∷ 0 ∷ 36 ∷ 0 ∷ 13 ∷ 0 ∷ 18 ∷ 0 ∷ 0 ∷ 0 ∷ 1 ∷ 0 ∷ 0 ∷ 0 ∷ 2 ∷ 0 ∷ 0 ∷ 0 ∷ 3 ∷ 0 ∷ 4 ∷ 0 ∷ 0 ∷ 0 ∷ 16 ∷ 0 ∷ 12 ∷ 0 ∷ 0 ∷ 0 ∷ 5 ∷ 0 ∷ 0 ∷ 0 ∷ 1 ∷ []
 unfolding parameter_bytes parameters_len parameter_chunk_bytes

@@ -1,5 +1,5 @@
--- Outside examples of what a socket does with a COOKIE ECHO, worked by hand and computed by the definitions: a wrong
--- rule in specs/ would not check here.
+-- Outside examples of what a socket does with a COOKIE ECHO, worked out by hand and computed by the
+-- definitions: a wrong rule in specs/ would not check here.
 use Rattle.std.proofs.Common.{◌≡◌, ℕ, false, None, List, [], ◌∷◌, refl}
 use Rattle.std.specs.Prelude.{pos, codes}
 use Rattle.dcsctp_types.specs.wire.Content.{cookie_received_while_shutting_down, error_chunk}
@@ -36,7 +36,7 @@ made e waiting packets_sent =
 
 -- ---- no peer is held
 
--- The message under way goes on, under its next number. COOKIE ACK has no checksum, as both have the method.
+-- The message under way continues, under its next number. COOKIE ACK has no checksum, as both have the method.
 echo_where_closed : (e : Endpoint) → cookie_echo_outcome (socket e 1191 (pos 4) closed 4) closed 7 (cookie_at (own_cookie 0)) 55
     ≡ record { words = U64 55 ∷ []; effects = holds link ∷ connects link ∷ []; after = made e queue_renumbered 5; events = connected ∷ packet_of false 9 (cookie_ack ∷ []) ∷ []; following = next_chunk }
 unfolding cookie_at
@@ -156,7 +156,7 @@ old_echo_of_existing : (e : Endpoint) → (cookie_echo_outcome (record (socket e
 unfolding cookie_at
 old_echo_of_existing e = refl
 
--- A clock that is behind the cookie's moment makes no age.
+-- A clock that is before the cookie's moment gives no age.
 echo_of_later_moment : (e : Endpoint) → (cookie_echo_outcome (record (socket e 1191 (pos 4) closed 4) { moment = 0 }) closed 7 (cookie_at (own_cookie 0)) 55).effects ≡ holds link ∷ connects link ∷ []
 unfolding cookie_at
 echo_of_later_moment e = refl

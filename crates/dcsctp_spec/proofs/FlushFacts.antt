@@ -1,5 +1,5 @@
--- Outside examples of a flush with answers, worked by hand and computed by the definitions: a wrong rule in specs/ would not
--- check here.
+-- Outside examples of a flush with answers, worked out by hand and computed by the definitions: a
+-- wrong rule in specs/ would not check here.
 use Rattle.std.proofs.Common.{◌≡◌, ℕ, true, false, None, List, [], ◌∷◌, refl}
 use Rattle.std.specs.Prelude.{pos, negsuc}
 use Rattle.dcsctp_types.specs.wire.declared.chunk.user_data.DataFlags.{DataFlags}
@@ -33,8 +33,8 @@ answering e chunks told below = record { acknowledgements = []; begun = None; da
 abbrev acknowledgement : Emission
 acknowledgement = record { with_checksum = false; packet = record { tag = 9; contents = cookie_ack ∷ [] } }
 
--- The first packet takes one message behind its COOKIE ACK, and the second takes the other message, under
--- the peer's tag 9. The user is told what fell before the packet that it fell for, and the transfer layer is as the second
+-- The first packet takes one message after its COOKIE ACK, and the second takes the other message, under
+-- the peer's tag 9. What fell is reported before the packet that it fell for, and the transfer layer is as the second
 -- answer leaves it.
 two_packets : (e : Endpoint) (one two : EndpointQueues) → flush_of (flushing e 4) acknowledgement
     (answering (flushing e 4) (first ∷ []) [] one

@@ -1,5 +1,6 @@
--- Outside examples of what `follow_rfc` changes, worked by hand and computed by the definitions: a wrong rule in specs/ would not
--- check here. Shutdown and COOKIE ECHO have theirs in ShutdownFacts and CookieEchoFacts.
+-- Outside examples of what `follow_rfc` changes, worked out by hand and computed by the definitions: a
+-- wrong rule in specs/ would not check here. Shutdown and COOKIE ECHO have theirs in ShutdownFacts and
+-- CookieEchoFacts.
 use Rattle.std.proofs.Common.{◌≡◌, ◌^◌, ◌-◌, ℕ, zero, suc, Bool, true, false, None, Some, List, [], ◌∷◌, refl}
 use Rattle.dcsctp_types.specs.declared.options.Options.{Options}
 use Rattle.dcsctp_types.specs.declared.tracking.TsnRange.{TsnRange}
@@ -77,7 +78,7 @@ nothing_told transfer = refl
 one_told_by_port : (transfer : Transfer) → advertised_window (full false transfer) ≡ 1
 one_told_by_port transfer = refl
 
--- A window of 15 bytes has room for new data up to 13.5 of them, so with 13 in use one more is told.
+-- A window of 15 bytes has room for new data up to 13.5 of them, so with 13 in use one more is reported.
 rounded_up : (queue : ReassemblyState) → bytes_to_watermark (record (holding (message 9 ∷ message 4 ∷ []) queue) { max_size = 15 }) ≡ 1
 rounded_up queue = refl
 

@@ -37,7 +37,7 @@ method_of_the_other_side : agreed_method (offer true true true 0 1 1) (offer tru
 unfolding offer
 method_of_the_other_side = refl
 
--- The answer is the own offer, without a method that isn't common.
+-- The answer is our offer, without a method that isn't common.
 answer_without_method : answering_offer (offer true true true 2 1 2) (offer false true false 1 3 4) ≡ offer false true false 0 3 4
 unfolding offer
 answer_without_method = refl

@@ -1,5 +1,5 @@
--- Outside examples of what a socket does with connect, INIT ACK and COOKIE ACK, worked by hand and computed by
--- the definitions: a wrong rule in specs/ would not check here.
+-- Outside examples of what a socket does with connect, INIT ACK and COOKIE ACK, worked out by hand and
+-- computed by the definitions: a wrong rule in specs/ would not check here.
 use Rattle.std.proofs.Common.{◌≡◌, ℕ, Bool, true, false, Option, None, Some, List, [], ◌∷◌, refl}
 use Rattle.std.specs.Prelude.{ℤ, pos, negsuc, codes}
 use Rattle.dcsctp_types.specs.wire.declared.reconfiguration.ReconfigurationResponseResult.TheVariants.{SuccessNothingToDo}
@@ -86,7 +86,7 @@ queue =
       turns_taken = 0;
     }
 
--- and it goes on under the next number, as messages are interleaved
+-- and it continues under the next number, as messages are interleaved
 abbrev pub queue_renumbered : SendQueueState
 queue_renumbered =
     record queue {
@@ -116,7 +116,7 @@ socket e mtu max_burst core packets_sent =
 abbrev pub by_rfc : Endpoint → Endpoint
 by_rfc e = record e { options = record e.options { follow_rfc = true } }
 
--- T1, just started: it is doubled each time, and goes on eight times
+-- T1, just started: it is doubled each time, and restarts eight times
 abbrev t1_due : ℕ → ℕ → Option RunningTimer
 t1_due deadline duration = Some (record { deadline = deadline; wait = duration; expiries = 0; terms = record { backoff = Exponential; max_restarts = Some 8; max_backoff = None } })
 
@@ -270,7 +270,7 @@ echo_that_does_not_fit : (e : Endpoint) → init_ack_outcome (socket e 31 (pos 4
 unfolding other_bytes
 echo_that_does_not_fit e = refl
 
--- The peer is told that the State Cookie, parameter 7, is missing; then the association ends.
+-- An ABORT says that the State Cookie, parameter 7, is missing; then the association ends.
 init_ack_without_cookie : (e : Endpoint) → init_ack_outcome (socket e 1191 (pos 0) (cookie_wait mine) 4) theirs None (cookie_wait mine) 55
     ≡ record {
       words = [];

@@ -9,7 +9,7 @@ use Rattle.dcsctp_spec.specs.endpoint.HeartbeatOutcomes.{error_counted, is_exhau
 
 -- ---- errors
 
--- A limit of 0 is passed by the first error, and further ones aren't told apart.
+-- A limit of 0 is passed by the first error, and further ones aren't counted.
 first_error : error_counted (Some 0) 0 ≡ 1
 first_error = refl
 

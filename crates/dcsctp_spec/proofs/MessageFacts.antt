@@ -47,6 +47,6 @@ shutting_down_is_refused : (e : Endpoint) (my : Pair) (held : Held) → message_
 unfolding socket full
 shutting_down_is_refused e my held = refl
 
--- Its end is told before the error.
+-- Its end is reported before the error.
 the_end_comes_first : refusal_events empty_payload (Some 5) ≡ lifecycle_end 5 ∷ error ProtocolViolation (codes "Unable to send empty message") ∷ []
 the_end_comes_first = refl

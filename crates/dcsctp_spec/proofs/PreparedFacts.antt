@@ -66,7 +66,7 @@ again_stays : prepared 2 (prepared 2 two) ≡ prepared 2 two
 unfolding queue stream message
 again_stays = refl
 
--- Of one that is under way a byte went out, and behind it another waits: it stays, and the stream isn't ready yet.
+-- Of the one that is under way a byte was sent, and another waits after it: the first stays, and the stream isn't ready yet.
 abbrev started : SendQueueState
 started = queue 5 (under_way_on 2) (stream 2 Open 5 (message 4 ∷ message 6 ∷ []) ∷ [])
 
@@ -93,12 +93,12 @@ none_is_begun : has_queued_data (prepared_all (2 ∷ 5 ∷ []) two) ≡ false
 unfolding queue stream message
 none_is_begun = refl
 
--- ---- what is told
+-- ---- the events
 
 told : List ℕ → SendQueueState → List (Event Emission)
 told ids queue = prepare_all_events ids queue
 
--- Stream 2 falls to nothing, all of them to 3 bytes, which is below 5; and two messages are given up, each by its name.
+-- Stream 2 falls to nothing, all of them to 3 bytes, which is below 5; and two messages are abandoned, each by its name.
 both_fall : told (2 ∷ []) two
     ≡ buffered_amount_low 2 ∷ total_buffered_amount_low ∷ lifecycle_message_expired 4 ∷ lifecycle_end 4 ∷ lifecycle_message_expired 6 ∷ lifecycle_end 6 ∷ []
 unfolding told queue stream message
@@ -116,7 +116,7 @@ one_is_told : told (2 ∷ []) started ≡ lifecycle_message_expired 6 ∷ lifecy
 unfolding told queue stream message under_way_on
 one_is_told = refl
 
--- It is told where the amount comes down to its threshold, and not where it was there before.
+-- It is reported where the amount comes down to its threshold, and not where it was there before.
 down_to_it : falls_low 5 12 7 ≡ true
 down_to_it = refl
 

@@ -1,5 +1,5 @@
--- Outside examples of a request to reset streams that goes out again, worked by hand and computed by the definitions: a
--- wrong rule in specs/ would not check here.
+-- Outside examples of a request to reset streams that is sent again, worked out by hand and computed
+-- by the definitions: a wrong rule in specs/ would not check here.
 use Rattle.std.proofs.Common.{◌≡◌, ℕ, Bool, true, false, Option, None, Some, [], ◌∷◌, refl}
 use Rattle.std.specs.Prelude.{pos}
 use Rattle.dcsctp_types.specs.wire.Spelling.{parameter_bytes, parameters_len, parameter_chunk_bytes}
@@ -123,7 +123,7 @@ too_long : (e : Endpoint) → expires (awaiting e 35 0 (Some (request false)) (t
 unfolding parameter_bytes parameters_len parameter_chunk_bytes
 too_long e = refl
 
--- Each wait is twice the last one, from the moment that the socket was told, which may be late, and without a limit.
+-- Each wait is twice the last one, without a limit, and counts from the moment of the call, which may be late.
 twentieth_time : (e : Endpoint) → (expires (awaiting e 36 0 (Some (request false)) (timer 4_000_000_000 524_288_000_000_000 19))).after.timers.reconfiguration
     ≡ timer 1_048_581_000_000_000 1_048_576_000_000_000 20
 unfolding parameter_bytes parameters_len parameter_chunk_bytes

@@ -100,7 +100,7 @@ repeated_by_outgoing c = refl
 no_parameters : (c : Capabilities) → (work_chunk own true (held c 9) []).is_refused ≡ true
 no_parameters c = refl
 
--- The first of two was worked, and no answer goes out.
+-- The first of two was handled, and no answer is sent.
 abbrev twice : (c : Capabilities) → HandledParameters
 twice c = work_chunk own true (held c 9) (request ∷ outgoing_reset_request 11 3 (record { last_tsn = 11; streams = 2 ∷ [] }) ∷ [])
 
@@ -110,7 +110,7 @@ second_is_refused c = refl
 first_was_worked : (c : Capabilities) → (twice c).effects ≡ accepts 10 ∷ performs theirs 10 ∷ []
 first_was_worked c = refl
 
--- ---- the own request, number 3, which resets stream 4
+-- ---- our request, number 3, which resets stream 4
 
 abbrev asking : (c : Capabilities) → Held
 asking c = record (held c 9) { own_next = 4; own_outstanding = Some 3 }

@@ -63,7 +63,7 @@ first_waits : (name : LifecycleId) → sending_queued 1_000_000_000 (asked name)
 unfolding queue fresh stream asked asked_waits
 first_waits name = refl
 
--- Another waits behind it.
+-- Another waits after it.
 second_waits : (name : LifecycleId)
     → sending_queued 9 plain (queue 3 1 None (fresh 1 3 (asked_waits name ∷ []) ∷ [])) ≡ queue 5 2 None (fresh 1 5 (asked_waits name ∷ plain_waits 1 ∷ []) ∷ [])
 unfolding queue fresh stream plain plain_waits
@@ -146,7 +146,7 @@ handed : queue_committed (queue_handing_out 1 asked_of) ≡ queue 1 5 (Some one_
 unfolding queue stream fresh begun_now one_sent
 handed = refl
 
--- If its reset failed, its numbers go on.
+-- If its reset failed, its numbers continue.
 handed_back : queue_rolled_back (queue_handing_out 1 asked_of) ≡ queue 1 5 (Some one_sent) (stream 1 Pausing 1 (plain_waits 4 ∷ []) ∷ stream 2 Open 0 [] ∷ stream 3 Pausing 0 [] ∷ [])
 unfolding queue stream begun_now one_sent
 handed_back = refl

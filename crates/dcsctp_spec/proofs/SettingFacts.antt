@@ -16,7 +16,7 @@ queue : List Stream → SendQueueState
 queue streams =
     record { streams = streams; under_way = None; total_amount = 0; total_threshold = 0; default_priority = 256; default_threshold = 0; is_interleaved = false; next_message_id = 0; takes_turns = false; turns_taken = 0 }
 
--- A stream that was never used has the defaults but for what is set, and stands between its neighbours.
+-- A stream that was never used has the defaults but for what is set, and comes between its neighbours.
 first_is_set : set_in_queue (stream_priority 1 5) (queue []) ≡ queue (stream 1 0 5 ∷ [])
 unfolding queue stream
 first_is_set = refl
@@ -30,7 +30,7 @@ again_is_set : set_in_queue (stream_low_threshold 3 8) (queue (stream 1 0 5 ∷ 
 unfolding queue stream
 again_is_set = refl
 
--- What the user is told: 5 for a stream with that priority, and 256, the default, for another.
+-- What the user reads: 5 for a stream with that priority, and 256, the default, for another.
 priorities_are_told : (queue_stream (queue (stream 1 0 5 ∷ [])) 1).priority ≡ 5
 unfolding queue stream
 priorities_are_told = refl

@@ -1,5 +1,5 @@
--- Outside examples of how an association is shut down, worked by hand and computed by the definitions: a wrong rule in specs/
--- would not check here. Moments and durations are nanoseconds.
+-- Outside examples of how an association is shut down, worked out by hand and computed by the
+-- definitions: a wrong rule in specs/ would not check here. Moments and durations are nanoseconds.
 use Rattle.std.proofs.Common.{◌≡◌, ◌+◌, ◌^◌, ℕ, zero, suc, true, false, Option, None, Some, List, [], ◌∷◌, refl}
 use Rattle.std.specs.Prelude.{pos, map}
 use Rattle.dcsctp_types.specs.declared.ends.AbortReason.TheVariants.{TooManyErrors}
@@ -243,7 +243,7 @@ sends_again e transfer = refl
 answers_again : (e : Endpoint) (transfer : Transfer) → (t2_again_outcome (at e (in_phase shutdown_ack_sent) transfer 0)).events ≡ answer ∷ []
 answers_again e transfer = refl
 
--- Data that comes meanwhile starts it anew.
+-- Data that comes meanwhile starts it again.
 data_starts_it : (e : Endpoint) (transfer : Transfer) → shutdown_repeated (at e (in_phase shutdown_sent) transfer 0) held
     ≡ went (waiting (at e (in_phase shutdown_sent) transfer 0) shutdown_sent) request
 data_starts_it e transfer = refl

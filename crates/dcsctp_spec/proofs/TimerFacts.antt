@@ -25,7 +25,7 @@ starts_for_a_second : started 5 (record { duration = 1_000_000_000; terms = reco
 unfolding second
 starts_for_a_second = refl
 
--- Two seconds, then four, each from the moment that it was told, which may be late.
+-- Two seconds, then four, each from the moment of the call, which may be late.
 then_two : expired 1_000_000_000 (second (Some 8) 1_000_000_000 1_000_000_000 0) ≡ Some (second (Some 8) 3_000_000_000 2_000_000_000 1)
 unfolding second
 then_two = refl
@@ -47,7 +47,7 @@ no_restart_at_all : expired 1_000_000_000 (second (Some 0) 1_000_000_000 1_000_0
 unfolding second
 no_restart_at_all = refl
 
--- a timer of a fixed wait, and one that a bound cuts and that goes on doubling behind it
+-- a timer with a fixed wait, and one that a bound cuts while its wait keeps doubling
 fixed : ℕ → ℕ → RunningTimer
 fixed deadline expiries = record { deadline = deadline; wait = 30; expiries = expiries; terms = record { backoff = Fixed; max_restarts = None; max_backoff = None } }
 

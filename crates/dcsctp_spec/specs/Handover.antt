@@ -27,6 +27,6 @@ readiness_in e (cookie_wait my) = wrong_connection_state
 readiness_in e (cookie_echoed my held cookie) = wrong_connection_state
 readiness_in e (open_in phase my held) = readiness_open e phase held
 
--- A closed socket is ready. Else an association has to be established; the reasons are those of its parts.
+-- A closed socket is ready. Otherwise an association must be established; the reasons are those of its parts.
 abbrev pub readiness_of : Endpoint → ℕ
 readiness_of e = readiness_in e e.core

@@ -24,7 +24,7 @@ pub data Plain : Type 0 where
   -- HEARTBEAT and HEARTBEAT ACK (RFC 9260, sections 3.3.5 and 3.3.6): their parameters
   heartbeat : List ParameterContent → Plain
   heartbeat_ack : List ParameterContent → Plain
-  -- any other kind, as it is in its packet: data, SACK and ERROR are told apart by it, and the others aren't handled
+  -- any other kind, as it is in its packet: data, SACK and ERROR are recognized by it, and the others aren't handled
   unworked : ChunkContent → Plain
 
 -- is it a DATA chunk?

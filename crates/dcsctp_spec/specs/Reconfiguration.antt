@@ -20,7 +20,7 @@ pub data ResetParameter : Type 0 where
   incoming_reset_request : ℕ → List ℕ → ResetParameter
   -- Re-configuration Response (RFC 6525, section 4.4): the number of the request, and its result
   reconfiguration_response : ℕ → ReconfigurationResponseResult → ResetParameter
-  -- any other, as it stands in its chunk
+  -- any other, as it is in its chunk
   other_reset_parameter : ParameterContent → ResetParameter
 
 -- as a parameter of a chunk

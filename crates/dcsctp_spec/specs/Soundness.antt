@@ -43,7 +43,7 @@ pub record IsSoundTransfer (transfer : Transfer) : Type 0 where
   pub items : AllByRecursion HasBytes transfer.retransmission.outstanding.items
   -- TSNs can be compared (RFC 9260, section 1.6).
   pub few : length transfer.retransmission.outstanding.items < 2 ^ 31
-  -- Each stream stands once.
+  -- Each stream occurs once.
   pub streams : AreInOrder transfer.reassembly.incoming.streams
 
 -- Once the peer is known there is such a layer of the association.

@@ -2,6 +2,6 @@
 //! in `proofs/`.
 #![tactic(auto)]
 
-// What stands below, for the crates above.
+// The crates below, for those above.
 pub use dcsctp_types as types;
 pub use dcsctp_types::wire;

@@ -16,7 +16,7 @@ use Rattle.dcsctp_spec_lemmas.specs.spec.association.Acts.{abort_with, hands_ove
 use Rattle.dcsctp_spec_lemmas.specs.spec.association.Controlled.{Observation, packet_sent, has_ended, observations_of_events, IsControlled, ControlledAct}
 use Rattle.dcsctp_spec_lemmas.proofs.ControlHandshake.{no_choices, still_controlled}
 
--- ---- the own abort
+-- ---- our abort
 
 told_end : (reason : AbortReason) → observations_of_events (end_of reason ∷ []) ≡ has_ended ∷ []
 told_end reasons.CloseCalled = refl

@@ -148,9 +148,9 @@ chunks_are_controlled e tag shutdown_ack o turn fitting = shutdown_ack_controlle
 chunks_are_controlled e tag (shutdown_complete reflected) o turn fitting = shutdown_complete_controlled e tag reflected o turn
 chunks_are_controlled e tag (plain chunk) o turn fitting = plain_controlled e tag chunk o turn
 
--- ---- what stands before a packet's chunks
+-- ---- what comes before a packet's chunks
 
--- Nothing happens, or a SHUTDOWN goes out again.
+-- Nothing happens, or a SHUTDOWN is sent again.
 pub begin_stands : (e : Endpoint) (core : Core) (has : Bool) (o : Outcome) → e.core ≡ core → BeginTurn e core has o → (o ≡ still e) ⊎ ControlledAct e shutdown_repeats o
 begin_stands e closed has o is turn = inl turn
 begin_stands e (cookie_wait my) has o is turn = inl turn

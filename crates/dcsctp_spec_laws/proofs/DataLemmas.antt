@@ -160,7 +160,7 @@ abbrev fronted : List Plain → List Answer → List Answer
 fronted front [] = []
 fronted front (answer ∷ answers) = record answer { acknowledgements = front ++ answer.acknowledgements } ∷ answers
 
--- three lists of contents, by what stands in front
+-- three lists of contents, with the first two joined
 shifted : (front acknowledgements : List Plain) (rest : List Content) → plain_contents front ++ (plain_contents acknowledgements ++ rest) ≡ plain_contents (front ++ acknowledgements) ++ rest
 shifted front acknowledgements rest =
     sym (append_assoc (plain_contents front) (plain_contents acknowledgements) rest)
@@ -176,7 +176,7 @@ same_begun : (front : List Plain) (answers : List Answer) → begun_by (fronted 
 same_begun front [] = refl
 same_begun front (answer ∷ answers) = refl
 
--- the flush that stands in the change is that of the turn
+-- the flush in the change is that of the turn
 same_flush : (tag : ℕ) (held : Held) (front : List Plain) (answers : List Answer) → IsBegun (begun_by answers) held
     → flush tag held (plain_contents front) (filling_of answers) ≡ flush tag held [] (filling_of (fronted front answers))
 same_flush tag held front answers begun =
@@ -272,7 +272,7 @@ queues_all e (message ∷ messages) =
           ∙ ap (λ (ss : List Observation). ss ++ observations_of_events (queue_all first.after messages).events) one.observations ∙ rest.observations;
     }
 
--- what goes out behind the events of the messages
+-- what is sent after the events of the messages
 behind_messages : (o p : Outcome) → o.words ≡ [] → o.effects ≡ [] → then_outcome o p ≡ behind [] o.events p
 behind_messages o p words effects =
     ap (λ (ws : List Word). record (then_outcome o p) { words = ws ++ p.words }) words

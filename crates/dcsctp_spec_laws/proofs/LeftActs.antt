@@ -25,7 +25,7 @@ use Rattle.dcsctp_spec_laws.proofs.LeftLemmas.{Ends, StaysIn, LeavesIn, unmoved,
 use Rattle.dcsctp_spec_laws.proofs.LeftChunks.{echo_stays}
 use Rattle.dcsctp_spec_laws.proofs.LeftData.{step_stays, step_from_stays, flush_turn_stays, delay_stays, loss_stays}
 
--- ---- the own abort
+-- ---- our abort
 
 aborts_where : (b : Bool) (e : Endpoint) (held : Held) (reason : AbortReason) → Ends e (ended_outcome (if b then sends e [] [] (abort_to held reason) else quiet e [] []) (end_of reason)).after
 aborts_where true e held reason = record { left = refl; none = refl }

@@ -27,7 +27,7 @@ use Rattle.dcsctp_spec_lemmas.specs.spec.association.Controlled.{observations_of
 use Rattle.dcsctp_spec_lemmas.proofs.ControlHandshake.{no_choices, filling_where, still_controlled, ControlledAt}
 use Rattle.dcsctp_spec_laws.proofs.ControlEnds.{aborts_where}
 
--- what a chunk chooses where nothing waits and nothing is said
+-- what a chunk chooses where nothing waits and nothing is sent
 abbrev nothing_chosen : Endpoint → Choices
 nothing_chosen e = record (no_choices e false) { is_acknowledged = false; filling = filling_where false }
 
@@ -52,12 +52,12 @@ follows e type = record (nothing_chosen e) { following = after_unknown type }
 abbrev reporting : Endpoint → ℕ → List ℕ → Choices
 reporting e type chunk = record (follows e type) { plain = (unknown_error e chunk ∷ []) ∷ [] }
 
--- what it is to the association, where the user alone is told, or nobody
+-- what it is to the association, where nothing is sent to the peer
 silent : (e : Endpoint) (core : Core) → e.core ≡ core → (type : ℕ) (events : List (Event Emission)) → observations_of_events events ≡ []
     → IsControlled e (record { words = []; effects = []; after = e; events = events; following = after_unknown type }) (record { core = core; effects = []; following = after_unknown type })
 silent e core is type events none = record { core = is; options = refl; observations = none; effects = refl; following = refl }
 
--- where the peer is told too
+-- where the peer gets a report
 told : (e : Endpoint) (core : Core) (held : Held) (type : ℕ) (chunk : List ℕ) → e.core ≡ core
     → IsControlled e (record (sends e [] (error ParseFailed (unknown_text type) ∷ []) (unknown_report e held chunk)) { following = after_unknown type })
     (record { core = core; effects = effects.sends (unknown_report e held chunk).packet ∷ []; following = after_unknown type })
@@ -148,7 +148,7 @@ heartbeat_ack_at e core tag chunk (Some counter) is = counted_at (counter == e.h
 
 -- ---- an ERROR
 
--- The user alone is told.
+-- Only the user gets an event.
 told_of : (e : Endpoint) (core : Core) (tag : ℕ) (chunk : Plain) (text : List ℕ) → e.core ≡ core → ControlledAt e core tag (plain chunk) (reports e PeerReported text)
 told_of e core tag chunk text is = quietly e core tag chunk (reports e PeerReported text) (record { core = is; options = refl; observations = refl; effects = refl; following = refl })
 

@@ -61,7 +61,7 @@ both_are _ rest (performance peer number front are) more = performance peer numb
 both_are _ rest (completion my number front are) more = completion my number (front ++ rest) (both_are front rest are more)
 both_are _ rest (failure number front are) more = failure number (front ++ rest) (both_are front rest are more)
 
--- The user is told of each.
+-- The events show the same as the effects.
 told_signs : (theirs own : List ℕ) (es : List Effect) → AreResets es → observations_of_events (reset_events theirs own es) ≡ observations_of_effects es
 told_signs theirs own _ nothing = refl
 told_signs theirs own _ (acceptance number es are) = told_signs theirs own es are
@@ -69,7 +69,7 @@ told_signs theirs own _ (performance peer number es are) = ap (λ (ss : List Obs
 told_signs theirs own _ (completion my number es are) = ap (λ (ss : List Observation). own_reset_performed ∷ ss) (told_signs theirs own es are)
 told_signs theirs own _ (failure number es are) = ap (λ (ss : List Observation). own_reset_failed ∷ ss) (told_signs theirs own es are)
 
--- What is known of the association stays but for the last number of the peer and its answer, and the own request may have ended.
+-- What is known of the association stays but for the last number of the peer and its answer, and our request may have ended.
 pub record KeepsPeer (old new : Held) : Type 0 where
   pub peer : new.peer ≡ old.peer
   pub capabilities : new.capabilities ≡ old.capabilities
@@ -166,7 +166,7 @@ chunk_brings my reached held (parameter ∷ parameters) = parameters_bring my re
 
 -- ---- answers, and a flush
 
--- Such effects, with packets behind them or without.
+-- Such effects, with packets after them or without.
 pub record Shows (before es : List Effect) : Type 0 where
   pub observations : (rest : List Effect) → observations_of_effects (before ++ rest) ≡ observations_of_effects before ++ observations_of_effects rest
   pub notes : (rest : List Effect) → noted (before ++ rest) ≡ es ++ noted rest
@@ -187,7 +187,7 @@ shows_packet es packet are =
 abbrev MovesTo : Endpoint → (Held → Core) → List Effect → Outcome → Flushed → Type 0
 MovesTo e rebuilt es o after = IsControlled e o (record { core = rebuilt after.held; effects = es ++ after.effects; following = next_chunk })
 
--- a flush behind effects
+-- a flush after effects
 flushes_behind : (e base : Endpoint) (rebuilt : Held → Core) (held : Held) (before es : List Effect) (events : List (Event Emission)) (answers : List Answer) → Rebuilds rebuilt held
     → base.core ≡ rebuilt held → SameOptions e.options base.options → IsPeerTag (rebuilt held) held.peer.tag → FlushAnswers base (draft_to held) answers
     → Shows before es → observations_of_events events ≡ observations_of_effects before
@@ -197,7 +197,7 @@ flushes_behind e base rebuilt held before es events answers builds is same peer 
     flush_controlled e base [] events (draft_to held) answers rebuilt held before es builds is same
     (subst (λ (c : Core). IsPeerTag c held.peer.tag) (sym is) peer) h told (shown.observations more) (shown.notes more)
 
--- the flush of the association, behind its answers
+-- the flush of the association, after its answers
 abbrev pub sent_then : List Effect → Held → List Answer → Flushed
 sent_then front held answers =
     let after : Flushed = flush held.peer.tag held [] (filling_of answers) in
@@ -223,7 +223,7 @@ answering e base rebuilt held es told emission answers builds is same peer h are
     (flushes_behind e base rebuilt held (es ++ sends emission.packet ∷ []) es (told ++ sent emission ∷ []) answers builds is same peer h (shows_packet es emission.packet are)
     (signs_append told (sent emission ∷ []) ∙ ap (λ (ss : List Observation). ss ++ packet_sent emission.packet ∷ []) shown ∙ sym (in_front es (sends emission.packet ∷ []) are).observations))
 
--- An error behind what the user is told shows nothing more.
+-- An error after these events shows nothing more.
 refusing : (e base : Endpoint) (core : Core) (es : List Effect) (told : List (Event Emission)) (text : List ℕ) → base.core ≡ core → SameOptions e.options base.options → AreResets es
     → observations_of_events told ≡ observations_of_effects es
     → IsControlled e (noting es (quiet base [] (told ++ error ProtocolViolation text ∷ []))) (record { core = core; effects = es ++ []; following = next_chunk })

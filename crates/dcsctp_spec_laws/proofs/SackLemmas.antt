@@ -31,7 +31,7 @@ use Rattle.dcsctp_spec_laws.proofs.ShutdownLemmas.{step_at}
 
 -- ---- what it chooses
 
--- a step of shutdown, where it may go on, these packets, and a flush that gets these answers
+-- a step of shutdown, where it may continue, these packets, and a flush that gets these answers
 abbrev pub stepped : Endpoint → ℕ → Bool → List (List Plain) → List Answer → Choices
 stepped e tsn is_acknowledged packets answers = record (chosen e packets answers) { tsn = tsn; is_acknowledged = is_acknowledged }
 
@@ -81,7 +81,7 @@ step_is (open_in shutdown_received my held) tsn true = record { holds = refl; ta
 step_is (open_in shutdown_received my held) tsn false = record { holds = refl; tag = 0; contents = []; sends = refl }
 step_is (open_in shutdown_ack_sent my held) tsn is_acknowledged = record { holds = refl; tag = 0; contents = []; sends = refl }
 
--- its packet stands before these
+-- its packet comes before these
 step_signs : (core : Core) (change : Change) (rest : List Effect) → StepIs core change → observations_of_effects (change.effects ++ rest) ≡ observations_of_effects change.effects ++ observations_of_effects rest
 step_signs core change rest is =
     ap (λ (es : List Effect). observations_of_effects (es ++ rest)) is.sends ∙ emitted_then is.tag is.contents rest

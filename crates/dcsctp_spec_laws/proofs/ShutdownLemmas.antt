@@ -14,7 +14,7 @@ use Rattle.dcsctp_spec_lemmas.specs.spec.association.Acts.{shut_down, step_of_sh
 use Rattle.dcsctp_spec_lemmas.specs.spec.association.Controlled.{IsControlled, ControlledChunk, ControlledAct}
 use Rattle.dcsctp_spec_lemmas.proofs.ControlHandshake.{no_choices, still_controlled}
 
--- what such a turn chooses: whether the shutdown may go on, and what a SHUTDOWN tells
+-- what such a turn chooses: whether the shutdown may continue, and what a SHUTDOWN reports
 abbrev pub stepping : Endpoint → Choices
 stepping e = record (no_choices e true) { is_acknowledged = may_go_on e; tsn = received_tsn e.queues.transfer }
 

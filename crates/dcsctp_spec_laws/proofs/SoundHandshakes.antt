@@ -24,7 +24,7 @@ own_or_none : (is_common : Bool) (options : Options)
 own_or_none true options = inr refl
 own_or_none false options = inl refl
 
--- Two ends agree on the method of the own options, or on none.
+-- Two ends agree on the method of our options, or on none.
 pub negotiates_own : (options : Options) (theirs : Offer) → UsesOwnMethod options (negotiated (offer_of options) theirs)
 negotiates_own options theirs = own_or_none (eqb options.zero_checksum_alternate_error_detection_method.0 theirs.zero_checksum_method) options
 

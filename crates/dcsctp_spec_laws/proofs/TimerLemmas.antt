@@ -60,7 +60,7 @@ t1_gives_up_controlled e o turn = subst (ControlledAct e (t1_expires false)) (sy
 
 -- ---- where nothing is due
 
--- each of these deadlines lies behind the moment
+-- each of these deadlines is after the moment
 abbrev AllBehind : ℕ → List ℕ → Type 0
 AllBehind moment [] = Unit {0}
 AllBehind moment (deadline ∷ deadlines) = moment < deadline × AllBehind moment deadlines
@@ -127,7 +127,7 @@ moved_alone e moment moved [] is rest =
     }
 moved_alone e moment moved (turn ∷ turns) is rest = absurd rest
 
--- All that are worked have deadlines that count.
+-- All timers that are handled have deadlines that count.
 all_told : (core : Core) → AwaitsNoCookieAck core → timers_counted core ≡ timers_in core
 all_told closed awaits = refl
 all_told (cookie_wait mine) awaits = refl

@@ -131,7 +131,7 @@ chunk_turns-push e tag (c ∷ contents) (p ∷ ts) content t goes_on turns turn 
     and_further e tag c (contents ++ content ∷ []) [] p (ts ++ t ∷ []) goes_on.0 turns.0
     (chunk_turns-push p.outcome.after tag contents ts content t goes_on.1 (further e tag c contents [] p ts goes_on.0 turns) turn)
 
--- The chunks behind a last one that says so have no turn, nor has the end of the packet.
+-- The chunks after one that drops the rest have no turn, nor has the end of the packet.
 pub chunk_turns-end : (e : Endpoint) (tag : ℕ) (contents : List Content) (tail : List Input) (ts : List Transition) (content : Content) (t : Transition) (rest : List Content)
     → GoOn ts → ChunkTurns e tag contents [] ts → IsTurn (after_all e ts) (chunk_input tag content) t → t.outcome.following ≡ dropped_rest
     → ChunkTurns e tag (contents ++ content ∷ rest) tail (ts ++ t ∷ [])
@@ -144,7 +144,7 @@ chunk_turns-end e tag (c ∷ contents) tail (p ∷ ts) content t rest goes_on tu
     and_further e tag c (contents ++ content ∷ rest) tail p (ts ++ t ∷ []) goes_on.0 turns.0
     (chunk_turns-end p.outcome.after tag contents tail ts content t rest goes_on.1 (further e tag c contents [] p ts goes_on.0 turns) turn drops)
 
--- The chunks behind one that says so have no turn, and the packet ends.
+-- The chunks after one that ends the packet have no turn, and the packet's end comes.
 pub chunk_turns-cut : (e : Endpoint) (tag : ℕ) (contents : List Content) (tail : List Input) (ts : List Transition) (content : Content) (t : Transition) (rest : List Content) (more : List Transition)
     → GoOn ts → ChunkTurns e tag contents [] ts → IsTurn (after_all e ts) (chunk_input tag content) t → t.outcome.following ≡ packet_end → Turns t.outcome.after tail more
     → ChunkTurns e tag (contents ++ content ∷ rest) tail (ts ++ t ∷ more)
@@ -156,7 +156,7 @@ chunk_turns-cut e tag (c ∷ contents) tail (p ∷ ts) content t rest more goes_
     and_further e tag c (contents ++ content ∷ rest) tail p (ts ++ t ∷ more) goes_on.0 turns.0
     (chunk_turns-cut p.outcome.after tag contents tail ts content t rest more goes_on.1 (further e tag c contents [] p ts goes_on.0 turns) turn cuts end)
 
--- Where no chunk dropped the rest, the packet's end comes behind them.
+-- Where no chunk dropped the rest, the packet's end comes after them.
 pub chunk_turns-whole : (e : Endpoint) (tag : ℕ) (contents : List Content) (tail : List Input) (ts more : List Transition)
     → GoOn ts → ChunkTurns e tag contents [] ts → Turns (after_all e ts) tail more → ChunkTurns e tag contents tail (ts ++ more)
 chunk_turns-whole e tag [] tail [] more goes_on turns end = end

@@ -31,7 +31,7 @@ use Rattle.dcsctp_spec_lemmas.specs.spec.queues.SendQueue.{SendQueueState, IsWel
 use Rattle.dcsctp_spec_lemmas.specs.spec.queues.Transfer.{Transfer}
 use Rattle.dcsctp_spec_laws.proofs.QueuedValidityLemmas.{each_is_given_once, queued_are_valid}
 
--- ---- no reason stands against it
+-- ---- there is no reason against it
 
 left_is_zero : (x y : ℕ) → bit_or x y ≡ 0 → x ≡ 0
 left_is_zero x y none = let least = le_or_l x y in omega arith
@@ -61,7 +61,7 @@ in_flight_have_bytes : (now : ℕ) (items : List Item) → AllByRecursion HasByt
 in_flight_have_bytes now [] each = refl
 in_flight_have_bytes now (item ∷ items) each = rw (in_flight_has_bytes now item each.0) (in_flight_have_bytes now items each.1)
 
--- As many TSNs stand between the one before the first and the next one.
+-- As many TSNs are between the one before the first and the next one.
 count_between : (first count : ℕ) → count < 2 ^ 31 → tsns_between ((first + (2 ^ 32 - 1)) % 2 ^ 32) ((first + count) % 2 ^ 32) ≡ count
 count_between first count few = omega arith
 

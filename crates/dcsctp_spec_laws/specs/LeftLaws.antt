@@ -26,7 +26,7 @@ LeftWhere e input None None left = left ≡ left_once input e.left
 LeftWhere e input None (Some new) left = left ≡ []
 -- It ends: what it leaves is what was ready before the turn.
 LeftWhere e input (Some old) None left = left ≡ left_by e.options (Some old) e.left
--- It goes on, or another one takes its place.
+-- It continues, or another one takes its place.
 LeftWhere e input (Some old) (Some new) left = (left ≡ e.left) ⊎ (left ≡ [])
 
 -- what a socket is handed: a request to reset streams is sent again by its timer alone

@@ -44,7 +44,7 @@ pub fn calls_keep_soundness()
 /// If a socket is ready to be handed over, its snapshot is valid for its options. This rests on what holds
 /// at all times. No verification tag is 0, and packets go without a checksum only by the method of the
 /// options. The send queue is well-formed. Once the peer is known, there is a transfer layer. Data in flight
-/// has bytes or is abandoned, and there are fewer than 2^31 items of it. Each incoming stream stands once.
+/// has bytes or is abandoned, and there are fewer than 2^31 items of it. Each incoming stream occurs once.
 pub fn snapshots_are_valid()
     ensures { SnapshotsAreValid }
 {}

@@ -1,4 +1,4 @@
--- An ask may be answered wherever its flush stands, and whatever the user was told of it already.
+-- An ask may be answered whichever packet its flush has reached, and whatever it reported already.
 use Rattle.std.proofs.Common.{◌≡◌, ◌∙◌, ℕ, zero, suc, Bool, true, false, Option, None, Some, List, [], ◌∷◌, ◌++◌, refl, sym, ap, subst}
 use Rattle.std.proofs.lemmas.List.{append-nil}
 use Rattle.dcsctp_spec.specs.endpoint.Endpoint.{Endpoint, held_in}
@@ -95,9 +95,9 @@ answer_at ask e draft (Some transfer) holds = answer_by ask e draft transfer (is
 pub some_answer : (ask : Ask) (e : Endpoint) (draft : Emission) → Completes ask e draft []
 some_answer ask e draft = answer_at ask e draft e.queues.transfer refl
 
--- ---- the answers of a flush, wherever it stands
+-- ---- the answers of a flush, whichever packet it has reached
 
--- the answers that go on from this one
+-- the answers that continue from this one
 goes_on : (ask : Ask) (n : ℕ) (e : Endpoint) (draft : Emission) (answer : Answer) (contents : List Content) → (filled draft (answer_contents answer)).packet.contents ≡ contents → IsFlushAnswer ask e draft answer
     → ((answers : List Answer) × AreFlushAnswers later_ask n (asked e draft answer).after (next_draft e.core draft) answers) → (answers : List Answer) × AreFlushAnswers ask (suc n) e draft (answer ∷ answers)
 goes_on ask n e draft answer [] is h rest = ([], at_empty ask n e draft answer h is)

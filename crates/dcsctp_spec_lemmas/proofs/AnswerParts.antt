@@ -1,4 +1,4 @@
--- The parts of an answer: how long its chunks are, that they fit their fields, and what the user is told.
+-- The parts of an answer: how long its chunks are, that they fit their fields, and its events.
 use Rattle.std.proofs.Common.{◌≡◌, inl, inr, ℕ, ◌≤◌, nat_le, Bool, true, false, Option, None, Some, if◌then◌else◌, List, [], ◌∷◌, ◌++◌, length, refl, sym, ap, subst, arith}
 use Rattle.std.specs.List.{AllByRecursion}
 use Rattle.std.proofs.lemmas.List.{map-append}

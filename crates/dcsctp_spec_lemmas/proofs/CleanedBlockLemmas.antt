@@ -25,7 +25,7 @@ apart_beyond (block ∷ next ∷ blocks) beyond = ((beyond.0, beyond.1), (beyond
 abbrev WithBlock : ℕ → GapAckBlock → List GapAckBlock → Type 0
 WithBlock from block blocks = (more : List GapAckBlock) × LieBeyond from more × ((offset : ℕ) → list_any (names offset) more ≡ (names offset block || list_any (names offset) blocks))
 
--- A block ends before another begins, or behind its end, with one missing between them; or they touch.
+-- A block ends before another begins, or begins after its end, with one missing between them; or they touch.
 where_it_lies : (block first : GapAckBlock) → (block.end + 1 < first.start) ⊎ ((first.end + 1 < block.start) ⊎ ((block.start ≤ first.end + 1) × (first.start ≤ block.end + 1)))
 where_it_lies block first = grind arith
 

@@ -70,7 +70,7 @@ connect_controlled e o turn = subst (ControlledAct e connect) (sym turn.2) (conn
 
 -- ---- INIT ACK
 
--- Without a cookie the peer is told where that fits, and the association ends.
+-- Without a cookie an ABORT is sent, if it fits, and the association ends.
 refused_where : (b : Bool) (e : Endpoint) (mine : Pair) (theirs : Introduction)
     → IsControlled e (ended_outcome (if b then sends e [] [] (abort_emission theirs.pair.tag) else quiet e [] []) (aborted ProtocolViolation no_cookie_text))
     (init_ack_change e.options (cookie_wait mine) theirs None (no_choices e b))

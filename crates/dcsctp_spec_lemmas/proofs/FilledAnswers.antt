@@ -19,14 +19,14 @@ use Rattle.dcsctp_spec_lemmas.proofs.PackingLemmas.{packed_none}
 use Rattle.dcsctp_spec_lemmas.proofs.PacketLengths.{three_within, begun_at_len}
 use Rattle.dcsctp_spec_lemmas.proofs.TellingLemmas.{TellsMore, tells_then, tells_where}
 
--- An answer to an ask, of which this was told first.
+-- An answer to an ask, with these events first.
 pub record Completes (ask : Ask) (e : Endpoint) (draft : Emission) (telling : List (Event (List ℕ))) : Type 0 where
   pub answer : Answer
   pub allowed : IsFlushAnswer ask e draft answer
   pub rest : List (Event (List ℕ))
   pub told : map filling_event_content answer.told ≡ telling ++ rest
 
--- the same, if less was told
+-- the same, with fewer of them
 pub completes_sooner : (ask : Ask) (e : Endpoint) (draft : Emission) (first later more : List (Event (List ℕ))) → later ≡ first ++ more → Completes ask e draft later → Completes ask e draft first
 completes_sooner ask e draft first later more is c =
     record {
@@ -91,7 +91,7 @@ answer_with ask e draft transfer u chunks told =
       };
     }
 
--- The user was told what the packet's stage says.
+-- The events of the packet's stage are among those that a flush may report.
 told_until : (ask : Ask) (e : Endpoint) (draft : Emission) (transfer : Transfer) (u : GivesUntilFull ask e draft transfer) → TellsMore [] u.sent.told
 told_until ask e draft transfer u =
     tells_then [] u.gave_up.told u.sent.told

@@ -12,7 +12,7 @@ use Rattle.dcsctp_spec.specs.queues.Sending.{Drops}
 use Rattle.dcsctp_spec_lemmas.proofs.ResendingOutcomes.{resent_from}
 use Rattle.dcsctp_spec_lemmas.proofs.SendingOutcomes.{sent_from, sent_from_dropped}
 
--- A packet is full, once that was told and then some more.
+-- A packet is full, with these events and then some more.
 pub record Filled (now : ℕ) (old : Stage) (before : List (Event (List ℕ))) : Type 0 where
   pub new : Stage
   pub fills : FillsPacket now old new
@@ -58,7 +58,7 @@ filled_from_new now old resent mid again anew unmarked =
     let (sent, steps, still, halts, (rest, told)) = sent_from now (resent_packet_counted old.room resent) mid anew unmarked in
     told_before now old mid.told sent.told rest told (full now old resent sent again steps (inr (still, halts)))
 
--- Messages were dropped that are too old: their events are the first that are told.
+-- Messages were dropped that are too old: their events come first.
 pub filled_from_dropped : (now : ℕ) (old resent mid : Stage) (events : List (Event (List ℕ))) (left : SendQueueState) → StageSteps (StepAgain now) old resent → StageSteps (StepNew now) (resent_packet_counted old.room resent) mid → MayAdd mid
     → mid.waiting.under_way ≡ None → Drops now mid.waiting events left → Filled now old (mid.told ++ events)
 filled_from_dropped now old resent mid events left again anew may idle drops =

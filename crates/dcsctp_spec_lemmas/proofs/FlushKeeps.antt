@@ -136,7 +136,7 @@ signs_append (lifecycle_message_expired id ∷ xs) ys = signs_append xs ys
 signs_append (lifecycle_message_delivered id ∷ xs) ys = signs_append xs ys
 signs_append (lifecycle_end id ∷ xs) ys = signs_append xs ys
 
--- What is told is none.
+-- No event of a flush but its packets is a sign.
 pub told_signs : (told : List FillingEvent) → observations_of_events (map filling_event told) ≡ []
 told_signs [] = refl
 told_signs (amount_is_low stream ∷ told) = told_signs told
@@ -328,7 +328,7 @@ flush_signs _ _ _ _ is (after_packet _ more e draft answer answers h some rest) 
     ∙ sym (emitted_then tag (draft.packet.contents ++ answer_contents answer) (further_packets tag (map all_chunks answers)))
     ∙ sym (begun_signs answer.begun (emitted tag (draft.packet.contents ++ answer_contents answer) ++ further_packets tag (map all_chunks answers)))
 
--- Of it a request that is begun is noted.
+-- Of a flush only a request that is begun is recorded.
 pub emitted_notes : (tag : ℕ) (contents : List Content) (rest : List Effect) → noted (emitted tag contents ++ rest) ≡ noted rest
 emitted_notes tag [] rest = refl
 emitted_notes tag (content ∷ contents) rest = refl
@@ -347,7 +347,7 @@ flush_notes tag front (answer ∷ answers) =
     begun_notes answer.begun (emitted tag (front ++ answer_contents answer) ++ further_packets tag (map all_chunks answers))
     (emitted_notes tag (front ++ answer_contents answer) (further_packets tag (map all_chunks answers)) ∙ further_notes tag (map all_chunks answers))
 
--- How an association stands with what is known of its peer: a request that is begun changes that alone.
+-- How an association is rebuilt from what is known of its peer: a request that is begun changes that alone.
 pub record Rebuilds (rebuilt : Held → Core) (held : Held) : Type 0 where
   pub holds : held_in (rebuilt held) ≡ Some held
   pub asks : core_asking (rebuilt held) ≡ rebuilt (held_asking held)
@@ -366,7 +366,7 @@ begun_core (Some begun) base rebuilt held builds is = ap core_asking is ∙ buil
 abbrev pub FlushesTo : Endpoint → Outcome → (Held → Core) → List Effect → Flushed → Type 0
 FlushesTo e o rebuilt before after = IsControlled e o (record { core = rebuilt after.held; effects = before ++ after.effects; following = next_chunk })
 
--- A flush behind these words and events, which note these effects, is one of the association behind them.
+-- A flush after these words and events, which record these effects, is one of the association after them.
 pub flush_controlled : (e base : Endpoint) (words : List Word) (events : List (Event Emission)) (draft : Emission) (answers : List Answer) (rebuilt : Held → Core) (held : Held) (before effects : List Effect)
     → Rebuilds rebuilt held → base.core ≡ rebuilt held → SameOptions e.options base.options → IsPeerTag base.core draft.packet.tag → FlushAnswers base draft answers
     → observations_of_events events ≡ observations_of_effects before

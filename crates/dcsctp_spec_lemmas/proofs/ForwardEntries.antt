@@ -174,7 +174,7 @@ count_same : (listed other here there : Bool) → listed ≡ other → here ≡ 
     → one_if (listed && not (here || true)) + one_if (other && not there) ≡ one_if (listed && not here) + one_if (other && not (there || true))
 count_same listed other here there both same = rw (both, same) (omega arith)
 
--- One more item behind, and one in front: it doesn't matter which is counted first.
+-- One more item at the end, and one in front: it doesn't matter which is counted first.
 count_either : (interleaving : Bool) (x : Item) (xs : List Item) (item : Item)
     → one_if (is_new interleaving x (xs ++ item ∷ [])) + one_if (is_new interleaving item xs) ≡ one_if (is_new interleaving x xs) + one_if (is_new interleaving item (x ∷ xs))
 count_either interleaving x xs item =

@@ -83,7 +83,7 @@ closing_keeps now last old new false (inl drops) =
 closing_keeps now last old new false (inr stays) =
     rw stays.1 (record { more = record { rest = []; told = sym (append-nil old.told) }; tsns = refl; room = refl; items = record { stays = λ k item at. at; marked = refl } })
 
--- What the packet holds stays, more is told, and no more items wait to be sent again than before.
+-- What the packet holds stays, events may be added, and no more items wait to be sent again than before.
 pub record GivingUpKeeps (place : ℕ) (old new : Stage) : Type 0 where
   pub rest : List (Event (List ℕ))
   pub told : new.told ≡ old.told ++ rest

@@ -199,7 +199,7 @@ any_moved tsn entries old =
     let (new, skips) = any_streams entries old.streams in
     (record { messages_received = _; ready = _; streams = new; unordered = _; last_tsn_number = _ }, record { streams = skips; ready = refl; received = refl; unordered = refl; last = refl })
 
--- the streams once those that are named start anew
+-- the streams once those that are named start again
 any_anew : (resets : List ℕ) (old : List (ℕ × StreamModel)) → (new : List (ℕ × StreamModel)) × ((id : ℕ) → stream_on id new ≡ (if is_named resets id then new_stream id else stream_on id old))
 any_anew [] old = (old, λ id. refl)
 any_anew (reset ∷ resets) old =

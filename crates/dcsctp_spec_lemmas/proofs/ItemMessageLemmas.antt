@@ -1,4 +1,4 @@
--- Each item belongs to a row of items with its message, and it can be told whether a message is the one under way.
+-- Each item belongs to a row of items with its message, and a message is the one under way or isn't.
 use Rattle.std.proofs.Common.{◌≡◌, ◌⊎◌, inl, inr, ℕ, zero, suc, ◌+◌, ◌<◌, ◌≤◌, Option, None, Some, List, [], ◌∷◌, length, refl, ap, sym, ◌∙◌, arith}
 use Rattle.std.specs.List.{slice_get}
 use Rattle.std.proofs.lemmas.Option.{slice_get_within}

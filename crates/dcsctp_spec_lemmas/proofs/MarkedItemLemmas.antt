@@ -101,7 +101,7 @@ first_marked (x ∷ xs) = go (first_marked xs) (is_marked x.progress.state) refl
 
 -- ---- steps of which each leaves fewer
 
--- a step from this stage that leaves fewer items that wait to be sent again, and tells more
+-- a step from this stage that leaves fewer items that wait to be sent again, and may add events
 pub record FewerBy (Step : Stage → Stage → Type 0) (old : Stage) : Type 0 where
   pub new : Stage
   pub step : Step old new

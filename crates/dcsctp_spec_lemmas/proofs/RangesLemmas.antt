@@ -16,7 +16,7 @@ missing cumulative from number (range ∷ ranges) beyond above below =
 abbrev Same : ℕ → ℕ → List TsnRange → List TsnRange → Type 0
 Same c d xs ys = (other : ℕ) → is_received c other xs ≡ is_received d other ys
 
--- nothing is received right behind the cumulative number
+-- nothing is received right after the cumulative number
 no_further : (c d : ℕ) (xs ys : List TsnRange) → IsBeyond c xs → Same c d xs ys → d ≤ c
 no_further c d xs ys beyond same = grind (arith, nat_tests, missing c c (c + 1) xs beyond (omega arith) (omega arith), same (c + 1))
 

@@ -12,7 +12,7 @@ Decided Holds = Holds ⊎ (Holds → ⊥)
 
 -- ---- the last item of which something holds
 
--- The last one of those behind the first is the last of all; the places count from the first.
+-- The last of those after the first is the last of all; the places count from the first.
 last_behind : (Holds : ℕ → Item → Type 0) (first : Item) (items : List Item) (place : ℕ) → IsLastPlace (λ k item. Holds (suc k) item) items (Some place) → IsLastPlace Holds (first ∷ items) (Some (suc place))
 last_behind Holds first items place found = record { item = found.item; at = found.at; holds = found.holds; last = none_behind }
   where

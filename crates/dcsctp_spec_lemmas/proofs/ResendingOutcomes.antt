@@ -82,7 +82,7 @@ at_once_next now stage = elim (first_marked stage.queue.outstanding.items) [
       | inr by ↦ inr by
     ]
 
--- What waits in the send queue stays, nothing is told, and the first item waits to be sent again only if it did before.
+-- What waits in the send queue stays, there is no event, and the first item waits to be sent again only if it did before.
 record SendingKeeps (old new : Stage) : Type 0 where
   pub waiting : new.waiting ≡ old.waiting
   pub told : new.told ≡ old.told

@@ -1,4 +1,4 @@
--- What the user is told of streams that are prepared to be reset.
+-- The events of streams that are prepared to be reset.
 use Rattle.std.proofs.Common.{◌≡◌, ◌∙◌, ℕ, ◌++◌, Bool, true, false, if◌then◌else◌, Option, None, Some, List, [], ◌∷◌, map, refl, sym, ap}
 use Rattle.std.proofs.lemmas.List.{map-append}
 use Rattle.dcsctp_spec.specs.endpoint.Event.{Event, event_map, buffered_amount_low, total_buffered_amount_low}
@@ -12,7 +12,7 @@ use Rattle.dcsctp_spec.specs.endpoint.FlushOutcomes.{FillingEvent, amount_is_low
 abbrev Events : Type 0
 Events = List (Event Emission)
 
--- ---- they are among those that a flush may tell
+-- ---- they are among those that a flush may report
 
 pub record AreTold (events : Events) : Type 0 where
   pub told : List FillingEvent

@@ -4,7 +4,7 @@ use Rattle.dcsctp_spec.specs.types.declared.sending.UnderWay.{UnderWay}
 use Rattle.dcsctp_spec.specs.types.queues.SendStreams.{Stream, begun_anew, amount_raised, stream_counted}
 use Rattle.dcsctp_spec.specs.queues.SendQueue.{SendQueueState, stream_changed, is_front_unordered, front_counted, numbered_anew, is_other, numbered_where, numbered_for, put_back, queue_restarted}
 
--- A stream's numbers don't matter once it begins anew.
+-- A stream's numbers don't matter once it begins again.
 counted_anew : (sent : ℕ) (i b : Bool) (s : Stream) → begun_anew (amount_raised sent (stream_counted i b s)) ≡ begun_anew (amount_raised sent s)
 counted_anew sent false false s = refl
 counted_anew sent false true s = refl

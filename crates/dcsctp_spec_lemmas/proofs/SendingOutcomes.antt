@@ -35,12 +35,12 @@ none_marked items item fresh before =
 abbrev pub HaltsThere : Stage → Type 0
 HaltsThere sent = HaltsNew sent.room sent.queue sent.waiting
 
--- what is sent from this stage until nothing more goes, and the events of it, of which these were told before
+-- what is sent from this stage until no more can be, and its events, of which these came before
 abbrev pub SendsOn : ℕ → Stage → Stage → Told → Type 0
 SendsOn now old mid events =
     (sent : Stage) × StageSteps (StepNew now) old sent × (marked_items sent.queue.outstanding.items ≡ 0) × HaltsThere sent × ((rest : Told) × (sent.told ≡ mid.told ++ (events ++ rest)))
 
--- What fits goes on.
+-- It continues from a stage with less room.
 abbrev Onward : ℕ → Stage → Stage → Type 0
 Onward now old mid = (new : Stage) → StageSteps (StepNew now) old new → marked_items new.queue.outstanding.items ≡ 0 → new.room < mid.room → SendsOn now old new []
 
@@ -120,7 +120,7 @@ sent_within now old (suc room) mid steps unmarked within =
 pub sent_from : (now : ℕ) (old mid : Stage) → StageSteps (StepNew now) old mid → marked_items mid.queue.outstanding.items ≡ 0 → SendsOn now old mid []
 sent_from now old mid steps unmarked = sent_within now old mid.room mid steps unmarked (omega arith)
 
--- Messages were dropped that are too old: their events are the first that are told.
+-- Messages were dropped that are too old: their events come first.
 pub sent_from_dropped : (now : ℕ) (old mid : Stage) (events : Told) (left : SendQueueState) → StageSteps (StepNew now) old mid → MayAdd mid → mid.waiting.under_way ≡ None → Drops now mid.waiting events left
     → SendsOn now old mid events
 sent_from_dropped now old mid events left steps may idle drops =

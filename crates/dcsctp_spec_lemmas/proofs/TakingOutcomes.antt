@@ -20,7 +20,7 @@ drops_idle now old new events (one_more_dropped before queue place message drops
 
 -- ---- what is taken
 
--- A fragment is taken of at most as many bytes as are asked for. These events were told before.
+-- A fragment is taken of at most as many bytes as are asked for. These events came before.
 pub record TakesSome (now max : ℕ) (old : SendQueueState) (told events : Told) : Type 0 where
   pub part : Fragment
   pub new : SendQueueState
@@ -42,7 +42,7 @@ pub record TakesNothing (now : ℕ) (old : SendQueueState) (told events : Told) 
 abbrev pub Taking : ℕ → ℕ → SendQueueState → Told → Told → Type 0
 Taking now max old told events = TakesSome now max old told events ⊎ TakesNothing now old told events
 
--- the same, if less was told before
+-- the same, if fewer events came before
 told_sooner : (now max : ℕ) (old : SendQueueState) (told first later : Told) → Taking now max old told (first ++ later) → Taking now max old told first
 told_sooner now max old told first later (inl takes) =
     inl (record {
@@ -95,7 +95,7 @@ begins now max old mid told events place message idle drops next front fresh =
       grows = append_assoc told events (produced_events place max message u mid);
     }
 
--- what goes on with one more dropped
+-- how to continue once one more message is dropped
 abbrev Further : ℕ → ℕ → SendQueueState → SendQueueState → Told → Told → Type 0
 Further now max old mid told events =
     (left : SendQueueState) (dropped : Told) → count_messages left.streams + 1 ≡ count_messages mid.streams → Drops now old (events ++ dropped) left → Taking now max old told (events ++ dropped)

@@ -1,4 +1,4 @@
--- What the user is told while a packet is filled.
+-- The events while a packet is filled.
 use Rattle.std.proofs.Common.{◌≡◌, ◌∙◌, ◌⊎◌, inl, inr, ℕ, ◌-◌, Bool, true, false, if◌then◌else◌, Option, None, Some, List, [], ◌∷◌, ◌++◌, map, length, append_assoc, refl, ap, sym}
 use Rattle.std.proofs.lemmas.List.{append-nil, map-append}
 use Rattle.dcsctp_spec.specs.endpoint.Event.{Event}
@@ -15,7 +15,7 @@ use Rattle.dcsctp_spec.specs.endpoint.FlushOutcomes.{FillingEvent, amount_is_low
 abbrev Events : Type 0
 Events = List (Event (List ℕ))
 
--- ---- events that the user may be told
+-- ---- events that a flush may report
 
 pub record AreTold (events : Events) : Type 0 where
   pub told : List FillingEvent
@@ -80,9 +80,9 @@ told_drops now old new events none_dropped = told_none
 told_drops now old new events (more_dropped before queue place message drops next front expired) =
     told_both _ _ (told_drops now old queue before drops) (told_drop place 0 message queue)
 
--- ---- what is told more
+-- ---- the events that are added
 
--- The user was told some of that, and nothing else.
+-- Some of those events were added, and nothing else.
 pub record TellsMore (before after : Events) : Type 0 where
   pub told : List FillingEvent
   pub is : after ≡ before ++ map filling_event_content told

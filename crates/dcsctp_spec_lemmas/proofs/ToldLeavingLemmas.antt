@@ -1,4 +1,4 @@
--- What leaves the send queue does so whatever was told before: events can be put in front of that, or taken away there.
+-- What leaves the send queue doesn't depend on earlier events: they can be put in front, or removed.
 use Rattle.std.proofs.Common.{◌≡◌, ◌∙◌, ℕ, Bool, true, false, List, ◌++◌, append_assoc, refl, ap, sym}
 use Rattle.dcsctp_spec.specs.endpoint.Event.{Event}
 use Rattle.dcsctp_spec.specs.queues.SendQueue.{SendQueueState}
@@ -7,7 +7,7 @@ use Rattle.dcsctp_spec.specs.queues.Sending.{Fragment, DropsAll, drop_events, pr
 abbrev Events : Type 0
 Events = List (Event (List ℕ))
 
--- With events in front, one more list goes behind them all.
+-- With events in front, one more list comes after them all.
 behind_more : (front before events after : Events) → after ≡ before ++ events → front ++ after ≡ (front ++ before) ++ events
 behind_more front before events after is = ap (λ (es : Events). front ++ es) is ∙ sym (append_assoc front before events)
 
@@ -46,7 +46,7 @@ behind_discarded front old new stream id before after false does = (does.0, does
 
 -- ---- events taken away
 
--- what was told after these events
+-- the events after these
 pub record Behind (front : Events) (Holds : Events → Type 0) (after : Events) : Type 0 where
   pub told : Events
   pub holds : Holds told

@@ -1,4 +1,4 @@
--- No step of a filling looks at what was told before. So events can be put in front of it, or taken away there.
+-- No step of a filling looks at earlier events. So events can be put in front, or removed there.
 use Rattle.std.proofs.Common.{◌≡◌, ◌∙◌, inl, inr, ℕ, ◌+◌, ◌-◌, Bool, true, false, List, [], ◌∷◌, ◌++◌, append_assoc, refl, ap, sym, subst}
 use Rattle.dcsctp_spec.specs.types.declared.progress.Change.TheVariants.{Abandon}
 use Rattle.dcsctp_spec.specs.endpoint.Event.{Event}
@@ -14,7 +14,7 @@ use Rattle.dcsctp_spec_lemmas.proofs.ToldLeavingLemmas.{behind_taken, behind_non
 abbrev Events : Type 0
 Events = List (Event (List ℕ))
 
--- the stage, with these events told before
+-- the stage, with these events before its own
 abbrev pub behind_events : List (Event (List ℕ)) → Stage → Stage
 behind_events front s = record s { told = front ++ s.told }
 

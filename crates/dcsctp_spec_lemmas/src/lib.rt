@@ -1,5 +1,5 @@
 //! Lemmas about the definitions of `dcsctp_spec` that the queues and the chapters use.
 #![tactic(auto)]
 
-// What stands below, for the crates above.
+// The crates below, for those above.
 pub use dcsctp_spec::{types, wire};

@@ -18,7 +18,7 @@ use Rattle.dcsctp_spec_laws.proofs.ControlLemmas.{drawing_controlled, answered, 
 abbrev pub MovedBy : Endpoint → ℕ → Content → Outcome → Core → Choices → Type 0
 MovedBy e tag content o core choices = IsControlled e o (chunk_change e.options core tag content choices)
 
--- the choices of an INIT that is answered under the own pair, and of one for which a pair is drawn
+-- the choices of an INIT that is answered under our pair, and of one for which a pair is drawn
 abbrev keeping : Endpoint → Introduction → Pair → Choices
 keeping e theirs my = choices_of e my (cookie_bytes (cookie_for e.moment theirs my 0)) (fits e (init_ack_emission e theirs my 0))
 

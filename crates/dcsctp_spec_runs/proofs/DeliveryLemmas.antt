@@ -97,7 +97,7 @@ pub same_options_move : (p q : Options) (core : Core) (header : ℕ) (contents :
 same_options_move p q core header contents changes same moves =
     chunks_same p q.max_message_size core header contents changes (subst (λ (x : Options). ChunkChanges x core header contents changes) same moves)
 
--- the chunks behind one, at the association that it leaves
+-- the chunks after one, at the association that it leaves
 record FollowsIn (options : Options) (core : Core) (e : Endpoint) (tag : ℕ) (contents : List Content) (tail : List Input) (turns : List Transition) : Type 0 where
   chunks : List Transition
   rest : List Transition

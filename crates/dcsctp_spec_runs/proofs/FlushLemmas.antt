@@ -25,7 +25,7 @@ use Rattle.dcsctp_spec_lemmas.specs.spec.endpoint.CookieEchoOutcomes.{establishe
 abbrev draft_of : Bool → ℕ → List Content → Emission
 draft_of with_checksum tag contents = record { with_checksum = with_checksum; packet = record { tag = tag; contents = contents } }
 
--- nothing is behind what the packet holds
+-- nothing follows what the packet holds
 asked_nothing : (e : Endpoint) (draft : Emission) → asked e draft (nothing_waits e) ≡ goes_out e [] draft.with_checksum draft.packet.tag draft.packet.contents
 asked_nothing e draft = ap (goes_out e [] draft.with_checksum draft.packet.tag) (append-nil draft.packet.contents)
 
@@ -45,7 +45,7 @@ idle_below ask e draft answer (Some transfer) idle h = subst (λ (b : Bool). Giv
 answered_idle : (ask : Ask) (e : Endpoint) (draft : Emission) (answer : Answer) → IsIdle e → IsFlushAnswer ask e draft answer → answer ≡ nothing_waits e
 answered_idle ask e draft answer idle h = idle_below ask e draft answer e.queues.transfer idle h.by_transfer
 
--- what the packet holds, with nothing behind it
+-- what the packet holds, with nothing after it
 filled_with_nothing : (e : Endpoint) (draft : Emission) (answer : Answer) → answer ≡ nothing_waits e → (filled draft (answer_contents answer)).packet.contents ≡ draft.packet.contents
 filled_with_nothing e draft answer is = ap (λ (a : Answer). (filled draft (answer_contents a)).packet.contents) is ∙ append-nil draft.packet.contents
 

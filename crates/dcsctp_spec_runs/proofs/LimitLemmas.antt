@@ -1,4 +1,4 @@
--- A flush keeps its limits: how many packets there are, how long they are, and what else is told.
+-- A flush keeps its limits: how many packets there are, how long they are, and which other events.
 use Rattle.std.proofs.Common.{◌≡◌, ◌≤◌, ◌+◌, ℕ, suc, Bool, List, [], ◌∷◌, ◌++◌, map, length, sym, subst, arith, append_assoc}
 use Rattle.std.specs.List.{AllByRecursion}
 use Rattle.dcsctp_spec_lemmas.specs.types.declared.options.Options.{Options}
@@ -17,7 +17,7 @@ record KeepsFor (n : ℕ) (e : Endpoint) (events : List (Event Emission)) : Type
   sizes : AllByRecursion (IsWithinMtu e) (packets_in events)
   others : AllByRecursion IsFlushEvent events
 
--- What is told is no packet.
+-- What it reports is no packet.
 told_keeps : (n : ℕ) (e : Endpoint) (told : List FillingEvent) (rest : List (Event Emission)) → KeepsFor n e rest → KeepsFor n e (map filling_event told ++ rest)
 told_keeps n e [] rest h = h
 told_keeps n e (amount_is_low stream ∷ told) rest h = let k = told_keeps n e told rest h in record { packets = k.packets; sizes = k.sizes; others = (tt, k.others) }

@@ -1,4 +1,4 @@
--- What admission lets in may be worked in the machine that agreement runs on.
+-- What admission accepts may be handled in the machine that agreement runs on.
 use Rattle.std.proofs.Common.{◌≡◌, ◌==◌, ℕ, Bool, true, false, Option, None, Some, List, [], ◌∷◌, inl, inr, refl, arith}
 use Rattle.std.proofs.lemmas.Bool.Decides.{nat_tests}
 use Rattle.dcsctp_spec_lemmas.specs.types.declared.options.Options.{Options}

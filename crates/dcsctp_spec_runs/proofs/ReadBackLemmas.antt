@@ -15,7 +15,7 @@ use Rattle.dcsctp_spec_lemmas.specs.spec.endpoint.CallTurns.{Transition, Turns, 
 use Rattle.dcsctp_spec_lemmas.specs.wire.Format.{IsPacket}
 use Rattle.dcsctp_spec_runs.specs.Laws.{OfferReadsBack, CapabilitiesHoldOffer, IsPacketRefused, RefusedPacketAddsOneError}
 
--- bytes say at most one packet, as the wire's law tells
+-- bytes say at most one packet, by the wire's law
 abbrev pub OneReading : Type 0
 OneReading = (options : WireOptions) (bytes : List ℕ) (p q : PacketContent) → IsPacket options p bytes → IsPacket options q bytes → p ≡ q
 

@@ -64,7 +64,7 @@ at_number id key = go (is_at (nat_cmp id) key) (key == id) refl refl
         let equal : id ≡ key = grind (arith, nat_tests) in
         let found' : is_eq Equal ≡ false = ap is_eq (nat_cmp_is id key Equal equal) ∙ found in absurd (cc)
 
--- the stream that goes on with this number
+-- the stream that continues with this number
 abbrev going_on : ℕ → StreamModel → StreamModel
 going_on id stream = record (new_stream id) { next = 2 ^ 32 + stream.next % 2 ^ 32 }
 

@@ -38,7 +38,7 @@ restored options transfer = (restored_outcome (fresh_endpoint options) state tra
 own : Pair
 own = record { tag = 7; first_tsn = 100 }
 
--- Its numbers of requests go on, none is outstanding, and the kept answer is 'nothing to do'.
+-- Its numbers of requests continue, none is outstanding, and the kept answer is 'nothing to do'.
 it_is_established : (options : Options) (transfer : Transfer) → (restored options transfer).core
     ≡ open_in established own (record {
       peer = record { tag = 9; first_tsn = 200 };
@@ -84,7 +84,7 @@ one_that_connects_stays = refl
 open_one_stays : (held : Held) → inputs_of_restore (open_in established own held) state ≡ []
 open_one_stays held = refl
 
--- ---- numbers go on from the snapshot
+-- ---- numbers continue from the snapshot
 
 link : AssociationIdentity
 link =

@@ -162,7 +162,7 @@ pub data DeliversPacket (e : Endpoint) (packet : Packet) : List Transition → T
   acks : (turns : List Transition) → AreChunkTurns e packet.tag (shutdown_acks_in packet.contents) [] turns → DeliversPacket e packet turns
   reported : (text : List ℕ) (turn : Transition) → turn.outcome ≡ refusal_outcome e text → DeliversPacket e packet (turn ∷ [])
 
--- where the chunks of a packet fit at their turns, after the one that stands before them
+-- where the chunks of a packet fit at their turns, after the turn that comes before them
 abbrev pub FitsBehind : List Content → List Transition → Type 0
 FitsBehind contents [] = Unit {0}
 FitsBehind contents (begun ∷ turns) = FitsTurns begun.outcome.after contents turns

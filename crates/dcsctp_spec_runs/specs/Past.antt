@@ -69,7 +69,7 @@ unconnected (gives_up number ∷ earlier) = unconnected earlier
 unconnected (accepts number ∷ earlier) = unconnected earlier
 unconnected (performs peer number ∷ earlier) = unconnected earlier
 
--- the number that its own request has to carry: its own first TSN or what it was restored with, and then one more each time
+-- the number that its own request must carry: its own first TSN or what it was restored with, and then one more each time
 abbrev pub number_to_begin : List Effect → Option ℕ
 number_to_begin [] = None
 number_to_begin (holds link ∷ earlier) = Some link.my.first_tsn
@@ -117,7 +117,7 @@ requests_begun (gives_up number ∷ earlier) = requests_begun earlier
 requests_begun (accepts number ∷ earlier) = requests_begun earlier
 requests_begun (performs peer number ∷ earlier) = requests_begun earlier
 
--- the number that a request of the peer has to carry to be accepted: its first TSN or the one behind what was restored, and then
+-- the number that a request of the peer must carry to be accepted: its first TSN or the one after what was restored, and then
 -- one more each time
 abbrev pub number_to_accept : List Effect → Option ℕ
 number_to_accept [] = None

@@ -23,8 +23,8 @@ SameTsnsAreNew =
     → tracker.ranges ≡ []
     → is_new_tsn tsn (tracker_restored (part_with_tracker tracker rx) (new_tracker options first)) ≡ is_new_tsn tsn tracker
 
--- A restored stream goes on with the next number, modulo 2^32. All else is as it is in a stream on which nothing was received, so
--- nothing waits on it.
+-- A restored stream continues with the next number, modulo 2^32. All else is as it is in a stream on which nothing was received,
+-- so nothing waits on it.
 abbrev pub StreamsReadBack : Type 0
 StreamsReadBack =
     (id : ℕ) (queue : ReassemblyState) (rx : ReceivePart)

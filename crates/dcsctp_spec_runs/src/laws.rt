@@ -117,7 +117,7 @@ pub fn readiness_contains()
 {}
 
 /// What a snapshot has of what was received reads back. The restored tracker has the same last TSN, and the
-/// same TSNs are new to it if none was missing before another. Each restored stream goes on with the same
+/// same TSNs are new to it if none was missing before another. Each restored stream continues with the same
 /// number, modulo 2^32, and nothing waits on it.
 pub fn received_parts_read_back()
     ensures tracker { TrackerReadsBack }

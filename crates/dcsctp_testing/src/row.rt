@@ -1,6 +1,6 @@
 //! A row of a table or a line of a text, and what isn't as the rows so far say.
 //!
-//! A line is read word by word. What isn't as it says is noted, and the runner looks for it after the step: a
+//! A line is read word by word. What isn't as it says is recorded, and the runner looks for it after the step: a
 //! function that may end the test itself costs more to prove.
 
 use std::alloc::Global;
@@ -19,7 +19,7 @@ pub struct Row {
     place: usize,
     name: &'static str,
 
-    // What is still to be read of a line. One space stands between two words.
+    // What is still to be read of a line. One space separates two words.
     rest: &'static str,
 
     // Is a row of this test not as it says?
@@ -79,7 +79,7 @@ impl Row {
         }
     }
 
-    // The first note of a test counts. Without memory for its text it is empty.
+    // Records a fault, if it is the first of its test. Its text is empty if an allocation fails.
     fn note(&mut self, what: &str, found: &impl Debug, expected: &impl Debug) {
         if self.has_fault {
             return;
@@ -95,14 +95,14 @@ impl Row {
         self.faults = Some(text.unwrap_or(String::new(self.alloc)));
     }
 
-    /// The two have to be equal.
+    /// The two must be equal.
     pub fn same<T: PartialEq + Debug + Drop>(&mut self, found: T, expected: T) {
         if found != expected {
             self.note("found", &found, &expected);
         }
     }
 
-    /// What the step asks for has to be done: memory wasn't refused, and there is such a step.
+    /// What the step asks for must be done: no allocation failed, and there is such a step.
     pub fn done(&mut self, is_done: bool) {
         if !is_done {
             self.note("is it done?", &false, &true);
@@ -116,7 +116,7 @@ impl Row {
         word
     }
 
-    /// The next word, which has to be a number.
+    /// The next word, which must be a number.
     pub fn number<T: FromStr + Default>(&mut self) -> T
     where
         <T as FromStr>::Err: Drop,
@@ -131,7 +131,7 @@ impl Row {
         }
     }
 
-    // This number has to follow the name.
+    // This number must follow the name.
     fn follows(&mut self, name: &'static str, found: u128) {
         let expected = self.number::<u128>();
         if found != expected {
@@ -139,7 +139,7 @@ impl Row {
         }
     }
 
-    /// If this name comes next, this number has to follow it.
+    /// If this name comes next, this number must follow it.
     pub fn check(&mut self, name: &'static str, found: u128) {
         let before = self.rest;
         if self.next() != name {
@@ -149,7 +149,7 @@ impl Row {
         self.follows(name, found);
     }
 
-    /// This name has to come next, and this answer has to follow it: 1 for yes, 0 for no.
+    /// This name must come next, and this answer must follow it: 1 for yes, 0 for no.
     pub fn answers(&mut self, name: &'static str, found: bool) {
         let word = self.next();
         if word != name {
@@ -168,21 +168,21 @@ impl Row {
         }
     }
 
-    /// The rest of the line has to be this.
+    /// The rest of the line must be this.
     pub fn check_rest(&mut self, found: &str) {
         let expected = self.rest;
         self.rest = "";
         self.same(found, expected);
     }
 
-    /// The rest of the line, if it says any more, has to be these bytes.
+    /// The rest of the line, if it says any more, must be these bytes.
     pub fn check_bytes(&mut self, found: &[u8]) {
         if !self.rest.is_empty() {
             self.check_rest(str::from_utf8(found).unwrap_or("no text"));
         }
     }
 
-    /// The rest of the line has to be what `Debug` writes of this.
+    /// The rest of the line must be what `Debug` writes of this.
     pub fn shows(&mut self, found: &impl Debug) {
         match format!(in self.alloc; "{found:?}") {
             Err(_) => self.done(false),

@@ -5,7 +5,7 @@ use std::alloc::Global;
 
 /// What is tested, which takes steps of this kind.
 pub trait Takes<S> {
-    /// Takes a step, and notes what isn't as its row says.
+    /// Takes a step, and records what isn't as its row says.
     fn take(&mut self, row: &mut Row, step: S);
 }
 
@@ -29,7 +29,7 @@ pub fn run_steps<S: Copy, T: Takes<S>>(
 
 /// Takes the lines of a text. A step is the first word of its line, and the row has the others, of which none may be
 /// left over. `# NAME` names the test that follows, and an empty line is skipped. `begin` starts a new test: there it
-/// goes on after a line that isn't as it says. `Err`: the same as of a table, in a line for each such test.
+/// continues after a line that isn't as it says. `Err`: the same as of a table, in a line for each such test.
 pub fn run_text<T: Takes<&'static str>>(
     alloc: Global,
     subject: &mut T,

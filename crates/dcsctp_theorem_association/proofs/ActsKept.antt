@@ -22,7 +22,7 @@ use Rattle.dcsctp_theorem_association.proofs.Turns.{Kept, stays_kept, unchanged_
 use Rattle.dcsctp_theorem_association.proofs.HandshakeKept.{connect_kept, t1_again_kept, t1_gives_up_kept}
 use Rattle.dcsctp_theorem_association.proofs.ShutdownKept.{step_kept, call_kept, aborts_kept, again_kept}
 
--- packets that speak of no association, and a flush
+-- packets that don't concern an association, and a flush
 sent_true : (my_offer their_offer : Offer) (mine theirs : List Effect) (held : Held) (choices : Choices) → TrueEffects my_offer their_offer mine theirs (sent_then_flushed held choices).effects
 sent_true my_offer their_offer mine theirs held choices =
     effects-append my_offer their_offer mine theirs (further_packets held.peer.tag choices.plain) (flush held.peer.tag held [] choices.filling).effects
@@ -87,7 +87,7 @@ request_kept my_offer their_offer mine theirs (open_in phase my held) reset fits
     stays_kept my_offer their_offer mine theirs (open_in phase my held) (request_sent held held.own_outstanding reset fits) next_chunk h
     (request_true my_offer their_offer mine theirs held held.own_outstanding reset fits) (request_free held held.own_outstanding reset fits)
 
--- The request under the next number moves the own numbers alone.
+-- A request that is sent again under the next number changes only our own numbers.
 renewed_true : (my_offer their_offer : Offer) (mine theirs : List Effect) (held : Held) (outstanding : Option ℕ) (reset : RequestedReset) (fits : Bool)
     → TrueEffects my_offer their_offer mine theirs (renewed_by held outstanding reset fits).effects
 renewed_true my_offer their_offer mine theirs held None reset fits = tt

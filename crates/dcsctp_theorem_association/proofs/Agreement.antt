@@ -73,7 +73,7 @@ crossed one other h link connected =
       other_capabilities = refl;
     }
 
--- ---- own requests and their numbers
+-- ---- our requests and their numbers
 
 -- None was restored.
 abbrev NoneResumed : List Effect → Type 0
@@ -96,7 +96,7 @@ none_resumed my_offer their_offer (accepts number ∷ earlier) theirs h = none_r
 none_resumed my_offer their_offer (performs peer number ∷ earlier) theirs h = none_resumed my_offer their_offer earlier theirs h.1
 none_resumed my_offer their_offer (resumes link own last ∷ earlier) theirs h = absurd h.0
 
--- the next own number is the own first TSN and as many more as were begun
+-- our next number is our first TSN plus the number of requests that were begun
 next_counted : (past : List Effect) (number : ℕ) (my : Pair) → Each InPlace past → NoneResumed past → number_to_begin past ≡ Some number → my_of (current past) ≡ Some my
     → number % 2 ^ 32 ≡ (my.first_tsn + requests_begun past) % 2 ^ 32
 next_counted [] number my rules none n m = absurd (cc)
@@ -143,7 +143,7 @@ outstanding_counted (accepts before ∷ earlier) number my rules none n m = outs
 outstanding_counted (performs peer before ∷ earlier) number my rules none n m = outstanding_counted earlier number my rules.1 none n m
 outstanding_counted (resumes link own last ∷ earlier) number my rules none n m = absurd none
 
--- So none of the first bears the number before the first TSN.
+-- So none of the first carries the number before the first TSN.
 not_before : (number begun : ℕ) (my : Pair) → Counted number my begun → begun ≤ 2 ^ 32 - 1 → number ≡ number_before my → ⊥
 not_before number begun my counted few is =
     let last : (number + 1) % 2 ^ 32 ≡ (my.first_tsn + begun) % 2 ^ 32 = counted.last in

@@ -1,4 +1,5 @@
--- Which effects end own requests: packets and flushes none, and RE-CONFIG those that its responses answer.
+-- Which effects end our requests: packets and flushes none, and RE-CONFIG those that its responses
+-- answer.
 use Rattle.std.proofs.Common.{ℕ, Bool, true, false, Option, None, Some, List, [], ◌∷◌, ◌++◌, inl, inr, refl, sym, subst}
 use Rattle.dcsctp_spec_lemmas.specs.types.declared.association.Pair.{Pair}
 use Rattle.dcsctp_spec_lemmas.specs.types.declared.association.Held.{Held}
@@ -15,7 +16,7 @@ use Rattle.dcsctp_theorem_association.specs.OneSide.{IsSuccess, IsRefusal, HasRe
 
 -- ---- one effect and several
 
--- an end of an own request has its response among these parameters
+-- an end of a request of ours has its response among these parameters
 abbrev pub Answers : List ResetParameter → Effect → Type 0
 Answers parameters (completes my number) = HasResponse IsSuccess number parameters
 Answers parameters (fails number) = HasResponse IsRefusal number parameters

@@ -1,4 +1,4 @@
--- Own requests end in a turn of RE-CONFIG alone, by the responses that it bears.
+-- Own requests end in a turn of RE-CONFIG alone, by the responses that it carries.
 use Rattle.std.proofs.Common.{ℕ, Bool, true, false, Option, None, Some, Result, Ok, Err, List, [], ◌∷◌}
 use Rattle.dcsctp_spec_lemmas.specs.types.declared.association.Pair.{Pair}
 use Rattle.dcsctp_spec_lemmas.specs.types.declared.association.Held.{Held}
@@ -21,7 +21,7 @@ use Rattle.dcsctp_spec_lemmas.specs.spec.association.Acts.{Act, connect, t1_expi
 use Rattle.dcsctp_theorem_association.specs.OneSide.{parameters_in, AnswersEndRequests}
 use Rattle.dcsctp_theorem_association.proofs.AnswerEnds.{AllAnswer, answer_of, all_answer-append, alone_answers, end_answers-alone, further_answer, flush_answers, reset_answers}
 
--- Without responses no own request ends.
+-- Without responses no request of ours ends.
 abbrev EndsNone : List Effect → Type 0
 EndsNone effects = AllAnswer [] effects
 

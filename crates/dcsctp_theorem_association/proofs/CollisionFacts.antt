@@ -1,5 +1,5 @@
--- Outside examples of two INITs that cross, computed by the definitions: a wrong rule in specs/ would not check
--- here.
+-- Outside examples of two INITs that cross, computed by the definitions: a wrong rule in specs/
+-- would not check here.
 use Rattle.std.proofs.Common.{◌≡◌, ℕ, Some, List, [], ◌∷◌, inl, inr, refl, arith}
 use Rattle.dcsctp_spec_lemmas.specs.types.declared.association.Pair.{Pair}
 use Rattle.dcsctp_spec_lemmas.specs.types.declared.options.Options.{Options}
@@ -139,7 +139,7 @@ settled_goes a b =
 settled_is_a_run : (a b : Options) → IsRun a b settled
 settled_is_a_run a b = is_run (configured a) (configured b) settled (settled_goes a b)
 
--- No COOKIE ACK goes out, and nothing changes.
+-- No COOKIE ACK is sent, and nothing changes.
 discarded_end : (a b : Options) → end_of a b discarded ≡ end_of a b overtaken
 unfolding cookie_bytes cookie_at
 discarded_end a b = refl

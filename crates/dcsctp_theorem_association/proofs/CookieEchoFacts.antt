@@ -1,5 +1,6 @@
--- Outside examples of the table of RFC 9260, section 5.2.4, and of a cookie's age, computed by the definitions: which case a COOKIE
--- ECHO is, and which change nothing. A wrong rule in specs/ would not check here.
+-- Outside examples of the table of RFC 9260, section 5.2.4, and of a cookie's age, computed by the
+-- definitions: which case a COOKIE ECHO is, and which change nothing. A wrong rule in specs/ would
+-- not check here.
 use Rattle.std.proofs.Common.{◌≡◌, ℕ, true, false, [], ◌∷◌, ◌++◌, refl}
 use Rattle.std.specs.Prelude.{codes, replicate}
 use Rattle.dcsctp_spec_lemmas.specs.wire.Content.{cookie_received_while_shutting_down}
@@ -61,7 +62,7 @@ later_moment = refl
 row_a : resolve where_open 12 19 (cookie new_two new_one 12) ≡ restart
 row_a = refl
 
--- B: the own tag alone, with any tie tag
+-- B: only our own tag matches, with any tie tag
 row_b : (tie : ℕ) → resolve where_open 12 9 (cookie two new_one tie) ≡ simultaneous_init
 row_b tie = refl
 
@@ -116,7 +117,7 @@ wrong_tag_where_closed = refl
 wrong_tag_in_cookie_wait : resolve (cookie_wait two) 0 8 (cookie two one 0) ≡ invalid_tag
 wrong_tag_in_cookie_wait = refl
 
--- ---- the turns that change nothing: no COOKIE ACK goes out, and the rest of the packet is dropped
+-- ---- the turns that change nothing: no COOKIE ACK is sent, and the rest of the packet is dropped
 
 -- a COOKIE ECHO under this tag, where the tie tag is 12
 abbrev echo : Options → Core → ℕ → Cookie → Change

@@ -52,7 +52,7 @@ new_kept options their_offer mine theirs header bytes behind choices echo delive
 
 -- ---- the association is the one that is held
 
--- header and cookie bear the tags of both
+-- header and cookie carry the tags of both
 pub record IsMaintained (my : Pair) (held : Held) (header : ℕ) (cookie : Cookie) : Type 0 where
   pub own : header ≡ my.tag
   pub peers : cookie.addressee.tag ≡ held.peer.tag
@@ -104,7 +104,7 @@ same_pairs my_offer their_offer mine theirs my held header bytes my_tags their_t
       addressee = their_tags echo.cookie.addressee held.peer echo.addressee h.peer_drawn is.peers;
     }
 
--- the COOKIE ACK that goes out
+-- the COOKIE ACK that is sent
 maintained_ack : (my_offer their_offer : Offer) (mine theirs : List Effect) (my : Pair) (held : Held) (header : ℕ) (bytes : List ℕ) (behind : List Content)
     → PeerFacts my_offer their_offer mine theirs my held → (echo : TrueEcho their_offer my_offer theirs mine header bytes)
     → HasEffect (sends (record { tag = header; contents = cookie_echo bytes ∷ behind })) theirs → SamePairs my held echo.cookie

@@ -1,5 +1,5 @@
--- What becomes of the facts on an association as effects are added to the pasts: those on its echoes last as
--- long as no other cookie is echoed.
+-- What becomes of the facts on an association as effects are added to the pasts: those on its
+-- echoes last as long as no other cookie is echoed.
 use Rattle.std.proofs.Common.{◌≡◌, ℕ, List, [], ◌∷◌, ◌++◌, inl, inr, sym, subst}
 use Rattle.dcsctp_spec_lemmas.specs.types.Offer.{Offer}
 use Rattle.dcsctp_spec_lemmas.specs.spec.Packet.{Content, init, init_ack, cookie_echo, cookie_ack, re_config, abort, shutdown, shutdown_ack, shutdown_complete, plain}
@@ -76,7 +76,7 @@ pub free_is_only : (echoed : List ℕ) (effects : List Effect) → AllEchoFree e
 free_is_only echoed [] h = tt
 free_is_only echoed (effect ∷ effects) h = (effect_only echoed effect h.0, free_is_only echoed effects h.1)
 
--- Behind the first chunk is no COOKIE ECHO.
+-- No COOKIE ECHO comes after the first chunk.
 pub behind_is_free : (contents : List Content) → AllBehind contents → NoEchoFront contents
 behind_is_free [] h = tt
 behind_is_free (init introduction ∷ contents) h = tt

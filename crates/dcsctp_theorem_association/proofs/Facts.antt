@@ -1,5 +1,6 @@
--- What stays true of one side and of the other over every run: of all that a side did, and of its association.
--- Everything here but the echoes of an association in CookieWait or CookieEchoed lasts as the pasts grow.
+-- What stays true of one side and of the other over every run: of all that a side did, and of its
+-- association. Everything here but the echoes of an association in CookieWait or CookieEchoed lasts
+-- as the pasts grow.
 use Rattle.std.specs.Prelude.{◌≡◌, ◌≢◌, ℕ, ◌+◌, ◌-◌, ◌%◌, ◌^◌, None, Some, List, [], ◌∷◌, ◌⊎◌, Ok}
 use Rattle.dcsctp_spec_lemmas.specs.wire.declared.reconfiguration.ReconfigurationResponseResult.{ReconfigurationResponseResult}
 use Rattle.dcsctp_spec_lemmas.specs.wire.declared.reconfiguration.ReconfigurationResponseResult.TheVariants.{SuccessNothingToDo, SuccessPerformed}
@@ -26,7 +27,7 @@ agreed_link my_offer their_offer my peer = record { my = my; peer = peer; capabi
 
 -- ---- what a packet says truly
 
--- INIT ACK: its cookie holds the pair that it bears and the pair and offer of the INIT that it answers.
+-- INIT ACK: its cookie holds the pair that it carries and the pair and offer of the INIT that it answers.
 pub record TrueInitAck (my_offer their_offer : Offer) (mine theirs : List Effect) (tag : ℕ) (introduction : Introduction) (bytes : List ℕ) : Type 0 where
   pub cookie : Cookie
   pub reads : cookie_at bytes ≡ Ok cookie
@@ -104,7 +105,7 @@ Requests [] = Unit {0}
 Requests (outgoing_reset_request number answered reset ∷ parameters) = Requests parameters
 Requests (parameter ∷ parameters) = ⊥
 
--- Behind the first chunk stand those that speak of no association, and reset requests.
+-- chunks that may follow the first: those that don't concern an association, and requests to reset streams
 abbrev pub Behind : Content → Type 0
 Behind (plain chunk) = Unit {0}
 Behind (re_config parameters) = Requests parameters

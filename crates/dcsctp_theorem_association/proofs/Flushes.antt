@@ -1,4 +1,5 @@
--- What a flush, or a packet by itself, adds to the past is true, and leaves the facts on the peer as they are.
+-- What a flush, or a packet by itself, adds to the past is true, and leaves the facts on the peer
+-- as they are.
 use Rattle.std.proofs.Common.{◌≡◌, ℕ, Bool, true, false, Option, None, Some, List, [], ◌∷◌, ◌++◌, refl}
 use Rattle.dcsctp_spec_lemmas.specs.types.declared.association.Pair.{Pair}
 use Rattle.dcsctp_spec_lemmas.specs.types.declared.association.Held.{Held}
@@ -12,7 +13,7 @@ use Rattle.dcsctp_theorem_association.proofs.Facts.{TrueParameters, Requests, Tr
 use Rattle.dcsctp_theorem_association.proofs.Growth.{one_more, effects-append, effects_grow}
 use Rattle.dcsctp_theorem_association.proofs.Echoes.{NoEchoFront, AllEchoFree, AllEchoOnly, free_append, free_is_only, behind_is_free}
 
--- ---- chunks that stand behind the first
+-- ---- chunks after the first
 
 pub requests_true : (mine theirs : List Effect) (tag : ℕ) (parameters : List ResetParameter) → Requests parameters → TrueParameters mine theirs tag parameters
 requests_true mine theirs tag [] h = tt
@@ -43,7 +44,7 @@ behind_append (x ∷ xs) ys h k = (h.0, behind_append xs ys h.1 k)
 
 -- ---- a packet
 
--- chunks that may be followed by such as stand behind the first
+-- these chunks, followed by such as may come after the first
 contents_true : (my_offer their_offer : Offer) (mine theirs : List Effect) (tag : ℕ) (front behind : List Content)
     → TrueContents my_offer their_offer mine theirs tag front → AllBehind behind → TrueContents my_offer their_offer mine theirs tag (front ++ behind)
 contents_true my_offer their_offer mine theirs tag [] [] h k = tt
@@ -162,7 +163,7 @@ echo_only_where true tag held bytes filling = echoed_only tag held bytes filling
 pub echo_only : (tag : ℕ) (held : Held) (bytes : List ℕ) (filling : Filling) → AllEchoOnly bytes (flush tag held (cookie_echo bytes ∷ []) filling).effects
 echo_only tag held bytes filling = echo_only_where filling.is_allowed tag held bytes filling
 
--- A flush moves the own numbers alone.
+-- A flush changes only our own numbers.
 flushed_peer : (my_offer their_offer : Offer) (mine theirs : List Effect) (my : Pair) (tag : ℕ) (held : Held) (front : List Content) (filling : Filling) (reset : Option RequestedReset)
     → PeerFacts my_offer their_offer mine theirs my held → PeerFacts my_offer their_offer mine theirs my (flushed_with tag held front filling reset).held
 flushed_peer my_offer their_offer mine theirs my tag held front filling None h = h

@@ -1,5 +1,5 @@
--- Outside examples of packets of an attempt that is over, computed by the definitions: an old COOKIE ECHO, and
--- a late COOKIE ACK. A wrong rule in specs/ would not check here.
+-- Outside examples of packets of an attempt that is over, computed by the definitions: an old
+-- COOKIE ECHO, and a late COOKIE ACK. A wrong rule in specs/ would not check here.
 use Rattle.std.proofs.Common.{◌≡◌, ℕ, false, Some, List, [], ◌∷◌, inl, inr, refl, ap, ◌∙◌, arith, codes}
 use Rattle.dcsctp_spec_lemmas.specs.types.declared.association.Pair.{Pair}
 use Rattle.dcsctp_spec_lemmas.specs.types.declared.options.Options.{Options}
@@ -66,7 +66,7 @@ replay_has_fresh_tags : (a b : Options) → FreshWorld (end_of a b replay)
 unfolding cookie_bytes cookie_at
 replay_has_fresh_tags a b = record { a = fresh_where (end_of a b replay).a.past (tt, tt); b = fresh_where (end_of a b replay).b.past (tt, tt) }
 
--- What B's association finds stands in A's past.
+-- The association that matches B's is in A's past.
 replay_is_found : (a b : Options) → FindsCrossed (end_of a b replay).b (end_of a b replay).a (link two one)
 unfolding cookie_bytes cookie_at
 replay_is_found a b =
@@ -154,7 +154,7 @@ late_ack_is_not_found a b found = peer_differs found.other (held_among (end_of a
 late_ack_is_not_crossed : (a b : Options) → ConnectsCrossed (end_of a b late_ack).a (end_of a b late_ack).b → ⊥
 late_ack_is_not_crossed a b crossed = late_ack_is_not_found a b (crossed (link again new_two) (late_ack_connects a b))
 
--- So the premise stands: B's tags are fresh and A's aren't.
+-- So fresh tags at one side aren't enough: B's are fresh and A's aren't.
 late_ack_fresh_at_b : (a b : Options) → HasFreshTags (end_of a b late_ack).b.past
 unfolding cookie_bytes cookie_at
 late_ack_fresh_at_b a b = fresh_where (end_of a b late_ack).b.past ((λ same. absurd (omega (arith, same)), tt), (tt, tt))

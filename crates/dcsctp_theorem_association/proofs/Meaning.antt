@@ -174,7 +174,7 @@ sent_says core held choices e =
     all_say-append core (further_packets held.peer.tag choices.plain) (flush held.peer.tag held [] choices.filling).effects (further_say core held.peer.tag choices.plain)
     (flush_says core held.peer.tag held [] choices.filling e)
 
--- A request that goes out under the next number: the association is the same, and that number is outstanding then.
+-- A request that is sent under the next number: the association is the same, and that number is outstanding then.
 pub renewed_link : (my : Pair) (held : Held) (number : Option ℕ) (reset : RequestedReset) (fits : Bool) → identity_of my (renewed_by held number reset fits).held ≡ identity_of my held
 renewed_link my held None reset fits = refl
 renewed_link my held (Some number) reset false = refl

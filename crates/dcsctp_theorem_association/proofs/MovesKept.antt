@@ -51,7 +51,7 @@ heard_kept my_offer their_offer mine theirs core choices h =
     then_kept my_offer their_offer mine theirs stepped (flush_change stepped.core choices) next_chunk first
     (flush_kept my_offer their_offer (after_effects stepped.effects mine) theirs stepped.core choices first.core)
 
--- Where it counts, the header bears the own tag.
+-- The header of an INIT ACK, COOKIE ACK or RE-CONFIG has our own tag.
 abbrev OwnTagged : Core → ℕ → Content → Type 0
 OwnTagged core header (init_ack introduction cookie) = header ≡ own_tag core
 OwnTagged core header cookie_ack = header ≡ own_tag core
@@ -124,7 +124,7 @@ front_kept law options their_offer mine theirs core header (shutdown_complete re
 front_kept law options their_offer mine theirs core header (plain chunk) behind choices my_tags their_tags h delivered is own makes =
     other_kept (offer_of options) their_offer mine theirs core choices.is_violation choices h
 
--- ---- the chunks behind it
+-- ---- the chunks after the first
 
 behind_kept : (options : Options) (their_offer : Offer) (mine theirs : List Effect) (core : Core) (header : ℕ) (content : Content) (choices : Choices)
     → SameTag mine → TrueCore (offer_of options) their_offer mine theirs core → Behind content

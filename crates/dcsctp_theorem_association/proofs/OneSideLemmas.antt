@@ -1,4 +1,4 @@
--- What is held stands in the past of a side as the association has it; emissions and flushes keep that.
+-- The association that a side holds is the one that its past leaves; emissions and flushes keep that.
 use Rattle.std.proofs.Common.{◌≡◌, ℕ, ◌+◌, ◌-◌, ◌%◌, ◌^◌, Bool, true, false, Option, None, Some, List, [], ◌∷◌, ◌++◌, refl, sym, subst, ap, ◌∙◌, arith}
 use Rattle.dcsctp_spec_lemmas.specs.types.declared.association.Pair.{Pair}
 use Rattle.dcsctp_spec_lemmas.specs.types.declared.association.Held.{Held}
@@ -28,7 +28,7 @@ pub record Stands (link : AssociationIdentity) (waiting : Option AssociationIden
   pub performs_last : held.peer_result ≡ InProgress → number_to_perform past ≡ Some held.peer_last
   pub in_place : Each InPlace past
 
--- Where `before` stands, `after` stands once these effects are added.
+-- If `Stands` holds of `before`, it holds of `after` once these effects are added.
 abbrev pub Leads : AssociationIdentity → Option AssociationIdentity → Held → List Effect → Held → Type 0
 Leads link waiting before effects after = (past : List Effect) → Stands link waiting before past → Stands link waiting after (after_effects effects past)
 
@@ -91,7 +91,7 @@ stands-begins none s = record {
   in_place = ((s.begins_next, s.is_outstanding ∙ none), s.in_place);
 }
 
--- the own request is given up: then none is outstanding
+-- our request is given up: then none is outstanding
 stands-gives_up : {link : AssociationIdentity} {waiting : Option AssociationIdentity} {held : Held} {past : List Effect} (number : ℕ) → held.own_outstanding ≡ Some number → Stands link waiting held past
     → Stands link waiting (record held { own_outstanding = None }) (gives_up number ∷ past)
 stands-gives_up number some s = record {

@@ -1,4 +1,4 @@
--- What is held stands in the past of a side as the association has it: RE-CONFIG keeps that.
+-- The association that a side holds is the one that its past leaves: RE-CONFIG keeps that.
 use Rattle.std.proofs.Common.{◌≡◌, ◌==◌, ℕ, Bool, true, false, cond, Option, None, Some, List, [], ◌∷◌, refl, sym, ap, ◌∙◌}
 use Rattle.std.proofs.lemmas.Bool.Decides.{Decides-eqb}
 use Rattle.dcsctp_spec_lemmas.specs.types.declared.association.Held.{Held}

@@ -1,4 +1,5 @@
--- Over every list of turns each effect of a side stands in its place, and the association is what the past leaves.
+-- Over every list of turns each effect of a side is in its place, and the association is the one that
+-- the past leaves.
 use Rattle.std.proofs.Common.{ℕ, Bool, true, false, Option, None, Some, List, [], ◌∷◌, refl, sym, subst}
 use Rattle.dcsctp_spec_lemmas.specs.types.declared.association.Pair.{Pair}
 use Rattle.dcsctp_spec_lemmas.specs.types.declared.association.Held.{Held}

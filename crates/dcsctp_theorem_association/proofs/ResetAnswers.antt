@@ -1,4 +1,4 @@
--- A request of the peer, or its answer to an own one, keeps what is true.
+-- A request of the peer, or its answer to one of ours, keeps what is true.
 use Rattle.std.proofs.Common.{◌≡◌, ◌==◌, ℕ, Bool, true, false, None, List, [], ◌∷◌, inl, inr, refl, sym, subst, ap, ◌∙◌, arith, cond}
 use Rattle.std.proofs.lemmas.Bool.Decides.{nat_tests}
 use Rattle.dcsctp_spec_lemmas.specs.wire.declared.reconfiguration.ReconfigurationResponseResult.{ReconfigurationResponseResult}
@@ -105,7 +105,7 @@ outgoing_answer my_offer their_offer mine theirs my held number is_reached astra
 
 -- ---- an answer of the peer
 
--- the own request of this number is done, or could never have been sent
+-- our request of this number is done, or could never have been sent
 done : (mine theirs : List Effect) (my : Pair) (number : ℕ) → SameTag mine → HasEffect (draws my) mine → TruePerformed theirs mine my.tag number → HasEffect (performs my number) theirs
 done mine theirs my number tags drawn answer =
     subst (λ (p : Pair). HasEffect (performs p number) theirs) (tags answer.pair my answer.drawn drawn (sym answer.under)) answer.performed
@@ -113,7 +113,7 @@ done mine theirs my number tags drawn answer =
 nothing_done : (mine theirs : List Effect) (my : Pair) (number : ℕ) → SameTag mine → HasEffect (draws my) mine → TrueNothing mine my.tag number → number ≡ number_before my
 nothing_done mine theirs my number tags drawn answer = answer.before ∙ ap number_before (tags answer.pair my answer.drawn drawn (sym answer.under))
 
--- an own request that ended
+-- a request of ours that ended
 ended_request : (my_offer their_offer : Offer) (mine theirs : List Effect) (my : Pair) (held : Held) (effect : Effect)
     → PeerFacts my_offer their_offer mine theirs my held → TrueEffects my_offer their_offer mine theirs (effect ∷ []) → AllEchoFree (effect ∷ []) → ((pair : Pair) → draws pair ≡ effect → ⊥)
     → Working my_offer their_offer mine theirs my held (record held { own_outstanding = None }) (effect ∷ [])

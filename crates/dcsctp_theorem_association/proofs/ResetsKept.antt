@@ -1,4 +1,4 @@
--- RE-CONFIG keeps what is true: its answers speak of what was performed.
+-- RE-CONFIG keeps what is true: its answers report what was performed.
 use Rattle.std.proofs.Common.{◌≡◌, ℕ, Bool, true, false, List, [], ◌∷◌, ◌++◌, refl, sym, subst, ◌∙◌}
 use Rattle.dcsctp_spec_lemmas.specs.types.declared.association.Pair.{Pair}
 use Rattle.dcsctp_spec_lemmas.specs.types.declared.association.Held.{Held}
@@ -24,7 +24,7 @@ pub record WorkedKept (my_offer their_offer : Offer) (mine theirs : List Effect)
   pub working : Working my_offer their_offer mine theirs my held worked.held worked.effects
   pub answers : TrueParameters (after_effects worked.effects mine) theirs held.peer.tag worked.answers
 
--- one parameter and those behind it
+-- one parameter and those after it
 then_working : (my_offer their_offer : Offer) (mine theirs : List Effect) (my : Pair) (held middle after : Held) (first rest : List Effect)
     → Working my_offer their_offer mine theirs my held middle first → Working my_offer their_offer (after_effects first mine) theirs my middle after rest
     → Working my_offer their_offer mine theirs my held after (first ++ rest)
@@ -106,7 +106,7 @@ emission_free : (tag : ℕ) (fits : Bool) (answers : List ResetParameter) → Al
 emission_free tag fits [] = tt
 emission_free tag fits (answer ∷ answers) = alone_free fits tag (re_config (answer ∷ answers)) tt
 
--- what the answers, and the flush behind them, leave
+-- what the answers, and the flush after them, leave
 pub record SentKept (my_offer their_offer : Offer) (mine theirs : List Effect) (my : Pair) (held : Held) (sent : Flushed) : Type 0 where
   pub true_effects : TrueEffects my_offer their_offer mine theirs sent.effects
   pub free : AllEchoFree sent.effects

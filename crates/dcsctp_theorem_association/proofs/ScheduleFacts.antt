@@ -1,5 +1,5 @@
--- Outside examples of whole handshakes, computed by the definitions: a wrong rule in specs/ would not check
--- here.
+-- Outside examples of whole handshakes, computed by the definitions: a wrong rule in specs/ would
+-- not check here.
 use Rattle.std.proofs.Common.{◌≡◌, ℕ, false, Some, List, [], ◌∷◌, inl, refl, arith, codes}
 use Rattle.dcsctp_spec_lemmas.specs.types.declared.association.Pair.{Pair}
 use Rattle.dcsctp_spec_lemmas.specs.types.declared.options.Options.{Options}
@@ -65,7 +65,7 @@ four_packets_end : (a b : Options) → end_of a b four_packets
 unfolding cookie_bytes cookie_at
 four_packets_end a b = refl
 
--- INIT goes out under 0, the other three under the tag of the side that gets them.
+-- INIT is sent under 0, the other three under the tag of the side that gets them.
 four_packets_tags : (a b : Options) → tags_of a b four_packets ≡ 0 ∷ 7 ∷ 9 ∷ 7 ∷ []
 unfolding cookie_bytes cookie_at
 four_packets_tags a b = refl
@@ -115,7 +115,7 @@ restart_echoed_goes a b =
     after tt
     after four_packets_go a b
 
--- The COOKIE ECHO bears the fresh tag, which isn't B's tag yet.
+-- The COOKIE ECHO carries the fresh tag, which isn't B's tag yet.
 restart_goes : (a b : Options) → GoesOn a b restart
 unfolding cookie_bytes cookie_at
 restart_goes a b =

@@ -1,4 +1,5 @@
--- How a schedule is written down: what each side does and gets, newest first, and the steps that come of it.
+-- How a schedule is written down: what each side does and gets, newest first, and the steps that
+-- come of it.
 use Rattle.std.proofs.Common.{ℕ, true, false, Option, None, Some, List, [], ◌∷◌, refl}
 use Rattle.dcsctp_spec_lemmas.specs.wire.declared.reconfiguration.ReconfigurationResponseResult.{ReconfigurationResponseResult}
 use Rattle.dcsctp_spec_lemmas.specs.wire.declared.reconfiguration.ReconfigurationResponseResult.TheVariants.{SuccessNothingToDo}
@@ -47,7 +48,7 @@ introduction mine = record { pair = mine; offer = offer; window = 5242880 }
 abbrev pub link : Pair → Pair → AssociationIdentity
 link my peer = record { my = my; peer = peer; capabilities = capabilities }
 
--- the peer, the own next number, the own outstanding one, the peer's last number and its result
+-- the peer, our next number, our outstanding one, the peer's last number and its result
 abbrev pub held : Pair → ℕ → Option ℕ → ℕ → ReconfigurationResponseResult → Held
 held peer own_next outstanding last result =
     record { peer = peer; capabilities = capabilities; own_next = own_next; own_outstanding = outstanding; peer_last = last; peer_result = result }
@@ -118,7 +119,7 @@ abbrev pub steps : Options → Options → List Doing → List WorldStep
 steps options_a options_b [] = []
 steps options_a options_b (doing ∷ earlier) = then_step options_a options_b doing (steps options_a options_b earlier)
 
--- A packet that is delivered was sent by the other side and may be worked, and a cookie that is made reads back.
+-- A packet that is delivered was sent by the other side and may be handled, and a cookie that is made reads back.
 abbrev pub Needs : World → Doing → Type 0
 Needs world (acts which act choices) = Unit {0}
 Needs world (gets which tag content choices) =

@@ -1,5 +1,5 @@
--- A cookie bears the moment of the turn that gave it away, and one that makes an association isn't stale: so an association is made
--- within the lifetime of its cookie.
+-- A cookie carries the moment of the turn that gave it away, and one that makes an association
+-- isn't stale: so an association is made within the lifetime of its cookie.
 use Rattle.std.proofs.Common.{◌≡◌, ◌≤◌, ◌<◌, ◌^◌, ◌+◌, ◌-◌, ℕ, Bool, true, false, cond, not, eqb, None, Some, Result, Ok, Err, List, [], ◌∷◌, ◌++◌, length, inl, inr, refl, sym, subst, ap, ◌∙◌, arith}
 use Rattle.std.specs.Prelude.{nat_le, ◌⊎◌}
 use Rattle.std.specs.Duration.{as_nanos}
@@ -51,7 +51,7 @@ moment_written : (cookie : Cookie) → cookie.moment < 2 ^ 64 → u64_at 48 (coo
 unfolding cookie_bytes
 moment_written cookie fits = from_be_bytes-to_be_bytes_8 cookie.moment fits
 
--- each cookie that is given away bears this moment
+-- each cookie that is given away carries this moment
 abbrev bearing : ℕ → Rules
 bearing now = record { echoed = λ bytes. Unit {0}; given = λ bytes. u64_at 48 bytes ≡ cut now }
 
@@ -78,7 +78,7 @@ any_input : (now : ℕ) (input : Input) → InputKeeps (bearing now) input
 any_input now (chunk_input tag content) = any_taken now content
 any_input now input = tt
 
--- Each cookie that a turn gives away bears its moment.
+-- Each cookie that a turn gives away carries its moment.
 abbrev BearsMoment : Endpoint → Transition → Type 0
 BearsMoment e turn = AllSent (EmissionKeeps (bearing e.moment)) turn.outcome.events
 

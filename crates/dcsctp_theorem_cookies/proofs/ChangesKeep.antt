@@ -1,5 +1,5 @@
--- If rules on cookies hold of what comes in, they hold of what goes out, and of the association after it: the only cookie that an
--- association echoes is that of an INIT ACK.
+-- If rules on cookies hold of what is received, they hold of what is sent, and of the
+-- association after it: the only cookie that an association echoes is that of an INIT ACK.
 use Rattle.std.proofs.Common.{ℕ, Bool, true, false, Option, None, Some, List, [], ◌∷◌, Result, Ok, Err}
 use Rattle.dcsctp_spec_lemmas.specs.types.declared.association.Pair.{Pair}
 use Rattle.dcsctp_spec_lemmas.specs.types.declared.association.Held.{Held}

@@ -1,5 +1,5 @@
--- Rules on cookies, and which chunks, effects and associations keep them. A flush does if the chunks do that its first packet begins
--- with.
+-- Rules on cookies, and which chunks, effects and associations keep them. A flush does if the
+-- chunks do that its first packet begins with.
 use Rattle.std.proofs.Common.{ℕ, Bool, true, false, Option, None, Some, List, [], ◌∷◌, ◌++◌}
 use Rattle.std.specs.List.{AllByRecursion}
 use Rattle.dcsctp_spec_lemmas.specs.types.declared.association.Held.{Held}

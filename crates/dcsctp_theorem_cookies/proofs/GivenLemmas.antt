@@ -1,4 +1,5 @@
--- Cookies that events gave away: more events gave no fewer, and each cookie of an INIT ACK among them is one.
+-- Cookies that events gave away: more events gave no fewer, and each cookie of an INIT ACK among
+-- them is one.
 use Rattle.std.proofs.Common.{ℕ, Some, List, [], ◌∷◌, ◌++◌, inl, inr, refl, sym, subst, append_assoc}
 use Rattle.std.proofs.lemmas.List.{append-nil}
 use Rattle.std.specs.List.{AllByRecursion}
@@ -47,7 +48,7 @@ borne_more : (content : Content) (contents : List Content) → Implies (BearCook
 borne_more (init_ack theirs (Some cookie)) contents bytes h = inr h
 borne_more content contents bytes h = h
 
--- If each cookie that chunks bear is good, each INIT ACK among them keeps the rule.
+-- If each cookie that chunks carry is good, each INIT ACK among them keeps the rule.
 pub borne_keep : (Good : List ℕ → Type 0) (contents : List Content) → Implies (BearCookie contents) Good → AllByRecursion (TakenKeeps (echoing Good)) contents
 borne_keep Good [] h = tt
 borne_keep Good (content ∷ contents) h =
@@ -61,7 +62,7 @@ given_first : (event : Event Emission) (events : List (Event Emission)) → OfSe
 given_first (sent emission) events = λ bytes borne. inl borne
 given_first event events = tt
 
--- Each cookie that a packet among these events bears was given away by them.
+-- Each cookie that a packet among these events carries was given away by them.
 pub all_given : (events : List (Event Emission)) → AllSent (λ emission. Implies (Bears emission) (GaveCookie events)) events
 all_given [] = tt
 all_given (event ∷ events) =

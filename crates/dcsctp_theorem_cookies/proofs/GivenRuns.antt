@@ -1,4 +1,5 @@
--- Over an honest run each COOKIE ECHO that a side handles bears a cookie that this side gave away before.
+-- Over an honest run each COOKIE ECHO that a side handles carries a cookie that this side gave away
+-- before.
 use Rattle.std.proofs.Common.{◌≡◌, ℕ, zero, suc, Option, None, Some, List, [], ◌∷◌, ◌++◌, refl, sym, subst}
 use Rattle.std.specs.List.{AllByRecursion, slice_get}
 use Rattle.dcsctp_spec_lemmas.specs.wire.Format.{IsPacket}

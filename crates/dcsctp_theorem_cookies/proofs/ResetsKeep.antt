@@ -1,4 +1,5 @@
--- A RE-CONFIG, its answers and an own request keep rules on cookies: none of their packets has a cookie.
+-- A RE-CONFIG, its answers and a request of ours keep rules on cookies: none of their packets has a
+-- cookie.
 use Rattle.std.proofs.Common.{ℕ, Bool, true, false, Option, None, Some, List, [], ◌∷◌}
 use Rattle.dcsctp_spec_lemmas.specs.wire.declared.reconfiguration.ReconfigurationResponseResult.{ReconfigurationResponseResult}
 use Rattle.dcsctp_spec_lemmas.specs.wire.declared.reconfiguration.ReconfigurationResponseResult.TheVariants.{InProgress}

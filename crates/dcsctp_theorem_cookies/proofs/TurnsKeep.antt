@@ -1,4 +1,4 @@
--- If rules on cookies hold of what comes in, they hold of what goes out, turn by turn.
+-- If rules on cookies hold of what is received, they hold of what is sent, turn by turn.
 use Rattle.std.proofs.Common.{◌≡◌, ℕ, Bool, true, false, cond, List, [], ◌∷◌, inl, inr, refl, sym, subst}
 use Rattle.std.specs.List.{AllByRecursion}
 use Rattle.dcsctp_spec_lemmas.specs.types.declared.word.Word.{Word}

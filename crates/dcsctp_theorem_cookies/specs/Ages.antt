@@ -1,5 +1,5 @@
--- How old a cookie is that makes an association: its lifetime isn't over, by the clock of the socket that gave it away (RFC 9260,
--- section 5.1.5).
+-- How old a cookie is that makes an association: its lifetime isn't over, by the clock of the
+-- socket that gave it away (RFC 9260, section 5.1.5).
 use Rattle.std.specs.Prelude.{◌≡◌, ◌≤◌, ◌+◌, ◌⊎◌, ℕ, List, [], ◌∷◌, ◌++◌}
 use Rattle.std.specs.Duration.{as_nanos}
 use Rattle.dcsctp_spec_lemmas.specs.types.declared.options.Options.{Options}
@@ -23,8 +23,8 @@ pub record MakesFrom (bytes : List ℕ) (turn : Transition) : Type 0 where
   pub link : AssociationIdentity
   pub made : HasEffect (holds link) turn.outcome.effects
 
--- One of these turns gave the cookie away, at most a lifetime before this moment. Moments are nanoseconds on the socket's clock, cut
--- to 64 bits. The first turn starts from this endpoint.
+-- One of these turns gave the cookie away, at most a lifetime before this moment. Moments are nanoseconds on the socket's
+-- clock, cut to 64 bits. The first turn starts from this endpoint.
 abbrev pub GaveInTime : ℕ → ℕ → List ℕ → Endpoint → List Transition → Type 0
 GaveInTime lifetime now bytes e [] = ⊥
 GaveInTime lifetime now bytes e (turn ∷ turns) =

@@ -1,5 +1,5 @@
--- Where the cookie of a COOKIE ECHO comes from: the socket that handles the chunk gave it away before, as long as no act comes from
--- outside (RFC 9260, section 5.1).
+-- Where the cookie of a COOKIE ECHO comes from: the socket that handles the chunk gave it away
+-- before, as long as no act comes from outside (RFC 9260, section 5.1).
 use Rattle.std.specs.Prelude.{◌≡◌, ℕ, Some, List, [], ◌∷◌, ◌++◌, ◌⊎◌}
 use Rattle.dcsctp_spec_lemmas.specs.types.declared.options.Options.{Options}
 use Rattle.dcsctp_spec_lemmas.specs.types.declared.schedule.Side.{Side}
@@ -33,8 +33,8 @@ abbrev pub AllEchoGiven : List (Event Emission) → List Transition → Type 0
 AllEchoGiven before [] = Unit {0}
 AllEchoGiven before (turn ∷ turns) = EchoesGiven before turn.input × AllEchoGiven (before ++ turn.outcome.events) turns
 
--- It holds of each side at the end of each first part of the run that is honest, whatever comes later. Before its first turn a side
--- has sent nothing.
+-- It holds of each side at the end of each first part of the run that is honest, whatever comes later. Before its first turn a
+-- side has sent nothing.
 abbrev pub GivenThroughout : List PerformedAct → Type 0
 GivenThroughout [] = Unit {0}
 GivenThroughout (worked ∷ earlier) =

@@ -9,7 +9,7 @@ use dcsctp_spec_runs::{admitted_packets_may_be_worked, offer_reads_back, packets
 use dcsctp_theorem_association::effects_mean;
 use dcsctp_wire_laws::built_packet_reads_as_itself;
 
-/// Each COOKIE ECHO that a socket handles bears a cookie that this socket gave away before, in an INIT ACK of
+/// Each COOKIE ECHO that a socket handles carries a cookie that this socket gave away before, in an INIT ACK of
 /// an earlier turn (RFC 9260, section 5.1). So it is over every schedule that loses, repeats, delays and
 /// reorders packets, as long as no act comes from outside.
 pub fn cookies_were_given()

@@ -1,4 +1,4 @@
--- The own abort leaves numbers that fit their fields, and sends what is read as itself.
+-- Our own abort leaves numbers that fit their fields, and sends what is read as itself.
 use Rattle.std.proofs.Common.{◌≡◌, ℕ, Bool, true, false, cond, ltb, List, [], ◌∷◌, arith, refl}
 use Rattle.std.specs.List.{AllByRecursion}
 use Rattle.std.proofs.lemmas.Bool.Decides.{nat_tests}

@@ -1,5 +1,5 @@
--- A turn of a socket that is an act of its association, one in which the options have no part, is followed by its side in the
--- machine that agreement is proved on.
+-- A turn of a socket that is an act of its association, one in which the options have no part, is
+-- followed by its side in the machine that agreement is proved on.
 use Rattle.std.proofs.Common.{◌≡◌, List, [], ◌∷◌, ◌++◌, refl, sym, subst}
 use Rattle.dcsctp_spec_lemmas.specs.types.declared.options.Options.{Options}
 use Rattle.dcsctp_spec_lemmas.specs.spec.endpoint.Endpoint.{Endpoint, Core}

@@ -1,4 +1,4 @@
--- How many packets chunks that speak of no association, RE-CONFIG, and timers send.
+-- How many packets are sent by chunks that concern no association, by RE-CONFIG, and by timers.
 use Rattle.std.proofs.Common.{◌==◌, ◌≡◌, ◌≤◌, ℕ, Bool, true, false, cond, Option, None, Some, List, [], ◌∷◌, ◌++◌, refl, sym, subst, arith}
 use Rattle.dcsctp_spec_lemmas.specs.wire.Content.{ParameterContent, data_chunk, sack_chunk, error_chunk, i_data_chunk, forward_tsn_chunk, i_forward_tsn_chunk}
 use Rattle.dcsctp_spec_lemmas.specs.types.declared.association.Pair.{Pair}
@@ -106,7 +106,7 @@ timer_few e reconfiguration o turn = subst (Few 1) (sym turn) (reconfiguration_f
 
 -- ---- RE-CONFIG
 
--- What is told has no packet.
+-- No event of a reset is a packet.
 told_few : (theirs own : List ℕ) (es : List Effect) → AreResets es → count (reset_events theirs own es) ≤ 0
 told_few theirs own _ nothing = none 0
 told_few theirs own _ (acceptance number es are) = told_few theirs own es are

@@ -1,4 +1,5 @@
--- How many packets the turns of data send: behind a SACK, at the end of a packet, and by what the user sends and resets.
+-- How many packets the turns of data send: after a SACK, at the end of a packet, and when the user
+-- sends or resets.
 use Rattle.std.proofs.Common.{◌≡◌, ◌≤◌, ◌+◌, ℕ, Bool, true, false, Option, None, Some, List, [], ◌∷◌, ◌++◌, map, length, refl, sym, subst, ap, ◌∙◌, append-nil, take, fold, arith}
 use Rattle.std.proofs.lemmas.Bool.Decides.{nat_tests}
 use Rattle.dcsctp_spec_lemmas.specs.wire.Content.{SackContent, no_user_data}

@@ -30,7 +30,7 @@ append_few m n xs ys first second =
     let both : count (xs ++ ys) ≡ count xs + count ys = ap length (packets_in-append xs ys) ∙ length-append (packets_in xs) (packets_in ys) in
     omega (arith, first, second, both)
 
--- those behind events without a packet
+-- those after events without a packet
 pub none_in_front : (n : ℕ) (xs ys : List (Event Emission)) → count xs ≤ 0 → count ys ≤ n → count (xs ++ ys) ≤ n
 none_in_front n xs ys first second = let both = append_few 0 n xs ys first second in omega (arith, both)
 
@@ -61,7 +61,7 @@ emits_few e words emission = emits_by (fits e emission) e words emission
 
 -- ---- a flush
 
--- what is told is no packet
+-- the events in `told` are no packets
 pub told_none : (told : List FillingEvent) (rest : List (Event Emission)) → packets_in (map filling_event told ++ rest) ≡ packets_in rest
 told_none [] rest = refl
 told_none (amount_is_low stream ∷ told) rest = told_none told rest

@@ -210,7 +210,7 @@ send_fits e messages o turn h =
     subst TurnFits (sym turn.2)
     (then_fits queued (send_by (takes_any e messages) queued.after turn.0) all (send_where_fits (takes_any e messages) queued.after turn.0 turn.1 all.after))
 
--- ---- own streams that the user resets
+-- ---- our streams that the user resets
 
 prepares_fits : (e : Endpoint) (ids : List ℕ) (o : Outcome) → PreparesResets e ids o → FitsEndpoint e → TurnFits o
 prepares_fits e ids o turn h =

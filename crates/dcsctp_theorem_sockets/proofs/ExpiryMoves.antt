@@ -1,4 +1,5 @@
--- What the timers of an open association bring is moves of its side in the machine that agreement is proved on.
+-- What the timers of an open association bring is moves of its side in the machine that agreement
+-- is proved on.
 use Rattle.std.proofs.Common.{ℕ, Bool, true, false, List, [], ◌∷◌, ◌++◌, refl, sym, subst, arith}
 use Rattle.std.specs.Prelude.{if◌then◌else◌}
 use Rattle.std.specs.Int.{w32, to_be_bytes}
@@ -35,7 +36,7 @@ use Rattle.dcsctp_theorem_sockets.proofs.Follow.{Followed, after_last}
 use Rattle.dcsctp_theorem_sockets.proofs.TimeMoves.{T1Follows, t1_follows}
 use Rattle.dcsctp_theorem_sockets.proofs.Moves.{Below, SideMoves, moves_then, none_rests, act_then, act_moves}
 
--- ---- what goes out fits
+-- ---- what is sent fits
 
 heartbeat_sendable : (counter : ℕ) → Sendable (plain (heartbeat (heartbeat_info (to_be_bytes w32 counter) ∷ [])))
 unfolding parameters_len
@@ -73,7 +74,7 @@ no_options e heartbeat_interval p q core choices = refl
 no_options e heartbeat_timeout p q core choices = refl
 no_options e reconfiguration p q core choices = repeats_by_none (is_renewed e e.outstanding) (reset_again e.outstanding) p q core choices
 
--- what may come behind so many turns, from wherever the side stands then
+-- `more` may follow `turns`, whatever state of the side these leave
 abbrev MovesBehind : Options → List Transition → List Effect → List Transition → Type 0
 MovesBehind options turns theirs more = (side : SideState) → Followed options turns side → SideMoves options turns side theirs more
 
@@ -114,7 +115,7 @@ expiry_moves law options turns side theirs t2_timer t more h turn rest = t2_move
 
 -- ---- all that are due
 
--- These inputs, unless too many errors were counted: then the own end aborts.
+-- These inputs, unless too many errors were counted: then this side aborts.
 many_moves : Below → (options : Options) (turns : List Transition) (side : SideState) (theirs : List Effect) (many : Bool) (inputs : List Input) (more : List Transition)
     → Followed options turns side → (Turns (endpoint_after options turns) inputs more → SideMoves options turns side theirs more)
     → Turns (endpoint_after options turns) (if many then act_input (abort_with TooManyErrors) ∷ [] else inputs) more → SideMoves options turns side theirs more

@@ -88,7 +88,7 @@ sacks_sendable true room transfer after chunks h =
     subst (λ (cs : List Plain). AllByRecursion Sendable (plain_contents cs)) (sym h.1)
     (where_fits_sendable room (own_sack transfer) (own_sack_sendable transfer))
 
--- chunks one behind another
+-- chunks, and others after them
 plain_sendable : (first second : List Plain) → AllByRecursion Sendable (plain_contents first) → AllByRecursion Sendable (plain_contents second)
     → AllByRecursion Sendable (plain_contents (first ++ second))
 plain_sendable [] second none each = each
@@ -180,7 +180,7 @@ flush_fits e draft answers allowed h good =
 pub behind_fits : (words : List Word) (events : List (Event Emission)) (o : Outcome) → AllSent IsSendable events → TurnFits o → TurnFits (behind words events o)
 behind_fits words events o before h = record { after = h.after; sends = all_sent_append IsSendable events o.events before h.sends }
 
--- behind these words and events, with these chunks in its first packet
+-- a flush after these words and events, with these chunks in its first packet
 pub flushed_fits : (e : Endpoint) (words : List Word) (events : List (Event Emission)) (with_checksum : Bool) (tag : ℕ) (contents : List Content) (answers : List Answer)
     → FlushAnswers e (record { with_checksum = with_checksum; packet = record { tag = tag; contents = contents } }) answers → FitsEndpoint e → AllSent IsSendable events
     → SendablePacket (record { tag = tag; contents = contents }) → TurnFits (flush_answered answers e words events with_checksum tag contents)

@@ -71,9 +71,9 @@ each_connected_more : (Kind : AssociationIdentity → Type 0) (turns : List Tran
 each_connected_more Kind [] t each last = (last, tt)
 each_connected_more Kind (turn ∷ turns) t each last = (each.0, each_connected_more Kind turns t each.1 last)
 
--- ---- what the turns noted
+-- ---- what the turns recorded
 
--- what was drawn is noted
+-- what was drawn is recorded
 drawn_noted : (effects : List Effect) → drawn_in (noted effects) ≡ drawn_in effects
 drawn_noted [] = refl
 drawn_noted (draws pair ∷ effects) = ap (λ (ps : List Pair). pair ∷ ps) (drawn_noted effects)

@@ -58,7 +58,7 @@ pub distinct_front : (pairs more : List Pair) → HasDistinctTags (pairs ++ more
 distinct_front [] more h = tt
 distinct_front (first ∷ pairs) more h = (others_in_front first pairs more h.0, distinct_front pairs more h.1)
 
--- a pair that stands behind others has another tag
+-- a pair that comes after others has a different tag
 behind_others : (first pair : Pair) (pairs more : List Pair) → AllByRecursion (λ later. first.tag ≢ later.tag) (pairs ++ pair ∷ more) → first.tag ≢ pair.tag
 behind_others first pair [] more h = h.0
 behind_others first pair (second ∷ pairs) more h = behind_others first pair pairs more h.1

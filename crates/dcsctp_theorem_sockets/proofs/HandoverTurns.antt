@@ -1,4 +1,4 @@
--- A handover leaves numbers that fit their fields and no packet, and T1 runs after it if it has to.
+-- After a handover numbers fit their fields, no packet is sent, and T1 runs if it must.
 use Rattle.std.proofs.Common.{ℕ, [], sym, subst}
 use Rattle.dcsctp_spec_lemmas.specs.spec.endpoint.Event as events
 use Rattle.dcsctp_spec_lemmas.specs.spec.endpoint.Endpoint.{Endpoint, Core, closed, cookie_wait, cookie_echoed, open_in, established, shutdown_pending, shutdown_sent, shutdown_received, shutdown_ack_sent}

@@ -80,7 +80,7 @@ cookie_reads law a p q good mine own =
       moment = omega arith;
     })
 
--- It is this queue whether or not its numbers start anew.
+-- It is this queue whether or not its numbers start again.
 queue_there_where : (follows : Bool) (a b : Options) (p q : Pair) → queue_where follows (echoed b) (made_cookie a p q) ≡ queue_there a b p q
 queue_there_where true a b p q = refl
 queue_there_where false a b p q = refl
@@ -91,7 +91,7 @@ queue_is a b p q = queue_there_where b.follow_rfc a b p q
 pub established_idle : (a b : Options) (p q : Pair) (tie : ℕ) → IsIdle (established_by (echoed b) (made_cookie a p q) (queue_kept (echoed b) (made_cookie a p q)) tie)
 established_idle a b p q tie = subst (λ (queue : SendQueueState). IsIdle (established_by (echoed b) (made_cookie a p q) queue tie)) (sym (queue_is a b p q)) refl
 
--- its COOKIE ACK goes out
+-- its COOKIE ACK is sent
 pub established_sends : (a b : Options) (p q : Pair) (tie : ℕ) → Good b
     → establish_outcome (echoed b) (made_cookie a p q) (queue_kept (echoed b) (made_cookie a p q)) tie (connected ∷ []) ≡ establishing a b p q tie
 established_sends a b p q tie good =

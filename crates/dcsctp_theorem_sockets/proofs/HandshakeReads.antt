@@ -55,8 +55,8 @@ delivered e tag content o =
     ∷ transition packet_ends (still o.after)
     ∷ []
 
--- What comes of the packet: the chunk's turn among them, with the others as they have to be, where its rest isn't dropped and
--- nothing is to be acknowledged.
+-- The turns of a packet with one chunk have the chunk's turn among them. They are `delivered`, if the rest of the packet isn't
+-- dropped and nothing is to be acknowledged.
 pub record Taken (e : Endpoint) (tag : ℕ) (content : Content) (turns : List Transition) : Type 0 where
   pub outcome : Outcome
   pub comes : ContentTurn (counted_at e) tag content outcome
@@ -67,7 +67,7 @@ ended_as e [] owes turns = absurd turns
 ended_as e (t ∷ []) owes turns = ap (λ (x : Transition). x ∷ []) (turned_as t packet_ends (still e) turns.0.is (ends_still e t.outcome owes turns.0.comes))
 ended_as e (t ∷ u ∷ ts) owes turns = absurd turns.1
 
--- the end of the packet behind the one chunk
+-- the end of the packet after the one chunk
 behind_chunk : (t : Transition) (tag : ℕ) (turns : List Transition) → t.outcome.following ≡ next_chunk → OwesNothing t.outcome.after.queues.transfer
     → AfterChunk t.outcome.following (ChunkTurns t.outcome.after tag [] (packet_ends ∷ []) turns) (Turns t.outcome.after (packet_ends ∷ []) turns) (turns ≡ [])
     → turns ≡ transition packet_ends (still t.outcome.after) ∷ []
@@ -91,7 +91,7 @@ one_chunk e tag content (t ∷ ts) turns =
           ∙ ap (λ (xs : List Transition). transition (chunk_input tag content) t.outcome ∷ xs) (behind_chunk t tag ts goes_on owes turns.1);
     }
 
--- nothing stands before the chunk
+-- nothing happens before the chunk
 behind_begin : (e : Endpoint) (tag : ℕ) (content : Content) (begun : Transition) (turns : List Transition) → begun ≡ transition (packet_begins (content ∷ [])) (still e)
     → OneChunk begun.outcome.after tag content turns → OneChunk e tag content turns
 behind_begin e tag content begun turns is h = subst (λ (t : Transition). OneChunk t.outcome.after tag content turns) is h

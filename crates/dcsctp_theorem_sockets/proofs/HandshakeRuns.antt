@@ -37,7 +37,7 @@ first_is x y xs ys same = cc
 rest_is : (x y : ActContent) (xs ys : List ActContent) → x ∷ xs ≡ y ∷ ys → xs ≡ ys
 rest_is x y xs ys same = cc
 
--- an act with its turns behind others
+-- an act with its turns, after others
 with_act : (worked : PerformedAct) (act : ActContent) (earlier others : List PerformedAct) → worked.act ≡ act → earlier ≡ others → worked ∷ earlier ≡ record { act = act; turns = worked.turns } ∷ others
 with_act worked act earlier others is same =
     ap (λ (a : ActContent). record { act = a; turns = worked.turns } ∷ earlier) is ∙ ap (λ (ws : List PerformedAct). record { act = act; turns = worked.turns } ∷ ws) same

@@ -1,5 +1,5 @@
--- The five calls of a handshake between two fitting sockets, one after another. The one that connects has the options
--- a and the pair p, the other the options b and the pair q.
+-- The five calls of a handshake between two fitting sockets, one after another. The one that
+-- connects has the options a and the pair p, the other the options b and the pair q.
 use Rattle.std.proofs.Common.{◌≡◌, ◌≢◌, ◌≤◌, ℕ, Bool, true, false, cond, not, eqb, None, Some, List, [], ◌∷◌, ◌⊎◌, inl, inr, refl, sym, subst, ap, ◌∙◌, arith}
 use Rattle.std.specs.Prelude.{nat_le}
 use Rattle.std.specs.Duration.{as_nanos}
@@ -214,7 +214,7 @@ answer_is_taken law a b p q good mine own port =
       checked = method_checked b.zero_checksum_alternate_error_detection_method.0 a.zero_checksum_alternate_error_detection_method.0;
     }
 
--- a packet under the own tag is admitted
+-- a packet under our own tag is admitted
 pub ack_admitted : (core : Core) (theirs : Introduction) (cookie : List ℕ) (tag : ℕ) → own_tag core ≡ tag → 1 ≤ tag
     → admits core (record { tag = tag; contents = init_ack theirs (Some cookie) ∷ [] }) ≡ all_chunks
 ack_admitted core theirs cookie tag own some =

@@ -1,5 +1,5 @@
--- A SHUTDOWN that acknowledges does all that a SACK does (RFC 9260, section 9.2). So what is true of the turn of a SACK is true of its
--- turn: numbers that fit, sizes, how many packets, and T1.
+-- A SHUTDOWN that acknowledges does all that a SACK does (RFC 9260, section 9.2). So what is true
+-- of the turn of a SACK is true of its turn: numbers that fit, sizes, how many packets, and T1.
 use Rattle.std.proofs.Common.{◌≤◌, ◌+◌, ℕ, Bool, true, false, cond, inl, inr, sym, subst, arith}
 use Rattle.dcsctp_spec_lemmas.specs.types.declared.association.Pair.{Pair}
 use Rattle.dcsctp_spec_lemmas.specs.types.declared.association.Held.{Held}

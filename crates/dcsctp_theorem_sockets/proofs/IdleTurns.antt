@@ -1,4 +1,5 @@
--- Where nothing waits, what the outcomes of the handshake say may come: each is a turn, by answers that a flush may get.
+-- Where nothing waits, what the outcomes of the handshake say may come: each is a turn, by answers
+-- that a flush may get.
 use Rattle.std.proofs.Common.{◌≡◌, ℕ, Bool, true, false, Some, List, [], ◌∷◌, Result, Ok, refl, sym, subst, ap, ◌∙◌}
 use Rattle.dcsctp_spec_lemmas.specs.types.declared.association.Pair.{Pair}
 use Rattle.dcsctp_spec_lemmas.specs.types.declared.association.Held.{Held}

@@ -1,4 +1,5 @@
--- What comes of connect, and of an act in which the options have no part, is moves of a side in the machine that agreement is proved on.
+-- What comes of connect, and of an act in which the options have no part, is moves of a side in the
+-- machine that agreement is proved on.
 use Rattle.std.proofs.Common.{◌≡◌, List, [], ◌∷◌, ◌++◌, refl, sym, subst, ap, ◌∙◌, append_assoc}
 use Rattle.std.proofs.lemmas.List.{append-nil}
 use Rattle.dcsctp_spec_lemmas.specs.wire.ReadsBack.{BuiltPacketReadsAsItself}
@@ -52,7 +53,7 @@ nothing_happens options turns side theirs more h none =
     rests options turns side theirs more
     (subst (λ (ts : List Transition). Followed options (turns ++ ts) side) (sym none) (subst (λ (ts : List Transition). Followed options ts side) (sym (append-nil turns)) h))
 
--- turns that the side has no part in, and others behind them
+-- turns in which the side has no part, and others after them
 pub rests_then : (options : Options) (turns : List Transition) (side : SideState) (theirs : List Effect) (xs ys : List Transition) → SideMoves options (turns ++ xs) side theirs ys
     → SideMoves options turns side theirs (xs ++ ys)
 rests_then options turns side theirs xs ys second =
@@ -62,7 +63,7 @@ rests_then options turns side theirs xs ys second =
       follows = subst (λ (ts : List Transition). Followed options ts (after_moves side second.moves)) (append_assoc turns xs ys) second.follows;
     }
 
--- turns that are a move of it, and others behind them
+-- turns that are a move of the side, and others after them
 pub moves_then : (options : Options) (turns : List Transition) (side : SideState) (theirs : List Effect) (xs ys : List Transition) (move : Move) (changes : List Change) → MoveChanges side theirs move changes
     → SideMoves options (turns ++ xs) (after_changes side changes) theirs ys → SideMoves options turns side theirs (xs ++ ys)
 moves_then options turns side theirs xs ys move changes made second =
@@ -107,7 +108,7 @@ connect_moves law options turns side theirs (t ∷ next ∷ more) h turn = absur
 
 -- ---- an act in which the options have no part
 
--- its turn, and whatever comes behind it
+-- its turn, and whatever comes after it
 pub act_then : Below → (options : Options) (turns : List Transition) (side : SideState) (theirs : List Effect) (act : Act) (t : Transition) (more : List Transition) → TakesNoOptions act
     → Followed options turns side → ControlledAct (endpoint_after options turns) act t.outcome → TurnFits t.outcome
     → ((choices : Choices) → let after : SideState = after_changes side (act_change side.options side.core act choices ∷ []) in

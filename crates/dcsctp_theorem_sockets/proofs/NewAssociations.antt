@@ -1,4 +1,4 @@
--- An association that a turn makes is another than the one that was there, and is the first thing that the turn notes.
+-- An association that a turn makes differs from the one before it, and is what the turn records first.
 use Rattle.std.proofs.Common.{◌≡◌, ◌≢◌, ◌==◌, ℕ, Bool, true, false, Option, None, Some, Result, Ok, Err, List, [], ◌∷◌, inl, inr, refl, sym, subst, ap, ◌∙◌, arith}
 use Rattle.std.proofs.lemmas.Bool.Decides.{nat_tests}
 use Rattle.dcsctp_spec_lemmas.specs.types.declared.association.Pair.{Pair}
@@ -64,7 +64,7 @@ another_anew options core my held cookie choices is other link (inr (inr has)) s
     absurd (not_among link (flush cookie.addressee.tag (held_by_cookie options cookie) (cookie_ack ∷ []) choices.filling).effects
     (none-flush cookie.addressee.tag (held_by_cookie options cookie) (cookie_ack ∷ []) choices.filling) has)
 
--- A new association is noted, then that it connects.
+-- First the new association is recorded, then that it connects.
 new_first : (options : Options) (cookie : Cookie) (choices : Choices) → FirstAlone (new_association_change options cookie choices).effects
 new_first options cookie choices = (tt, none-flush cookie.addressee.tag (held_by_cookie options cookie) (cookie_ack ∷ []) choices.filling)
 

@@ -1,4 +1,4 @@
--- By what a socket's own requests end.
+-- What ends a socket's own requests.
 use Rattle.std.proofs.Common.{◌≡◌, ℕ, Bool, true, false, cond, List, [], ◌∷◌, inl, inr, refl, sym, subst, ap}
 use Rattle.std.specs.List.{AllByRecursion}
 use Rattle.dcsctp_spec_lemmas.specs.types.declared.association.Pair.{Pair}
@@ -36,7 +36,7 @@ use Rattle.dcsctp_theorem_sockets.specs.OneSocket.{EndsByAnswer, SocketRequestsE
 
 -- ---- one turn
 
--- what is noted happened
+-- what is recorded happened
 pub noted_happened : (effect : Effect) (effects : List Effect) → HasEffect effect (noted effects) → HasEffect effect effects
 noted_happened effect [] has = absurd has
 noted_happened effect (sends packet ∷ effects) has = inr (noted_happened effect effects has)

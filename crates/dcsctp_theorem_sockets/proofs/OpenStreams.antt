@@ -1,4 +1,5 @@
--- Streams that aren't to be reset: what a restore makes of the send queue has no others, and giving messages up keeps it so.
+-- Streams that aren't to be reset: what a restore makes of the send queue has no others, and giving
+-- messages up keeps it so.
 use Rattle.std.proofs.Common.{◌≡◌, ◌==◌, inl, inr, ℕ, zero, suc, nat_lt, Bool, true, false, if◌then◌else◌, Option, Some, List, [], ◌∷◌, map, filter, length, ◌-◌, slice_set, refl, sym, subst, ap}
 use Rattle.std.specs.List.{AllByRecursion}
 use Rattle.dcsctp_spec_lemmas.specs.types.declared.sending.Pause.TheVariants.{Open}

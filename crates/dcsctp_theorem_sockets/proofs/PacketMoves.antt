@@ -1,4 +1,5 @@
--- What comes of a delivery at one socket is moves of its side in the machine that agreement is proved on.
+-- What comes of a delivery at one socket is moves of its side in the machine that agreement is
+-- proved on.
 use Rattle.std.proofs.Common.{◌≡◌, ◌^◌, ◌<◌, ℕ, Option, None, Some, List, [], ◌∷◌, ◌++◌, inl, inr, refl, sym, subst, ap, append_assoc}
 use Rattle.std.specs.List.{AllByRecursion, slice_get}
 use Rattle.dcsctp_spec_lemmas.specs.wire.Format.{IsPacket}
@@ -91,7 +92,7 @@ rest_moves : (tail : List Input) (options : Options) (turns : List Transition) (
 rest_moves tail options turns side theirs more end h (dropped none) = nothing_happens options turns side theirs more h none
 rest_moves tail options turns side theirs more end h (ended taken) = end options turns side theirs more h taken
 
--- ---- a packet whose chunks are worked
+-- ---- a packet whose chunks are handled
 
 -- the changes of chunks at an endpoint are changes at its side
 at_side : (options : Options) (turns : List Transition) (side : SideState) (tag : ℕ) (contents : List Content) (changes : List Change) → Followed options turns side
@@ -123,7 +124,7 @@ chunks_move law options turns side theirs packet contents tail more h was_sent t
     (rest_moves tail options (turns ++ are.chunks) (after_changes side are.changes) theirs are.rest end worked
     (subst (λ (x : Endpoint). IsRest x tail are.rest) (sym (after_all-append (fresh_endpoint options) turns are.chunks)) are.is_rest)))
 
--- its chunks, behind what stands before them
+-- its chunks, after the turn before them
 behind_begun : Below → (options : Options) (turns : List Transition) (side : SideState) (theirs : List Effect) (packet : Packet) (begun : Transition) (more : List Transition)
     → admits side.core packet ≡ all_chunks → Followed options (turns ++ begun ∷ []) side → HasEffect (sends packet) theirs → SendablePacket packet
     → ChunkTurns begun.outcome.after packet.tag packet.contents (packet_ends ∷ []) more → SideMoves options (turns ++ begun ∷ []) side theirs more
@@ -132,7 +133,7 @@ behind_begun law options turns side theirs packet begun more is first was_sent g
     (λ changes moves. worked_whole (law.admitted.whole side.core packet is) moves)
     (subst (λ (x : Endpoint). ChunkTurns x packet.tag packet.contents (packet_ends ∷ []) more) (sym (after_last _ turns begun)) taken)
 
--- A SHUTDOWN that goes out before them is a move of its own, and leaves the association.
+-- A SHUTDOWN that is sent before them is a move of its own, and the association stays.
 begun_by_act : Below → (options : Options) (turns : List Transition) (side : SideState) (theirs : List Effect) (packet : Packet) (begun : Transition) (more : List Transition)
     → admits side.core packet ≡ all_chunks → Followed options turns side → HasEffect (sends packet) theirs → SendablePacket packet
     → ControlledAct (endpoint_after options turns) shutdown_repeats begun.outcome → TurnFits begun.outcome

@@ -1,4 +1,5 @@
--- The turns of chunks that speak of no association leave numbers that fit their fields, and send what is read as itself.
+-- The turns of chunks that concern no association leave numbers that fit their fields, and send what is
+-- read as itself.
 use Rattle.std.proofs.Common.{◌==◌, ◌≤◌, ◌-◌, ◌+◌, ℕ, Bool, true, false, cond, Option, None, Some, List, [], ◌∷◌, length, take, refl, sym, subst, arith}
 use Rattle.std.specs.Int.{w16, to_be_bytes}
 use Rattle.std.specs.List.{AllByRecursion}

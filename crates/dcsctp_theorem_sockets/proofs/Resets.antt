@@ -1,5 +1,5 @@
--- The turn of RE-CONFIG leaves T1 running where the association connects, leaves numbers that fit their fields, and sends what
--- is read as itself.
+-- The turn of RE-CONFIG leaves T1 running where the association connects, leaves numbers that fit
+-- their fields, and sends what is read as itself.
 use Rattle.std.proofs.Common.{◌≡◌, ◌<◌, ◌≤◌, ◌+◌, ◌^◌, ℕ, Bool, true, false, cond, Option, None, List, [], ◌∷◌, ◌++◌, map, length, ◌⊎◌, inl, inr, refl, sym, subst, ap, arith}
 use Rattle.std.specs.List.{AllByRecursion}
 use Rattle.std.proofs.lemmas.List.{append-nil}
@@ -212,7 +212,7 @@ response_fits e held (response ∷ responses) h fits each = emitted_fits (fits_m
 
 -- ---- the turn
 
--- What is told has no packet.
+-- No event of a reset is a packet.
 told_sends : (theirs own : List ℕ) (es : List Effect) → AreResets es → AllSent IsSendable (reset_events theirs own es)
 told_sends theirs own _ nothing = tt
 told_sends theirs own _ (acceptance number es are) = told_sends theirs own es are

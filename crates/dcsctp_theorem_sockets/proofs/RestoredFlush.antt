@@ -1,4 +1,4 @@
--- The flush behind a restore begins no request to reset streams, since no stream is to be reset then.
+-- The flush after a restore begins no request to reset streams: no stream is to be reset then.
 use Rattle.std.proofs.Common.{◌≡◌, ◌∙◌, ℕ, zero, suc, Bool, true, false, Option, None, Some, List, [], ◌∷◌, map, take, refl, sym, subst, ap}
 use Rattle.dcsctp_spec_lemmas.specs.types.declared.association.Held.{Held}
 use Rattle.dcsctp_spec_lemmas.specs.spec.endpoint.Endpoint.{Endpoint, Core, closed, cookie_wait, cookie_echoed, open_in, held_in}
@@ -68,7 +68,7 @@ flushed_by e o (Some held) answers allowed is are =
     ∙ (flush_keeps first_ask n e (draft_to held) answers allowed).core
     ∙ ap (λ (begun : Option BegunReset). (after_begun begun e).core) (all_begin n e (draft_to held) answers allowed are)
 
--- ---- behind a restore
+-- ---- after a restore
 
 restored_at : (e : Endpoint) (core : Core) (state : Snapshot) (o : Outcome) → core ≡ closed → RestoreTurn e core state o → AreOpen o.after.queues.queue.streams
 restored_at e closed state o is turn =

@@ -1,5 +1,5 @@
--- Runs of two sockets with their inputs and numbers, worked by hand and computed by the definitions: a wrong rule in specs/ would
--- not check here.
+-- Runs of two sockets with their inputs and numbers, written by hand and computed by the definitions:
+-- a wrong rule in specs/ would not check here.
 use Rattle.std.proofs.Common.{◌≡◌, ℕ, Bool, true, eqb, None, Some, List, [], ◌∷◌, ◌++◌, map, inl, inr, refl, sym, subst}
 use Rattle.dcsctp_spec_lemmas.specs.wire.declared.reconfiguration.ReconfigurationResponseResult.TheVariants.{SuccessPerformed, InProgress}
 use Rattle.dcsctp_spec_lemmas.specs.types.declared.association.Pair.{Pair}
@@ -44,11 +44,11 @@ mine = record { tag = 7; first_tsn = 1 }
 abbrev theirs : Pair
 theirs = record { tag = 9; first_tsn = 5 }
 
--- a turn that noted this
+-- a turn that recorded this
 abbrev noted_by : Endpoint → Input → List Effect → Transition
 noted_by e input effects = transition input (record (still e) { effects = effects })
 
--- a RE-CONFIG with an answer to this number, under the own tag
+-- a RE-CONFIG with an answer to this number, under our own tag
 abbrev answered : ℕ → Input
 answered number = chunk_input 7 (re_config (reconfiguration_response number SuccessPerformed ∷ []))
 
@@ -56,7 +56,7 @@ abbrev connected_with : AssociationIdentity → Endpoint → List Transition
 connected_with link e =
     noted_by e (act_input connect) (draws mine ∷ []) ∷ noted_by e (chunk_input 7 cookie_ack) (holds link ∷ connects link ∷ begins 1 ∷ []) ∷ []
 
--- The own numbers begin at the own first TSN, go up by one, and each ends before the next begins.
+-- Our numbers begin at our first TSN and go up by one, and each request ends before the next begins.
 two_requests : (e : Endpoint) (link : AssociationIdentity) → Each InPlace (noted_past (connected_with (record link { my = mine }) e
     ++ noted_by e (answered 1) (completes mine 1 ∷ begins 2 ∷ []) ∷ noted_by e (answered 2) (completes mine 2 ∷ []) ∷ []))
 two_requests e link = ((refl, refl), ((refl, refl), ((refl, refl), ((refl, refl), (refl, (tt, (tt, tt)))))))
@@ -127,7 +127,7 @@ gives law e other with_checksum tag content o h admitted begun comes goes_on owe
     (subst (λ (p : Packet). AdmittedTurns (counted_at e) p (admits e.core p) rest) (sym (built_reads (ports_of other) packet h.sendable))
     (subst (λ (a : Admission). AdmittedTurns (counted_at e) packet a rest) (sym admitted) whole))
 
--- ---- the handshake, with an act behind it
+-- ---- the handshake, with an act after it
 
 -- The words that the two draw, their tie tags too.
 record Words : Type 0 where
@@ -202,7 +202,7 @@ noted_by_a : (a b : Options) (w : Words) → let link = identity_of (pair_a w) (
     noted_past (turns_after (six_acts a b w)).a ≡ connects link ∷ holds link ∷ draws (pair_a w) ∷ []
 noted_by_a a b w = refl
 
--- The two are connected after the first five acts, with the sixth behind them.
+-- In the run of six acts, the two are connected after the first five.
 connected_before_it : HandshakeLaws → (a b : Options) (w : Words) → Good a → Good b → AreFitting (record { a = a; b = b })
     → AreConnected (record { a = a; b = b }) (turns_after (five_acts a b w))
 connected_before_it law a b w good_a good_b fit =

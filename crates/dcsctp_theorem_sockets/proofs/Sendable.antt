@@ -86,7 +86,7 @@ init_sendable law options mine valid fits own =
       said = (own, record { zero_checksum_method = fits.zero_checksum_method; inbound_streams = fits.inbound_streams; outbound_streams = fits.outbound_streams });
     }
 
--- the method that is agreed on is the own one, or none
+-- the method that is agreed on is our own, or none
 agreed_fits : (mine theirs : ℕ) → mine < 2 ^ 32 → cond (eqb mine theirs) mine 0 < 2 ^ 32
 agreed_fits mine theirs fits = grind (arith, nat_tests)
 

@@ -16,7 +16,7 @@ use Rattle.dcsctp_spec_runs.specs.Fitting.{FitsHeld, FitsCore, FitsEndpoint, Sen
 use Rattle.dcsctp_spec_lemmas.specs.spec.CookieFits.{FitsPair}
 use Rattle.dcsctp_theorem_sockets.proofs.FlushFits.{still_fits}
 
--- ---- what goes out
+-- ---- what is sent
 
 received_fits : (transfer : Option Transfer) → received_tsn transfer < 2 ^ 32
 received_fits None = omega arith
@@ -108,7 +108,7 @@ reflected_fits : (e : Endpoint) (tag : ℕ) → FitsEndpoint e → tag < 2 ^ 32 
 reflected_fits e tag h fits =
     record { after = record { valid = h.valid; options = h.options; core = h.core; t1 = h.t1 }; sends = (record { tag = fits; contents = (completed_sendable true, tt) }, tt) }
 
--- A SHUTDOWN COMPLETE goes out under the tag of the packet, or, where the SHUTDOWN ACK was awaited, under the peer's.
+-- A SHUTDOWN COMPLETE is sent under the tag of the packet, or, where the SHUTDOWN ACK was awaited, under the peer's.
 pub shutdown_ack_fits : (e : Endpoint) (core : Core) (tag : ℕ) → FitsEndpoint e → FitsCore core → tag < 2 ^ 32 → TurnFits (shutdown_ack_outcome e core tag)
 shutdown_ack_fits e closed tag h own fits = reflected_fits e tag h fits
 shutdown_ack_fits e (cookie_wait my) tag h own fits = reflected_fits e tag h fits
@@ -158,7 +158,7 @@ repeated_fits : (e : Endpoint) (held : Held) → FitsEndpoint e → FitsHeld hel
 repeated_fits e held h fits =
     to_peer_fits (t2_begun e) held (shutdown (received_tsn e.queues.transfer)) (record { valid = h.valid; options = h.options; core = h.core; t1 = h.t1 }) fits (shutdown_sendable e.queues.transfer)
 
--- What stands before the chunks of a packet sends a SHUTDOWN at most.
+-- The turn before the chunks of a packet sends a SHUTDOWN at most.
 pub begin_fits : (e : Endpoint) (core : Core) (has : Bool) (o : Outcome) → FitsEndpoint e → FitsCore core → BeginTurn e core has o → TurnFits o
 begin_fits e closed has o h own turn = subst TurnFits (sym turn) (still_fits e h)
 begin_fits e (cookie_wait my) has o h own turn = subst TurnFits (sym turn) (still_fits e h)

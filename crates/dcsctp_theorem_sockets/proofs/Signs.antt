@@ -1,4 +1,4 @@
--- What the user sees of a turn stands among its effects.
+-- What the user sees of a turn is among its effects.
 use Rattle.std.proofs.Common.{◌≡◌, List, [], ◌∷◌, ◌⊎◌, inl, inr, refl, subst}
 use Rattle.dcsctp_spec_lemmas.specs.spec.endpoint.Event.{Event, sent, connected, closed, connection_restarted, aborted, error, buffered_amount_low, total_buffered_amount_low, streams_reset_failed, streams_reset_performed, incoming_stream_reset, lifecycle_message_fully_sent, lifecycle_message_maybe_expired, lifecycle_message_expired, lifecycle_message_delivered, lifecycle_end}
 use Rattle.dcsctp_spec_lemmas.specs.spec.Packet.{Packet, Emission}
@@ -11,7 +11,7 @@ use Rattle.dcsctp_theorem_association.proofs.Growth.{after_within}
 use Rattle.dcsctp_theorem_sockets.specs.Agreement.{HasConnected}
 use Rattle.dcsctp_theorem_sockets.proofs.Sent.{all_sent_map}
 
--- ---- effects and the past behind them
+-- ---- effects and the past before them
 
 -- it is one of these effects, or was in the past before them
 pub in_after : (effect : Effect) (effects past : List Effect) → HasEffect effect (after_effects effects past) → HasEffect effect effects ⊎ HasEffect effect past

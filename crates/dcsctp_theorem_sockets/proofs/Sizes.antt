@@ -57,7 +57,7 @@ flush_sizes limit e draft answers allowed h short =
       subst (λ (n : ℕ). AllByRecursion (IsShort n) (packets_in (flush_of e draft answers).events)) h.0 limits.sizes,
     )
 
--- behind these events, with these chunks in its first packet
+-- a flush after these events, with these chunks in its first packet
 pub flushed_sizes : (limit : ℕ) (e : Endpoint) (words : List Word) (events : List (Event Emission)) (with_checksum : Bool) (tag : ℕ) (contents : List Content) (answers : List Answer)
     → FlushAnswers e (record { with_checksum = with_checksum; packet = record { tag = tag; contents = contents } }) answers → AtLimit limit e → AllShort limit events → 12 + contents_len contents ≤ limit
     → TurnSizes limit (flush_answered answers e words events with_checksum tag contents)

@@ -1,4 +1,4 @@
--- Chunks that speak of no association, RE-CONFIG, and timers send no packet that is longer than a limit.
+-- RE-CONFIG, timers, and chunks that concern no association send no packet longer than a limit.
 use Rattle.std.proofs.Common.{◌==◌, ◌≡◌, ◌≤◌, ◌+◌, ◌-◌, ℕ, Bool, true, false, cond, Option, None, Some, List, [], ◌∷◌, ◌++◌, length, take, refl, sym, subst, arith, length-append}
 use Rattle.std.proofs.lemmas.List.{length-take, length-replicate}
 use Rattle.dcsctp_spec_lemmas.specs.wire.Content.{ParameterContent, data_chunk, sack_chunk, error_chunk, i_data_chunk, forward_tsn_chunk, i_forward_tsn_chunk, unrecognized_chunk_type}
@@ -131,7 +131,7 @@ timer_sizes limit e reconfiguration o turn h = subst (TurnSizes limit) (sym turn
 
 -- ---- RE-CONFIG
 
--- What is told has no packet.
+-- No event of a reset is a packet.
 told_short : (limit : ℕ) (theirs own : List ℕ) (es : List Effect) → AreResets es → AllShort limit (reset_events theirs own es)
 told_short limit theirs own _ nothing = tt
 told_short limit theirs own _ (acceptance number es are) = told_short limit theirs own es are

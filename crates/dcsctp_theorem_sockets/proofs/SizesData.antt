@@ -185,7 +185,7 @@ send_sizes limit e messages o turn h =
     let rest : TurnSizes limit (send_by (takes_any e messages) queued.after turn.0) = send_where_sizes (takes_any e messages) limit queued.after turn.0 turn.1 first.0 in
     subst (TurnSizes limit) (sym turn.2) (rest.0, short_append limit queued.events (send_by (takes_any e messages) queued.after turn.0).events first.1 rest.1)
 
--- ---- own streams that the user resets
+-- ---- our streams that the user resets
 
 told_short : (limit : ℕ) (told : List FillingEvent) → AllShort limit (map filling_event told)
 told_short limit [] = tt

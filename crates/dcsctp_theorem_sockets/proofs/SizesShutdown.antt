@@ -11,7 +11,7 @@ use Rattle.dcsctp_spec_lemmas.specs.spec.endpoint.EndOutcomes.{reflected_outcome
 use Rattle.dcsctp_spec_lemmas.specs.spec.endpoint.ShutdownOutcomes.{received_tsn, sends_shutdown, sends_shutdown_ack, phase_at, t2_begun, may_go_on, step_by, step_outcome, t1_stopped, shut_down_outcome, shutdown_outcome, completed_outcome, shutdown_ack_outcome, shutdown_complete_outcome, t2_goes_on, shutdown_sent_again, t2_again_outcome}
 use Rattle.dcsctp_theorem_sockets.proofs.Sizes.{AtLimit, TurnSizes}
 
--- ---- what goes out
+-- ---- what is sent
 
 shutdown_len : (tsn : ℕ) → contents_len (shutdown tsn ∷ []) ≡ 8
 unfolding other_bytes

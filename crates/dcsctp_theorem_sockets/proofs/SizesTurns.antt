@@ -1,4 +1,5 @@
--- The turns of the handshake, of ABORT and of T1 send no packet that is longer than a limit, whatever a chunk says.
+-- The turns of the handshake, of ABORT and of T1 send no packet that is longer than a limit,
+-- whatever a chunk says.
 use Rattle.std.proofs.Common.{◌≡◌, ℕ, Option, None, Some, Result, Ok, Err, List, [], ◌∷◌, refl, arith}
 use Rattle.dcsctp_spec_lemmas.specs.wire.Spelling.{parameter_bytes, other_bytes, parameter_chunk_bytes}
 use Rattle.dcsctp_spec_lemmas.specs.types.declared.association.Pair.{Pair}
@@ -72,7 +73,7 @@ ack_len : contents_len (cookie_ack ∷ []) ≡ 4
 unfolding other_bytes
 ack_len = refl
 
--- a flush that begins with COOKIE ACK, behind these events
+-- a flush that begins with COOKIE ACK, after these events
 acknowledged_sizes : (limit : ℕ) (e : Endpoint) (words : List Word) (events : List (Event Emission)) (held : Held) (cookie : Cookie) (answers : List Answer)
     → FlushAnswers e (cookie_ack_emission held cookie) answers → AtLimit limit e → AllShort limit events
     → TurnSizes limit (flush_answered answers e words events (cookie_ack_emission held cookie).with_checksum cookie.addressee.tag (cookie_ack ∷ []))

@@ -1,4 +1,5 @@
--- A socket's own snapshot has its association: both pairs, what both ends support, the numbers of requests, and the tie tag.
+-- A socket's own snapshot has its association: both pairs, what both ends support, the numbers of
+-- requests, and the tie tag.
 use Rattle.std.proofs.Common.{◌≡◌, ◌⊎◌, inl, inr, ◌==◌, not, cond, ℕ, Bool, true, false, Option, None, Some, refl, sym, ap, ◌∙◌, subst, arith}
 use Rattle.std.proofs.lemmas.Bool.Decides.{nat_tests}
 use Rattle.dcsctp_spec_lemmas.specs.types.declared.association.Held.{Held}

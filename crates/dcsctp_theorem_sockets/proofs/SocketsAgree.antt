@@ -41,7 +41,7 @@ fresh options valid fits =
       fresh = λ distinct. tt;
     }
 
--- a run with these moves of one side behind it
+-- a run that is followed by these moves of one side
 record WithMovesA (options : Both Options) (steps : List machine.WorldStep) (moves : List Moved) : Type 0 where
   is_run : WorldRun options.a options.b (with_moves at_a moves steps)
   a : (world_after options.a options.b (with_moves at_a moves steps)).a ≡ after_moves (world_after options.a options.b steps).a moves

@@ -1,4 +1,5 @@
--- Each socket of a run is a side of the machine alone, whatever bytes it is handed: so each of its effects stands in its place.
+-- Each socket of a run is a side of the machine alone, whatever bytes it is handed. So each of its
+-- effects is in its place.
 use Rattle.std.proofs.Common.{◌≡◌, ℕ, List, [], ◌∷◌, inl, inr, refl, sym, subst, ap, ◌∙◌}
 use Rattle.dcsctp_spec_lemmas.specs.types.declared.options.Options.{Options}
 use Rattle.dcsctp_spec_lemmas.specs.types.declared.schedule.Side.{Side}
@@ -36,7 +37,7 @@ use Rattle.dcsctp_theorem_sockets.proofs.TimeMoves.{longest_expires}
 
 -- ---- one turn
 
--- what a turn does to the association, and tells of it: nothing, or what one change says
+-- what a turn does to the association, and reports of it: nothing, or what one change says
 pub data Moves (e : Endpoint) (o : Outcome) : Type 0 where
   it_rests : o.after.core ≡ e.core → SameOptions e.options o.after.options → o.effects ≡ [] → observations_of_ends o.events ≡ [] → Moves e o
   it_moves : (change : Change) → ControlTurn e.options e.core change → IsControlled e o change → Moves e o
@@ -118,14 +119,15 @@ same_turn p q core change same turn = longest_turns p q.max_message_size core ch
 
 -- ---- several turns
 
--- A run of one side. It noted what these turns did behind what was noted before, and has the association that they left.
+-- A run of one side. It recorded the effects of these turns after those that were recorded before, and has the association that
+-- they left.
 pub record RunsOn (options : Options) (turns : List Transition) (e : Endpoint) (before : List Effect) : Type 0 where
   pub steps : List (List Change)
   pub is_run : SideRun options steps
   pub past : noted (side_after options steps).past ≡ after_effects (effects_of turns) before
   pub core : (side_after options steps).core ≡ (after_all e turns).core
 
--- the past behind one more turn
+-- the past after one more turn
 behind : (turns : List Transition) (t : Transition) (before : List Effect) → after_effects (effects_of turns) (after_effects t.outcome.effects before) ≡ after_effects (effects_of (t ∷ turns)) before
 behind turns t before = sym (after_both t.outcome.effects (effects_of turns) before)
 
@@ -133,7 +135,7 @@ still_valid : (p q : Options) → IsValid p → SameOptions p q → IsValid q
 still_valid p q valid same =
     subst IsValid (sym same) (record { least_size = valid.least_size; greatest_size = valid.greatest_size; receive_window = valid.receive_window; send_buffer = valid.send_buffer })
 
--- where the run goes on from the side of these steps
+-- the run continues from the side of these steps
 abbrev GoesOn : Options → List Transition → Endpoint → Type 0
 GoesOn options turns e =
     (steps : List (List Change)) → SameOptions options e.options → (side_after options steps).core ≡ e.core → SideRun options steps

@@ -1,4 +1,4 @@
--- Chunks that speak of no association, and timers, leave T1 running where the association connects.
+-- Chunks that concern no association, and timers, leave T1 running where the association connects.
 use Rattle.std.proofs.Common.{◌==◌, ℕ, Bool, true, false, cond, Option, None, Some, List, [], sym, subst}
 use Rattle.dcsctp_spec_lemmas.specs.types.declared.ends.Violation.{Violation}
 use Rattle.dcsctp_spec_lemmas.specs.types.declared.ends.AbortReason.TheVariants as reasons

@@ -131,7 +131,7 @@ pub send_up : (e : Endpoint) (messages : List Sending) (o : Outcome) → SendTur
 send_up e messages o turn h =
     subst UpAfter (sym turn.2) (send_where_up (takes_any e messages) (queue_all e messages).after turn.0 turn.1 (queue_all_up e messages h))
 
--- ---- own streams that the user resets
+-- ---- our streams that the user resets
 
 resets_where_up : (refusal : Option ResetRefusal) (e : Endpoint) (ids : List ℕ) (o : Outcome) → OwnResetsWhere refusal e ids o → Up e → UpAfter o
 resets_where_up None e ids o turn h = subst UpAfter (sym turn.is) (flush_turn_up (endpoint_with_queue e (prepared_all ids e.queues.queue)) turn.flushed turn.flushes h)

@@ -1,4 +1,4 @@
--- Each turn leaves T1 running where the association connects, whatever numbers a chunk bears.
+-- Each turn leaves T1 running where the association connects, whatever numbers a chunk carries.
 use Rattle.std.proofs.Common.{ℕ, Bool, true, false, cond, Option, None, Some, Result, Ok, Err, List, [], ◌∷◌, sym, subst}
 use Rattle.dcsctp_spec_lemmas.specs.types.declared.association.Pair.{Pair}
 use Rattle.dcsctp_spec_lemmas.specs.types.declared.word.Word.{Word}

@@ -1,4 +1,4 @@
--- What a socket tells is what its turns noted, and its association is the one that they noted.
+-- A socket reports what its turns recorded, and its association is the one that they recorded.
 use Rattle.std.proofs.Common.{◌≡◌, List, [], ◌∷◌, refl, sym, subst, ap, ◌∙◌}
 use Rattle.dcsctp_spec_lemmas.specs.types.declared.association.Pair.{Pair}
 use Rattle.dcsctp_spec_lemmas.specs.types.declared.association.Held.{Held}

@@ -1,4 +1,4 @@
--- A turn of a socket that ends its association tells it once, and no other turn tells an end.
+-- A turn of a socket that ends its association reports that once, and no other turn reports an end.
 use Rattle.std.proofs.Common.{◌≡◌, ℕ, suc, Bool, true, false, cond, List, [], ◌∷◌, inl, inr, refl, sym, subst, ap, ◌∙◌}
 use Rattle.dcsctp_spec_lemmas.specs.types.declared.word.Word.{Word}
 use Rattle.dcsctp_spec_lemmas.specs.types.declared.word.Word.TheVariants.{U32}
@@ -95,7 +95,7 @@ by_act : EndsOnce → (e : Endpoint) (act : Act) (t : Transition) → Controlled
 by_act law e act t turn =
     told_by e t (act_change e.options e.core act turn.0) turn.1 (law e.options e.core (act_change e.options e.core act turn.0) (acted act turn.0 refl))
 
--- the association stays, and no end is told
+-- the association stays, and no end is reported
 record Rests (e : Endpoint) (o : Outcome) : Type 0 where
   core : o.after.core ≡ e.core
   none : end_event_count o.events ≡ 0

@@ -1,4 +1,5 @@
--- What a turn may tell of what it noted, worked by hand: a wrong rule in specs/Telling would not check here.
+-- What a turn may report of what it recorded, written by hand: a wrong rule in specs/Telling would
+-- not check here.
 use Rattle.std.proofs.Common.{◌≡◌, None, Some, List, [], ◌∷◌, inl, refl}
 use Rattle.dcsctp_spec_lemmas.specs.types.declared.association.Pair.{Pair}
 use Rattle.dcsctp_spec_lemmas.specs.types.declared.association.Held.{Held}
@@ -14,7 +15,7 @@ use Rattle.dcsctp_spec_lemmas.specs.spec.endpoint.CallTurns.{Transition, transit
 use Rattle.dcsctp_spec_runs.specs.Past.{Each}
 use Rattle.dcsctp_theorem_sockets.specs.Telling.{TellsNoted, HoldsNoted, NotesAnew, IsAnew}
 
--- a turn that noted these and told those
+-- a turn that recorded these effects and reported these events
 abbrev telling : Endpoint → List Effect → List (Event Emission) → Transition
 telling e effects events = transition arrival (record (still e) { effects = effects; events = events })
 
@@ -25,27 +26,27 @@ restart_told : (e : Endpoint) (link : AssociationIdentity) (emission : Emission)
     → TellsNoted (telling e (holds link ∷ connects link ∷ []) (connection_restarted ∷ connected ∷ sent emission ∷ []))
 restart_told e link emission = refl
 
--- The peer's request is performed, and then the own one; the next one begins.
+-- The peer's request is performed, and then ours; our next one begins.
 resets_told : (e : Endpoint) (mine theirs : Pair)
     → TellsNoted (telling e (accepts 5 ∷ performs theirs 5 ∷ completes mine 1 ∷ begins 2 ∷ []) (incoming_stream_reset (4 ∷ []) ∷ streams_reset_performed (3 ∷ []) ∷ []))
 resets_told e mine theirs = refl
 
--- What a pair that is drawn tells: nothing.
+-- A pair that is drawn is not reported.
 draw_untold : (e : Endpoint) (pair : Pair) → TellsNoted (telling e (draws pair ∷ []) [])
 draw_untold e pair = refl
 
--- A connection that isn't noted is refused,
+-- A connection that is reported without a record is refused,
 unnoted : (e : Endpoint) → TellsNoted (telling e [] (connected ∷ [])) → ⊥
 unnoted e tells = let same : has_connected ∷ [] ≡ [] = tells in absurd (cc)
 
--- and so are one that isn't told, and one that is told twice.
+-- and so are one that isn't reported, and one that is reported twice.
 untold : (e : Endpoint) (link : AssociationIdentity) → TellsNoted (telling e (connects link ∷ []) (connection_restarted ∷ [])) → ⊥
 untold e link tells = let same : [] ≡ has_connected ∷ [] = tells in absurd (cc)
 
 told_twice : (e : Endpoint) (link : AssociationIdentity) → TellsNoted (telling e (connects link ∷ []) (connected ∷ connected ∷ [])) → ⊥
 told_twice e link tells = let same : has_connected ∷ has_connected ∷ [] ≡ has_connected ∷ [] = tells in absurd (cc)
 
--- So are a request that failed and is told as performed, and events in another order.
+-- So are a failed request that is reported as performed, and events in another order.
 failed_as_performed : (e : Endpoint) → TellsNoted (telling e (fails 1 ∷ []) (streams_reset_performed [] ∷ [])) → ⊥
 failed_as_performed e tells = let same : own_reset_performed ∷ [] ≡ own_reset_failed ∷ [] = tells in absurd (cc)
 
@@ -63,7 +64,7 @@ ended_holds_none e link = refl
 lost_unnoted : (e : Endpoint) (link : AssociationIdentity) → HoldsNoted (telling e (holds link ∷ connects link ∷ []) [] ∷ []) (record e { core = machine.closed }) → ⊥
 lost_unnoted e link h = let same : Some link ≡ None = h in absurd (cc)
 
--- One that is there isn't noted again.
+-- One that is there isn't recorded again.
 noted_again : (e : Endpoint) (my : Pair) (held : Held) → NotesAnew (record e { core = open_in established my held }) (telling e (holds (identity_of my held) ∷ []) []) → ⊥
 noted_again e my held h = h (identity_of my held) (inl refl) refl
 

@@ -1,4 +1,5 @@
--- What T1 and the clock do at one socket is followed by its side in the machine that agreement is proved on.
+-- What T1 and the clock do at one socket is followed by its side in the machine that agreement is
+-- proved on.
 use Rattle.std.proofs.Common.{◌≡◌, ℕ, Bool, true, false, List, [], ◌∷◌, ◌++◌, refl, sym, subst, ap, ◌∙◌}
 use Rattle.dcsctp_spec_lemmas.specs.types.declared.options.Options.{Options}
 use Rattle.dcsctp_spec_lemmas.specs.types.Settings.{SameOptions}

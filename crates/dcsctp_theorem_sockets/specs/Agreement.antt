@@ -1,5 +1,5 @@
--- What two sockets agree on, over every schedule that loses, repeats, delays and reorders their packets, as long as no act comes
--- from outside.
+-- What two sockets agree on, over every schedule that loses, repeats, delays and reorders their
+-- packets, as long as no act comes from outside.
 use Rattle.std.specs.Prelude.{◌≡◌, ◌≢◌, Some, List, [], ◌∷◌, ◌⊎◌}
 use Rattle.std.specs.List.{AllByRecursion}
 use Rattle.dcsctp_spec_lemmas.specs.types.declared.association.Pair.{Pair}
@@ -53,7 +53,7 @@ abbrev pub EachConnected : (AssociationIdentity → Type 0) → List Transition 
 EachConnected Kind [] = Unit {0}
 EachConnected Kind (turn ∷ turns) = (HasConnected turn.outcome.events → HoldsAssociation Kind turn) × EachConnected Kind turns
 
--- all that these turns noted, newest first
+-- all that these turns recorded, newest first
 abbrev pub noted_past : List Transition → List Effect
 noted_past turns = after_effects (effects_of turns) []
 
@@ -79,8 +79,8 @@ pub record AreFresh (turns : Both (List Transition)) : Type 0 where
   pub a : HasDistinctTags (pairs_of turns.a)
   pub b : HasDistinctTags (pairs_of turns.b)
 
--- They agree at the end of each first part of the run that is honest, and in which no tag was drawn twice. So each OnConnected, when
--- it is reported, finds what the other side has done so far, whatever comes later.
+-- They agree at the end of each first part of the run that is honest, and in which no tag was drawn twice. So each OnConnected,
+-- when it is reported, finds what the other side has done so far, whatever comes later.
 abbrev pub AgreeThroughout : Both Options → List PerformedAct → Type 0
 AgreeThroughout options [] = Agree options (turns_after [])
 AgreeThroughout options (worked ∷ earlier) =

@@ -1,5 +1,5 @@
--- How many packets one turn of a socket may send (RFC 9260, sections 5.1 and 6.1). In each table `flushed` is how many of them a
--- flush may send; a row without it is of a turn without a flush.
+-- How many packets one turn of a socket may send (RFC 9260, sections 5.1 and 6.1). In each table
+-- `flushed` is how many of them a flush may send; a row without it is of a turn without a flush.
 use Rattle.std.specs.Prelude.{ℕ, ℤ, ◌+◌, max, true, false, None, Some, if◌then◌else◌}
 use Rattle.dcsctp_spec_lemmas.specs.types.declared.options.Options.{Options}
 use Rattle.dcsctp_spec_lemmas.specs.wire.Content.{data_chunk, sack_chunk, i_data_chunk, forward_tsn_chunk, i_forward_tsn_chunk}

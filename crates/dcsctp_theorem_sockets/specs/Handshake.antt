@@ -1,4 +1,5 @@
--- The four packets of the handshake, delivered in turn between two fresh sockets (RFC 9260, section 5.1).
+-- The four packets of the handshake, delivered in turn between two fresh sockets (RFC 9260, section
+-- 5.1).
 use Rattle.std.specs.Prelude.{◌≡◌, ◌≤◌, ℕ, suc, true, List, [], ◌∷◌, map, reverse}
 use Rattle.dcsctp_spec_lemmas.specs.types.declared.association.Pair.{Pair}
 use Rattle.dcsctp_spec_lemmas.specs.types.declared.options.Options.{Options}

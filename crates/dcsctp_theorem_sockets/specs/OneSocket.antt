@@ -1,5 +1,6 @@
--- What holds of one socket of a run, whatever bytes it is handed. It is about the numbers of requests, by what they end, how its
--- ends are reported, how long its packets are and how many a turn sends, and what time does.
+-- What holds of one socket of a run, whatever bytes it is handed. It is about the numbers of
+-- requests, by what they end, how its ends are reported, how long its packets are and how many a
+-- turn sends, and what time does.
 use Rattle.std.specs.Prelude.{◌≡◌, ◌≢◌, ◌≤◌, ◌<◌, ℕ, suc, List, [], ◌∷◌, length}
 use Rattle.std.specs.List.{AllByRecursion}
 use Rattle.dcsctp_spec_lemmas.specs.wire.declared.reconfiguration.ReconfigurationResponseResult.{ReconfigurationResponseResult}

@@ -1,4 +1,4 @@
--- What a snapshot brings back of an association, and what the flush behind a restore leaves.
+-- What a snapshot brings back of an association, and what the flush after a restore leaves.
 use Rattle.std.specs.Prelude.{◌≡◌}
 use Rattle.dcsctp_spec_lemmas.specs.types.declared.association.Held.{Held}
 use Rattle.dcsctp_spec_lemmas.specs.types.declared.association.Pair.{Pair}
@@ -20,8 +20,8 @@ SnapshotsBringBack =
     × (held_restored e.options (snapshot_of e) ≡ resumed_held held.peer held.capabilities held.own_next held.peer_last)
     × ((snapshot_of e).tie_tag ≡ e.tie)
 
--- A closed socket is restored, and the flush behind that leaves its association as it is. It begins no own request to reset
--- streams, so the next number is that of the snapshot (RFC 6525, section 4.1).
+-- The flush after a closed socket is restored leaves its association as it is. It begins no request to reset streams, so the next
+-- number is that of the snapshot (RFC 6525, section 4.1).
 abbrev pub RestoredSocketsBeginNothing : Type 0
 RestoredSocketsBeginNothing =
     (e : Endpoint) (state : Snapshot) (restored flushed : Outcome)

@@ -1,5 +1,6 @@
--- What a socket tells its user of its association is what its turns noted, and its association is the one that they noted. So
--- what holds of the notes holds of what the user sees.
+-- The events that a socket reports about its association are the effects that its turns recorded, and
+-- its association is the one that they recorded. So what holds of the records holds of what the user
+-- sees.
 use Rattle.std.specs.Prelude.{◌≡◌, ◌≢◌, Some, List, [], ◌∷◌}
 use Rattle.std.specs.List.{AllByRecursion}
 use Rattle.dcsctp_spec_lemmas.specs.types.declared.options.Options.{Options}
@@ -14,7 +15,7 @@ use Rattle.dcsctp_spec_runs.specs.Sockets.{PerformedAct, Both, of_side, turns_af
 use Rattle.dcsctp_theorem_association.specs.OneSide.{LeavesCore}
 use Rattle.dcsctp_theorem_sockets.specs.Agreement.{AreUsable, noted_past}
 
--- what these events tell of connections, ends and resets
+-- the connections, ends and resets that these events report
 abbrev pub observations_of_ends : {P : Type 0} → List (Event P) → List Observation
 observations_of_ends [] = []
 observations_of_ends (connected ∷ events) = has_connected ∷ observations_of_ends events
@@ -25,8 +26,8 @@ observations_of_ends (streams_reset_failed streams ∷ events) = own_reset_faile
 observations_of_ends (incoming_stream_reset streams ∷ events) = peer_reset_performed ∷ observations_of_ends events
 observations_of_ends (event ∷ events) = observations_of_ends events
 
--- The turn adds an event for each connection that it notes, each end, and each reset that was performed or failed. It does so in
--- this order, and adds no other event of these kinds.
+-- The turn adds an event for each connection that it records, each end, and each reset that was performed or failed. The events
+-- are in the order of the records, and there is no other event of these kinds.
 abbrev pub TellsNoted : Transition → Type 0
 TellsNoted turn = observations_of_ends turn.outcome.events ≡ observations_of_effects turn.outcome.effects
 
@@ -35,8 +36,8 @@ SocketsTellEffects =
     (options : Both Options) (run : List PerformedAct) → AreUsable options → SocketRun options run → (side : Side)
     → AllByRecursion TellsNoted (of_side side (turns_after run))
 
--- The association of this socket, with its numbers of requests, is the one that these turns noted last. There is none if the
--- last one that they noted has ended.
+-- The association of this socket, with its numbers of requests, is the one that these turns recorded last. There is none if
+-- that one has ended, or if they recorded none.
 abbrev pub HoldsNoted : List Transition → Endpoint → Type 0
 HoldsNoted turns e = LeavesCore (noted_past turns) e.core
 
@@ -45,16 +46,16 @@ SocketsHoldNoted =
     (options : Both Options) (run : List PerformedAct) → AreUsable options → SocketRun options run → (side : Side)
     → HoldsNoted (of_side side (turns_after run)) (endpoint_after (of_side side options) (of_side side (turns_after run)))
 
--- The turn notes an association that a handshake made only where it is another than before it, or where there was none.
+-- If the turn records an association that a handshake made, the socket had none before the turn, or a different one.
 abbrev pub NotesAnew : Endpoint → Transition → Type 0
 NotesAnew e turn = (link : AssociationIdentity) → HasEffect (holds link) turn.outcome.effects → identity_in e.core ≢ Some link
 
--- It is another than the one that what was noted before leaves, in the same turn too.
+-- An association that a handshake made differs from the one that the earlier records leave, those of the same turn included.
 abbrev pub IsAnew : Effect → List Effect → Type 0
 IsAnew (holds link) earlier = current earlier ≢ Some link
 IsAnew effect earlier = Unit {0}
 
--- No association is noted again while it is there, so no lifetime begins within another of the same association.
+-- No association is recorded again while it exists. So no lifetime of an association begins within another one of it.
 pub record AreAnew (e : Endpoint) (turns : List Transition) : Type 0 where
   pub by_turns : AlongTurns NotesAnew e turns
   pub by_notes : Each IsAnew (noted_past turns)

@@ -46,9 +46,9 @@ pub fn fitting_sockets_connect()
     cookie_reads_back();
 }
 
-/// What each socket of a run noted is in its order, whatever bytes it was handed (RFC 6525, section 4.1). In
-/// one lifetime an association connects at most once, and the numbers of requests go up by one. Each accepted
-/// request is performed at most once.
+/// The effects that each socket of a run recorded are in order, whatever bytes it was handed (RFC 6525, section
+/// 4.1). In one lifetime an association connects at most once, and the numbers of requests go up by one. Each
+/// accepted request is performed at most once.
 pub fn socket_effects_in_place()
     ensures { SocketEffectsInPlace }
 {
@@ -75,8 +75,9 @@ pub fn sockets_tell_ends()
     acts_are_controlled();
 }
 
-/// The events of a socket's turn tell what it noted of its association: each connection, each end, each own
-/// request that was performed or failed, and each performed request of the peer, in this order.
+/// The events of a socket's turn report what it recorded of its association: each connection, each end, each of
+/// its requests that was performed or failed, and each performed request of the peer. They come in the order of
+/// the records.
 pub fn sockets_tell_effects()
     ensures { SocketsTellEffects }
 {
@@ -84,7 +85,7 @@ pub fn sockets_tell_effects()
     acts_are_controlled();
 }
 
-/// The association of a socket, with its numbers of requests, is the one that its turns noted.
+/// The association of a socket, with its numbers of requests, is the one that its turns recorded last.
 pub fn sockets_hold_noted()
     ensures { SocketsHoldNoted }
 {
@@ -93,8 +94,7 @@ pub fn sockets_hold_noted()
     acts_are_controlled();
 }
 
-/// A socket notes an association that a handshake made only where it is another than before, or where there
-/// was none.
+/// When a socket records an association that a handshake made, it had none before, or a different one.
 pub fn sockets_note_anew()
     ensures { SocketsNoteAnew }
 {

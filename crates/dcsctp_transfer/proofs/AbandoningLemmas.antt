@@ -1,4 +1,4 @@
--- Messages that are abandoned before a FORWARD-TSN, as the machine says it.
+-- Messages that are abandoned before a FORWARD-TSN, as the definitions say it.
 use Rattle.std.proofs.Common.{◌≡◌, ◌∙◌, ℕ, zero, suc, ◌&&◌, nat_lt, Result, Ok, Err, Bool, true, false, Option, None, Some, List, [], ◌++◌, map, refl, ap, sym, subst, arith}
 use Rattle.std.proofs.lemmas.Bool.Decides.{nat_tests}
 use Rattle.std.proofs.lemmas.List.{append-nil}

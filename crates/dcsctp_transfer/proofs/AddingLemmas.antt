@@ -202,7 +202,7 @@ take_next [] i d within = absurd (omega arith)
 take_next (x ∷ xs) zero d within = refl
 take_next (x ∷ xs) (suc i) d within = ap (λ (rest : List ℕ). x ∷ rest) (take_next xs i d (omega arith))
 
--- the next one, behind those so far
+-- the next one, after those so far
 pub adds_next : (outstanding : OutstandingState) (i d : ℕ) (tsns : List ℕ) (start old new : Building) → i < length tsns → HasRoomForRest outstanding i tsns old → AddsChunks outstanding (take i tsns) start old → AddsChunkOf outstanding (get_or tsns i d) old new
     → AddsChunks outstanding (take (suc i) tsns) start new
 adds_next outstanding i d tsns start old new within rest adds added =

@@ -1,4 +1,4 @@
--- The chunk that tells the peer to wait no longer, as the machine says it.
+-- The FORWARD-TSN or I-FORWARD-TSN chunk, as the definitions say it.
 use Rattle.std.proofs.Common.{◌≡◌, ◌∙◌, ℕ, ◌+◌, ◌^◌, ◌<◌, ◌≤◌, nat_le, if◌then◌else◌, Bool, true, false, List, [], ◌∷◌, ◌++◌, length, length-append, map, take, refl, ap, sym, subst, arith}
 use Rattle.std.proofs.lemmas.Bool.Decides.{nat_tests}
 use Rattle.std.proofs.lemmas.List.{append-nil}

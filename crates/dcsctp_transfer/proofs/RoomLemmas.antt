@@ -1,4 +1,4 @@
--- TSNs of outstanding items tell how much of a packet they take up: so there is one room that is left.
+-- TSNs of outstanding items determine how much of a packet they take up, so only one amount of room can be left.
 use Rattle.std.proofs.Common.{◌≡◌, ◌∙◌, ℕ, ◌<◌, Some, List, [], ◌∷◌, length, ap, sym, subst, arith}
 use Rattle.std.specs.List.{slice_get}
 use Rattle.dcsctp_send_retransmission.specs.spec.queues.Filling.{Stage, FillsStage}

@@ -45,7 +45,7 @@ says_so sack tracker window window_is says =
     ∙ ap (λ (bytes : List ℕ). record said { cumulative_tsn_ack = tracker.cumulative % 2 ^ 32; a_rwnd = window % 2 ^ 32; gap_ack_blocks = bytes }) says.blocks
     ∙ ap (λ (bytes : List ℕ). record (sack_of tracker window) { duplicate_tsns = bytes }) duplicates
 
--- what is told of the window, by whether the RFC is followed
+-- the window that a SACK reports, by whether the RFC is followed
 abbrev pub told_where : Bool → ReassemblyState → ℕ
 told_where follows queue = if follows then bytes_to_watermark queue else remaining_bytes queue
 

@@ -20,7 +20,7 @@ is_invalid state tsn beyond = test (acknowledged_count state.outstanding tsn) (o
     test : (n m : ℕ) → m < n → nat_le n m ≡ false
     test n m less = grind (arith, nat_tests)
 
--- nothing can be told of one that isn't
+-- valid and not valid at once: this can't be
 pub told_if_valid : {A : Type 0} (b : Bool) → b ≡ true → b ≡ false → A
 told_if_valid true is isnt = absurd (cc)
 told_if_valid false is isnt = absurd (cc)

@@ -1,4 +1,4 @@
--- If an allocation fails while a packet is filled, what the user was told is the first part of what some whole filling tells.
+-- If an allocation fails while a packet is filled, the events so far are the first part of those of some whole filling.
 use Rattle.std.proofs.Common.{◌≡◌, ◌∙◌, ◌⊎◌, inl, inr, ℕ, ◌+◌, ◌-◌, ◌^◌, min, nat_lt, Bool, true, false, if◌then◌else◌, List, ◌++◌, refl, ap, sym, subst, arith}
 use Rattle.dcsctp_send_retransmission.specs.types.declared.progress.Change.TheVariants.{Abandon}
 use Rattle.dcsctp_send_retransmission.specs.spec.endpoint.Event.{Event}

@@ -1,4 +1,4 @@
--- If an allocation fails for what the send queue gives, what the user was told is the first part of what some whole filling tells.
+-- If an allocation fails for what the send queue gives, the events so far are the first part of those of some whole filling.
 use Rattle.std.proofs.Common.{◌≡◌, ◌∙◌, inl, inr, ℕ, ◌-◌, false, List, [], ◌∷◌, ◌++◌, append_assoc, refl, ap, sym, subst}
 use Rattle.dcsctp_send_retransmission.specs.spec.endpoint.Event.{Event}
 use Rattle.dcsctp_send_retransmission.specs.spec.queues.Filling.{Stage, payload_room, SendsNew, StepAgain, MayAdd, StepNew, StageSteps, more, resent_packet_counted}
@@ -16,13 +16,13 @@ use Rattle.dcsctp_send_retransmission.specs.send_queue.Calls.{DropsNext, PartNex
 abbrev Events : Type 0
 Events = List (Event (List ℕ))
 
--- The packet is filled, and what was told behind these events is the first part of what is told then.
+-- The packet is filled, and the events after those in `front` are the first part of what the filling adds.
 pub record FillsTelling (front : Events) (now : ℕ) (old : Stage) (telling : Events) : Type 0 where
   pub first : Events
   pub filled : Filled now old first
   pub tells : telling ≡ front ++ first
 
--- Less was told than that.
+-- Fewer events were added than that.
 pub told_less : (now : ℕ) (old : Stage) (first after whole : Events) → whole ≡ first ++ after → Filled now old whole → Filled now old first
 told_less now old first after whole is filled =
     record {
@@ -32,11 +32,11 @@ told_less now old first after whole is filled =
       told = filled.told ∙ (ap (λ (es : Events). es ++ filled.rest) is ∙ append_assoc first after filled.rest);
     }
 
--- Nothing of a further step was told.
+-- A further step has added no event.
 pub fills_same : (front : Events) (now : ℕ) (old mid : Stage) (telling : Events) → Filled now old mid.told → telling ≡ front ++ mid.told → FillsTelling front now old telling
 fills_same front now old mid telling filled same = record { first = mid.told; filled = filled; tells = same }
 
--- The first part of a further step was told.
+-- A further step has added the first part of its events.
 fills_front : (front : Events) (now : ℕ) (old : Stage) (before whole telling : Events) → Filled now old (before ++ whole) → TellsFront (front ++ before) whole telling → FillsTelling front now old telling
 fills_front front now old before whole telling filled tells =
     record {

@@ -1,5 +1,5 @@
--- If an allocation fails for abandoning a message, what the user was told is the first part of what is told if it is abandoned. So it
--- is if that fails once some messages were.
+-- If an allocation fails while a message is abandoned, the events so far are the first part of those of some whole abandoning.
+-- The same holds if it fails after other messages were abandoned.
 use Rattle.std.proofs.Common.{◌≡◌, ◌∙◌, inl, inr, ℕ, ◌+◌, Bool, true, false, Some, List, ◌++◌, append_assoc, refl, ap, sym, subst}
 use Rattle.std.specs.List.{slice_get}
 use Rattle.dcsctp_send_retransmission.specs.types.declared.progress.Change.TheVariants.{Abandon}
@@ -18,7 +18,7 @@ use Rattle.dcsctp_send_retransmission.specs.States.{RefusesClosing, RefusesUpAt}
 abbrev Events : Type 0
 Events = List (Event (List ℕ))
 
--- The message is abandoned, and what was told is the first part of what is told then.
+-- The message is abandoned, and the events so far are the first part of the events then.
 pub record GivesUpTelling (front : Events) (now place : ℕ) (at : Stage) (telling : Events) : Type 0 where
   pub new : Stage
   pub up : GivesUpAt now place at new
@@ -52,7 +52,7 @@ pub gives_up_telling : (front : Events) (now place : ℕ) (at : Stage) (item : I
     → RefusesUpAt place at.queue.outstanding.items at.waiting (front ++ at.told) telling → GivesUpTelling front now place at telling
 gives_up_telling front now place at item telling is refused = by_end refused.last.fragment.is_end refl refused.tells
   where
-    -- nothing was told yet
+    -- no event so far
     nothing : telling ≡ front ++ at.told → GivesUpTelling front now place at telling
     nothing same =
         let (new, up, keeps) = given_up_at now place at item is in record { new = new; up = up; first = at.told; rest = keeps.rest; told = keeps.told; tells = same }
@@ -95,7 +95,7 @@ record RefusesDue (now : ℕ) (at : Stage) (telling : Events) : Type 0 where
   is_due : IsDueAt now place at.queue
   refused : RefusesUpAt place at.queue.outstanding.items at.waiting at.told telling
 
--- what is told before, and then some more
+-- the first part of some events, of which there are more
 front_of_more : (front first rest after telling whole told : Events) → whole ≡ told ++ after → told ≡ first ++ rest → telling ≡ front ++ first → TellsFront front whole telling
 front_of_more front first rest after telling whole told grows parts tells =
     record { front = first; rest = rest ++ after; parts = grows ∙ (ap (λ (es : Events). es ++ after) parts ∙ append_assoc first rest after); told = tells }

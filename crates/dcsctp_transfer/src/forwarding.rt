@@ -1,5 +1,5 @@
-//! What tells the peer to wait no longer for messages that were abandoned (RFC 3758, section 3.5; RFC 8260,
-//! section 2.3.1).
+//! FORWARD-TSN chunks: the peer needn't wait any more for messages that were abandoned (RFC 3758, section 3.5;
+//! RFC 8260, section 2.3.1).
 
 ghost use Rattle.std.specs.Prelude.{◌≡◌, ◌≤◌, ◌<◌, ◌^◌, min, IfOk, OnOk, OnErr, IsOk};
 ghost use Rattle.std.specs.List.{AllByRecursion};

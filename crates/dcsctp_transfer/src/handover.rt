@@ -1,4 +1,4 @@
-//! What a snapshot has of what is sent and what was received, and how both go on from it.
+//! What a snapshot has of what is sent and what was received, and how both continue from it.
 
 ghost use Rattle.std.specs.Prelude.{◌≡◌, true, [], OnOk};
 ghost use Rattle.std.specs.List.{list_all};
@@ -32,8 +32,8 @@ impl Transfer {
         self.reassembly_queue.add_to_handover_state(rx)
     }
 
-    /// An association that was just made goes on from the snapshot, restored at the moment `now`. `was_reset`:
-    /// own streams were reset before. `Err`: an allocation failed, and only some of it is restored.
+    /// An association that was just made continues from the snapshot, restored at the moment `now`. `was_reset`:
+    /// our streams were reset before. `Err`: an allocation failed, and only some of it is restored.
     pub fn restore_from_state(
         &mut self,
         now: SocketTime,

@@ -1,6 +1,6 @@
 //! The transfer layer, as the rest of a socket sees it: what an association has in flight and has received.
-//! What waits to be sent outlives an association, and is the socket's `SendQueue`. Contracts speak of the values that the machine's definitions name, and not
-//! of how the crates below represent them.
+//! What waits to be sent outlives an association, and is the socket's `SendQueue`. Contracts speak of the values
+//! that the definitions name, and not of how the crates below represent them.
 #![tactic(auto)]
 
 mod forwarding;
@@ -20,6 +20,6 @@ pub use sending::make_data_chunk;
 pub use transfer::Transfer;
 pub use windows::packet_size_limit;
 
-// What stands below, for the crates above.
+// Lower crates, re-exported for those above.
 pub use dcsctp_send_retransmission::{api, send_timer, types, wire};
 pub use dcsctp_wire_build as wire_build;

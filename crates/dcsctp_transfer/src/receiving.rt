@@ -152,7 +152,7 @@ impl Transfer {
         std::mem::replace(&mut self.reassembly_queue, empty).into_ready_messages()
     }
 
-    // Is the window that a SACK tells too small to be worth telling? Only with `Options::follow_rfc`.
+    // Is the window that a SACK reports too small to be worth reporting? Only with `Options::follow_rfc`.
     fn is_window_small(&self, options: &Options) -> bool
         ensures { result ≡ (self.now.tracker.follows_rfc && nat_lt (advertised_window self.now) (open_window options.now)) }
     {

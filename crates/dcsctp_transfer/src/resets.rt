@@ -61,7 +61,7 @@ impl Transfer {
     }
 
     /// Our own streams are reset after what was sent so far. Returns the last TSN of that. No FORWARD-TSN
-    /// goes beyond it any more, since streams are numbered anew after it. Allocates nothing.
+    /// goes beyond it any more, since message numbers start again after it. Allocates nothing.
     pub fn begin_reset_streams(&mut self) -> u32
         ensures answer { result ≡ last_assigned_tsn self.old.retransmission }
         ensures left { self.new ≡ record self.old { retransmission = with_reset_begun self.old.retransmission } }

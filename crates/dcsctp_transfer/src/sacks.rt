@@ -72,7 +72,7 @@ impl Transfer {
         self.retransmission_queue.is_valid_ack(cumulative_tsn_ack)
     }
 
-    /// The receive window that the peer told last, in bytes.
+    /// The receive window that the peer reported last, in bytes.
     pub fn peer_window(&self) -> u32
         ensures { result ≡ min self.now.retransmission.peer_window (2 ^ 32 - 1) }
     {
@@ -87,7 +87,7 @@ impl Transfer {
     }
 
     /// Advances the retransmission timer to `now`, and returns whether what is in flight is lost. Then it
-    /// waits to be sent again, and the timer goes on for twice as long (RFC 9260, section 6.3.3); else
+    /// waits to be sent again, and the timer runs again for twice as long (RFC 9260, section 6.3.3); else
     /// nothing changes.
     pub fn expire_retransmission(&mut self, now: SocketTime) -> bool
         ensures answer { result ≡ has_come now (retransmission_deadline self.old.retransmission) }

@@ -191,9 +191,9 @@ fn add_chunk(queue: &RetransmissionQueue, tsn: u32, packet: &mut SctpPacketBuild
     }
 }
 
-/// The fragment under this TSN, as I-DATA if interleaving was negotiated, else as DATA (RFC 9260, section 3.3.1; RFC 8260,
-/// section 2.1). It isn't to be acknowledged at once. With its header it has
-/// less than 65,536 bytes, by contract. Allocates nothing.
+/// The fragment under this TSN, as I-DATA if interleaving was negotiated, else as DATA (RFC 9260, section
+/// 3.3.1; RFC 8260, section 2.1). It isn't to be acknowledged at once. With its header it has less than 65,536
+/// bytes, by contract. Allocates nothing.
 #[inline(always)]
 pub fn make_data_chunk<'a>(tsn: u32, fragment: &'a DataToSend, interleaving: bool) -> Chunk<'a>
     requires { header_of interleaving + length fragment.now.payload < 2 ^ 16 }

@@ -14,8 +14,8 @@ pub fn packet_size_limit(options: &Options) -> usize
     size - size % 4
 }
 
-// The receive window from which on the peer is told that it has opened: a packet, or half of the window if
-// that is less.
+// The receive window from which on a SACK reports to the peer that it has opened: a packet, or half of the
+// window if that is less.
 pub(crate) fn open_window(options: &Options) -> usize
     ensures { result ≡ open_window options.now }
 {

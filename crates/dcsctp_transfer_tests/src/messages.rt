@@ -87,7 +87,7 @@ impl Messages {
         options
     }
 
-    /// Notes that a message has arrived: whole, once, and if it is ordered after those before it.
+    /// Records that a message has arrived: whole, once, and if it is ordered after those before it.
     pub fn arrives(&mut self, rt: &impl Abort, message: &Message) {
         let number = message.ppid.0 as usize;
         let planned = *self.planned.get(number).expect(rt, "no such message");
@@ -111,7 +111,7 @@ impl Messages {
         }
     }
 
-    /// Have all arrived that have to?
+    /// Have all arrived that must?
     pub fn are_complete(&self) -> bool {
         for planned in &self.planned {
             if !planned.has_arrived && !planned.is_limited {

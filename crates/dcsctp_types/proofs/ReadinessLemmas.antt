@@ -21,7 +21,7 @@ or_is_zero (suc x) y = let h : suc x ≤ bit_or (suc x) y = le_or_l (suc x) y in
 pub readiness_contains : (a b reasons : ℕ) → has_reason (bit_or a b) reasons ≡ (has_reason a reasons || has_reason b reasons)
 readiness_contains a b reasons = ap (λ n. not (n == 0)) (and_of_or a b reasons) ∙ or_is_zero (bit_and a reasons) (bit_and b reasons)
 
--- what stands between names and the next one
+-- what comes between names and the next one
 abbrev pub separator_after : List (ℕ × List ℕ) → List ℕ
 separator_after [] = []
 separator_after (_ ∷ _) = codes ","

@@ -1,4 +1,4 @@
--- A walk that marks each number finds whether one stands twice.
+-- A pass that marks each number finds whether one occurs twice.
 use Rattle.std.proofs.Common.{◌≡◌, ◌==◌, ◌||◌, ℕ, Bool, false, List, [], ◌∷◌, refl, arith}
 use Rattle.std.proofs.lemmas.Bool.Decides.{nat_tests}
 use Rattle.std.specs.List.{list_any}

@@ -1,4 +1,4 @@
--- The numbers behind the identifiers.
+-- The numbers of the identifiers.
 use Rattle.std.specs.Prelude.{ℕ, List, map}
 use Rattle.dcsctp_types.specs.declared.ids.LifecycleId.{LifecycleId}
 use Rattle.dcsctp_types.specs.declared.ids.StreamId.{StreamId}

@@ -6,14 +6,14 @@ use Rattle.std.specs.Duration.{max_nanos}
 abbrev pub millisecond : ℕ
 millisecond = 1000000
 
--- How far the moment is ahead of now, rounded down. A moment that is over is behind it, rounded up, so that it stays over. Both
--- stop at the least and the greatest number of 32 bits with a sign.
+-- How far the moment is after now, rounded down. For a moment that is over it is negative, with the distance rounded up, so that
+-- it stays over. Both stop at the least and the greatest number of 32 bits with a sign.
 abbrev pub millis_ahead : ℕ → ℕ → ℤ
 millis_ahead now moment =
     if nat_lt moment now then negsuc (min ((now - moment - 1) / millisecond) (2 ^ 31 - 1))
     else pos (min ((moment - now) / millisecond) (2 ^ 31 - 1))
 
--- the moment that is so far ahead of now, or behind it: not before moment zero, and not after the last one
+-- the moment that far after now, or before it if that is negative: not before moment zero, and not after the last one
 abbrev pub moment_at : ℕ → ℤ → ℕ
 moment_at now (pos ahead) = min (now + ahead * millisecond) max_nanos
 moment_at now (negsuc behind) = now - (behind + 1) * millisecond

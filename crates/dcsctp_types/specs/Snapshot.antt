@@ -158,7 +158,7 @@ has_verification_tags state = not (state.my_verification_tag == 0) && not (state
 abbrev pub allows_zero_checksum : Options → HandoverCapabilities → Bool
 allows_zero_checksum options capabilities = not capabilities.zero_checksum || not (options.zero_checksum_alternate_error_detection_method.0 == 0)
 
--- Does a number stand twice in the list?
+-- Does a number occur twice in the list?
 abbrev pub names_twice : List ℕ → Bool
 names_twice [] = false
 names_twice (id ∷ ids) = list_any (λ other. other == id) ids || names_twice ids
@@ -187,7 +187,7 @@ has_unsent_bytes message = nat_lt message.remaining_offset (length message.paylo
 abbrev pub has_bytes_or_is_abandoned : OutstandingPart → Bool
 has_bytes_or_is_abandoned sent = sent.is_abandoned || not (length sent.payload == 0)
 
--- How many TSNs stand between two, modulo 2^32: none between a TSN and the next one.
+-- How many TSNs are between two, modulo 2^32: none between a TSN and the next one.
 abbrev pub tsns_between : ℕ → ℕ → ℕ
 tsns_between last next = (next + (2 ^ 32 - 1 - last)) % 2 ^ 32
 
@@ -199,7 +199,7 @@ outstanding_count_fits tx = length tx.outstanding_data == tsns_between tx.last_c
 abbrev pub is_valid_queued : QueuedPart → Bool
 is_valid_queued message = has_bytes message && has_unsent_bytes message
 
--- All that is said of sending can be restored.
+-- The part about sending can be restored.
 abbrev pub is_valid_send_part : SendPart → Bool
 is_valid_send_part tx =
     sends_by_each_once tx
@@ -207,7 +207,7 @@ is_valid_send_part tx =
     && list_all has_bytes_or_is_abandoned tx.outstanding_data
     && outstanding_count_fits tx
 
--- All that is said of receiving can be restored.
+-- The part about receiving can be restored.
 abbrev pub is_valid_received_part : ReceivePart → Bool
 is_valid_received_part rx = receives_ordered_by_each_once rx && receives_unordered_by_each_once rx
 

@@ -2,7 +2,7 @@
 
 use crate::ids::StreamId;
 
-/// How the chunks of messages are told apart and put in order.
+/// How the chunks of messages are identified and put in order.
 #[derive(Clone, Copy, Debug, PartialEq, Eq)]
 pub enum Numbering {
     /// DATA of an ordered message: its stream sequence number. The parts go by their TSNs

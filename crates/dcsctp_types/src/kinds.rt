@@ -12,7 +12,7 @@ pub const ZERO_CHECKSUM_ALTERNATE_ERROR_DETECTION_METHOD_NONE: ZeroChecksumAlter
 pub const ZERO_CHECKSUM_ALTERNATE_ERROR_DETECTION_METHOD_LOWER_LAYER_DTLS: ZeroChecksumAlternateErrorDetectionMethod =
     ZeroChecksumAlternateErrorDetectionMethod(1);
 
-/// The SCTP implementations that can be told apart by their state cookie.
+/// The SCTP implementations that can be recognized by their state cookie.
 #[derive(Clone, Copy, Debug, PartialEq)]
 pub enum SctpImplementation {
     /// Nothing is known of it.

@@ -52,5 +52,5 @@ pub use time::{SocketTime, duration_of};
 pub use tracking::{AckState, TsnRange};
 pub use word::Word;
 
-// What stands below, for the crates above.
+// The crate below, for those above.
 pub use dcsctp_wire as wire;

@@ -13,8 +13,8 @@ const MILLISECOND: u128 = 1_000_000;
 // The greatest number of 32 bits with a sign.
 const GREATEST: u128 = 0x7fff_ffff;
 
-/// How many milliseconds the moment is ahead of `now`, rounded down. A moment that is over is behind it,
-/// rounded up, so that it stays over. Both stop at the least and the greatest `i32`.
+/// How many milliseconds the moment is after `now`, rounded down. For a moment that is over it is negative,
+/// with the distance rounded up, so that it stays over. Both stop at the least and the greatest `i32`.
 pub fn millis_ahead(now: SocketTime, moment: SocketTime) -> i32
     ensures { result ≡ millis_ahead now moment }
 {
@@ -29,8 +29,8 @@ pub fn millis_ahead(now: SocketTime, moment: SocketTime) -> i32
     }
 }
 
-/// The moment that is so many milliseconds ahead of `now`, or behind it. It isn't before moment zero, and not
-/// after the last one.
+/// The moment that many milliseconds after `now`, or before it if they are negative. It isn't before moment
+/// zero, and not after the last one.
 pub fn moment_at(now: SocketTime, millis: i32) -> SocketTime
     ensures { result ≡ moment_at now millis }
 {

@@ -10,7 +10,7 @@ use std::time::Duration;
 /// What a user can set. Sizes are bytes, windows too.
 #[derive(Clone, Copy)]
 pub struct Options {
-    /// The port that packets have to be sent to, and from which packets are sent.
+    /// The port that packets must be sent to, and from which packets are sent.
     pub local_port: u16,
 
     /// The port that packets out are sent to.

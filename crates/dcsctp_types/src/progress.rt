@@ -107,7 +107,7 @@ fn has_come_to(newest: u32, tsn: u32) -> bool
     newest.wrapping_sub(tsn) < 0x8000_0000
 }
 
-// Does a SACK tell whether an item is missing? Of one that was sent again, it does if it acknowledges a TSN
+// Can a SACK show whether an item is missing? For one that was sent again, it can if it acknowledges a TSN
 // that was sent after it. Unlike RFC 9260, section 7.2.4, such an item may be sent again fast once more
 // (docs/DECISIONS.md, Lost again).
 fn tells_of(sent_before: Option<u32>, newest: Option<u32>) -> bool
@@ -177,7 +177,7 @@ impl Progress {
         }
     }
 
-    // Reported missing by a SACK, if that tells of it.
+    // Reported missing by a SACK, if the SACK can show that.
     fn missed_where(self, is_told: bool) -> Progress
         ensures { result ≡ missed_where is_told self }
     {

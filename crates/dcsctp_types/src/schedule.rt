@@ -32,7 +32,7 @@ pub enum Call {
     /// It shuts its association down (RFC 9260, section 9.2).
     Shutdown,
 
-    /// It tells the time: this is the present moment.
+    /// It advances the time: this is the present moment.
     AdvanceTime(SocketTime),
 
     /// It gives a stream a priority.

@@ -37,7 +37,7 @@ impl SocketTime {
         SocketTime { nanos: 0 }
     }
 
-    /// The last moment, which stands for one that never comes.
+    /// The last moment, which means never.
     pub const fn infinite_future() -> SocketTime
         ensures { result ≡ max_nanos }
     {

@@ -48,7 +48,7 @@ impl Listed for HandoverUnorderedStream {
     }
 }
 
-// Is each identifier greater than the one before? Then no identifier stands twice.
+// Is each identifier greater than the one before? Then no identifier occurs twice.
 fn ascend<T: Listed>(streams: &[T]) -> bool
     ensures { OnTrue result (names_twice (map T.id_of streams.now) ≡ false) }
 {
@@ -63,7 +63,7 @@ fn ascend<T: Listed>(streams: &[T]) -> bool
     true
 }
 
-// Does an identifier stand twice? One pass, with a bit for each identifier that came.
+// Does an identifier occur twice? One pass, with a bit for each identifier that was seen.
 fn has_repeat<T: Listed>(streams: &[T]) -> bool
     ensures { result ≡ names_twice (map T.id_of streams.now) }
 {
@@ -78,7 +78,7 @@ fn has_repeat<T: Listed>(streams: &[T]) -> bool
     false
 }
 
-// Does an identifier stand twice? The lists that a socket makes ascend, so one pass is enough for them.
+// Does an identifier occur twice? The lists that a socket makes ascend, so one pass is enough for them.
 fn has_twice<T: Listed>(streams: &[T]) -> bool
     ensures { result ≡ names_twice (map T.id_of streams.now) }
 {

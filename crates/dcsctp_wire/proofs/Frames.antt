@@ -4,7 +4,7 @@ use Rattle.std.proofs.lemmas.Bool.{eqb-true}
 use Rattle.std.proofs.lemmas.List.{nil_from_length}
 use Rattle.dcsctp_wire.specs.Format.{Frame, frame_at}
 
--- no frame stands in no bytes
+-- an empty list of bytes has no frame
 pub frame_of_nothing : (frame : Frame) → frame_at [] ≡ Some frame → ⊥
 unfolding frame_at
 frame_of_nothing frame e = absurd cc

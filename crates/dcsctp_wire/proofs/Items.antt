@@ -12,24 +12,24 @@ pub one_is_read : {Item : Type 0} (read : ℕ → List ℕ → Option Item) → 
 one_is_read read p q bytes value a b = let same : Some p ≡ Some q = sym a ∙ b in cc same
 
 module _ {Item : Type 0} (Says : Item → List ℕ → List ℕ → Type 0) where
-  -- what stands in front is one item
+  -- bytes begin with one item at most, and what follows it is unique
   pub same_item : SaysOne Says → (p q : Item) (rest after bytes : List ℕ) → BeginsWith Says p rest bytes → BeginsWith Says q after bytes → (p ≡ q) × (rest ≡ after)
   same_item one p q rest after bytes a b =
       let frames = same_frame bytes (record { value = a.value; rest = rest }) (record { value = b.value; rest = after }) a.framed b.framed in
       let same_value : a.value ≡ b.value = ap (λ (f : Frame). f.value) frames in
       (one p q bytes b.value (subst (Says p bytes) same_value a.read) b.read, ap (λ (f : Frame). f.rest) frames)
 
-  -- no item stands in no bytes
+  -- an empty list of bytes has no item
   pub nothing_begins : (p : Item) (rest bytes : List ℕ) → BeginsWith Says p rest bytes → bytes ≡ [] → ⊥
   nothing_begins p rest bytes begins e =
       frame_of_nothing _ (subst (λ (b : List ℕ). frame_at b ≡ Some (record { value = begins.value; rest = rest })) e begins.framed)
 
-  -- behind the first item stand the others
+  -- the other items follow the first one
   pub others : SaysOne Says → (p : Item) (after bytes : List ℕ) → BeginsWith Says p after bytes → (ps : List Item) → AreItems Says ps bytes → (qs : List Item) × AreItems Says qs after
   others one p after bytes begins [] e = absurd (nothing_begins p after bytes begins e)
   others one p after bytes begins (q ∷ qs) h = (qs, subst (AreItems Says qs) (same_item one q p h.0 after bytes h.1 begins).1 h.2)
 
-  -- where no item stands in front of some bytes, they are no items
+  -- where some bytes don't begin with an item, they are no list of items
   pub none_are : (bytes : List ℕ) → (bytes ≡ [] → ⊥) → ((p : Item) (rest : List ℕ) → BeginsWith Says p rest bytes → ⊥) → (ps : List Item) → AreItems Says ps bytes → ⊥
   none_are bytes some none [] e = some e
   none_are bytes some none (p ∷ ps) h = none p h.0 h.1

@@ -25,7 +25,7 @@ pub length-list_bytes : (chunk_type flags : ℕ) (fields : List ℕ) (parameters
 unfolding parameter_chunk_bytes
 length-list_bytes chunk_type flags fields parameters = omega (arith, length-append fields (flat_map parameter_bytes parameters))
 
--- the length of parameters, with one more behind them
+-- the length of parameters, with one more after them
 abbrev pub and_one_more : ℕ → ParameterContent → ℕ
 and_one_more len parameter = len + padding_of len + parameter_len parameter
 

@@ -1,4 +1,4 @@
--- Where a COOKIE ECHO stands, and that what bytes say as a packet is unique.
+-- Where a COOKIE ECHO is, and that bytes can be read as one packet at most.
 use Rattle.std.proofs.Common.{◌≡◌, ℕ, Bool, true, false, not, List, [], ◌∷◌, drop, map, refl, sym, ap, subst, ◌∙◌}
 use Rattle.std.specs.Prelude.{◌||◌}
 use Rattle.std.specs.List.{list_any, AllByRecursion}
@@ -36,12 +36,12 @@ none_found : (chunks : List Chunk) → AllByRecursion IsNoEcho (map chunk_conten
 none_found [] h = refl
 none_found (c ∷ cs) h = ap (λ (b : Bool). not (b || list_any is_echo cs)) h.0 ∙ none_found cs h.1
 
--- no COOKIE ECHO was found behind the first chunk
+-- no COOKIE ECHO was found after the first chunk
 pub echo_in_front : (chunks : List Chunk) → not (list_any is_echo (drop 1 chunks)) ≡ true → AllByRecursion IsNoEcho (drop 1 (map chunk_content chunks))
 echo_in_front [] e = tt
 echo_in_front (c ∷ cs) e = no_echo cs e
 
--- none is found where none stands
+-- none is found where there is none
 pub found_in_front : (chunks : List Chunk) (contents : List ChunkContent) → contents ≡ map chunk_content chunks → AllByRecursion IsNoEcho (drop 1 contents) → not (list_any is_echo (drop 1 chunks)) ≡ true
 found_in_front [] contents e h = refl
 found_in_front (c ∷ cs) contents e h = none_found cs (subst (λ (ks : List ChunkContent). AllByRecursion IsNoEcho (drop 1 ks)) e h)

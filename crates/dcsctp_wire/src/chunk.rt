@@ -167,11 +167,11 @@ fn chunk_from(
     }
 }
 
-/// The chunk in front of the bytes, and what follows its padding (RFC 9260, section 3.2).
+/// The first chunk of the bytes, and what follows its padding (RFC 9260, section 3.2).
 ///
 /// # Errors
 ///
-/// `Malformed` if no chunk stands there, and `OutOfMemory` if a list can't grow.
+/// `Malformed` if there is no chunk, and `OutOfMemory` if a list can't grow.
 fn read_chunk(alloc: Global, bytes: &[u8]) -> Result<(Chunk<'_>, &[u8]), PacketError>
     ensures found { IfOk result (λ read. BeginsWithChunk
         (chunk_content read.0) read.1.now bytes.now) }

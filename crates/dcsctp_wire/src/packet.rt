@@ -15,7 +15,7 @@ use std::alloc::{AllocError, AllocFailed, Global};
 /// How a packet is read.
 #[derive(Clone, Copy, Debug)]
 pub struct WireOptions {
-    /// The port that a packet has to be sent to.
+    /// The port that a packet must be sent to.
     pub local_port: u16,
 
     /// Accepts every checksum. Only for tests.

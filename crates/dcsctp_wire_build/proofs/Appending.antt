@@ -1,15 +1,15 @@
--- One list behind another.
+-- One list after another.
 use Rattle.std.proofs.Common.{◌≡◌, ℕ, ◌+◌, List, ◌∷◌, ◌++◌, length, sym, ap, ◌∙◌, append_assoc, length-append, arith}
 use Rattle.std.specs.Int.{w16, to_be_bytes}
 use Rattle.dcsctp_wire.specs.Format.{padding_of}
 use Rattle.dcsctp_wire.specs.Spelling.{zeros, other_bytes}
 
--- what stands there after a was put behind the start, b behind that, and c behind that
+-- the bytes once a was appended to the start, then b, and then c
 pub three_put : (start a b c : List ℕ) (one two three : List ℕ) → one ≡ start ++ a → two ≡ one ++ b → three ≡ two ++ c → three ≡ start ++ (a ++ b ++ c)
 three_put start a b c one two three h1 h2 h3 =
     h3 ∙ ap (λ (x : List ℕ). x ++ c) (h2 ∙ ap (λ (x : List ℕ). x ++ b) h1 ∙ append_assoc start a b) ∙ append_assoc start (a ++ b) c
 
--- A chunk whose value is fields and what stands behind them: the header and the fields come first.
+-- A chunk whose value is fields and what follows them: the header and the fields come first.
 pub fields_in_front : (chunk_type flags : ℕ) (fields value : List ℕ) (len : ℕ) → len ≡ 4 + length (fields ++ value)
     → other_bytes chunk_type flags (fields ++ value)
     ≡ ((chunk_type ∷ flags ∷ to_be_bytes w16 len) ++ fields) ++ value

@@ -5,7 +5,7 @@ use Rattle.std.proofs.lemmas.List.{take_at, drop-append-le}
 use Rattle.dcsctp_wire_checksum.specs.Crc32c.{packet_checksum_of}
 use Rattle.dcsctp_wire.specs.Spelling.{zeros, checksum_field, packet_bytes_of}
 
--- more bytes behind the first 12
+-- more bytes after the first 12
 pub front_stays : (header bytes more now : List ℕ) → bytes ≡ header ++ zeros 4 ++ drop 12 bytes → 12 ≤ length bytes → now ≡ bytes ++ more → now ≡ header ++ zeros 4 ++ drop 12 now
 front_stays header bytes more now front long e =
     let rest : drop 12 now ≡ drop 12 bytes ++ more = ap (drop 12) e ∙ drop-append-le 12 bytes more long in

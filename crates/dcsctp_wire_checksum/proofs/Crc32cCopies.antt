@@ -1,5 +1,6 @@
--- The register after the bytes of a stream: zeros in front do nothing, and a byte with its five copies behind
--- it leaves nothing. That they are a multiple of the polynomial the checker computes for each of the eight bits.
+-- The register after the bytes of a stream: leading zeros do nothing, and a byte followed by its five
+-- copies leaves nothing. That these are a multiple of the polynomial the checker computes for each of
+-- the eight bits.
 use Rattle.std.proofs.Common.{◌≡◌, ℕ, zero, suc, ◌+◌, ◌-◌, ◌*◌, ◌/◌, ◌%◌, ◌^◌, ◌<◌, ◌≤◌, ◌⊎◌, List, [], ◌∷◌, length, get_or, refl, sym, ap, ◌∙◌, inl, inr, arith, zero-add}
 use Rattle.std.specs.Int.Bits.{bit_xor, xor_zero_r, xor_assoc, xor_shifted}
 use Rattle.std.specs.Int.{w32, to_le_bytes}
@@ -145,7 +146,7 @@ unfolding after_zeros
 zeros_eight zero c = refl
 zeros_eight (suc n) c = ap eight_bit_steps (zeros_eight n c)
 
--- what a register and its five copies have become, 15 places behind the last
+-- what a register and its five copies have become, 15 places after the last
 with_copies : ℕ → ℕ
 with_copies c = of_six (after_zeros 224 c) (after_zeros 159 c) (after_zeros 69 c) (after_zeros 54 c) (after_zeros 29 c) (after_zeros 15 c)
 

@@ -1,6 +1,6 @@
 -- The checksum CRC32c of a list of bytes, and of an SCTP packet: RFC 9260, appendix A.
 -- The register is a number below 2 ^ 32 that takes in one byte after another. All is in reverse bit
--- order: the lowest bit leaves first, and the polynomial stands reversed.
+-- order: the lowest bit leaves first, and the polynomial is reversed.
 use Rattle.std.specs.Prelude.{ℕ, ◌/◌, ◌%◌, ◌==◌, List, [], ◌∷◌, ◌++◌, take, drop, fold, bit_xor, if◌then◌else◌}
 
 -- the polynomial

@@ -4,7 +4,7 @@
 use Rattle.std.specs.Prelude.{ℕ, ◌≡◌, ◌+◌, ◌<◌, ◌≤◌, List, get_or, bit_xor}
 use Rattle.std.specs.Int.{w32, to_le_bytes}
 
--- what earlier bytes, folded, add to the byte at a place; the folded bytes stand behind 209 zeros
+-- what earlier bytes, folded, add to the byte at a place; 209 zeros come before the folded bytes
 unfoldable pub taps_at : List ℕ → ℕ → ℕ
 taps_at folded at =
     bit_xor (bit_xor (bit_xor (bit_xor (get_or folded (at + 144) 0) (get_or folded (at + 54) 0)) (get_or folded (at + 39) 0)) (get_or folded (at + 14) 0)) (get_or folded at 0)

@@ -95,7 +95,7 @@ const PIECE_LEN: usize = 1248;
 
 const REST_LEN: usize = 224;
 
-// How many zeros stand before the folded bytes, and the room for all: as far as the taps of a piece's last byte.
+// How many zeros come before the folded bytes, and the room for all: as far as the taps of a piece's last byte.
 const FRONT: usize = 209;
 
 const FOLDED_LEN: usize = 1392;

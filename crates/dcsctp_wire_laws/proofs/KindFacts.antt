@@ -86,7 +86,7 @@ second_block_is_5_to_5 : gap_ack_block_at 1 example_sack.gap_ack_blocks ≡ reco
 unfolding example_sack
 second_block_is_5_to_5 = refl
 
--- a duplicate behind no block, and a byte that is not looked at
+-- a duplicate where there is no block, and a byte that is ignored
 duplicates_are_read : sack_in (0 ∷ 0 ∷ 0 ∷ 12 ∷ 0 ∷ 0 ∷ 0x12 ∷ 0x34 ∷ 0 ∷ 0 ∷ 0 ∷ 1 ∷ 0 ∷ 0 ∷ 0 ∷ 11 ∷ 9 ∷ [])
     ≡ Some (sack_chunk (record { cumulative_tsn_ack = 12; a_rwnd = 4660; gap_ack_blocks = []; duplicate_tsns = 0 ∷ 0 ∷ 0 ∷ 11 ∷ [] }))
 unfolding sack_in

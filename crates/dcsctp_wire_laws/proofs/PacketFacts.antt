@@ -78,7 +78,7 @@ other_port_is_refused : IsPacket (reader 5000 true 0) cookie_ack cookie_ack_byte
 unfolding reader cookie_ack
 other_port_is_refused h = absurd (omega (arith, h.to_this_port))
 
--- a COOKIE ECHO behind a COOKIE ACK
+-- a COOKIE ECHO after a COOKIE ACK
 late_echo_is_refused : (bytes : List ℕ) → IsPacket (reader 5001 true 0) (record cookie_ack { chunks = cookie_ack_chunk ∷ cookie_echo_chunk [] ∷ [] }) bytes → ⊥
 late_echo_is_refused bytes h = absurd (cc h.echo_in_front.0)
 

@@ -57,7 +57,7 @@ sack_fits value is short =
       duplicates = front_entries 4 duplicates (drop (12 + blocks) value) (behind_in_bytes (12 + blocks) value is) (omega arith) behind;
     }))
 
--- ---- a TSN, and what stands behind it
+-- ---- a TSN, and what follows it
 
 shutdown_fits : (value : List ℕ) → InBytes value → IfSome (shutdown_in value) FitsChunk
 unfolding shutdown_in

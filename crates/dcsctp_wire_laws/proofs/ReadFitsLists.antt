@@ -15,7 +15,7 @@ use Rattle.dcsctp_wire_laws.proofs.ReadsBackItems.{len_of_more}
 
 -- ---- frames
 
--- The value and the rest of a frame are bytes. It has its padding, where anything is left behind it.
+-- The value and the rest of a frame are bytes. It has its padding, if anything follows it.
 pub record FrameFits (bytes value rest : List ℕ) : Type 0 where
   pub value_in_bytes : InBytes value
   pub rest_in_bytes : InBytes rest

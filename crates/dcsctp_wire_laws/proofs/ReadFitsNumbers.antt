@@ -53,7 +53,7 @@ pub front_entries : (len n : ℕ) (bytes : List ℕ) → InBytes bytes → n % l
 front_entries len n bytes is whole inside =
     record { whole = ap (λ (k : ℕ). k % len) (length-take-le n bytes inside) ∙ whole; entries_in_bytes = front_in_bytes n bytes is }
 
--- There are fields, and whole entries behind them.
+-- There are fields, and whole entries after them.
 pub record HasEntries (fields len : ℕ) (value : List ℕ) : Type 0 where
   pub fields_there : fields ≤ length value
   pub entries_fit : AreWholeEntries len (drop fields value)

@@ -35,7 +35,7 @@ crc_fits bytes small = xor_lt 32 (register_after all_ones bytes) all_ones (regis
 
 -- ---- the field and the checksum that is read
 
--- whatever stands in the field
+-- whatever the field holds
 checksum_of : (header field body : List ℕ) → length header ≡ 8 → length field ≡ 4 → packet_checksum_of (header ++ field ++ body) ≡ crc32c_of (header ++ zeros 4 ++ body)
 unfolding packet_checksum_of
 checksum_of header field body eight four =

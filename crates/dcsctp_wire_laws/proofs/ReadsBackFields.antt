@@ -11,7 +11,7 @@ use Rattle.dcsctp_wire.specs.Fields.{u16_at, u32_at, has_entries, lowest_bit, fl
 use Rattle.dcsctp_wire.specs.Spelling.{t_bit, data_flags, data_fields, i_data_fields, sack_fields}
 use Rattle.dcsctp_wire.specs.ReadsBack.{AreWholeEntries, FitsData, FitsIData, FitsSack, FitsForward}
 
--- ---- entries behind fields
+-- ---- entries after fields
 
 pub entries_behind : (fields entry : ℕ) (front entries : List ℕ) → length front ≡ fields → AreWholeEntries entry entries → has_entries fields entry (front ++ entries) ≡ true
 entries_behind fields entry front entries long are =
@@ -98,7 +98,7 @@ sack_reads chunk fits =
     ap (take (4 * u16_at 10 value)) behind ∙ take_all (4 * u16_at 10 value) duplicates (omega (arith, more)) in
     rw (enough, within) (λ i. Some (sack_chunk (record { cumulative_tsn_ack = tsn i; a_rwnd = window i; gap_ack_blocks = blocks_are i; duplicate_tsns = duplicates_are i })))
 
--- ---- a TSN, and what stands behind it
+-- ---- a TSN, and what follows it
 
 pub shutdown_reads : (tsn : ℕ) → tsn < 2 ^ 32 → shutdown_in (to_be_bytes w32 tsn) ≡ Some (shutdown_chunk tsn)
 unfolding shutdown_in

@@ -8,7 +8,7 @@ use Rattle.std.proofs.lemmas.Nat.{from_be_bytes-to_be_bytes_2}
 use Rattle.dcsctp_wire.specs.Fields.{u16_at}
 use Rattle.dcsctp_wire.specs.Format.{padding_of, frame_at}
 
--- a length that stands inside its container
+-- a length within its container
 frame_with : (bytes : List ℕ) (len : ℕ) → u16_at 2 bytes ≡ len → 4 ≤ len → len ≤ length bytes
     → frame_at bytes ≡ Some (record { value = take (len - 4) (drop 4 bytes); rest = drop (len + padding_of len) bytes })
 unfolding frame_at

@@ -4,8 +4,8 @@ ghost use Rattle.dcsctp_wire.specs.ReadsBack.{BuiltPacketReadsBack, BuiltPacketR
 ghost use Rattle.dcsctp_wire_laws.specs.ReadFits.{ReadPacketFits};
 
 /// A law: a built packet, with a checksum or without, reads back as that packet (RFC 9260, section 3). Its
-/// numbers have to fit their fields, INIT and INIT ACK have their minima, and a COOKIE ECHO is the first
-/// chunk. Without a checksum the reader has to accept that.
+/// numbers must fit their fields, INIT and INIT ACK must have their minima, and a COOKIE ECHO must be the first
+/// chunk. Without a checksum the reader must accept that.
 pub fn built_packet_reads_back()
     ensures { BuiltPacketReadsBack }
 {}

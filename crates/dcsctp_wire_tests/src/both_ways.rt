@@ -35,7 +35,7 @@ fn begun(rt: &impl Abort, alloc: Global, tag: u32, size: usize) -> SctpPacketBui
         .write_checksum(false)
 }
 
-/// Adds the chunks, for which there has to be room. Each takes as much of it as its size says.
+/// Adds the chunks, for which there must be room. Each takes as much of it as its size says.
 fn add(rt: &impl Abort, name: &str, builder: &mut SctpPacketBuilder, chunks: &[Chunk<'_>]) {
     for chunk in chunks {
         let size = chunk.serialized_size();

@@ -4,7 +4,7 @@
 use std::fmt::Debug;
 use std::process::Abort;
 
-// The two have to be equal.
+// The two must be equal.
 pub fn same<T: PartialEq + Debug + Drop>(rt: &impl Abort, name: &str, found: T, expected: T) {
     assert!(rt;
         found == expected,
@@ -12,7 +12,7 @@ pub fn same<T: PartialEq + Debug + Drop>(rt: &impl Abort, name: &str, found: T, 
     );
 }
 
-// This has to hold.
+// This must hold.
 pub fn holds(rt: &impl Abort, name: &str, it_holds: bool) {
     assert!(rt; it_holds, "{name}");
 }

@@ -40,7 +40,7 @@ fn restores(
     same(rt, name, reply, expected);
 }
 
-// Its last packet has to be this one, of so many.
+// Its last packet must be this one, of so many.
 fn has_sent(rt: &impl Abort, world: &World<TwoWords>, name: &str, count: usize, packet: &[u8]) {
     same(rt, name, world.packets(Side::A).len(), count);
     let last = world.packets(Side::A).last().expect(rt, name);
@@ -53,7 +53,7 @@ fn waits_for(rt: &impl Abort, world: &World<TwoWords>, name: &str, millis: u64) 
     same(rt, name, world.socket(Side::A).poll_timeout(), moment);
 }
 
-// A world of which A goes on from the snapshot by hand, and packets go without checksums.
+// A world in which A continues from the snapshot that is written by hand, and packets have no checksums.
 fn restored_world(rt: &impl Abort, alloc: Global) -> World<TwoWords> {
     let mut world = new_world(rt, alloc, 1);
     let state = snapshot_with_data(rt, alloc, true);
@@ -117,7 +117,7 @@ const NEXT_SACK: [u8; 28] = [
     3, 0, 0, 16, 0, 0, 0, 203, 0, 0x50, 0, 0, 0, 0, 0, 0,
 ];
 
-// The message that A takes has to be that one.
+// The message that A takes must be that one.
 fn takes_it(rt: &impl Abort, world: &mut World<TwoWords>) {
     let take = Step::Call(Side::A, Call::GetNextMessage);
     let Reply::Taken(Some(message)) = world.apply(&take).expect(rt, "no call") else {
@@ -149,7 +149,7 @@ fn a_restored_socket_receives_the_next_message(rt: HostRuntime) {
     drop(world);
 }
 
-// The peer's last request, of number 199, to reset its streams 1 and 2 behind TSN 202. It answers number 101.
+// The peer's last request, of number 199, to reset its streams 1 and 2 after TSN 202. It answers number 101.
 const REQUEST: [u8; 36] = [
     0x13, 0x88, 0x13, 0x88, 0, 0, 0, 7, 0, 0, 0, 0, //
     130, 0, 0, 24, 0, 13, 0, 20, 0, 0, 0, 199, 0, 0, 0, 101, 0, 0, 0, 202, 0, 1, 0, 2,
@@ -237,7 +237,7 @@ fn resets_a_stream(rt: &impl Abort, alloc: Global, world: &mut World<TwoWords>) 
     world.run(&answers).expect(rt, "no answers");
 }
 
-// The call alone: the socket stays closed, and its peer isn't told.
+// The call alone: the socket stays closed, and nothing is sent to its peer.
 #[test]
 fn a_handover_answers_what_the_socket_had(rt: HostRuntime) {
     let mut world = world_behind_handshake(&rt, rt.alloc());

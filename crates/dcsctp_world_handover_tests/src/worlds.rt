@@ -40,7 +40,7 @@ pub fn world_behind_handshake(rt: &impl Abort, alloc: Global) -> World<TwoWords>
     world
 }
 
-/// Both sides have to be connected.
+/// Both sides must be connected.
 pub fn are_connected(rt: &impl Abort, world: &World<TwoWords>, name: &str) {
     let states = [world.socket(Side::A).state(), world.socket(Side::B).state()];
     same(

@@ -1,5 +1,5 @@
 //! Packets of exchanges that were damaged on their way: cut off at each length, and with each byte as 0 and as 255.
-//! Whatever a socket is handed, the call returns `Ok`, and the socket goes on.
+//! Whatever a socket is handed, the call returns `Ok`, and the socket continues.
 
 use crate::checks::{holds, same};
 use crate::exchanges::Exchange;
@@ -67,7 +67,7 @@ fn answers(rt: &impl Abort, world: &World<TwoWords>, name: &str, side: Side) {
     same(rt, name, socket.messages_ready_count() <= 1, true);
 }
 
-// It goes on: its next deadline comes, and it can be closed.
+// It continues: its next deadline comes, and it can be closed.
 fn goes_on(rt: &impl Abort, world: &mut World<TwoWords>, name: &str, side: Side) {
     let timeout = world.socket(side).poll_timeout();
     let steps = [
@@ -79,7 +79,7 @@ fn goes_on(rt: &impl Abort, world: &mut World<TwoWords>, name: &str, side: Side)
     same(rt, name, world.socket(side).state(), SocketState::Closed);
 }
 
-// The packet comes in at a socket, which goes on.
+// The packet comes in at a socket, which continues.
 fn takes(rt: &impl Abort, alloc: Global, case: Case, packet: &[u8]) {
     let name = format!(in alloc; "{case:?}").expect(rt, "no name");
     let side = other(case.place.from);
@@ -115,7 +115,7 @@ fn tries(rt: &impl Abort, alloc: Global, place: Place, packet: &[u8]) {
     }
 }
 
-// All packets of a side that come behind so many.
+// All packets of a side after the first so many.
 fn tries_side(rt: &impl Abort, alloc: Global, world: &World<TwoWords>, place: Place) -> usize {
     let packets = world.packets(place.from);
     let mut place = place;
@@ -126,7 +126,7 @@ fn tries_side(rt: &impl Abort, alloc: Global, world: &World<TwoWords>, place: Pl
     packets.len()
 }
 
-// All packets of an exchange that come behind so many of each side. The two sides have emitted so many.
+// All packets of an exchange after the first so many of each side. The two sides have emitted so many.
 fn tries_each(
     rt: &impl Abort,
     alloc: Global,

@@ -44,7 +44,7 @@ fn handshake(rt: &impl Abort, steps: &mut Vec<Step>) {
     }
 }
 
-// The packets behind the handshake go back and forth, each side's in their order.
+// The packets after the handshake go back and forth, each side's in their order.
 fn goes_on(rt: &impl Abort, steps: &mut Vec<Step>) {
     for number in 3..=5 {
         for side in [Side::B, Side::A] {

@@ -24,7 +24,7 @@ const BEGUN: [Step; 3] = [
     Step::Deliver(Side::A, 1),
 ];
 
-// A is told that it is connected, and sends its third packet.
+// A reports that it is connected, and sends its third packet.
 fn is_connected(rt: &impl Abort, world: &World<TwoWords>) {
     let [
         SocketEvent::SendPacket(_),

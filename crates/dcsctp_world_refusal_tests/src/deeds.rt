@@ -1,4 +1,4 @@
-//! What happens to a world in a test, as a table of acts: where, what, what that side tells then, and the phase of its
+//! What happens to a world in a test, as a table of acts: where, what, that side's events then, and the phase of its
 //! association after it.
 
 use crate::snapshot::fill;
@@ -30,7 +30,7 @@ pub enum Deed {
     /// Its user resets this stream.
     Resets(u16),
 
-    /// It is told this moment, in milliseconds.
+    /// Its time is advanced to this moment, in milliseconds.
     Passes(u64),
 
     /// It is handed the other's packet of this number.
@@ -49,7 +49,7 @@ pub enum Deed {
     IsRestored,
 }
 
-/// An act, with what its side tells in it, and the phase of that side's association after it.
+/// An act, with the events of its side in it, and the phase of that side's association after it.
 pub type Row = (Side, Deed, &'static [ExpectedEvent], Option<Phase>);
 
 fn called(side: Side, call: Call) -> Act {

@@ -12,8 +12,8 @@ use dcsctp_world::socket::Phase::{CookieEchoed, CookieWait, Established};
 
 // The packets of a handshake come from outside, and so do bytes that can't be read. A is handed over while B lacks its
 // message, and sends it again after the first retransmission timeout. It had seven events before and room for eight, so
-// its OnConnected needs new room. B goes on from the snapshot that is written by hand, once it is closed: what was lost
-// and what waits go in one packet.
+// its OnConnected needs new room. B continues from the snapshot that is written by hand, once it is closed: what was
+// lost and what waits go in one packet.
 static FROM_OUTSIDE: &[Row] = &[
     (A, Connects, &[Packet(&[INIT])], Some(CookieWait)),
     (B, IsHandedCopy(1), &[Packet(&[INIT_ACK])], None),

@@ -6,7 +6,7 @@ use dcsctp_world::socket::Word;
 use rand_core::Rng;
 use std::process::Abort;
 
-// The words that are kept have to be the first ones of a generator that counts from 0.
+// The words that are kept must be the first ones of a generator that counts from 0.
 fn are_first(rt: &impl Abort, words: &[Word]) {
     for (index, word) in words.iter().enumerate() {
         assert_eq!(rt; *word, Word::U64(index as u64), "word {index}");

@@ -9,7 +9,7 @@ use dcsctp_world::{Call, Outside, Reply, Side, Step, World};
 use std::alloc::Global;
 use std::process::Abort;
 
-// Steps that would change a world that goes on.
+// Steps that would change a world that continues.
 const LATER: [Step; 4] = [
     Step::Call(Side::A, Call::Close),
     Step::Call(Side::B, Call::Close),

@@ -43,7 +43,7 @@ impl Twin<'_> {
         *self.noted.get(acts).expect(rt, "the table has no such act")
     }
 
-    // Each view of this side of the world is a front part of the twin's, with that many entries at least and at most.
+    // Each view of this side of the world is the first part of the twin's, with that many entries at least and at most.
     fn has_front(
         &self,
         rt: &impl Abort,
@@ -64,8 +64,8 @@ impl Twin<'_> {
         }
     }
 
-    /// The world shows what the twin showed after so many acts, and nothing else. If it failed in the next act, each view
-    /// may have more: the first entries that this act brought the twin.
+    /// The world shows what the twin showed after so many acts, and nothing else. If it failed in the next act, each
+    /// view may have more: the first entries that this act brought the twin.
     pub fn is_followed(&self, rt: &impl Abort, world: &World<Counting>, acts: usize) {
         assert_eq!(rt; world.acts().len(), acts, "acts");
         let is_front = self.world.acts().starts_with(world.acts());
@@ -102,7 +102,7 @@ fn phase(world: &World<Counting>, side: Side) -> Option<Phase> {
     Some(association.phase)
 }
 
-// What the side told, from this event on, is what its row says.
+// The side's events, from this one on, are those of its row.
 fn tells(rt: &impl Abort, row: &Row, events: &[SocketEvent]) {
     let (side, deed, told, _) = row;
     assert_eq!(rt; events.len(), told.len(), "{side:?} {deed:?}: {events:?}");
@@ -111,7 +111,7 @@ fn tells(rt: &impl Abort, row: &Row, events: &[SocketEvent]) {
     }
 }
 
-// Applies the act of a row to the twin, which has to show what the row says. Returns whether no allocation failed.
+// Applies the act of a row to the twin, which must show what the row says. Returns whether no allocation failed.
 fn takes_first(rt: &impl Abort, alloc: Global, twin: &mut World<Counting>, row: &Row) -> bool {
     let (side, deed, _, after) = row;
     let there = other(*side);
@@ -150,7 +150,7 @@ fn drew(rt: &impl Abort, twin: &World<Counting>, side: Side, words: &[Word], pai
     assert_eq!(rt; twin.pairs(side), [pair].as_slice(), "pairs of {side:?}");
 }
 
-/// Applies the acts of a table to the twin, and notes how many entries each view has before each, and at the end.
+/// Applies the acts of a table to the twin, and records how many entries each view has before each, and at the end.
 /// Returns whether no allocation failed.
 pub fn goes_first(
     rt: &impl Abort,

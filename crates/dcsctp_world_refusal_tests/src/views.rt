@@ -1,4 +1,4 @@
-//! What a world shows, view by view, and whether it is a front part of what another one shows. Nothing here
+//! What a world shows, view by view, and whether it is the first part of what another one shows. Nothing here
 //! allocates.
 
 use dcsctp_testing::Counting;
@@ -158,7 +158,7 @@ fn associations_begin(all: &[Option<Association>], first: &[Option<Association>]
     first.len() <= all.len()
 }
 
-/// Is each view of this side a front part of what the other world shows there, entry by entry?
+/// Is each view of this side the first part of what the other world shows there, entry by entry?
 pub fn are_fronts(world: &World<Counting>, of: &World<Counting>, side: Side) -> [bool; 8] {
     let given = world.socket(side).generator().words();
     [

@@ -1,4 +1,4 @@
-//! A world in which an allocation fails in a step: that step says so, each view is a front part of what it would have
+//! A world in which an allocation fails in a step: that step says so, each view is the first part of what it would have
 //! been, and the world applies nothing from then on. Steps are applied one by one, and by one run.
 
 use crate::deeds::Deed::{Connects, Reads, Resets, Sends, ShutsDown, Takes};
@@ -19,8 +19,8 @@ use dcsctp_world::socket::Phase::{
 use std::alloc::Global;
 use std::process::Abort;
 
-// The handshake, a message with its acknowledgement, which is read, a reset with its answer, and a shutdown (RFC 9260, sections 5.1, 6.2
-// and 9.2; RFC 6525, section 5).
+// The handshake, a message with its acknowledgement, which is read, a reset with its answer, and a shutdown (RFC 9260,
+// sections 5.1, 6.2 and 9.2; RFC 6525, section 5).
 static STEPS: &[Row] = &[
     (A, Connects, &[Packet(&[INIT])], Some(CookieWait)),
     (B, Takes(1), &[Packet(&[INIT_ACK])], None),
@@ -80,14 +80,14 @@ pub enum Way {
     ByOneRun,
 }
 
-// The world has failed behind so many acts. It applies nothing from then on, and shows what it showed.
+// The world has failed after so many acts. It applies nothing from then on, and shows what it showed.
 fn ends(rt: &impl Abort, alloc: Global, world: &mut World<Counting>, twin: Twin<'_>, acts: usize) {
     stays_failed(rt, alloc, world);
     twin.is_not_followed(rt, world);
     twin.is_followed(rt, world, acts);
 }
 
-// The world takes the act behind so many, as the twin did. Returns whether no allocation failed.
+// The world takes the act after so many, as the twin did. Returns whether no allocation failed.
 fn follows_in(
     rt: &impl Abort,
     alloc: Global,

@@ -46,14 +46,14 @@ impl Counts {
         }
     }
 
-    /// Notes what was read in a schedule.
+    /// Counts what was read in a schedule.
     pub fn note_read(&mut self, delivery: &Delivery) {
         self.served = self.served.saturating_add(u32::from(delivery.serves));
         add(&mut self.read, delivery.read);
         add(&mut self.read_after_reset, delivery.read_after_reset);
     }
 
-    /// Notes an event. Is it a connection or an end?
+    /// Counts an event. Is it a connection or an end?
     pub fn note(&mut self, event: &SocketEvent) -> bool {
         match event {
             SocketEvent::OnConnected() => one_more(&mut self.connected),
@@ -70,7 +70,7 @@ impl Counts {
         )
     }
 
-    /// Each has to have happened at least as often as here.
+    /// Each must have happened at least as often as here.
     pub fn reach(&self, rt: &impl Abort, name: &str, least: &Counts) {
         let enough = [
             least.connected <= self.connected,

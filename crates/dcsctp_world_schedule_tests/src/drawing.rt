@@ -63,7 +63,7 @@ impl Drawing {
         emitted.saturating_sub(self.below(8) as usize)
     }
 
-    // The next packet in order. If it doesn't come through, it is the one behind.
+    // The next packet in order. If it is lost, the one after it.
     fn next(&mut self, from: Side, is_lost: bool) -> usize {
         let handed = match from {
             Side::A => &mut self.a_handed,

@@ -18,7 +18,7 @@ const SCHEDULES: u64 = 200;
 
 const STEPS: usize = 300;
 
-// What has to happen at least in all schedules of a test.
+// What must happen at least in all schedules of a test.
 const LEAST: Counts = Counts {
     connected: 200,
     restarted: 20,

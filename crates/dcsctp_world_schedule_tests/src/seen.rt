@@ -1,4 +1,4 @@
-//! What was seen of a side, and what each of its events has to find.
+//! What was seen of a side, and what must hold at each of its events.
 
 use crate::counts::Counts;
 use crate::view::{Ends, View};
@@ -21,7 +21,7 @@ fn follows(before: u32, after: u32) -> bool {
     after == before || after == before.wrapping_add(1)
 }
 
-// The association goes on: the numbers of requests go up by one, or stay. The request that is outstanding is the
+// The association continues: the numbers of requests go up by one, or stay. The request that is outstanding is the
 // last.
 fn numbers_follow(before: &Ends, after: &Ends) -> bool {
     let is_last = match after.1.own_outstanding {
@@ -33,7 +33,7 @@ fn numbers_follow(before: &Ends, after: &Ends) -> bool {
         && follows(before.1.peer_last, after.1.peer_last)
 }
 
-// Each numbers of an association that goes on follows that before it.
+// The numbers of an association that continues follow those before them.
 fn counts_on(rt: &impl Abort, view: &View<'_>) {
     if let (Some(before), Some(after)) = (view.ends(1), view.ends(0)) {
         let goes_on = before.0 == after.0 && before.1.peer == after.1.peer;

@@ -28,7 +28,7 @@ fn options(drawing: &mut Drawing) -> SendOptions {
     options
 }
 
-// The bytes of a message: its number, then others that tell where they stand.
+// The bytes of a message: its number, then others that depend on where they are.
 fn payload(rt: &impl Abort, alloc: Global, number: u32, len: u32) -> Vec<u8> {
     let mut bytes = Vec::from_slice(alloc, &number.to_be_bytes()).expect(rt, "no payload");
     for at in 4..len {

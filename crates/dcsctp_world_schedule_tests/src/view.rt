@@ -48,7 +48,7 @@ impl View<'_> {
         )
     }
 
-    /// This has to hold.
+    /// This must hold.
     pub fn holds(&self, rt: &impl Abort, text: &str, it_holds: bool) {
         if !it_holds {
             self.fails(rt, text);

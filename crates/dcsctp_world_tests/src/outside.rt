@@ -18,7 +18,7 @@ fn comes_in(rt: &impl Abort, alloc: Global, world: &mut World<TwoWords>, side: S
     same(rt, "reply", reply, Reply::Done);
 }
 
-// The last act has to be that one byte was handed to A.
+// The last act must be that one byte was handed to A.
 fn is_kept(rt: &impl Abort, world: &World<TwoWords>) {
     let Some(Act::Outside(Outside::Input(Side::A, bytes))) = world.acts().last() else {
         rt.panic("another last act")

@@ -77,7 +77,7 @@ fn reads(
     same(rt, "what is read", reply, Reply::Taken(expected));
 }
 
-// These have to be the messages, in order.
+// These must be the messages, in order.
 fn are(rt: &impl Abort, name: &str, messages: &[Message], payloads: &[&[u8]]) {
     same(rt, name, messages.len(), payloads.len());
     for (message, payload) in messages.iter().zip(payloads) {

@@ -38,7 +38,7 @@ fn no_word_is_kept_behind_bytes(rt: HostRuntime) {
     holds(&rt, "nor later", !recorded.is_whole());
 }
 
-// The side has to show these words, and so has its generator, whose next word is this.
+// The side must show these words, and so must its generator, whose next word is this.
 fn drew(rt: &impl Abort, world: &World<Counting>, side: Side, words: &[Word], next: u64) {
     same(rt, "words", world.words(side), words);
     let generator = world.socket(side).generator();

@@ -48,7 +48,7 @@ pub fn world_behind_handshake(rt: &impl Abort, alloc: Global) -> World<TwoWords>
     world
 }
 
-// Both sides have to be connected.
+// Both sides must be connected.
 pub fn are_connected<R: Rng + Drop>(rt: &impl Abort, world: &World<R>, name: &str) {
     let states = [world.socket(Side::A).state(), world.socket(Side::B).state()];
     same(
@@ -59,7 +59,7 @@ pub fn are_connected<R: Rng + Drop>(rt: &impl Abort, world: &World<R>, name: &st
     );
 }
 
-// A side has to have drawn this pair alone.
+// A side must have drawn this pair alone.
 fn drew(rt: &impl Abort, world: &World<TwoWords>, side: Side, tag: u32, first_tsn: u32) {
     let [pair] = world.pairs(side) else {
         rt.panic("not one pair was drawn")
@@ -114,7 +114,7 @@ fn counts(world: &World<TwoWords>) -> [usize; 3] {
     ]
 }
 
-// Applies a step: it has to answer so.
+// Applies a step: it must answer so.
 fn replies(rt: &impl Abort, world: &mut World<TwoWords>, name: &str, step: Step, expected: Reply) {
     let reply = world.apply(&step).expect(rt, name);
     same(rt, name, reply, expected);

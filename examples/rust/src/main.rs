@@ -129,7 +129,7 @@ fn progress(end: &End, done: usize, count: usize, shown: &mut Instant) {
     }
 }
 
-/// The other process: receives until the association has ended. It tells its port first.
+/// The other process: receives until the association has ended. It sends its port first.
 fn receive(peer: u16, loss: u64, count: usize) -> Result<bool, Failure> {
     let udp = UdpSocket::bind("127.0.0.1:0")?;
     udp.connect(("127.0.0.1", peer))?;

@@ -141,7 +141,7 @@ fn between<'a>(text: &'a str, head: &str, foot: &str) -> Vec<&'a str> {
     text.split(head).skip(1).map(|it| it.split(foot).next().unwrap_or(it)).collect()
 }
 
-/// The type of C that a type of Rust stands for.
+/// The type of C that a type of Rust corresponds to.
 fn in_c(kind: &str) -> String {
     if let Some(target) = kind.strip_prefix("*mut ") {
         return format!("{} *", in_c(target));

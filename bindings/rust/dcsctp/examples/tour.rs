@@ -165,7 +165,7 @@ fn close_a_channel() -> Outcome {
     Ok(())
 }
 
-/// Another socket goes on in A's place. It may be in another process, since the snapshot is bytes.
+/// Another socket continues in A's place. It may be in another process, since the snapshot is bytes.
 fn hand_over() -> Outcome {
     let mut pair = Pair::connected()?;
     pair.send("before")?;

@@ -8,7 +8,7 @@ use std::fmt;
 #[derive(Clone, Copy, Debug, PartialEq, Eq, Hash)]
 pub enum Error {
     /// An allocation of the library failed in this call. The socket has failed now, unless the call says that it may be
-    /// tried again; `Socket::has_failed` tells.
+    /// tried again; `Socket::has_failed` says whether.
     OutOfMemory,
     /// An allocation failed in an earlier call. Events can be taken; all that is left to do is to drop the socket.
     Failed,
@@ -54,7 +54,7 @@ pub enum Error {
 }
 
 impl Error {
-    /// The error that a result below 0 stands for.
+    /// The error that a result below 0 means.
     pub fn of(number: i32) -> Error {
         match number {
             sys::DCSCTP_ERROR_OUT_OF_MEMORY => Error::OutOfMemory,

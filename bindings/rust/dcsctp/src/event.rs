@@ -1,8 +1,8 @@
-//! What a socket tells.
+//! What a socket reports.
 
 use dcsctp_sys as sys;
 
-/// What a socket tells.
+/// What a socket reports.
 #[non_exhaustive]
 #[derive(Clone, Debug, PartialEq, Eq)]
 pub enum Event {
@@ -12,7 +12,7 @@ pub enum Event {
     Connected,
     /// It has ended: by a shutdown, `Socket::close` or a handover.
     Closed,
-    /// The peer began anew: then `Connected` comes.
+    /// The peer restarted: then `Connected` comes.
     ConnectionRestarted,
     /// It was cut off.
     Aborted {
@@ -21,7 +21,7 @@ pub enum Event {
         /// More of it, which may be empty.
         text: String,
     },
-    /// Something went wrong, and the association goes on.
+    /// Something went wrong, and the association continues.
     Error {
         /// What it is about.
         kind: ErrorKind,

@@ -34,7 +34,7 @@
 //!
 //! 1. Take all events (`poll_event`), and send each packet to the peer. Take all messages (`get_next_message`).
 //! 2. Ask for the deadline (`poll_timeout`). Wait for a packet, or until then.
-//! 3. Tell the time (`advance_time`). Hand in one packet, if one has come (`handle_input`). Begin again at 1.
+//! 3. Set the time (`advance_time`). Hand in one packet, if one has come (`handle_input`). Begin again at 1.
 //!
 //! A call that hands something in, be it a packet, the time or a command, may add events and messages, and move the
 //! deadline. When an association begins, the messages of the one before that weren't taken are lost.

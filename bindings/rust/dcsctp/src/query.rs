@@ -31,11 +31,11 @@ impl State {
     }
 }
 
-/// Which program the peer runs, as its cookie tells.
+/// Which program the peer runs, as its cookie says.
 #[non_exhaustive]
 #[derive(Clone, Copy, Debug, PartialEq, Eq, Hash)]
 pub enum Peer {
-    /// Its cookie doesn't tell, or it sent no INIT ACK.
+    /// Its cookie doesn't say, or it sent no INIT ACK.
     Unknown,
     /// This library, or dcSCTP in Rust.
     DcsctpRs,

@@ -45,7 +45,7 @@ impl Drop for Socket {
 // is one call at a time. A query takes a shared reference, and writes nothing of the socket. The other pointers come
 // from references, slices and vectors, with their own lengths.
 impl Socket {
-    /// Creates a closed socket, whose clock stands at `now`. The seed is secret and never used twice: `random_seed`
+    /// Creates a closed socket, whose clock is at `now`. The seed is secret and never used twice: `random_seed`
     /// makes one. A moment is the time since any other moment, which is the same for all calls on the socket.
     ///
     /// Errors: `InvalidOptions`, `OutOfMemory`, `WrongVersion`, `WrongSize`.
@@ -91,13 +91,13 @@ impl Socket {
         Error::check(unsafe { sys::dcsctp_handle_input(&mut self.0, at, length) })
     }
 
-    /// Tells the time, and handles what is due. A moment before the last one changes nothing.
+    /// Sets the time, and handles what is due. A moment before the last one changes nothing.
     /// Errors: `Failed`, `OutOfMemory`.
     pub fn advance_time(&mut self, now: Duration) -> Result<(), Error> {
         Error::check(unsafe { sys::dcsctp_advance_time(&mut self.0, nanoseconds(now)) })
     }
 
-    /// The next deadline, by which `advance_time` has to be called; `None` if there is none.
+    /// The next deadline, by which `advance_time` must be called; `None` if there is none.
     pub fn poll_timeout(&self) -> Option<Duration> {
         let mut deadline = sys::DCSCTP_NEVER;
         unsafe { sys::dcsctp_poll_timeout(&self.0, &mut deadline) };
@@ -332,9 +332,9 @@ impl Socket {
         HandoverReadiness(reasons)
     }
 
-    /// Takes a snapshot, from which `restore_from_state` goes on in another process, and ends the association here. The
-    /// peer isn't told, and the last event is `Event::Closed`. Take all messages first. The snapshot is as secret as
-    /// the messages, is used once, and by the same version of the library.
+    /// Takes a snapshot, from which `restore_from_state` continues in another process, and ends the association here.
+    /// The peer isn't informed, and the last event is `Event::Closed`. Take all messages first. The snapshot is as
+    /// secret as the messages, is used once, and by the same version of the library.
     ///
     /// Errors: `NotReady`, `Failed`, `OutOfMemory`. If `handover_bytes` returns the last one, it may be tried again.
     pub fn get_handover_state_and_close(&mut self) -> Result<Vec<u8>, Error> {
@@ -360,7 +360,7 @@ impl Socket {
         Ok(bytes)
     }
 
-    /// Goes on from a snapshot that another socket with these options gave: `Event::Connected` follows. Let the clock
+    /// Continues from a snapshot that another socket with these options gave: `Event::Connected` follows. Let the clock
     /// of the socket be past a minute. Restore only what you trust. `OtherOptions`: they differ in a port, an announced
     /// number of streams, `enable_partial_reliability`, `enable_message_interleaving` or `zero_checksum_method`.
     ///

@@ -56,7 +56,7 @@ impl World {
         }
     }
 
-    fn noted<T>(&mut self, result: Result<T, Error>) -> Option<T> {
+    fn recorded<T>(&mut self, result: Result<T, Error>) -> Option<T> {
         result.map_err(|error| self.errors.push(error)).ok()
     }
 
@@ -72,7 +72,7 @@ impl World {
         let stream_id = self.numbers.next(3) as u16;
         if self.numbers.next(3) > 0 {
             let result = self.sockets[at].send(stream_id, 51, &payload, &how);
-            self.noted(result);
+            self.recorded(result);
             return;
         }
         let outgoing = OutgoingMessage { stream_id, ppid: 53, payload: &payload };
@@ -80,7 +80,7 @@ impl World {
         let results = self.sockets[at].send_many(&vec![outgoing; count], &how).expect("results");
         assert_eq!(results.len(), count);
         for result in results {
-            self.noted(result);
+            self.recorded(result);
         }
     }
 
@@ -106,10 +106,10 @@ impl World {
             packet[place] ^= 1 << self.numbers.next(8);
         }
         let result = self.sockets[at].handle_input(&packet);
-        self.noted(result);
+        self.recorded(result);
     }
 
-    /// Another socket takes the place of one, and goes on from the snapshot, or from bytes that are none.
+    /// Another socket takes the place of one, and continues from the snapshot, or from bytes that are none.
     fn replace(&mut self, at: usize) {
         self.sockets[at] = socket(&mut self.numbers);
         self.now[at] = Duration::ZERO;
@@ -119,7 +119,7 @@ impl World {
             snapshot[place] ^= 1 << self.numbers.next(8);
         }
         let result = self.sockets[at].restore_from_state(&snapshot);
-        self.noted(result);
+        self.recorded(result);
     }
 
     fn query(&mut self, at: usize) {
@@ -147,16 +147,16 @@ impl World {
             83..=86 => {
                 self.now[at] += Duration::from_millis(self.numbers.next(300) as u64);
                 let result = socket.advance_time(self.now[at]);
-                self.noted(result);
+                self.recorded(result);
             }
             87..=89 => {
                 let result = socket.reset_streams(&[0, 1, 1][..self.numbers.next(4)]);
-                self.noted(result);
+                self.recorded(result);
             }
             90..=93 => self.query(at),
             94..=97 => {
                 let result = socket.connect();
-                self.noted(result);
+                self.recorded(result);
             }
             _ => self.end(at),
         }
@@ -169,12 +169,12 @@ impl World {
             1 => socket.close(),
             2 => {
                 let result = socket.get_handover_state_and_close();
-                self.snapshot = self.noted(result).unwrap_or_default();
+                self.snapshot = self.recorded(result).unwrap_or_default();
                 Ok(())
             }
             3 => {
                 let result = socket.handover_bytes();
-                self.noted(result);
+                self.recorded(result);
                 Ok(())
             }
             4 => {
@@ -183,7 +183,7 @@ impl World {
             }
             _ => Ok(()),
         };
-        self.noted(result);
+        self.recorded(result);
     }
 }
 

@@ -51,7 +51,7 @@ pub fn handle_t2<R: Rng>(context: &mut Context<R>) -> Result<bool, AllocError>
 }
 
 /// Answers a packet with data that comes while a SHUTDOWN waits for its answer: another SHUTDOWN is sent, and
-/// T2 starts anew. In any other phase nothing happens.
+/// T2 restarts. In any other phase nothing happens.
 ///
 /// `Err`: an allocation failed; nothing has changed.
 pub fn answer_data<R: Rng>(context: &mut Context<R>) -> Result<(), AllocError>

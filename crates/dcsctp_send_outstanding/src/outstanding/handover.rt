@@ -33,7 +33,7 @@ impl Outstanding {
         Ok(parts)
     }
 
-    // Drops all items, and goes on with this TSN.
+    // Drops all items, and continues with this TSN.
     fn empty(&mut self, first_tsn: u32)
         ensures { self.new ≡ record self.old { first_tsn = first_tsn; items = [] } }
     {
@@ -44,7 +44,7 @@ impl Outstanding {
         self.named.clear();
     }
 
-    // Adds an item behind the others. `Err`: an allocation failed, and nothing has changed.
+    // Adds an item after the others. `Err`: an allocation failed, and nothing has changed.
     fn push(&mut self, item: Item) -> Result<(), AllocError>
         requires room { length self.old.items + 1 < 2 ^ 31 }
         requires bytes { HasBytes item }

@@ -18,7 +18,7 @@ impl Outstanding {
     ghost use Rattle.dcsctp_send_queue.specs.Calls.{StopsDiscarding};
 
     /// Drops the rest of the item's message that waits in the queue. If there was some, an abandoned item
-    /// without a payload stands for the end of the message. `begins_after_reset` says whether streams were
+    /// without a payload is added to mark the end of the message. `begins_after_reset` says whether streams were
     /// reset since the last item was added.
     pub fn discard_rest(
         &mut self,

@@ -75,7 +75,7 @@ impl Backlog {
         }
     }
 
-    // Does the message go on where it was?
+    // Does sending the message continue where it was?
     fn goes_on(&self, part: &HandoverStreamMessage) -> bool
         ensures { result ≡ is_part_continued (queued_part part.now) (queue_of self.now) }
     {
@@ -84,7 +84,7 @@ impl Backlog {
             && !self.has_message(StreamId(part.stream_id))
     }
 
-    // Puts a message behind the others of its stream, of which so many bytes are to be sent. `Err`: an
+    // Adds a message after the others of its stream. So many of its bytes are still to be sent. `Err`: an
     // allocation failed.
     fn put_rest(
         &mut self,
@@ -104,7 +104,7 @@ impl Backlog {
         Ok(())
     }
 
-    // Puts a message of the snapshot behind the others of its stream. `Err`: an allocation failed.
+    // Adds a message of the snapshot after the others of its stream. `Err`: an allocation failed.
     fn restore_message(
         &mut self,
         now: SocketTime,
@@ -127,7 +127,7 @@ impl Backlog {
         Ok(())
     }
 
-    /// Puts the messages of the snapshot behind the others of their streams. `Err`: an allocation failed.
+    /// Adds the messages of the snapshot after the others of their streams. `Err`: an allocation failed.
     pub fn restore_messages(
         &mut self,
         now: SocketTime,

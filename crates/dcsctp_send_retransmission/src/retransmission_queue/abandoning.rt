@@ -1,4 +1,4 @@
-//! Abandoning messages, and telling the peer (RFC 3758, section 3.5; RFC 8260, section 2.3.1).
+//! Abandoning messages, and reporting that to the peer (RFC 3758, section 3.5; RFC 8260, section 2.3.1).
 
 ghost use Rattle.std.specs.Prelude.{◌≡◌, ◌++◌, true, OnOk, OnErr};
 ghost use Rattle.std.specs.Option.{option_map};
@@ -187,7 +187,7 @@ fn is_over(moment: Option<SocketTime>, now: SocketTime) -> bool
     }
 }
 
-// Tells that the peer may have a message or not, if the message has a name.
+// Reports that the peer may have a message or not, if the message has a lifecycle id.
 fn tell_maybe_expired(events: &mut Events, id: Option<LifecycleId>) -> Result<(), AllocError>
     ensures ok { OnOk result (contents events.new ≡ contents events.old ++ maybe_expired (option_map lifecycle_number id)) }
     ensures err { OnErr result (TellsFront (contents events.old) (maybe_expired (option_map lifecycle_number id)) (contents events.new)) }

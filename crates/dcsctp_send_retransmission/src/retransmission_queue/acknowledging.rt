@@ -87,7 +87,7 @@ impl RetransmissionQueue {
         self.keep_timer(now);
     }
 
-    // Tells which messages the peer has, once that many first items are acknowledged.
+    // Reports which messages the peer has, once that many first items are acknowledged.
     fn tell_delivered(&self, events: &mut Events, count: usize) -> Result<(), AllocError>
         requires { count ≤ length self.now.outstanding.items }
         ensures ok { OnOk result (contents events.new ≡ contents events.old ++ delivered_events (take count self.now.outstanding.items)) }
@@ -190,7 +190,7 @@ impl RetransmissionQueue {
     }
 }
 
-// Tells of an item that the cumulative TSN passes.
+// Reports on an item that the cumulative TSN passes.
 fn tell_of(events: &mut Events, item: &Item) -> Result<(), AllocError>
     ensures ok { OnOk result (contents events.new ≡ contents events.old ++ lifecycle_events_by item.now.fragment.lifecycle (ends_delivery item.now)) }
     ensures err { OnErr result (TellsFront (contents events.old) (lifecycle_events_by item.now.fragment.lifecycle (ends_delivery item.now)) (contents events.new)) }
@@ -207,7 +207,7 @@ fn tell_of(events: &mut Events, item: &Item) -> Result<(), AllocError>
     }
 }
 
-// Tells that the peer has a message.
+// Reports that the peer has a message.
 fn tell_delivered(events: &mut Events, id: LifecycleId) -> Result<(), AllocError>
     ensures ok { OnOk result (contents events.new ≡ contents events.old ++ lifecycle_events_by (Some (lifecycle_number id)) true) }
     ensures err { OnErr result (TellsFront (contents events.old) (lifecycle_events_by (Some (lifecycle_number id)) true) (contents events.new)) }

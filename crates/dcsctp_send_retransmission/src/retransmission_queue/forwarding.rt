@@ -1,4 +1,4 @@
-//! What the peer is told to wait for no longer (RFC 3758, section 3.5; RFC 8260, section 2.3.1).
+//! What the peer needn't wait for any more (RFC 3758, section 3.5; RFC 8260, section 2.3.1).
 
 ghost use Rattle.std.specs.Prelude.{◌≡◌, ◌<◌, ◌||◌, not, [], IfOk, length, map, slice_get, Some, take};
 ghost use Rattle.dcsctp_api.specs.spec.queues.Items.{Item};
@@ -63,7 +63,7 @@ impl RetransmissionQueue {
         Ok(len)
     }
 
-    // Does the row go on with the item at the place?
+    // Does the row continue with the item at the place?
     fn goes_on(&self, place: usize) -> bool
         requires { place < length self.now.outstanding.items }
         ensures { (item : Item) → slice_get self.now.outstanding.items place ≡ Some item → result ≡ is_row_continued place item }

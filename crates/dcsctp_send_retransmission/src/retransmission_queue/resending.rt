@@ -132,7 +132,7 @@ impl RetransmissionQueue {
     /// first of those that are to be sent again, as many as fit. The others are left to `get_chunks_to_send`.
     /// So is one that may be abandoned, with all after it.
     ///
-    /// The retransmission timer starts anew if the first item that is outstanding is among them.
+    /// The retransmission timer restarts if the first item that is outstanding is among them.
     ///
     /// `Err`: an allocation failed. What was sent is outstanding.
     pub fn get_chunks_for_fast_retransmit(

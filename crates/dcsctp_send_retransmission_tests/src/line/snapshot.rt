@@ -1,4 +1,4 @@
-//! Snapshots: what one has of the queue, and the queue that goes on from it.
+//! Snapshots: what one has of the queue, and the queue that continues from it.
 
 use super::{Line, at};
 use dcsctp_send_retransmission::RetransmissionQueue;
@@ -18,7 +18,7 @@ pub fn empty(alloc: Global) -> SocketHandoverState {
     state
 }
 
-// The queue goes on from the snapshot at this moment. Is it done?
+// The queue continues from the snapshot at this moment. Is it done?
 fn restore_into(
     state: &SocketHandoverState,
     sent: &mut RetransmissionQueue,
@@ -136,7 +136,7 @@ impl Line {
         }
     }
 
-    /// Replaces it with a new one at another moment, which goes on from the snapshot.
+    /// Replaces it with a new one at another moment, which continues from the snapshot.
     pub fn restore(&mut self, row: &mut Row) {
         let now = row.number();
         let negotiated = (row.number::<u8>() == 1, row.number::<u8>() == 1);

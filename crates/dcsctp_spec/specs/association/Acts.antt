@@ -59,7 +59,7 @@ flush_change (open_in phase my held) choices =
     record { core = open_in phase my after.held; effects = after.effects; following = next_chunk }
 flush_change core choices = unchanged core
 
--- An association that is open and not shutting down can be handed over: it is closed here, and the peer isn't told.
+-- An association that is open and not shutting down can be handed over: it is closed here, and nothing is sent to the peer.
 abbrev pub hand_over_change_in : OpenPhase → Pair → Held → Change
 hand_over_change_in established my held = ended []
 hand_over_change_in phase my held = unchanged (open_in phase my held)

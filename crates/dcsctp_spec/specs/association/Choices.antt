@@ -34,7 +34,7 @@ pub record Choices : Type 0 where
   pub is_stale : Bool
   -- Does the packet of one chunk fit?
   pub fits : Bool
-  -- May a shutdown go on: is all data acknowledged that was sent?
+  -- May a shutdown continue: is all data acknowledged that was sent?
   pub is_acknowledged : Bool
   -- Has all data come that was sent before a reset was requested?
   pub is_reached : Bool

@@ -12,7 +12,7 @@ use Rattle.dcsctp_spec.specs.association.Effect.{Effect, draws, sends, holds, co
 use Rattle.dcsctp_spec.specs.association.Choices.{Choices}
 use Rattle.dcsctp_spec.specs.association.Acts.{Act, act_change, ChunkChange}
 
--- what of a turn its user sees and two sides have to agree on
+-- what the user sees of a turn and two sides must agree on
 pub data Observation : Type 0 where
   packet_sent : Packet → Observation
   has_connected : Observation

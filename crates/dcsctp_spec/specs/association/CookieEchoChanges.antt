@@ -19,7 +19,7 @@ use Rattle.dcsctp_spec.specs.association.HandshakeChanges.{new_held}
 pub data Resolution : Type 0 where
   -- The peer isn't known: the association is made.
   establish_new : Resolution
-  -- The peer began anew: both tags are other ones, and the tie tag is the association's.
+  -- The peer restarted: both tags differ, and the tie tag is the association's.
   restart : Resolution
   -- Both sides began at the same time.
   simultaneous_init : Resolution

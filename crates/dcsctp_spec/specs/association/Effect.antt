@@ -1,4 +1,4 @@
--- What a turn does to the association, and what it does that two sides have to agree on.
+-- What a turn does to the association, and what it does that two sides must agree on.
 use Rattle.std.specs.Prelude.{ℕ, Bool, Option, None, Some, List, [], ◌∷◌, ◌++◌, if◌then◌else◌}
 use Rattle.dcsctp_types.specs.declared.association.Pair.{Pair}
 use Rattle.dcsctp_types.specs.declared.association.Held.{Held}

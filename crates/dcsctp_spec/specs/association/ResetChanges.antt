@@ -14,7 +14,7 @@ use Rattle.dcsctp_spec.specs.association.FlushChanges.{Flushed, flush, next_numb
 
 -- ---- which number
 
--- where a request's number stands to the last one
+-- how a request's number relates to the last one
 pub data RequestPlace : Type 0 where
   -- It is the last one again.
   again : RequestPlace

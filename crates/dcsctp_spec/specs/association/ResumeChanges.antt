@@ -13,7 +13,7 @@ abbrev pub resumed_held : Pair → Capabilities → ℕ → ℕ → Held
 resumed_held peer capabilities own last =
     record { peer = peer; capabilities = capabilities; own_next = own; own_outstanding = None; peer_last = last; peer_result = SuccessNothingToDo }
 
--- A closed side goes on with it: it is established, and OnConnected is told.
+-- A closed side continues with it: it is established, and OnConnected is reported.
 abbrev pub resume_change : Pair → Held → Change
 resume_change my held =
     record {

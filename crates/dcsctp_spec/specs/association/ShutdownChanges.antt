@@ -35,8 +35,8 @@ shutdown_call_change (cookie_wait my) tsn is_acknowledged = ended []
 shutdown_call_change (cookie_echoed my held cookie) tsn is_acknowledged = shutdown_step_change_in shutdown_pending my held tsn is_acknowledged
 shutdown_call_change (open_in phase my held) tsn is_acknowledged = shutdown_call_change_in phase my held tsn is_acknowledged
 
--- The association is aborted, by the user, for a violation, or after too many errors; the peer is told if the packet fits (RFC
--- 9260, sections 8.1 and 9.1).
+-- The association is aborted, by the user, for a violation, or after too many errors. An ABORT is sent if the peer is known and
+-- the packet fits (RFC 9260, sections 8.1 and 9.1).
 abbrev pub abort_call_change : Core → List Cause → Bool → Change
 abort_call_change closed causes fits = unchanged closed
 abort_call_change (cookie_wait my) causes fits = ended []

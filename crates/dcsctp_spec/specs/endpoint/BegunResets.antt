@@ -45,7 +45,7 @@ abbrev pub begun_in : Option Held → ℕ → ℕ → SendQueueState → Option 
 begun_in None room last_tsn queue = None
 begun_in (Some held) room last_tsn queue = begun_where held.own_outstanding held.own_next last_tsn (map stream_field (take (streams_within room) (ready_streams queue)))
 
--- ---- what it says and notes
+-- ---- its chunk and its effects
 
 abbrev pub request_contents : Option BegunReset → List Content
 request_contents None = []

@@ -36,7 +36,7 @@ violation_text DataWithInterleaving = codes "DATA/FORWARD-TSN chunk received whe
 violation_text InterleavedDataWithout = codes "I-DATA/I-FORWARD-TSN chunk received when message interleaving is not negotiated"
 violation_text ForwardTsnWithout = codes "FORWARD-TSN/I-FORWARD-TSN chunk received when partial reliability is not negotiated"
 
--- what is said of it, to the peer and in the event that ends the association
+-- its text, for the peer and for the event that ends the association
 abbrev pub reason_text : AbortReason → List ℕ
 reason_text reasons.CloseCalled = codes "Close called"
 reason_text (reasons.Violation violation) = violation_text violation

@@ -61,8 +61,8 @@ refused_restart_outcome e held =
 abbrev pub window_by_cookie : Options → Cookie → ℕ
 window_by_cookie options cookie = min cookie.window options.max_send_buffer_size
 
--- The association is established, with what belongs to it anew. The heartbeat interval starts anew, and a heartbeat timeout runs
--- on.
+-- The association is established, and what belongs to it is new. The heartbeat interval starts again, and a running heartbeat
+-- timeout continues.
 abbrev pub established_by : Endpoint → Cookie → SendQueueState → ℕ → Endpoint
 established_by e cookie queue tie =
     record e {
@@ -93,11 +93,11 @@ establish_by flush e cookie queue tie events =
 abbrev pub interleaves : Endpoint → Cookie → Bool
 interleaves e cookie = (held_by_cookie e.options cookie).capabilities.message_interleaving
 
--- What waits to be sent starts anew if there was a peer.
+-- What waits to be sent starts again if there was a peer.
 abbrev pub queue_begun : Endpoint → Cookie → SendQueueState
 queue_begun e cookie = queue_anew e.queues.queue (interleaves e cookie)
 
--- Else it is unchanged; by the RFC its numbers start anew, too (RFC 9260, sections 5.1 and 6.5).
+-- Otherwise what waits stays, numbered as negotiated; by the RFC its numbers start again, too (RFC 9260, sections 5.1 and 6.5).
 abbrev pub queue_where : Bool → Endpoint → Cookie → SendQueueState
 queue_where true e cookie = queue_begun e cookie
 queue_where false e cookie = numbered_for (interleaves e cookie) e.queues.queue

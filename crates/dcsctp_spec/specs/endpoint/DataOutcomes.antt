@@ -116,7 +116,7 @@ abbrev pub sack_taken : Endpoint → Transfer → Transfer → Endpoint
 sack_taken e old new =
     record (with_transfer e new) { error_count = if shows_peer e.options old new then 0 else e.error_count }
 
--- A SACK is taken into account. A shutdown under way may go on then, a fast retransmission may follow, and then a flush.
+-- A SACK is taken into account. A shutdown under way may continue then, a fast retransmission may follow, and then a flush.
 pub record AcknowledgesBy (e : Endpoint) (held : Held) (transfer : Transfer) (sack : SackContent) (o : Outcome) : Type 0 where
   pub left : Transfer
   pub takes : TakesSack e.moment sack transfer left
@@ -171,11 +171,11 @@ abbrev pub ready_where : List MessageContent → Option Transfer → List Messag
 ready_where left None = left
 ready_where left (Some transfer) = transfer.reassembly.incoming.ready
 
--- the window that is worth telling: a packet, or half of all if that is less
+-- the window that is worth a report: a packet, or half of all if that is less
 abbrev pub open_window : Options → ℕ
 open_window options = min (packet_size_limit options) (options.max_receiver_window_buffer_size / 2)
 
--- Does the window open that a SACK tells? By the RFC the peer is told (RFC 9260, section 6.2).
+-- Does the window that a SACK reports open? By the RFC the peer is informed then (RFC 9260, section 6.2).
 abbrev pub opens_window : Options → Transfer → Transfer → Bool
 opens_window options old new =
     old.tracker.follows_rfc && (nat_lt (advertised_window old) (open_window options) && nat_le (open_window options) (advertised_window new))

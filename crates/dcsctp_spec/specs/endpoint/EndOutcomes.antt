@@ -68,7 +68,7 @@ end_of reasons.TooManyErrors = aborted TooManyRetries (reason_text reasons.TooMa
 abbrev pub abort_to : Held → AbortReason → Emission
 abort_to held reason = to_peer held (abort false (causes_of reason))
 
--- The peer is told, if it is known and the packet fits (RFC 9260, sections 8.1 and 9.1).
+-- An ABORT is sent, if the peer is known and the packet fits (RFC 9260, sections 8.1 and 9.1).
 abbrev pub abort_sent : Endpoint → Core → AbortReason → Outcome
 abort_sent e (cookie_echoed my held cookie) reason = emits e [] (abort_to held reason)
 abort_sent e (open_in phase my held) reason = emits e [] (abort_to held reason)

@@ -75,7 +75,7 @@ abbrev pub t1_settings : Options → ℕ → TimerSettings
 t1_settings options duration =
     record { duration = duration; terms = record { backoff = Exponential; max_restarts = options.max_init_retransmits; max_backoff = None } }
 
--- the heartbeat interval: it goes on for good (RFC 9260, section 8.3)
+-- the heartbeat interval: it restarts without a limit (RFC 9260, section 8.3)
 abbrev pub heartbeat_settings : Options → TimerSettings
 heartbeat_settings options =
     record { duration = as_nanos options.heartbeat_interval; terms = record { backoff = Fixed; max_restarts = None; max_backoff = None } }
@@ -113,7 +113,7 @@ pub record Endpoint : Type 0 where
   -- the messages that were ready when the last association ended, and aren't taken yet
   pub left : List MessageContent
 
--- The heartbeat interval starts anew. One of zero switches heartbeats off.
+-- The heartbeat interval starts again. One of zero switches heartbeats off.
 abbrev pub heartbeats_begun : Endpoint → Timers → Timers
 heartbeats_begun e timers =
     if as_nanos e.options.heartbeat_interval == 0 then timers

@@ -1,4 +1,5 @@
--- What a socket tells its user, with a parameter for packets: in the machine their contents, outside their bytes.
+-- The events that a socket reports, with a parameter for packets: in the machine their contents,
+-- outside their bytes.
 use Rattle.std.specs.Prelude.{ℕ, List, [], ◌∷◌}
 use Rattle.dcsctp_types.specs.declared.kinds.ErrorKind.{ErrorKind}
 

@@ -44,7 +44,7 @@ filling_event (message_may_have_expired id) = lifecycle_message_maybe_expired id
 filling_event (message_has_expired id) = lifecycle_message_expired id
 filling_event (message_ends id) = lifecycle_end id
 
--- the same, as it is told to a user
+-- the same, where packets are bytes
 abbrev pub filling_event_content : FillingEvent → Event (List ℕ)
 filling_event_content (amount_is_low stream) = buffered_amount_low stream
 filling_event_content total_amount_is_low = total_buffered_amount_low
@@ -65,7 +65,7 @@ pub record Answer : Type 0 where
 abbrev pub answer_contents : Answer → List Content
 answer_contents answer = plain_contents answer.acknowledgements ++ (request_contents answer.begun ++ plain_contents answer.data_chunks)
 
--- the packet with these chunks behind what it holds
+-- the packet with these chunks after what it holds
 abbrev pub filled : Emission → List Content → Emission
 filled draft chunks = record draft { packet = record draft.packet { contents = draft.packet.contents ++ chunks } }
 
@@ -241,7 +241,7 @@ abbrev pub IsAnswerOfQueues : Ask → Endpoint → Emission → Answer → Optio
 IsAnswerOfQueues ask e draft answer None = answer ≡ nothing_waits e
 IsAnswerOfQueues ask e draft answer (Some transfer) = GivesWhere (is_idle e.queues.queue transfer) ask e draft transfer answer
 
--- The heartbeat interval starts anew with data.
+-- With data the heartbeat interval starts again.
 abbrev pub timers_with : Endpoint → List Plain → Timers
 timers_with e [] = e.timers
 timers_with e (chunk ∷ chunks) = heartbeats_begun e e.timers
@@ -300,7 +300,7 @@ flush_outcome e words events with_checksum tag (content ∷ contents) =
 
 -- ---- its limits
 
--- a packet, or what the user may be told
+-- a packet, an amount that fell to its threshold, or what became of a message
 abbrev pub IsFlushEvent : Event Emission → Type 0
 IsFlushEvent (sent emission) = Unit {0}
 IsFlushEvent (buffered_amount_low stream) = Unit {0}
@@ -311,7 +311,7 @@ IsFlushEvent (lifecycle_message_expired id) = Unit {0}
 IsFlushEvent (lifecycle_end id) = Unit {0}
 IsFlushEvent event = ⊥
 
--- At most that many packets, none longer than `mtu`, and nothing else but what the user may be told.
+-- At most that many packets, none longer than `mtu`, and besides them only events of these kinds.
 pub record KeepsLimits (e : Endpoint) (events : List (Event Emission)) : Type 0 where
   pub packets : length (packets_in events) ≤ packets_allowed e.options.max_burst e.core
   pub sizes : AllByRecursion (IsWithinMtu e) (packets_in events)

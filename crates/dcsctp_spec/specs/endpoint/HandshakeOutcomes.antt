@@ -139,11 +139,11 @@ abbrev pub named_in : List ℕ → List (List ℕ × SctpImplementation) → Sct
 named_in cookie [] = Unknown
 named_in cookie (row ∷ rows) = if starts_with nat_eq cookie row.0 then row.1 else named_in cookie rows
 
--- The peer's implementation, by its cookie, which has to be longer than its beginning.
+-- The peer's implementation, by the first 8 bytes of its cookie. The cookie must be longer than these.
 abbrev pub implementation_of : List ℕ → SctpImplementation
 implementation_of cookie = if nat_le (length cookie) 8 then Unknown else named_in cookie implementations
 
--- the queue as a new association finds it, with its numbers anew
+-- the queue as a new association finds it, with its numbers started again
 abbrev pub queue_anew : SendQueueState → Bool → SendQueueState
 queue_anew queue is_interleaved = numbered_for is_interleaved (queue_restarted queue)
 
@@ -212,7 +212,7 @@ InitAckTurn e theirs cookie o =
 
 -- ---- COOKIE ACK
 
--- The association is established. T1 is stopped, and the heartbeat interval starts anew.
+-- The association is established. T1 is stopped, and the heartbeat interval starts again.
 abbrev pub connected_after : Endpoint → Pair → Held → Endpoint
 connected_after e mine held = record e { core = open_in established mine held; timers = heartbeats_begun e (record e.timers { t1 = None }) }
 

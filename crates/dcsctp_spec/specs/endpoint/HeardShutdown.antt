@@ -12,7 +12,7 @@ use Rattle.dcsctp_spec.specs.endpoint.Outcome.{Outcome}
 use Rattle.dcsctp_spec.specs.endpoint.DataOutcomes.{AcknowledgesBy}
 use Rattle.dcsctp_spec.specs.endpoint.ShutdownOutcomes.{phase_at, shutdown_outcome_in, shutdown_outcome}
 
--- What it says as a SACK: its cumulative TSN ack, no gap, and the window that was told last, as the field of a SACK holds it.
+-- What it says as a SACK: its cumulative TSN ack, no gap, and the window that was last reported, as the field of a SACK holds it.
 abbrev pub said_by_shutdown : ℕ → RetransmissionState → SackContent
 said_by_shutdown tsn state = record { cumulative_tsn_ack = tsn; a_rwnd = min state.peer_window (2 ^ 32 - 1); gap_ack_blocks = []; duplicate_tsns = [] }
 

@@ -69,7 +69,7 @@ abbrev pub heartbeat_timeout_settings : Options → TimerSettings
 heartbeat_timeout_settings options =
     record { duration = as_nanos options.rto_initial; terms = record { backoff = Fixed; max_restarts = Some 0; max_backoff = None } }
 
--- The interval goes on.
+-- The interval continues.
 abbrev pub interval_expired : Endpoint → Endpoint
 interval_expired e = record e { timers = record e.timers { heartbeat_interval = expired_of e.moment e.timers.heartbeat_interval } }
 

@@ -81,7 +81,7 @@ unknown_error e chunk = error_of (unrecognized_chunk_type (take (packet_size_lim
 abbrev pub unknown_report : Endpoint → Held → List ℕ → Emission
 unknown_report e held chunk = to_peer held (plain (unknown_error e chunk))
 
--- The user is told, and so is the peer, if it is known.
+-- It is reported to the user, and to the peer, if that is known.
 abbrev pub unknown_chunk_outcome : Endpoint → Core → ℕ → List ℕ → Outcome
 unknown_chunk_outcome e (cookie_echoed my held cookie) type chunk = sends e [] (error ParseFailed (unknown_text type) ∷ []) (unknown_report e held chunk)
 unknown_chunk_outcome e (open_in phase my held) type chunk = sends e [] (error ParseFailed (unknown_text type) ∷ []) (unknown_report e held chunk)
@@ -93,7 +93,7 @@ unknown_outcome e core type flags value =
 
 -- ---- an ERROR (RFC 9260, section 3.3.10)
 
--- The user is told the texts of its causes, if the peer is known.
+-- The texts of its causes are reported to the user, if the peer is known.
 abbrev pub error_outcome : Endpoint → Core → List Cause → Outcome
 error_outcome e (cookie_echoed my held cookie) causes = reports e PeerReported (causes_text causes)
 error_outcome e (open_in phase my held) causes = reports e PeerReported (causes_text causes)

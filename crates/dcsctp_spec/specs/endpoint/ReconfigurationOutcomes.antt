@@ -51,7 +51,7 @@ request_unless false is_new e held reset = request_repeated is_new e held reset
 
 -- ---- what is kept of it
 
--- The timer goes on.
+-- The timer continues.
 abbrev pub reconfiguration_expired : Endpoint → Endpoint
 reconfiguration_expired e = record e { timers = record e.timers { reconfiguration = expired_of e.moment e.timers.reconfiguration } }
 

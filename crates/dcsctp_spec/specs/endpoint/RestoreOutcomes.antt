@@ -1,4 +1,4 @@
--- How a socket goes on from a snapshot.
+-- How a socket continues from a snapshot.
 use Rattle.std.specs.Prelude.{◌≡◌, ◌==◌, ℕ, Bool, not, None, Some, [], ◌∷◌, if◌then◌else◌}
 use Rattle.dcsctp_types.specs.declared.association.Held.{Held}
 use Rattle.dcsctp_types.specs.declared.association.Pair.{Pair}
@@ -39,7 +39,7 @@ own_pair state = record { tag = state.my_verification_tag; first_tsn = state.my_
 abbrev pub peer_pair : Snapshot → Pair
 peer_pair state = record { tag = state.peer_verification_tag; first_tsn = state.peer_initial_tsn }
 
--- The numbers of requests to reset streams go on.
+-- The numbers of requests to reset streams continue.
 abbrev pub held_restored : Options → Snapshot → Held
 held_restored options state =
     resumed_held (peer_pair state) (capabilities_restored options state.capabilities) state.tx.next_reset_req_sn state.rx.last_completed_reset_req_sn
@@ -51,11 +51,11 @@ abbrev pub restored_transfer_begun : Options → Snapshot → Transfer
 restored_transfer_begun options state =
     new_transfer options (capabilities_restored options state.capabilities) state.my_initial_tsn state.peer_initial_tsn state.tx.rwnd
 
--- Was an own request to reset streams begun? The number of the first is that of the own first TSN.
+-- Did we begin a request to reset streams? The number of the first one is our first TSN.
 abbrev pub was_reset : Snapshot → Bool
 was_reset state = not (state.tx.next_reset_req_sn == state.my_initial_tsn)
 
--- What is in flight and what was received is as the snapshot has it. The round trip is measured anew.
+-- What is in flight and what was received is as the snapshot has it. The round trip is measured again.
 pub record RestoresTransfer (now : ℕ) (was_reset : Bool) (tx : SendPart) (rx : ReceivePart) (old new : Transfer) : Type 0 where
   pub reassembly : ReassemblyState
   pub messages : RestoresReassembly rx old.reassembly reassembly
@@ -81,7 +81,7 @@ restored_endpoint e state transfer =
       left = [];
     }
 
--- The user is told OnConnected.
+-- OnConnected is reported.
 abbrev pub restored_outcome : Endpoint → Snapshot → Transfer → Outcome
 restored_outcome e state transfer =
     record {

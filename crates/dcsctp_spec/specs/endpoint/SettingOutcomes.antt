@@ -1,4 +1,4 @@
--- What the user sets of a socket, and no packet tells the peer.
+-- What the user sets on a socket, and no packet reports to the peer.
 use Rattle.std.specs.Prelude.{ℕ}
 use Rattle.dcsctp_spec.specs.queues.SendQueue.{SendQueueState, stream_changed, used, with_threshold, with_priority}
 use Rattle.dcsctp_spec.specs.endpoint.Endpoint.{Endpoint}
@@ -17,7 +17,7 @@ longest_after (stream_priority id priority) before = before
 longest_after (stream_low_threshold id bytes) before = before
 longest_after (longest_message bytes) before = bytes
 
--- Nothing else changes, and the user is told nothing.
+-- Nothing else changes, and there are no events.
 abbrev pub endpoint_with : Setting → Endpoint → Endpoint
 endpoint_with setting e =
     record e {

@@ -24,11 +24,11 @@ use Rattle.dcsctp_spec.specs.endpoint.EndOutcomes.{ended_outcome, reflected_outc
 abbrev pub t2_settings : Options → ℕ → TimerSettings
 t2_settings options rto = record { duration = rto; terms = record { backoff = Exponential; max_restarts = options.max_retransmissions; max_backoff = None } }
 
--- It starts anew, with the present retransmission timeout.
+-- It starts again, with the present retransmission timeout.
 abbrev pub t2_begun : Endpoint → Endpoint
 t2_begun e = record e { timers = record e.timers { t2 = started e.moment (t2_settings e.options (rto_of e.queues.transfer)) } }
 
--- It goes on from the present moment.
+-- It continues from the present moment.
 abbrev pub t2_goes_on : Endpoint → Endpoint
 t2_goes_on e = record e { timers = record e.timers { t2 = option_map (going_on e.moment) e.timers.t2 } }
 
@@ -39,7 +39,7 @@ abbrev pub received_tsn : Option Transfer → ℕ
 received_tsn None = 0
 received_tsn (Some transfer) = cumulative_tsn transfer.tracker
 
--- SHUTDOWN tells it (RFC 9260, section 3.3.8).
+-- SHUTDOWN reports this TSN (RFC 9260, section 3.3.8).
 abbrev pub sends_shutdown : Endpoint → Held → Outcome
 sends_shutdown e held = sends e [] [] (to_peer held (shutdown (received_tsn e.queues.transfer)))
 
@@ -69,7 +69,7 @@ is_all_acknowledged (Some transfer) = unacknowledged_items transfer.retransmissi
 abbrev pub waits_for_queue : Endpoint → Bool
 waits_for_queue e = e.options.follow_rfc && (allows_packet e.options.max_burst && waits_at e.moment e.queues.queue)
 
--- May a shutdown go on?
+-- May a shutdown continue?
 abbrev pub may_go_on : Endpoint → Bool
 may_go_on e = is_all_acknowledged e.queues.transfer && not (waits_for_queue e)
 
@@ -78,12 +78,12 @@ step_by true e shutdown_pending my held = shutdown_is_sent e my held
 step_by true e shutdown_received my held = shutdown_ack_is_sent e my held
 step_by is_acknowledged e phase my held = still e
 
--- A shutdown under way goes on once it may. Its change is `shutdown_step_change`.
+-- A shutdown under way continues once it may. Its change is `shutdown_step_change`.
 abbrev pub step_outcome : Endpoint → Core → Outcome
 step_outcome e (open_in phase my held) = step_by (may_go_on e) e phase my held
 step_outcome e core = still e
 
--- The association enters this phase, and may go on from there.
+-- The association enters this phase, and may continue from there.
 abbrev pub step_from : Endpoint → OpenPhase → Pair → Held → Outcome
 step_from e phase my held = step_by (may_go_on e) (phase_at e phase my held) phase my held
 
@@ -159,6 +159,6 @@ shutdown_sent_again e core = still e
 abbrev pub t2_again_outcome : Endpoint → Outcome
 t2_again_outcome e = shutdown_sent_again (t2_goes_on e) e.core
 
--- Data comes while a SHUTDOWN waits for its answer: another one is sent, and T2 starts anew.
+-- Data comes while a SHUTDOWN waits for its answer: another one is sent, and T2 starts again.
 abbrev pub shutdown_repeated : Endpoint → Held → Outcome
 shutdown_repeated e held = sends_shutdown (t2_begun e) held

@@ -83,7 +83,7 @@ abbrev pub next_of : ℕ → List ℕ → ℕ
 next_of moment [] = max_nanos
 next_of moment (deadline ∷ others) = max (earliest deadline others) moment
 
--- The next deadline of a socket. The last moment stands for one that never comes.
+-- The next deadline of a socket. The last moment means never.
 abbrev pub next_moment : Endpoint → ℕ
 next_moment e = next_of e.moment (deadlines e)
 

@@ -12,7 +12,7 @@ use Rattle.dcsctp_spec.specs.endpoint.HandshakeOutcomes.{init_emission, echo_emi
 
 -- ---- with restarts left
 
--- T1 goes on from the present moment.
+-- T1 continues from the present moment.
 abbrev pub t1_goes_on : Endpoint → Endpoint
 t1_goes_on e = record e { timers = record e.timers { t1 = option_map (going_on e.moment) e.timers.t1 } }
 
@@ -26,7 +26,7 @@ again_by flush e (open_in phase mine held) = still e
 abbrev pub phase_again_outcome : Endpoint → Core → Outcome
 phase_again_outcome e core = again_by flush_outcome e core
 
--- T1 goes on, and the packet is sent. Its change is `t1_again_change`.
+-- T1 continues, and the packet is sent. Its change is `t1_again_change`.
 abbrev pub t1_again_by : FlushKind → Endpoint → Core → Outcome
 t1_again_by flush e core = again_by flush (t1_goes_on e) core
 

@@ -4,10 +4,10 @@ use Rattle.std.specs.Duration.{max_nanos}
 use Rattle.dcsctp_types.specs.declared.kinds.BackoffAlgorithm.{BackoffAlgorithm}
 use Rattle.dcsctp_types.specs.declared.kinds.BackoffAlgorithm.TheVariants.{Fixed, Exponential}
 
--- How a timer goes on once it has expired (RFC 9260, section 6.3.3). Durations are nanoseconds.
+-- How a timer continues once it has expired (RFC 9260, section 6.3.3). Durations are nanoseconds.
 pub record BackoffTerms : Type 0 where
   pub backoff : BackoffAlgorithm
-  -- how often it goes on after it has expired; None: no limit
+  -- how often it restarts after it has expired; None: no limit
   pub max_restarts : Option ℕ
   -- the longest that it runs after it has expired; None: no limit
   pub max_backoff : Option ℕ
@@ -46,7 +46,7 @@ abbrev pub bounded : Option ℕ → ℕ → ℕ
 bounded None wait = wait
 bounded (Some bound) wait = min wait bound
 
--- May a timer go on that has expired that often?
+-- May a timer that has expired that often continue?
 abbrev pub may_restart : Option ℕ → ℕ → Bool
 may_restart None expiries = true
 may_restart (Some restarts) expiries = nat_le expiries restarts
@@ -55,7 +55,7 @@ may_restart (Some restarts) expiries = nat_le expiries restarts
 abbrev pub next_expiries : ℕ → ℕ
 next_expiries expiries = min (expiries + 1) (2 ^ 64 - 1)
 
--- A timer that has expired at this moment, and goes on. It backs off from the duration that it started with.
+-- A timer that has expired at this moment, and continues. Its next wait follows from its last one.
 abbrev pub going_on : ℕ → RunningTimer → RunningTimer
 going_on moment timer =
     let wait = next_wait timer.terms.backoff timer.wait in
@@ -65,11 +65,11 @@ going_on moment timer =
 abbrev pub is_timer_expired : ℕ → RunningTimer → Bool
 is_timer_expired moment timer = nat_le timer.deadline moment
 
--- Does it go on once it expires?
+-- Does it continue once it expires?
 abbrev pub is_restarted : RunningTimer → Bool
 is_restarted timer = may_restart timer.terms.max_restarts (next_expiries timer.expiries)
 
--- What is left of a timer that expires at this moment: it goes on, or, if its restarts are used up, it stops.
+-- What is left of a timer that expires at this moment: it continues, or, if its restarts are used up, it stops.
 abbrev pub expired : ℕ → RunningTimer → Option RunningTimer
 expired moment timer = if is_restarted timer then Some (going_on moment timer) else None
 

@@ -68,8 +68,8 @@ MovesForward tsn entries old new = MovesWhere (is_valid_tsn old.tracker.cumulati
 
 -- ---- what is acknowledged
 
--- A round trip is taken into account, if one was measured: the timeout moves, and who waits for as long is told of it (RFC 9260,
--- sections 6.2 and 6.3.1).
+-- A round trip is taken into account, if one was measured: the timeout moves, and so do the retransmission timer's duration and
+-- the tracker's timeout (RFC 9260, sections 6.2 and 6.3.1).
 abbrev pub timed_by : Option ℕ → Transfer → Transfer
 timed_by None transfer = transfer
 timed_by (Some round_trip) transfer =

@@ -37,7 +37,7 @@ pub data Input : Type 0 where
   packet_ends : Input
   -- what the user or a timer brings
   act_input : Act → Input
-  -- The user sets something that the peer isn't told.
+  -- The user sets something that isn't reported to the peer.
   user_sets : Setting → Input
   -- The user sends these messages.
   user_sends : List Sending → Input
@@ -49,7 +49,7 @@ pub data Input : Type 0 where
   timer_expires : OwnTimer → Input
   -- The clock is moved to this moment.
   time_passes : ℕ → Input
-  -- A closed socket goes on from this snapshot.
+  -- A closed socket continues from this snapshot.
   restores : Snapshot → Input
 
 -- the text for bytes that are no packet

@@ -1,4 +1,4 @@
--- What a SACK acknowledges (RFC 9260, sections 6.2.1 and 7.2), and what is told of it.
+-- What a SACK acknowledges (RFC 9260, sections 6.2.1 and 7.2), and which events this causes.
 use Rattle.std.specs.Prelude.{◌≡◌, ℕ, ◌+◌, ◌-◌, ◌%◌, ◌^◌, ◌==◌, ◌&&◌, not, Bool, true, false, Option, None, Some, List, [], ◌∷◌, ◌++◌, take, drop, nat_lt, nat_le, is_some, if◌then◌else◌}
 use Rattle.std.specs.Option.{option_map}
 use Rattle.dcsctp_types.specs.wire.declared.chunk.sack.GapAckBlock.{GapAckBlock}
@@ -72,7 +72,7 @@ abbrev pub exiting : ℕ → RetransmissionState → RetransmissionState
 exiting cumulative state =
     record state { congestion = record state.congestion { recovery_exit = exit_after cumulative state.congestion.recovery_exit } }
 
--- The timer once the cumulative TSN has passed that many items: it starts anew if there were some.
+-- The timer once the cumulative TSN has passed that many items: if there were some, it is stopped, so that it starts again.
 abbrev pub rewound : ℕ → TimerModel → TimerModel
 rewound count timer = if nat_lt 0 count then record timer { running = None } else timer
 
@@ -103,7 +103,7 @@ pub record AcknowledgesItems (now cumulative window : ℕ) (blocks : List GapAck
 abbrev pub has_acknowledged : RetransmissionState → RetransmissionState → Bool
 has_acknowledged old new = nat_lt (never_acknowledged_items new.outstanding.items) (never_acknowledged_items old.outstanding.items)
 
--- ---- what is told
+-- ---- the events
 
 -- It is the last of its message, which wasn't abandoned.
 abbrev pub ends_delivery : Item → Bool
@@ -114,11 +114,11 @@ lifecycle_events_by None ends = []
 lifecycle_events_by (Some id) true = lifecycle_message_delivered id ∷ lifecycle_end id ∷ []
 lifecycle_events_by (Some id) false = []
 
--- what is told once the cumulative TSN passes these
+-- the events once the cumulative TSN passes these
 abbrev pub delivered_events : {P : Type 0} → List Item → List (Event P)
 delivered_events [] = []
 delivered_events (item ∷ items) = lifecycle_events_by item.fragment.lifecycle (ends_delivery item) ++ delivered_events items
 
--- what is told once the cumulative TSN is this
+-- the events once the cumulative TSN is this
 abbrev pub delivered_by : {P : Type 0} → ℕ → RetransmissionState → List (Event P)
 delivered_by cumulative state = delivered_events (take (acknowledged_count state.outstanding cumulative) state.outstanding.items)

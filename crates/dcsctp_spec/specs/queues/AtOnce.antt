@@ -28,7 +28,7 @@ abbrev pub SendsFirst : List Item → List Item → Bool → Type 0
 SendsFirst old new true = (is_first_marked old ≡ true) × (is_first_marked new ≡ false)
 SendsFirst old new false = is_first_marked new ≡ is_first_marked old
 
--- the timer starts anew if the first item is sent again
+-- the timer is stopped, so that it starts again, if the first item is sent again
 abbrev pub timer_restarted : Bool → TimerModel → TimerModel
 timer_restarted true timer = record timer { running = None }
 timer_restarted false timer = timer

@@ -1,5 +1,5 @@
--- How a packet is filled: which items are sent again, which are abandoned, which are new, and what is told (RFC 9260, section
--- 6.1; RFC 3758, section 3.5).
+-- How a packet is filled: which items are sent again, which are abandoned, which are new, and which
+-- events this causes (RFC 9260, section 6.1; RFC 3758, section 3.5).
 use Rattle.std.specs.Prelude.{◌≡◌, ◌⊎◌, ◌+◌, ◌-◌, ◌*◌, ◌/◌, ◌^◌, ◌<◌, ◌≤◌, min, ℕ, Bool, true, false, Option, None, Some, List, [], ◌∷◌, ◌++◌, length, slice_get}
 use Rattle.dcsctp_types.specs.declared.progress.Change.TheVariants.{SendAgain, Abandon}
 use Rattle.dcsctp_spec.specs.endpoint.Event.{Event, lifecycle_message_maybe_expired, lifecycle_end}
@@ -17,7 +17,7 @@ pub record Stage : Type 0 where
   pub queue : RetransmissionState
   -- what waits in the send queue
   pub waiting : SendQueueState
-  -- what the user was told
+  -- the events so far
   pub told : List (Event (List ℕ))
   -- the TSNs in the packet, and the bytes that are left there
   pub tsns : List ℕ
@@ -36,7 +36,7 @@ pub record DropsRestAt (now : ℕ) (last : Item) (old new : Stage) : Type 0 wher
   pub drops : DropsRest now old.queue.reset_begun last old.queue.outstanding old.waiting old.told outstanding new.waiting new.told
   pub is : new ≡ record old { queue = record old.queue { outstanding = outstanding }; waiting = new.waiting; told = new.told }
 
--- It is told that a message is abandoned which was fully sent; or what waits of it is dropped, if TSNs are left.
+-- A message that was fully sent is reported as abandoned. Of another, what waits is dropped, if TSNs are left.
 abbrev pub ClosesMessage : ℕ → Item → Stage → Stage → Bool → Type 0
 ClosesMessage now last old new true = new ≡ record old { told = old.told ++ maybe_expired last.fragment.lifecycle }
 ClosesMessage now last old new false =

@@ -43,7 +43,7 @@ stream_or_new id (Some stream) = stream
 abbrev pub stream_on : ℕ → List (ℕ × StreamModel) → StreamModel
 stream_on id streams = stream_or_new id (lookup (is_at (nat_cmp id)) streams)
 
--- The streams ascend by their identifiers, so each stands once.
+-- The streams ascend by their identifiers, so each occurs once.
 abbrev pub AreInOrder : List (ℕ × StreamModel) → Type 0
 AreInOrder streams = IsStrictlySortedBy nat_cmp (keys_of streams)
 
@@ -131,7 +131,7 @@ pub record MovesTo (tsn_number : ℕ) (entries : List SkippedTo) (old new : Inco
 abbrev pub MovesOn : ℕ → List SkippedTo → IncomingModel → IncomingModel → Type 0
 MovesOn tsn entries old new = MovesTo (number_near old.last_tsn_number tsn) entries old new
 
--- ---- streams that start anew; messages that are ready stay
+-- ---- streams that start again; messages that are ready stay
 
 -- Does the list name the number?
 abbrev pub is_named : List ℕ → ℕ → Bool
@@ -157,7 +157,7 @@ pub record ResetsEveryStream (old new : IncomingModel) : Type 0 where
   pub unordered : new.unordered ≡ []
   pub kept : KeepsReady old new
 
--- The streams of the list start anew; an empty list names all.
+-- The streams of the list start again; an empty list names all.
 abbrev pub ResetsStreams : List ℕ → IncomingModel → IncomingModel → Type 0
 ResetsStreams [] old new = ResetsEveryStream old new
 ResetsStreams (reset ∷ resets) old new = ResetsEach (reset ∷ resets) old new

@@ -7,7 +7,7 @@ use Rattle.dcsctp_types.specs.queues.Progress.{is_in_flight, is_marked, is_unack
 
 -- what was sent under one TSN
 pub record Item : Type 0 where
-  -- what its chunk says; without a payload it stands for the end of an abandoned message
+  -- what its chunk says; without a payload it marks the end of an abandoned message
   pub fragment : Fragment
   -- how far it is
   pub progress : Progress

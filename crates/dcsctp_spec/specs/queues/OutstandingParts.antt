@@ -83,8 +83,8 @@ fragment_again now part =
       lifecycle = name_in_part part.lifecycle_id;
     }
 
--- Its misses count anew, and each SACK tells of it. `was_reset`: streams were reset before. Which items were sent before that isn't
--- kept, so no FORWARD-TSN reaches across any.
+-- Its misses are counted from zero, and each SACK can show it missing. `was_reset`: streams were reset before. Which items were
+-- sent before that isn't kept, so no FORWARD-TSN reaches across any.
 abbrev pub item_again : ℕ → Bool → OutstandingPart → Item
 item_again now was_reset part =
     record {
@@ -104,7 +104,7 @@ item_again now was_reset part =
 abbrev pub items_again : ℕ → Bool → List OutstandingPart → List Item
 items_again now was_reset parts = map (item_again now was_reset) (take (2 ^ 31 - 1) parts)
 
--- A queue that was just made goes on behind the last TSN that was acknowledged. The timer starts anew if something is outstanding.
+-- A queue that was just made continues after the last TSN that was acknowledged. The timer starts if something is outstanding.
 abbrev pub retransmission_restored : ℕ → Bool → SendPart → RetransmissionState → RetransmissionState
 retransmission_restored now was_reset tx state =
     record state {

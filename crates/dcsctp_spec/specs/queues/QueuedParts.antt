@@ -11,16 +11,16 @@ use Rattle.dcsctp_spec.specs.queues.OwnResets.{with_used}
 use Rattle.dcsctp_spec.specs.queues.SendQueue.{SendQueueState, stream_changed, queue_stream}
 use Rattle.dcsctp_types.specs.queues.SendStreams.{Waiting, Stream, front_of, unused}
 
--- ---- numbers that stand for nothing
+-- ---- numbers that mean none
 
--- 65,535 stands for no limit
+-- 65,535 means no limit
 abbrev pub no_part_limit : ℕ
 no_part_limit = 65535
 
 abbrev pub limit_in_part : ℕ → Option ℕ
 limit_in_part count = if count == no_part_limit then None else Some count
 
--- 0 stands for no name
+-- 0 means no name
 abbrev pub name_in_part : ℕ → Option ℕ
 name_in_part number = if number == 0 then None else Some number
 
@@ -116,7 +116,7 @@ waiting_again now part =
       lifecycle = name_in_part part.lifecycle_id;
     }
 
--- Does it go on where it was? It does if a part of it was sent, it is the first of its stream, and no other goes on.
+-- Does it continue where it was? It does if a part of it was sent, it is the first of its stream, and no other is under way.
 abbrev pub is_part_continued : QueuedPart → SendQueueState → Bool
 is_part_continued part queue = nat_lt 0 part.remaining_offset && not (is_some queue.under_way) && not (is_some (front_of (queue_stream queue part.stream_id).messages))
 
@@ -143,7 +143,7 @@ with_message_rest now part rest queue =
       total_amount = min (queue.total_amount + rest) (2 ^ 64 - 1);
     }
 
--- the queue with that message behind the others of its stream
+-- the queue with that message after the others of its stream
 abbrev pub message_restored : ℕ → QueuedPart → SendQueueState → SendQueueState
 message_restored now part queue =
     if is_part_continued part queue

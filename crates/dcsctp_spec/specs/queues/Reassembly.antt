@@ -17,7 +17,7 @@ pub record WaitingModel : Type 0 where
   pub chunk : ChunkModel
 
 -- What is skipped then: up to the TSN of the newest FORWARD TSN or I-FORWARD-TSN, and on each stream up to the newest entry for its
--- ordered and for its unordered messages. The entries stand by their keys, which ascend.
+-- ordered and for its unordered messages. The entries are in ascending order of their keys.
 pub record WaitingSkips : Type 0 where
   pub tsn : ℕ
   pub entries : List (ℕ × SkippedTo)

@@ -14,7 +14,7 @@ use Rattle.dcsctp_spec.specs.queues.Tracker.{TrackerState, cumulative_tsn}
 abbrev pub part_with_tracker : TrackerState → ReceivePart → ReceivePart
 part_with_tracker tracker rx = record rx { seen_packet = tracker.has_seen_data; last_cumulative_acked_tsn = cumulative_tsn tracker }
 
--- A tracker that was just made goes on behind that TSN. Nothing is to be acknowledged.
+-- A tracker that was just made continues after that TSN. Nothing is to be acknowledged.
 abbrev pub tracker_restored : ReceivePart → TrackerState → TrackerState
 tracker_restored rx tracker = record tracker { cumulative = rx.last_cumulative_acked_tsn; has_seen_data = rx.seen_packet }
 
@@ -39,7 +39,7 @@ abbrev pub restored_stream : ℕ → List HandoverOrderedStream → StreamModel
 restored_stream id [] = new_stream id
 restored_stream id (stream ∷ streams) = if stream.id == id then record (new_stream id) { next = 2 ^ 32 + stream.next_ssn } else restored_stream id streams
 
--- A queue that was just made goes on with these streams, behind that TSN.
+-- A queue that was just made continues with these streams, after that TSN.
 pub record RestoresReassembly (rx : ReceivePart) (old new : ReassemblyState) : Type 0 where
   pub streams : (id : ℕ) → stream_on id new.incoming.streams ≡ restored_stream id rx.ordered_streams
   pub others : new ≡ record old {

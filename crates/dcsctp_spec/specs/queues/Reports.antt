@@ -38,7 +38,7 @@ abbrev pub ShowsMissing : Bool → ℕ → List GapAckBlock → ℕ → Item →
 ShowsMissing false count blocks place item = IsNewlyAcknowledged count blocks place item
 ShowsMissing true count blocks place item = NamesItem count blocks place
 
--- An item behind this place shows it.
+-- An item after this place shows that the one here is missing.
 pub record IsMissing (recovering : Bool) (count : ℕ) (blocks : List GapAckBlock) (items : List Item) (place : ℕ) : Type 0 where
   pub shown_by : ℕ
   pub item : Item

@@ -112,7 +112,7 @@ after_expiry now state =
 abbrev pub with_duration : ℕ → RetransmissionState → RetransmissionState
 with_duration rto state = record state { timer = record state.timer { settings = record state.timer.settings { duration = rto } } }
 
--- Outgoing streams are reset: numbers start anew after the last assigned TSN (RFC 6525, section 5.1.2).
+-- Outgoing streams are reset: numbers start again after the last assigned TSN (RFC 6525, section 5.1.2).
 abbrev pub with_reset_begun : RetransmissionState → RetransmissionState
 with_reset_begun state = record state { reset_begun = true }
 

@@ -1,4 +1,4 @@
--- What the user is told of messages that are sent.
+-- The events of messages that are sent.
 use Rattle.std.specs.Prelude.{ℕ, ◌-◌, ◌&&◌, nat_lt, nat_le, Bool, Option, None, Some, List, [], ◌∷◌, ◌++◌, if◌then◌else◌}
 use Rattle.dcsctp_spec.specs.endpoint.Event.{Event, buffered_amount_low, total_buffered_amount_low, lifecycle_message_fully_sent, lifecycle_message_expired, lifecycle_end}
 use Rattle.dcsctp_types.specs.queues.SendStreams.{Waiting, Stream}

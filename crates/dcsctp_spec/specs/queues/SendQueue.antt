@@ -18,7 +18,7 @@ pub record SendQueueState : Type 0 where
   pub under_way : Option UnderWay
   -- the payload bytes of all streams
   pub total_amount : ℕ
-  -- The user is told when the total falls to this.
+  -- Once the total falls to this, the user gets an event.
   pub total_threshold : ℕ
   -- what a stream begins with
   pub default_priority : ℕ
@@ -60,7 +60,7 @@ pub record IsUnderWay (streams : List Stream) (under_way : UnderWay) : Type 0 wh
   pub begun : 0 < under_way.sent
   pub unfinished : under_way.sent < length message.payload
 
--- If a message is under way, it can go on.
+-- If a message is under way, it can continue.
 abbrev pub CanGoOn : List Stream → Option UnderWay → Type 0
 CanGoOn streams None = Unit {0}
 CanGoOn streams (Some under_way) = IsUnderWay streams under_way
@@ -69,7 +69,7 @@ CanGoOn streams (Some under_way) = IsUnderWay streams under_way
 abbrev pub HaveBytes : Stream → Type 0
 HaveBytes stream = AllByRecursion (λ (message : Waiting). 0 < length message.payload) stream.messages
 
--- Each stream stands once, each message has bytes, and the message under way can go on.
+-- Each stream occurs once, each message has bytes, and the message under way can continue.
 pub record IsWellFormed (queue : SendQueueState) : Type 0 where
   pub ascending : IsAscending queue.streams
   pub bytes : AllByRecursion HaveBytes queue.streams

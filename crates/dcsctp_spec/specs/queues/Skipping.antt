@@ -11,7 +11,7 @@ use Rattle.dcsctp_spec.specs.queues.Retransmission.{RetransmissionState}
 
 -- ---- the row of items that is skipped
 
--- Was the item at this place abandoned, so that the row goes on? It ends where streams were reset.
+-- Was the item at this place abandoned, so that the row continues? It ends where streams were reset.
 abbrev pub is_row_continued : ℕ → Item → Bool
 is_row_continued place item = is_abandoned item.progress.state && ((place == 0) || not item.begins_after_reset)
 
@@ -60,7 +60,7 @@ pub record ListsEntries (interleaving : Bool) (row : List Item) (entries : List 
   pub numbers : (stream : ℕ) (unordered : Bool) → entry_for stream unordered entries ≡ option_map (skipped_number interleaving) (last_listed interleaving stream unordered row)
   pub none_twice : NoneTwice entries
 
--- There is no room for the item's message behind this row, which has that many entries.
+-- There is no room for the item's message after this row, which has that many entries.
 pub record LacksRoom (interleaving : Bool) (limit entries : ℕ) (row : List Item) (item : Item) : Type 0 where
   pub listed : is_listed interleaving item ≡ true
   pub full : limit ≤ entries

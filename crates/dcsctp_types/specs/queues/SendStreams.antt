@@ -133,7 +133,7 @@ abbrev pub IsBelow : ℕ → List Stream → Type 0
 IsBelow id [] = Unit {0}
 IsBelow id (stream ∷ streams) = (id < stream.id) × IsBelow id streams
 
--- The streams ascend by their numbers, so each stands once.
+-- The streams ascend by their numbers, so each occurs once.
 abbrev pub IsAscending : List Stream → Type 0
 IsAscending [] = Unit {0}
 IsAscending (stream ∷ streams) = IsBelow stream.id streams × IsAscending streams

@@ -4,6 +4,6 @@
 /// What a COOKIE ECHO says: its value is the cookie.
 #[derive(Clone, Copy, Debug)]
 pub struct CookieEchoChunk<'a> {
-    /// The bytes of the state cookie, as they stood in the INIT ACK.
+    /// The bytes of the state cookie, as they were in the INIT ACK.
     pub cookie: &'a [u8],
 }

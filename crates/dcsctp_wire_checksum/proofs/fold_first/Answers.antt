@@ -1,4 +1,4 @@
--- Each byte stands where no other reaches.
+-- Each byte is at a place that no other byte reaches.
 use Rattle.std.proofs.Common.{arith, refl}
 use Rattle.dcsctp_wire_checksum.proofs.Crc32cFolds.{nothing_folded, folded_byte, read_first, read_later}
 use Rattle.dcsctp_wire_checksum.proofs.fold_first.Goals as goal

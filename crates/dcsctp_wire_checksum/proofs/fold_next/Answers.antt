@@ -1,4 +1,4 @@
--- What the bytes are folded to is put behind what was folded before.
+-- What the bytes are folded to is put after what was folded before.
 use Rattle.std.proofs.Common.{arith}
 use Rattle.std.proofs.Math.ListN.{length-set}
 use Rattle.dcsctp_wire_checksum.proofs.Crc32cFolds.{one_more, folded_here}

@@ -18,7 +18,7 @@ core_where : (b : Bool) (e : Endpoint) (emission : Emission) → (cond b (sends 
 core_where true e emission = refl
 core_where false e emission = refl
 
--- The ABORT may have gone out, and nothing behind it.
+-- The ABORT may have been sent, and nothing after it.
 pub returns-in_err-internal_close : goal.returns-in_err-internal_close
 returns-in_err-internal_close g c =
     let old = c.args.context.now in

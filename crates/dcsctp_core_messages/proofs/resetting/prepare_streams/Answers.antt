@@ -8,7 +8,7 @@ use Rattle.dcsctp_core.specs.View.{view_of}
 use Rattle.dcsctp_core_messages.proofs.ResettingLemmas.{GoesOn, goes_next, goes_cut, goes_done}
 use Rattle.dcsctp_core_messages.proofs.resetting.prepare_streams.Goals as goal
 
--- the stream at a place, and those behind it
+-- the stream at a place, and those after it
 left_at : (ids : List StreamId) (place : ℕ) → place < length ids
     → stream_numbers (drop place ids) ≡ (get_or ids place (record { 0 = 0 })).0 ∷ stream_numbers (drop (place + 1) ids)
 left_at ids place within = at_drop_more stream_numbers ids place (record { 0 = 0 }) within

@@ -7,7 +7,7 @@ use Rattle.dcsctp_api.specs.spec.queues.Reassembly.{WaitingModel, waiting_bytes,
 use Rattle.dcsctp_receive_reassembly.specs.Queue.{waiting_model}
 use Rattle.dcsctp_receive_reassembly.proofs.deferral.handle_all_deferred.Given as goal
 
--- What was handled so far stood in front of what still waits.
+-- What was handled so far came before what still waits.
 abbrev pub invariant-loop-incoming : goal.invariant-loop-incoming
 invariant-loop-incoming l =
     record {

@@ -6,7 +6,7 @@ use Rattle.dcsctp_receive_reassembly.specs.Handover.{restored_over}
 use Rattle.dcsctp_receive_reassembly.specs.Reassembly.{entry_of}
 use Rattle.dcsctp_receive_reassembly.proofs.handover.restored_streams.Given as goal
 
--- With those that are left, which stand before these, all are restored.
+-- With those that are left, which come before these in the list, all are restored.
 abbrev pub invariant-loop-state : goal.invariant-loop-state
 invariant-loop-state l =
     record {

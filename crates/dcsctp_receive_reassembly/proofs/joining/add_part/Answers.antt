@@ -1,4 +1,4 @@
--- A part that is held is dropped; another joins the runs on both sides, and a message that is whole takes them out.
+-- A part that is there already is dropped. Another joins the runs on both sides, and a message that is whole takes them out.
 use Rattle.std.proofs.Common.{◌∙◌, map, sym, ap}
 use Rattle.std.specs.Prelude.{slice_get, is_some}
 use Rattle.dcsctp_receive_ordered_map.specs.Entries.{count_up_to}

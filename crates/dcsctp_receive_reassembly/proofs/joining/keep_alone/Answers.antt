@@ -1,4 +1,4 @@
--- No run begins at the place, and the run of the part alone stands there then.
+-- No run begins at the place, and afterwards the run of the part alone is there.
 use Rattle.std.proofs.Common.{◌++◌, ◌∷◌, map, take, drop, ap, ◌∙◌}
 use Rattle.dcsctp_receive_ordered_map.specs.Entries.{count_up_to}
 use Rattle.dcsctp_api.specs.spec.queues.Runs.{RunModel}

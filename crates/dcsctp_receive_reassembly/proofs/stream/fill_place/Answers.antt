@@ -1,4 +1,4 @@
--- The message stands at the place that was taken for it.
+-- The message is at the place that was taken for it.
 use Rattle.std.proofs.Common.{refl}
 use Rattle.dcsctp_receive_reassembly.specs.Runs.{whole_of}
 use Rattle.dcsctp_receive_reassembly.proofs.WaitingLemmas.{place_filled}

@@ -1,4 +1,4 @@
--- The entry without content stands at its place.
+-- The entry without content is at its place.
 use Rattle.dcsctp_receive_reassembly.proofs.WaitingLemmas.{place_held}
 use Rattle.dcsctp_receive_reassembly.proofs.stream.hold_place.Goals as goal
 

@@ -1,4 +1,4 @@
--- The range behind the number leaves.
+-- The range after the number is removed.
 use Rattle.std.specs.Map.{set_value}
 use Rattle.std.specs.Ordering.{nat_cmp}
 use Rattle.std.specs.BTreeMap.{is_at}

@@ -1,4 +1,4 @@
--- The range behind the number leaves.
+-- The range after the number is removed.
 use Rattle.std.specs.Ordering.{nat_cmp}
 use Rattle.std.specs.BTreeMap.{insert_entry}
 use Rattle.dcsctp_receive_tracker.proofs.RangeEntryLemmas.{joins_behind}

@@ -1,4 +1,5 @@
--- A slot may go to another thread: what it owns there is nothing, or what a session's box owns, which may.
+-- A slot may go to another thread: what it owns there is nothing, or what a session's box owns,
+-- which may.
 use Rattle.std.proofs.Common.{[], Option, Some, None}
 use base.Shift.{Keyless}
 use denote.Param.Send.{IsSend, AllSend, owning_send, struct_send, sendable}

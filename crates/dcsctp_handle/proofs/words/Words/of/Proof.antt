@@ -1,4 +1,5 @@
--- `of` takes what the box's own function gives out: a pair, and the memory behind its pointer. Together they are the words.
+-- `of` takes what the box's own function gives out: a pair, and the memory behind its pointer.
+-- Together they are the words.
 use Rattle.std.proofs.Common.{◌≡◌, List, [], ◌∷◌, ◌++◌, refl, sym, ap}
 use mir.Syntax.{a_type, dcons, dnil}
 use mir.MapTy.{inst_fn}

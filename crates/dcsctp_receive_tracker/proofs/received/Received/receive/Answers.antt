@@ -1,4 +1,4 @@
--- The number behind the cumulative one moves it, with what follows in a row.
+-- The number after the cumulative one moves it, with what follows in a row.
 use Rattle.std.proofs.Common.{arith}
 use Rattle.dcsctp_receive_tracker.specs.Received.{ranges_of}
 use Rattle.dcsctp_receive_tracker.proofs.ReceivedLemmas.{Receives-next}

@@ -4,7 +4,7 @@ use Rattle.dcsctp_types.specs.Readiness.{reasons_in, names_of, row_of}
 use Rattle.dcsctp_types.proofs.ReadinessLemmas.{separator_after}
 use Rattle.dcsctp_types.proofs.handover.HandoverReadiness.write_names.Given as goal
 
--- the names of the rows so far are written, and a comma stands before the next one
+-- the names of the rows so far are written, and the separator is what comes before the next one
 abbrev pub invariant-loop-reason : goal.invariant-loop-reason
 invariant-loop-reason g l =
     let reasons = reasons_in l.self.0 (map row_of (take l.reason-index l.rows)) in

@@ -4,7 +4,7 @@ use Rattle.dcsctp_wire.specs.declared.chunk.sack.GapAckBlock.{GapAckBlock}
 use Rattle.dcsctp_wire.specs.CleanBlocks.{names, AreApart}
 use Rattle.dcsctp_wire.proofs.chunk.clean_blocks.join_blocks.Given as goal
 
--- The blocks so far are joined, with the current one behind the others. None that follows begins before it.
+-- The blocks so far are joined, with the current one after the others. None that follows begins before it.
 abbrev pub invariant-loop-block : goal.invariant-loop-block
 invariant-loop-block l = record {
   apart : AreApart (l.joined.items ++ l.current ∷ []);
