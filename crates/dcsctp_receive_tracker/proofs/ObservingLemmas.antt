@@ -1,27 +1,12 @@
 -- What is received from now on, as the definitions say it.
-use Rattle.std.proofs.Common.{◌≡◌, ◌==◌, ◌<◌, ◌-◌, ◌^◌, ◌+◌, ℕ, zero, suc, nat_lt, slice_get, Option, Some, Bool, true, false, not, ◌||◌, List, [], ◌∷◌, map, length, refl, sym, ap, ◌∙◌, arith}
+use Rattle.std.proofs.Common.{◌≡◌, ◌<◌, ◌-◌, ◌^◌, ◌+◌, ℕ, zero, suc, nat_lt, slice_get, Option, Some, Bool, true, false, not, List, [], ◌∷◌, map, length, refl, sym, ap, ◌∙◌, arith}
 use Rattle.std.specs.Bool.{IsTrue}
 use Rattle.std.proofs.lemmas.Bool.Decides.{nat_tests}
 use Rattle.dcsctp_spec_lemmas.specs.types.declared.tracking.TsnRange.{TsnRange}
-use Rattle.dcsctp_spec_lemmas.specs.spec.queues.Ranges.{IsBeyond, is_received, received, forwarded}
+use Rattle.dcsctp_spec_lemmas.specs.spec.queues.Ranges.{IsBeyond, ReceivesNumber, MovesForwardTo, received, forwarded}
 use Rattle.dcsctp_spec_lemmas.specs.spec.queues.Tracker.{TrackerState, nearest_number, highest, after_arrival, with_duplicate, has_ranges, stopped, is_new_tsn, is_urgent, observed, has_numbers_left, after_forward}
-use Rattle.dcsctp_spec_lemmas.proofs.RangesLemmas.{same_numbers, received_beyond, received_members, forwarded_beyond, forwarded_members}
-use Rattle.dcsctp_receive_tracker.specs.Received.{range_of, Receives, AdvancesCumulative}
-
--- The set determines what is kept of it.
-received_only : (number cumulative reached : ℕ) (old new : List TsnRange) → IsBeyond cumulative old → IsBeyond reached new
-    → ((other : ℕ) → is_received reached other new ≡ (is_received cumulative other old || (other == number)))
-    → (reached ≡ (received number cumulative old).cumulative) × (new ≡ (received number cumulative old).ranges)
-received_only number cumulative reached old new beyond beyond_after members =
-    same_numbers reached (received number cumulative old).cumulative new (received number cumulative old).ranges beyond_after (received_beyond number cumulative old beyond)
-    (λ other. members other ∙ sym (received_members number cumulative old beyond other))
-
-advances_only : (number cumulative reached : ℕ) (old new : List TsnRange) → cumulative < number → IsBeyond cumulative old → IsBeyond reached new
-    → ((other : ℕ) → is_received reached other new ≡ is_received number other old)
-    → (reached ≡ (forwarded number cumulative old).cumulative) × (new ≡ (forwarded number cumulative old).ranges)
-advances_only number cumulative reached old new above beyond beyond_after members =
-    same_numbers reached (forwarded number cumulative old).cumulative new (forwarded number cumulative old).ranges beyond_after (forwarded_beyond number cumulative old beyond)
-    (λ other. members other ∙ sym (forwarded_members number cumulative old above beyond other ∙ grind (arith, nat_tests)))
+use Rattle.dcsctp_spec_lemmas.proofs.RangesLemmas.{received_only, forwarded_only}
+use Rattle.dcsctp_receive_tracker.specs.Received.{range_of}
 
 -- the tracker with these numbers, once data was received
 abbrev observing : ℕ → Bool → Bool → TrackerState → ℕ → List TsnRange → TrackerState
@@ -36,10 +21,10 @@ observing tsn immediate is_new tracker cumulative ranges =
     }
 
 pub observes : (tsn : ℕ) (immediate is_new : Bool) (old new : TrackerState) (reached : ℕ) (ranges : List TsnRange) → IsBeyond old.cumulative old.ranges
-    → Receives (nearest_number old.cumulative tsn) old.cumulative old.ranges is_new reached ranges → new ≡ observing tsn immediate is_new old reached ranges → new ≡ observed tsn immediate old
+    → ReceivesNumber (nearest_number old.cumulative tsn) old.cumulative old.ranges is_new reached ranges → new ≡ observing tsn immediate is_new old reached ranges → new ≡ observed tsn immediate old
 observes tsn immediate is_new old new reached ranges beyond takes is =
     let number = nearest_number old.cumulative tsn in
-    let only = received_only number old.cumulative reached old.ranges ranges beyond takes.beyond takes.members in
+    let only = received_only number old.cumulative old.ranges is_new reached ranges beyond takes in
     is
     ∙ ap (λ (b : Bool). observing tsn immediate b old reached ranges) takes.answer
     ∙ ap (λ (n : ℕ). observing tsn immediate (is_new_tsn tsn old) old n ranges) only.0
@@ -51,10 +36,10 @@ moving tracker cumulative ranges =
     record tracker { cumulative = cumulative; ranges = ranges; acknowledgement = after_arrival tracker.acknowledgement false; delay = stopped tracker.delay }
 
 pub moves : (tsn number : ℕ) (old new : TrackerState) (reached : ℕ) (ranges : List TsnRange) → IsBeyond old.cumulative old.ranges → number ≡ nearest_number old.cumulative tsn
-    → old.cumulative < 2 ^ 64 - 2 ^ 32 → old.cumulative < number → AdvancesCumulative number old.ranges reached ranges → new ≡ moving old reached ranges → new ≡ after_forward tsn old
+    → old.cumulative < 2 ^ 64 - 2 ^ 32 → old.cumulative < number → MovesForwardTo number old.ranges reached ranges → new ≡ moving old reached ranges → new ≡ after_forward tsn old
 moves tsn number old new reached ranges beyond of few above takes is =
     let above' : old.cumulative < nearest_number old.cumulative tsn = rw (← of) above in
-    let only = advances_only number old.cumulative reached old.ranges ranges above beyond takes.beyond takes.members in
+    let only = forwarded_only number old.cumulative old.ranges reached ranges above beyond takes in
     let left : has_numbers_left old.cumulative ≡ true = grind (arith, nat_tests) in
     let ahead : nat_lt old.cumulative (nearest_number old.cumulative tsn) ≡ true = grind (arith, nat_tests) in
     rw (left, ahead) (is

@@ -6,8 +6,8 @@ use Rattle.std.proofs.lemmas.List.{take-append-drop}
 use Rattle.dcsctp_spec_lemmas.specs.spec.queues.Runs.{entry_before}
 use Rattle.dcsctp_receive_ordered_map.proofs.EntryLemmas.{entry_within}
 use Rattle.dcsctp_spec_lemmas.specs.types.declared.tracking.TsnRange.{TsnRange}
-use Rattle.dcsctp_receive_tracker.specs.Received.{IsSpaced, AddsToRanges, AdvancesCumulative, Receives}
-use Rattle.dcsctp_spec_lemmas.specs.spec.queues.Ranges.{IsBeyond, is_in}
+use Rattle.dcsctp_receive_tracker.specs.Received.{IsSpaced, AddsToRanges}
+use Rattle.dcsctp_spec_lemmas.specs.spec.queues.Ranges.{IsBeyond, is_in, ReceivesNumber, MovesForwardTo}
 
 -- the last number of the last range, or this one where there is none
 abbrev pub end_of : ℕ → List TsnRange → ℕ
@@ -263,7 +263,7 @@ next_test cumulative number other next = grind (arith, nat_tests)
 next_is_new : (cumulative number : ℕ) → number ≡ cumulative + 1 → nat_le number cumulative ≡ false
 next_is_new cumulative number next = grind (arith, nat_tests)
 
-pub Receives-next : (number cumulative : ℕ) (old : List TsnRange) (reached : ℕ) (new : List TsnRange) → number ≡ cumulative + 1 → IsBeyond cumulative old → AdvancesCumulative number old reached new → Receives number cumulative old true reached new
+pub Receives-next : (number cumulative : ℕ) (old : List TsnRange) (reached : ℕ) (new : List TsnRange) → number ≡ cumulative + 1 → IsBeyond cumulative old → MovesForwardTo number old reached new → ReceivesNumber number cumulative old true reached new
 Receives-next number cumulative old reached new next beyond advances =
     let forward : number ≤ reached = advances.forward in
     record {

@@ -1,8 +1,8 @@
 -- Which TSNs were received (RFC 9260, section 6.2). TSNs are numbered without wrap: the number of a TSN modulo 2^32 is the TSN.
-use Rattle.std.specs.Prelude.{◌≡◌, ◌==◌, ℕ, ◌≤◌, Bool, false, not, ◌||◌, List, [], ◌∷◌, ◌++◌, map, take, drop, suc, slice_get, Option, None, Some}
+use Rattle.std.specs.Prelude.{◌≡◌, ◌==◌, ℕ, ◌≤◌, ◌||◌, List, [], ◌∷◌, ◌++◌, map, take, drop, suc, slice_get, Option, None, Some}
 use Rattle.std.specs.BTreeMap.{BTreeMap}
 use Rattle.dcsctp_spec_lemmas.specs.types.declared.tracking.TsnRange.{TsnRange}
-use Rattle.dcsctp_spec_lemmas.specs.spec.queues.Ranges.{IsBeyond, is_in, is_received}
+use Rattle.dcsctp_spec_lemmas.specs.spec.queues.Ranges.{IsBeyond, is_in}
 
 -- A map holds the ranges. The key of an entry is the first number of a range, and the value is its last.
 abbrev pub range_of : ℕ × ℕ → TsnRange
@@ -30,17 +30,3 @@ Joins written number (Some next) new = Removes next.first (written next.last) ne
 pub record AddsToRanges (cumulative number : ℕ) (old new : List TsnRange) : Type 0 where
   pub beyond : IsBeyond cumulative new
   pub members : (other : ℕ) → is_in other new ≡ (is_in other old || (other == number))
-
--- All up to the number are received with what is in the ranges; `reached` is the last before the first that is missing.
-pub record AdvancesCumulative (number : ℕ) (old : List TsnRange) (reached : ℕ) (new : List TsnRange) : Type 0 where
-  pub forward : number ≤ reached
-  pub beyond : IsBeyond reached new
-  pub members : (other : ℕ) → is_received reached other new ≡ is_received number other old
-
--- A number is received: is it new, and what is received then? If it isn't new, nothing changes.
-pub record Receives (number cumulative : ℕ) (old : List TsnRange) (is_new : Bool) (reached : ℕ) (new : List TsnRange) : Type 0 where
-  pub answer : is_new ≡ not (is_received cumulative number old)
-  pub forward : cumulative ≤ reached
-  pub beyond : IsBeyond reached new
-  pub members : (other : ℕ) → is_received reached other new ≡ (is_received cumulative other old || (other == number))
-  pub known : is_new ≡ false → (reached ≡ cumulative) × (new ≡ old)

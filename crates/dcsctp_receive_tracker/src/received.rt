@@ -18,8 +18,8 @@ ghost use Rattle.std.specs.Ordering.{nat_cmp};
 ghost use Rattle.std.specs.BTreeMap.{IsOrdered, get, insert_entry, is_at};
 ghost use Rattle.dcsctp_receive_ordered_map.specs.Entries.{count_up_to};
 ghost use Rattle.dcsctp_spec_lemmas.specs.spec.queues.Runs.{entry_before};
-ghost use Rattle.dcsctp_receive_tracker.specs.Received.{range_of, ranges_of, IsSpaced, Joins, AddsToRanges, AdvancesCumulative, Receives};
-ghost use Rattle.dcsctp_spec_lemmas.specs.spec.queues.Ranges.{IsBeyond, is_in};
+ghost use Rattle.dcsctp_receive_tracker.specs.Received.{range_of, ranges_of, IsSpaced, Joins, AddsToRanges};
+ghost use Rattle.dcsctp_spec_lemmas.specs.spec.queues.Ranges.{IsBeyond, is_in, ReceivesNumber, MovesForwardTo};
 ghost use Rattle.dcsctp_spec_lemmas.specs.spec.queues.Tracker.{highest};
 
 use dcsctp_spec_lemmas::types::TsnRange;
@@ -138,7 +138,7 @@ fn extend(ranges: &mut BTreeMap<u64, u64>, first: u64, number: u64, behind: Opti
 /// beyond that are kept.
 pub fn advance(ranges: &mut BTreeMap<u64, u64>, number: u64) -> u64
     requires { IsSpaced (ranges_of ranges.old) }
-    ensures { AdvancesCumulative number (ranges_of ranges.old) result (ranges_of ranges.new) }
+    ensures { MovesForwardTo number (ranges_of ranges.old) result (ranges_of ranges.new) }
 {
     let mut reached = number;
     while let Some((first, last)) = ranges.first_key_value() {
@@ -199,7 +199,7 @@ impl Received {
     /// Adds a number, and returns whether it is new. `Err`: an allocation failed, and nothing has changed.
     pub fn receive(&mut self, number: u64) -> Result<bool, AllocError>
         requires { IsBeyond self.old.cumulative (ranges_of self.old.ranges) }
-        ensures ok { IfOk result (λ is_new. Receives number self.old.cumulative (ranges_of self.old.ranges) is_new self.new.cumulative (ranges_of self.new.ranges)) }
+        ensures ok { IfOk result (λ is_new. ReceivesNumber number self.old.cumulative (ranges_of self.old.ranges) is_new self.new.cumulative (ranges_of self.new.ranges)) }
         ensures err { OnErr result ((self.new.cumulative ≡ self.old.cumulative) × (ranges_of self.new.ranges ≡ ranges_of self.old.ranges)) }
     {
         if number <= self.cumulative {

@@ -1,7 +1,11 @@
 -- Outside examples, computed by the definitions: a wrong rule in specs/ would not check here.
 use Rattle.std.proofs.Common.{◌≡◌, ℕ, true, false, List, [], ◌∷◌, refl, Ok, Err}
 use Rattle.std.specs.Prelude.{replicate}
-use Rattle.dcsctp_spec.specs.Cookie.{Cookie, cookie_bytes, cookie_at, size_text, magic_text}
+use Rattle.dcsctp_types.specs.wire.Fields.{u32_at}
+use Rattle.dcsctp_spec.specs.Cookie.{Cookie, cookie_magic, cookie_bytes, cookie_at, size_text, magic_text}
+use Rattle.dcsctp_spec.specs.endpoint.BegunResets.{request_size}
+use Rattle.dcsctp_spec.specs.endpoint.PlainOutcomes.{reported_offset}
+use Rattle.dcsctp_spec.specs.queues.Skipping.{entries_offset}
 
 -- a cookie whose fields all differ
 every_field : Cookie
@@ -58,3 +62,21 @@ one_byte_short = refl
 one_byte_too_many : cookie_at (replicate 57 0) ≡ Err size_text
 unfolding cookie_at
 one_byte_too_many = refl
+
+-- the magic as two numbers
+magic_begins : u32_at 0 cookie_magic ≡ 0x64635343
+magic_begins = refl
+
+magic_ends : u32_at 4 cookie_magic ≡ 0x54507230
+magic_ends = refl
+
+-- ---- sizes (RFC 3758, section 3.2; RFC 6525, section 4.1; RFC 9260, section 3.3.10)
+
+forward_tsn_begins : entries_offset ≡ 20
+forward_tsn_begins = refl
+
+reset_request_begins : request_size ≡ 20
+reset_request_begins = refl
+
+reported_chunk_begins : reported_offset ≡ 20
+reported_chunk_begins = refl

@@ -17,9 +17,13 @@ pub record Cookie : Type 0 where
   -- when it was made, on its maker's clock
   pub moment : ℕ
 
--- "dcSC" and "TPr0"
+-- its first bytes
 abbrev pub cookie_magic : List ℕ
 cookie_magic = codes "dcSCTPr0"
+
+-- all its bytes
+abbrev pub cookie_size : ℕ
+cookie_size = 56
 
 abbrev pub flag_byte : Bool → ℕ
 flag_byte true = 1
@@ -79,7 +83,7 @@ cookie_fields bytes =
     }
 
 abbrev pub has_magic : List ℕ → Bool
-has_magic bytes = u32_at 0 bytes == 0x64635343 && u32_at 4 bytes == 0x54507230
+has_magic bytes = u32_at 0 bytes == u32_at 0 cookie_magic && u32_at 4 bytes == u32_at 4 cookie_magic
 
 abbrev pub has_zero_tag : List ℕ → Bool
 has_zero_tag bytes = u32_at 8 bytes == 0 || u32_at 12 bytes == 0
@@ -87,7 +91,7 @@ has_zero_tag bytes = u32_at 8 bytes == 0 || u32_at 12 bytes == 0
 -- The cookie that the bytes spell, or why they spell none: the size, the magic, the tags, in this order.
 unfoldable pub cookie_at : List ℕ → Result Cookie (List ℕ)
 cookie_at bytes =
-    if not (length bytes == 56) then Err size_text
+    if not (length bytes == cookie_size) then Err size_text
     else (if not (has_magic bytes) then Err magic_text
     else (if has_zero_tag bytes then Err tag_text
     else Ok (cookie_fields bytes)))

@@ -1,9 +1,9 @@
 -- Lemmas on received numbers.
-use Rattle.std.proofs.Common.{◌≡◌, ◌==◌, ℕ, ◌+◌, ◌-◌, ◌<◌, ◌≤◌, nat_le, nat_lt, Bool, true, false, ◌||◌, cond, List, [], ◌∷◌, refl, sym, ◌∙◌, ap, arith}
+use Rattle.std.proofs.Common.{◌≡◌, ◌==◌, ℕ, ◌+◌, ◌-◌, ◌<◌, ◌≤◌, nat_le, nat_lt, Bool, true, false, not, ◌||◌, cond, List, [], ◌∷◌, refl, sym, ◌∙◌, ap, arith}
 use Rattle.std.proofs.lemmas.Bool.{cond_both}
 use Rattle.std.proofs.lemmas.Bool.Decides.{nat_tests}
 use Rattle.dcsctp_spec.specs.types.declared.tracking.TsnRange.{TsnRange}
-use Rattle.dcsctp_spec.specs.queues.Ranges.{IsBeyond, is_in, is_received, Received, tsn_range_of, put_before, put_among, reaching, received, forwarded}
+use Rattle.dcsctp_spec.specs.queues.Ranges.{IsBeyond, is_in, is_received, ReceivesNumber, MovesForwardTo, Received, tsn_range_of, put_before, put_among, reaching, received, forwarded}
 
 -- ---- the numbers determine the ranges
 
@@ -126,3 +126,70 @@ forwarded_beyond number cumulative ranges beyond = (forwarded_receives number cu
 -- Also a number that isn't above the cumulative one satisfies this.
 pub forwarded_members : (number cumulative : ℕ) (ranges : List TsnRange) → cumulative < number → IsBeyond cumulative ranges → (other : ℕ) → is_received (forwarded number cumulative ranges).cumulative other (forwarded number cumulative ranges).ranges ≡ (is_received cumulative other ranges || nat_le other number)
 forwarded_members number cumulative ranges _ beyond = (forwarded_receives number cumulative ranges beyond).1
+
+-- ---- the rule
+
+-- Where all up to a number are received, the cumulative number isn't below it.
+not_below : (bound reached : ℕ) (ranges : List TsnRange) (members : ℕ → Bool) → IsBeyond reached ranges → ((other : ℕ) → is_received reached other ranges ≡ members other) → ((other : ℕ) → other ≤ bound → members other ≡ true) → bound ≤ reached
+not_below bound reached ranges members beyond is all =
+    let gap : is_received reached (reached + 1) ranges ≡ false = missing reached reached (reached + 1) ranges beyond (omega arith) (omega arith) in
+    go (members (reached + 1)) (sym (is (reached + 1)) ∙ gap) (all (reached + 1))
+  where
+    go : (b : Bool) → b ≡ false → (reached + 1 ≤ bound → b ≡ true) → bound ≤ reached
+    go true here all_received = absurd (cc)
+    go false here all_received = grind (arith, all_received)
+
+up_to : (bound other : ℕ) (rest : Bool) → other ≤ bound → (nat_le other bound || rest) ≡ true
+up_to bound other rest within = grind (arith, nat_tests)
+
+-- The function gives what the rule allows,
+pub received_is : (number cumulative : ℕ) (ranges : List TsnRange) → IsBeyond cumulative ranges
+    → ReceivesNumber number cumulative ranges (not (is_received cumulative number ranges)) (received number cumulative ranges).cumulative (received number cumulative ranges).ranges
+received_is number cumulative ranges beyond =
+    let members = received_members number cumulative ranges beyond in
+    let after = received_beyond number cumulative ranges beyond in
+    record {
+      answer = refl;
+      forward = not_below cumulative (received number cumulative ranges).cumulative (received number cumulative ranges).ranges (λ other. is_received cumulative other ranges || (other == number)) after members
+          (λ other within. ap (λ b. b || (other == number)) (up_to cumulative other (is_in other ranges) within));
+      beyond = after;
+      members = members;
+      known = unchanged (is_received cumulative number ranges) _ _;
+    }
+  where
+    unchanged : (b : Bool) (kept other : Received) → not b ≡ false → ((cond b kept other).cumulative ≡ kept.cumulative) × ((cond b kept other).ranges ≡ kept.ranges)
+    unchanged true kept other old = (refl, refl)
+    unchanged false kept other old = absurd (cc)
+
+-- and the rule allows nothing else.
+pub received_only : (number cumulative : ℕ) (old : List TsnRange) (is_new : Bool) (reached : ℕ) (new : List TsnRange) → IsBeyond cumulative old → ReceivesNumber number cumulative old is_new reached new
+    → (reached ≡ (received number cumulative old).cumulative) × (new ≡ (received number cumulative old).ranges)
+received_only number cumulative old is_new reached new beyond takes =
+    same_numbers reached (received number cumulative old).cumulative new (received number cumulative old).ranges takes.beyond (received_beyond number cumulative old beyond)
+    (λ other. takes.members other ∙ sym (received_members number cumulative old beyond other))
+
+-- The same where all up to a number count as received.
+both_orders : (cumulative number other : ℕ) (b : Bool) → cumulative < number → ((nat_le other cumulative || b) || nat_le other number) ≡ (nat_le other number || b)
+both_orders cumulative number other b above = grind (arith, nat_tests)
+
+forwarded_numbers : (number cumulative : ℕ) (ranges : List TsnRange) → cumulative < number → IsBeyond cumulative ranges → (other : ℕ)
+    → is_received (forwarded number cumulative ranges).cumulative other (forwarded number cumulative ranges).ranges ≡ is_received number other ranges
+forwarded_numbers number cumulative ranges above beyond other = forwarded_members number cumulative ranges above beyond other ∙ both_orders cumulative number other (is_in other ranges) above
+
+pub forwarded_is : (number cumulative : ℕ) (ranges : List TsnRange) → cumulative < number → IsBeyond cumulative ranges
+    → MovesForwardTo number ranges (forwarded number cumulative ranges).cumulative (forwarded number cumulative ranges).ranges
+forwarded_is number cumulative ranges above beyond =
+    let members = forwarded_numbers number cumulative ranges above beyond in
+    let after = forwarded_beyond number cumulative ranges beyond in
+    record {
+      forward = not_below number (forwarded number cumulative ranges).cumulative (forwarded number cumulative ranges).ranges (λ other. is_received number other ranges) after members
+          (λ other within. up_to number other (is_in other ranges) within);
+      beyond = after;
+      members = members;
+    }
+
+pub forwarded_only : (number cumulative : ℕ) (old : List TsnRange) (reached : ℕ) (new : List TsnRange) → cumulative < number → IsBeyond cumulative old → MovesForwardTo number old reached new
+    → (reached ≡ (forwarded number cumulative old).cumulative) × (new ≡ (forwarded number cumulative old).ranges)
+forwarded_only number cumulative old reached new above beyond takes =
+    same_numbers reached (forwarded number cumulative old).cumulative new (forwarded number cumulative old).ranges takes.beyond (forwarded_beyond number cumulative old beyond)
+    (λ other. takes.members other ∙ sym (forwarded_numbers number cumulative old above beyond other))

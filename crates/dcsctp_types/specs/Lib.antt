@@ -3,6 +3,7 @@ pub mod Ids
 pub mod Offer
 pub mod Readiness
 pub mod Settings
+pub mod Sizes
 pub mod Snapshot
 pub mod SnapshotItems
 pub mod Schedule

@@ -2,15 +2,16 @@
 use Rattle.std.specs.Prelude.{◌≡◌, ◌≤◌, ◌<◌, ◌^◌, ◌-◌, ◌*◌, ◌%◌, min, ℕ, pos, true, false, Some, None}
 use Rattle.std.specs.Duration.{as_nanos}
 use Rattle.dcsctp_types.specs.declared.options.Options.{Options}
+use Rattle.dcsctp_types.specs.Sizes.{greatest_length}
 use Rattle.dcsctp_wire.specs.declared.packet.WireOptions.{WireOptions}
 
 -- the size of a packet that is sent: `mtu`, or what the length of a chunk can say, rounded down to a multiple of 4
 abbrev pub packet_size_limit : Options → ℕ
-packet_size_limit options = min options.mtu 65535 - min options.mtu 65535 % 4
+packet_size_limit options = min options.mtu greatest_length - min options.mtu greatest_length % 4
 
 pub record IsValid (options : Options) : Type 0 where
   pub least_size : 32 ≤ packet_size_limit options
-  pub greatest_size : options.mtu ≤ 65535
+  pub greatest_size : options.mtu ≤ greatest_length
   pub receive_window : options.max_receiver_window_buffer_size < 2 ^ 32
   pub send_buffer : options.max_send_buffer_size < 2 ^ 32
 

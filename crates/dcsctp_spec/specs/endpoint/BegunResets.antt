@@ -2,6 +2,7 @@
 use Rattle.std.specs.Prelude.{ℕ, ◌+◌, ◌-◌, ◌*◌, ◌/◌, ◌%◌, ◌^◌, false, Option, None, Some, List, [], ◌∷◌, map, take}
 use Rattle.dcsctp_types.specs.declared.association.Held.{Held}
 use Rattle.dcsctp_types.specs.declared.kinds.BackoffAlgorithm.TheVariants.{Exponential}
+use Rattle.dcsctp_types.specs.Sizes.{chunk_header_size, parameter_header_size, word_size}
 use Rattle.dcsctp_spec.specs.Packet.{Content}
 use Rattle.dcsctp_spec.specs.Reconfiguration.{RequestedReset}
 use Rattle.dcsctp_spec.specs.queues.OwnResets.{ready_streams, queue_handing_out}
@@ -22,10 +23,13 @@ pub record BegunReset : Type 0 where
 
 -- ---- which it is
 
--- How many streams a request may name if its chunk has that much room. It has 20 bytes and 2 for each stream, padded to a
--- multiple of 4 (RFC 6525, section 4.1).
+-- what precedes the streams in a RE-CONFIG chunk of one request: both headers, two request numbers and a TSN (RFC 6525, section 4.1)
+abbrev pub request_size : ℕ
+request_size = chunk_header_size + parameter_header_size + 3 * word_size
+
+-- How many streams a request may name if its chunk has that much room. Each has 2 bytes, and all are padded to a multiple of 4.
 abbrev pub streams_within : ℕ → ℕ
-streams_within room = (room - 20) / 4 * 2
+streams_within room = (room - request_size) / 4 * 2
 
 -- the last TSN that was given out
 abbrev pub last_assigned_tsn : RetransmissionState → ℕ

@@ -5,6 +5,7 @@ use Rattle.std.specs.List.{AllByRecursion}
 use Rattle.dcsctp_types.specs.declared.association.Held.{Held}
 use Rattle.dcsctp_types.specs.declared.word.Word.{Word}
 use Rattle.dcsctp_types.specs.Settings.{packet_size_limit}
+use Rattle.dcsctp_types.specs.Sizes.{common_header_size}
 use Rattle.dcsctp_spec.specs.endpoint.Event.{Event, sent, packets_in, buffered_amount_low, total_buffered_amount_low, lifecycle_message_fully_sent, lifecycle_message_maybe_expired, lifecycle_message_expired, lifecycle_end}
 use Rattle.dcsctp_spec.specs.Packet.{Plain, unworked, plain_out, Content, Emission}
 use Rattle.dcsctp_spec.specs.queues.SendQueue.{SendQueueState, has_queued_data}
@@ -110,7 +111,7 @@ packets_allowed (negsuc below) core = 0
 
 -- no longer than `mtu`
 abbrev pub IsWithinMtu : Endpoint → Emission → Type 0
-IsWithinMtu e emission = 12 + contents_len emission.packet.contents ≤ packet_size_limit e.options
+IsWithinMtu e emission = common_header_size + contents_len emission.packet.contents ≤ packet_size_limit e.options
 
 -- what is answered if nothing waits
 abbrev pub nothing_waits : Endpoint → Answer
@@ -123,7 +124,7 @@ pub data Ask : Type 0 where
 
 -- how many bytes of chunks still fit into a packet
 abbrev pub room_in : Endpoint → Emission → ℕ
-room_in e draft = packet_size_limit e.options - 12 - contents_len draft.packet.contents
+room_in e draft = packet_size_limit e.options - common_header_size - contents_len draft.packet.contents
 
 -- the chunk, if it fits into that many bytes
 abbrev pub where_fits : ℕ → Plain → List Plain
@@ -155,10 +156,13 @@ FitsPlain chunk = FitsChunk (plain_out chunk)
 abbrev pub stage_of : SendQueueState → RetransmissionState → List (Event (List ℕ)) → ℕ → Stage
 stage_of waiting state told room = record { queue = state; waiting = waiting; told = told; tsns = []; room = room }
 
--- the moment before which no FORWARD-TSN is sent, after one at this moment: 200 milliseconds later, or the round trip (RFC 3758,
--- section 3.5)
+-- the longest pause between two FORWARD-TSNs, in nanoseconds: 200 milliseconds (RFC 3758, section 3.5)
+abbrev pub forward_pause : ℕ
+forward_pause = 200000000
+
+-- the moment before which no FORWARD-TSN is sent, after one at this moment: that pause later, or the round trip
 abbrev pub next_forward : ℕ → Transfer → ℕ
-next_forward now transfer = moment_after now (min 200000000 transfer.timeout.srtt)
+next_forward now transfer = moment_after now (min forward_pause transfer.timeout.srtt)
 
 -- May messages be abandoned: was it negotiated, and is something outstanding?
 abbrev pub may_abandon : RetransmissionState → Bool

@@ -9,6 +9,7 @@ use Rattle.dcsctp_types.specs.declared.association.Held.{Held}
 use Rattle.dcsctp_types.specs.declared.kinds.BackoffAlgorithm.TheVariants.{Fixed}
 use Rattle.dcsctp_types.specs.declared.kinds.ErrorKind.TheVariants.{ParseFailed}
 use Rattle.dcsctp_types.specs.declared.options.Options.{Options}
+use Rattle.dcsctp_types.specs.Sizes.{word_size}
 use Rattle.dcsctp_spec.specs.Packet.{heartbeat, heartbeat_ack, plain, Emission}
 use Rattle.dcsctp_spec.specs.endpoint.Endpoint.{Endpoint, Core, cookie_echoed, open_in}
 use Rattle.dcsctp_spec.specs.endpoint.Timers.{RunningTimer, TimerSettings, started, expired}
@@ -43,7 +44,7 @@ info_in (parameter ∷ parameters) = info_in parameters
 -- and it has the counter alone, in four bytes.
 abbrev pub counter_of : Option (List ℕ) → Option ℕ
 counter_of None = None
-counter_of (Some info) = if length info == 4 then Some (u32_at 0 info) else None
+counter_of (Some info) = if length info == word_size then Some (u32_at 0 info) else None
 
 abbrev pub invalid_info_text : List ℕ
 invalid_info_text = codes "Failed to parse HEARTBEAT-ACK; Invalid info parameter"

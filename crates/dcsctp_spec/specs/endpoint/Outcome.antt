@@ -7,6 +7,7 @@ use Rattle.dcsctp_types.specs.declared.association.Held.{Held}
 use Rattle.dcsctp_types.specs.declared.word.Word.{Word}
 use Rattle.dcsctp_types.specs.declared.kinds.ErrorKind.{ErrorKind}
 use Rattle.dcsctp_types.specs.Settings.{packet_size_limit}
+use Rattle.dcsctp_types.specs.Sizes.{common_header_size}
 use Rattle.dcsctp_spec.specs.endpoint.Event.{Event, sent, error}
 use Rattle.dcsctp_spec.specs.Packet.{Content, Emission, chunk_out}
 use Rattle.dcsctp_spec.specs.endpoint.Endpoint.{Endpoint}
@@ -49,7 +50,7 @@ contents_len contents = length (flat_map (λ content. chunk_bytes (chunk_out con
 
 -- does the packet fit in `mtu`?
 abbrev pub fits : Endpoint → Emission → Bool
-fits e emission = nat_le (12 + contents_len emission.packet.contents) (packet_size_limit e.options)
+fits e emission = nat_le (common_header_size + contents_len emission.packet.contents) (packet_size_limit e.options)
 
 -- the endpoint once a packet has gone out
 abbrev pub packet_counted : Endpoint → Endpoint

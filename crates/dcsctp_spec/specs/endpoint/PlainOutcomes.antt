@@ -11,6 +11,7 @@ use Rattle.dcsctp_types.specs.declared.ends.Violation.TheVariants.{DataWithInter
 use Rattle.dcsctp_types.specs.declared.ends.AbortReason.TheVariants as reasons
 use Rattle.dcsctp_types.specs.declared.kinds.ErrorKind.TheVariants.{ParseFailed, PeerReported}
 use Rattle.dcsctp_types.specs.Settings.{packet_size_limit}
+use Rattle.dcsctp_types.specs.Sizes.{common_header_size, chunk_header_size, parameter_header_size}
 use Rattle.dcsctp_spec.specs.endpoint.Cause.{Cause}
 use Rattle.dcsctp_spec.specs.endpoint.Event.{error}
 use Rattle.dcsctp_spec.specs.Packet.{Plain, unknown, heartbeat, heartbeat_ack, unworked, plain, error_of, Emission}
@@ -72,11 +73,15 @@ unknown_text type = codes "Received chunk type " ++ decimal type ++ codes ", "
 
 -- the chunk as it was read, without padding
 abbrev pub unknown_bytes : ℕ → ℕ → List ℕ → List ℕ
-unknown_bytes type flags value = type ∷ flags ∷ to_be_bytes w16 (4 + length value) ++ value
+unknown_bytes type flags value = type ∷ flags ∷ to_be_bytes w16 (chunk_header_size + length value) ++ value
+
+-- what precedes the chunk in a packet of one ERROR: the common header, and those of the ERROR and of its cause
+abbrev pub reported_offset : ℕ
+reported_offset = common_header_size + chunk_header_size + parameter_header_size
 
 -- an ERROR of the cause Unrecognized Chunk Type, with as much of the chunk as fits in `mtu` (RFC 9260, section 3.3.10.6)
 abbrev pub unknown_error : Endpoint → List ℕ → Plain
-unknown_error e chunk = error_of (unrecognized_chunk_type (take (packet_size_limit e.options - 20) chunk) ∷ [])
+unknown_error e chunk = error_of (unrecognized_chunk_type (take (packet_size_limit e.options - reported_offset) chunk) ∷ [])
 
 abbrev pub unknown_report : Endpoint → Held → List ℕ → Emission
 unknown_report e held chunk = to_peer held (plain (unknown_error e chunk))

@@ -8,6 +8,7 @@ use Rattle.dcsctp_spec.specs.queues.Items.{Item, item_size, marked_items, change
 use Rattle.dcsctp_spec.specs.queues.NextItem.{IsNextMarked, Halts, is_abandonment_due}
 use Rattle.dcsctp_spec.specs.queues.Outstanding.{OutstandingState, header, tsn_at, next_tsn}
 use Rattle.dcsctp_types.specs.queues.Progress.{just_sent}
+use Rattle.dcsctp_types.specs.Sizes.{greatest_padded_length, word_size}
 use Rattle.dcsctp_spec.specs.queues.Retransmission.{RetransmissionState, can_send, with_items, timer_with, counted_again}
 use Rattle.dcsctp_spec.specs.queues.SendQueue.{SendQueueState}
 use Rattle.dcsctp_spec.specs.queues.Sending.{TakesFragment, TakesNone}
@@ -77,7 +78,7 @@ pub record GivesUpMarked (now : ℕ) (old new : Stage) : Type 0 where
 
 -- the greatest payload of a chunk with this header that fits into that much room (RFC 9260, section 3.2)
 abbrev pub payload_room : ℕ → ℕ → ℕ
-payload_room header room = (min room 65532 - header) / 4 * 4
+payload_room header room = (min room greatest_padded_length - header) / 4 * 4
 
 -- It is sent for the first time at this moment.
 pub record IsSentFirstNow (now : ℕ) (item : Item) : Type 0 where
@@ -112,7 +113,7 @@ StepAgain now old new = ((can_send old.queue ≡ true) × SendsMarked now old ne
 pub record MayAdd (stage : Stage) : Type 0 where
   pub allowed : can_send stage.queue ≡ true
   pub none_marked : marked_items stage.queue.outstanding.items ≡ 0
-  pub fits : header stage.queue.outstanding + 4 ≤ stage.room
+  pub fits : header stage.queue.outstanding + word_size ≤ stage.room
   pub comparable : length stage.queue.outstanding.items + 1 < 2 ^ 31
 
 abbrev pub StepNew : ℕ → Stage → Stage → Type 0

@@ -3,6 +3,7 @@ use Rattle.std.specs.Prelude.{false, not, ℕ, zero, suc, ◌+◌, ◌*◌, ◌/
 use Rattle.dcsctp_types.specs.declared.progress.Change.{Change}
 use Rattle.dcsctp_types.specs.declared.progress.Progress.{Progress}
 use Rattle.dcsctp_spec.specs.queues.Sending.{Fragment}
+use Rattle.dcsctp_types.specs.Sizes.{greatest_length}
 use Rattle.dcsctp_types.specs.queues.Progress.{is_in_flight, is_marked, is_unacknowledged, is_abandoned, progress_changed}
 
 -- what was sent under one TSN
@@ -23,7 +24,7 @@ number_where test number = if test then number else 0
 -- A payload with its chunk's header and padding (RFC 9260, section 3.2). A chunk's length has 16 bits, so no payload is
 -- above 65,535 bytes.
 abbrev pub chunk_size : ℕ → ℕ → ℕ
-chunk_size header len = header + (min len 65535 + 3) / 4 * 4
+chunk_size header len = header + (min len greatest_length + 3) / 4 * 4
 
 -- how long the item's chunk is
 abbrev pub item_size : ℕ → Item → ℕ

@@ -4,6 +4,7 @@ use Rattle.dcsctp_types.specs.declared.sending.UnderWay.{UnderWay}
 use Rattle.dcsctp_spec.specs.queues.Items.{Item, item_size, marked_items}
 use Rattle.dcsctp_spec.specs.queues.Outstanding.{OutstandingState, header}
 use Rattle.dcsctp_types.specs.queues.Progress.{is_marked}
+use Rattle.dcsctp_types.specs.Sizes.{word_size}
 use Rattle.dcsctp_spec.specs.queues.Retransmission.{RetransmissionState, can_send}
 use Rattle.dcsctp_spec.specs.queues.SendQueue.{SendQueueState}
 use Rattle.dcsctp_types.specs.queues.SendStreams.{Waiting, Stream, front_of, stream_at, turns_of}
@@ -92,11 +93,11 @@ HoldsBack now room queue = FirstStays now queue × ((can_send queue ≡ false) �
 abbrev pub HaltsAgain : ℕ → ℕ → RetransmissionState → Type 0
 HaltsAgain now room queue = (marked_items queue.outstanding.items ≡ 0) ⊎ HoldsBack now room queue
 
--- Why no new chunk is sent. The windows don't allow, not one byte fits, all comparable TSNs are in use, or the send queue gives
+-- Why no new chunk is sent. The windows don't allow it, no word of payload fits, all comparable TSNs are in use, or the send queue gives
 -- none.
 abbrev pub HaltsNew : ℕ → RetransmissionState → SendQueueState → Type 0
 HaltsNew room queue waiting =
-    (can_send queue ≡ false) ⊎ ((room < header queue.outstanding + 4) ⊎ ((2 ^ 31 ≤ length queue.outstanding.items + 1) ⊎ GivesNone waiting))
+    (can_send queue ≡ false) ⊎ ((room < header queue.outstanding + word_size) ⊎ ((2 ^ 31 ≤ length queue.outstanding.items + 1) ⊎ GivesNone waiting))
 
 -- Why nothing more goes into a packet with that much room. New chunks go after all that are sent again.
 abbrev pub Halts : ℕ → ℕ → RetransmissionState → SendQueueState → Type 0

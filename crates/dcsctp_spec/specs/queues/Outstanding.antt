@@ -2,6 +2,7 @@
 use Rattle.std.specs.Prelude.{ℕ, ◌+◌, ◌-◌, ◌%◌, ◌^◌, Bool, List, [], ◌∷◌, length, if◌then◌else◌}
 use Rattle.dcsctp_types.specs.wire.declared.chunk.sack.GapAckBlock.{GapAckBlock}
 use Rattle.dcsctp_types.specs.declared.progress.Change.TheVariants.{Acknowledge}
+use Rattle.dcsctp_types.specs.Sizes.{data_header_size, i_data_header_size}
 use Rattle.dcsctp_spec.specs.queues.Items.{Item, changed_between}
 
 pub record OutstandingState : Type 0 where
@@ -13,7 +14,7 @@ pub record OutstandingState : Type 0 where
 
 -- the header of a DATA chunk (RFC 9260, section 3.3.1), or of an I-DATA chunk (RFC 8260, section 2.1)
 abbrev pub header_of : Bool → ℕ
-header_of is_interleaved = if is_interleaved then 20 else 16
+header_of is_interleaved = if is_interleaved then i_data_header_size else data_header_size
 
 -- the size of a chunk's header
 abbrev pub header : OutstandingState → ℕ

@@ -7,6 +7,7 @@ use Rattle.dcsctp_types.specs.wire.Content.{ChunkContent, forward_tsn_chunk, i_f
 use Rattle.dcsctp_types.specs.wire.Spelling.{t_bit}
 use Rattle.dcsctp_spec.specs.queues.Items.{Item}
 use Rattle.dcsctp_types.specs.queues.Progress.{is_abandoned}
+use Rattle.dcsctp_types.specs.Sizes.{common_header_size, chunk_header_size, word_size}
 use Rattle.dcsctp_spec.specs.queues.Retransmission.{RetransmissionState}
 
 -- ---- the row of items that is skipped
@@ -19,9 +20,17 @@ is_row_continued place item = is_abandoned item.progress.state && ((place == 0) 
 abbrev pub is_listed : Bool → Item → Bool
 is_listed interleaving item = interleaving || not item.fragment.is_unordered
 
+-- what precedes the entries in a packet: both headers and the cumulative TSN
+abbrev pub entries_offset : ℕ
+entries_offset = common_header_size + chunk_header_size + word_size
+
+-- the size of an entry: the stream and a number of 16 bits, or with interleaving the stream, the flags and a number of 32 bits
+abbrev pub entry_size : Bool → ℕ
+entry_size interleaving = if interleaving then 8 else 4
+
 -- how many entries fit into a packet, of which there is one at least
 abbrev pub entry_limit : Bool → ℕ → ℕ
-entry_limit interleaving mtu = max ((mtu - 20) / (if interleaving then 8 else 4)) 1
+entry_limit interleaving mtu = max ((mtu - entries_offset) / entry_size interleaving) 1
 
 -- ---- streams
 

@@ -20,7 +20,7 @@ pub record TrackerState : Type 0 where
   pub cumulative : ℕ
   -- the numbers that were received beyond it
   pub ranges : List TsnRange
-  -- the TSNs that came again since the last SACK, at most 20
+  -- the TSNs that came again since the last SACK, at most `most_duplicates`
   pub duplicates : List ℕ
   pub has_seen_data : Bool
   pub acknowledgement : AckState
@@ -55,9 +55,13 @@ nearest_number cumulative tsn =
 abbrev pub has_numbers_left : ℕ → Bool
 has_numbers_left cumulative = nat_lt cumulative (2 ^ 64 - 2 ^ 32)
 
--- Is the TSN at most 65,535 ahead?
+-- How far beyond the cumulative TSN one is accepted: a gap ack block can't name a TSN that is farther (RFC 9260, section 3.3.4).
+abbrev pub greatest_distance : ℕ
+greatest_distance = 65535
+
+-- Is the TSN at most that far ahead?
 abbrev pub is_valid_tsn : ℕ → ℕ → Bool
-is_valid_tsn cumulative tsn = has_numbers_left cumulative && nat_le (nearest_number cumulative tsn) (cumulative + 65535)
+is_valid_tsn cumulative tsn = has_numbers_left cumulative && nat_le (nearest_number cumulative tsn) (cumulative + greatest_distance)
 
 -- ---- when it is acknowledged
 
@@ -128,10 +132,18 @@ new_tracker options peer_first_tsn =
       follows_rfc = options.follow_rfc;
     }
 
+-- the most duplicate TSNs that a SACK lists
+abbrev pub most_duplicates : ℕ
+most_duplicates = 20
+
+-- the most gap ack blocks that a SACK lists
+abbrev pub most_blocks : ℕ
+most_blocks = 20
+
 -- the duplicates with a TSN that isn't new, if there is room
 abbrev pub with_duplicate : ℕ → Bool → List ℕ → List ℕ
 with_duplicate tsn true duplicates = duplicates
-with_duplicate tsn false duplicates = if nat_lt (length duplicates) 20 then duplicates ++ tsn ∷ [] else duplicates
+with_duplicate tsn false duplicates = if nat_lt (length duplicates) most_duplicates then duplicates ++ tsn ∷ [] else duplicates
 
 -- is the TSN new?
 abbrev pub is_new_tsn : ℕ → TrackerState → Bool
@@ -230,14 +242,15 @@ with_timeout rto tracker =
 abbrev pub block_bytes : ℕ → TsnRange → List ℕ
 block_bytes cumulative range = to_be_bytes w16 (range.first - cumulative) ++ to_be_bytes w16 (range.last - cumulative)
 
--- what a SACK says: at most 20 gap ack blocks, the lowest, and at most 20 of the TSNs that came again (RFC 9260, section 3.3.4)
+-- What a SACK says: the first gap ack blocks, up to the most that it lists, and the TSNs that came again. A law in dcsctp_spec_laws
+-- says which TSNs the blocks cover (`sacks_cover_received`).
 abbrev pub sack_of : TrackerState → ℕ → SackContent
 sack_of tracker window =
     record {
       cumulative_tsn_ack = cumulative_tsn tracker;
       a_rwnd = window % 2 ^ 32;
-      gap_ack_blocks = flat_map (block_bytes tracker.cumulative) (take 20 tracker.ranges);
-      duplicate_tsns = flat_map (to_be_bytes w32) (take 20 tracker.duplicates);
+      gap_ack_blocks = flat_map (block_bytes tracker.cumulative) (take most_blocks tracker.ranges);
+      duplicate_tsns = flat_map (to_be_bytes w32) (take most_duplicates tracker.duplicates);
     }
 
 -- A SACK was made: all is acknowledged, and what came again is forgotten.

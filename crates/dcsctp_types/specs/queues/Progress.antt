@@ -32,12 +32,16 @@ is_abandoned Marked = false
 is_abandoned Acknowledged = false
 is_abandoned Abandoned = true
 
--- in flight, once more, before the TSN that is sent next for the first time; its misses count anew
+-- the most that is counted of how often an item was sent again: the greatest number of 16 bits
+abbrev pub most_times : ℕ
+most_times = 65535
+
+-- in flight, once more, before the TSN that is sent next for the first time; its misses count from 0 again
 abbrev pub item_sent_again : ℕ → Progress → Progress
 item_sent_again next progress =
     record progress {
       state = InFlight;
-      times_sent_again = min (progress.times_sent_again + 1) 65535;
+      times_sent_again = min (progress.times_sent_again + 1) most_times;
       sent_before = Some next;
       misses = 0;
     }
