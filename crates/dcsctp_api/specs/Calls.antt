@@ -55,7 +55,7 @@ pub record Follows (old : UserView) (turns : List Transition) (new : UserView) :
   pub drawn : Drawn old.generator (words_of turns) new.generator
 
 -- The call was made: such is its answer, and such are its turns.
-pub record Made {A : Type 0} (IsAnswer : A → Type 0) (AreTurns : List Transition → Type 0) (old : UserView) (answer : A) (new : UserView) : Type 0 where
+pub record MakesCall {A : Type 0} (IsAnswer : A → Type 0) (AreTurns : List Transition → Type 0) (old : UserView) (answer : A) (new : UserView) : Type 0 where
   pub answers : IsAnswer answer
   pub turns : List Transition
   pub are : AreTurns turns
@@ -96,7 +96,7 @@ ByFault Answered RunsOut HadFailed (Err Failed) = HadFailed
 
 -- It was made; or an allocation failed in it, and this is left; or the socket had failed, and nothing changes.
 abbrev pub Calls : {A : Type 0} → (A → Type 0) → (List Transition → Type 0) → (UserView → UserView → Type 0) → UserView → Result A SocketFault → UserView → Type 0
-Calls IsAnswer AreTurns Leaves old result new = ByFault (λ answer. Made IsAnswer AreTurns old answer new) (Leaves old new) (StaysFailed old new) result
+Calls IsAnswer AreTurns Leaves old result new = ByFault (λ answer. MakesCall IsAnswer AreTurns old answer new) (Leaves old new) (StaysFailed old new) result
 
 -- a call that has nothing to answer
 abbrev pub NoAnswer : Unit {0} → Type 0

@@ -167,14 +167,14 @@ pub trait DcSctpSocket {
     /// Why the socket can't be handed over to another process now. A closed socket can; else an association has
     /// to be established, and nothing of it may be unfinished. With the option
     /// `enable_handover_with_outstanding_data` what is sent may be unfinished. Messages that are ready make no
-    /// difference, but a handover loses them: take them first. Of what was received, each stream stands once.
+    /// difference, but the snapshot doesn't have them: take them first. Each stream is once in what was received.
     /// Allocates nothing.
     fn get_handover_readiness(&self) -> HandoverReadiness
         ensures reasons { result.0 ≡ readiness_of (user_view self.now).endpoint }
         ensures streams { AreInOrder (incoming_streams (user_view self.now).endpoint) };
 
     /// Hands the socket over to another process: returns its snapshot, from which a socket there is restored,
-    /// and ends the association here. The peer isn't told, and the last event is `SocketEvent::OnClosed`. The
+    /// and ends the association here. Nothing is sent to the peer, and the last event is `SocketEvent::OnClosed`. The
     /// snapshot has what waits and what is in flight, too, with the option
     /// `enable_handover_with_outstanding_data`. What waits stays here as well, so drop this socket. On a closed
     /// one the snapshot is that of a closed socket, and nothing happens. Each snapshot is valid for the options
@@ -191,15 +191,15 @@ pub trait DcSctpSocket {
             → readiness_of (user_view self.old).endpoint ≢ 0 → IsOk result };
 
     /// Restores a closed socket from a snapshot, which another socket with these options gave: its association
-    /// goes on here, with its tags, numbers and streams. The event is `SocketEvent::OnConnected`, and then what
+    /// continues here, with its tags, numbers and streams. The event is `SocketEvent::OnConnected`, and then what
     /// waits is sent. What waited here before is dropped. No heartbeat is sent until data is. Use each
-    /// snapshot once: two sockets that go on from it confuse the peer. The snapshot of a closed socket changes
+    /// snapshot once: two sockets that continue from it confuse the peer. The snapshot of a closed socket changes
     /// nothing.
     ///
     /// What was sent before this socket's moment zero, or was over then, counts as at moment zero. So advance the
     /// time of a new socket before you restore it, by a minute say.
     ///
-    /// The snapshot has to be valid for the options of this socket, which `SocketHandoverState::is_valid` tells.
+    /// The snapshot must be valid for the options of this socket: see `SocketHandoverState::is_valid`.
     /// `RestoreError::SocketNotClosed`: the socket has an association, or begins one. Nothing has changed, and
     /// nothing is allocated.
     fn restore_from_state(
@@ -234,7 +234,7 @@ pub trait DcSctpSocket {
     fn get_stream_priority(&self, stream_id: StreamId) -> u16
         ensures { result ≡ (stream_shown (user_view self.now) stream_id.0).priority };
 
-    /// The payload bytes that wait to be sent on a stream. Allocates nothing. Each stream stands once, and a
+    /// The payload bytes that wait to be sent on a stream. Allocates nothing. Each stream is there once, and a
     /// message of which some fragments were sent is the oldest of its stream.
     fn buffered_amount(&self, stream_id: StreamId) -> usize
         ensures amount { result ≡ (stream_shown (user_view self.now) stream_id.0).amount }

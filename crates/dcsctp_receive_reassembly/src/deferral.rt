@@ -159,7 +159,7 @@ fn handle_deferred(incoming: &mut Incoming, waiting: &WaitingData) -> Result<(),
     let copy = waiting.data.copied(incoming.alloc)?;
     let size = waiting.data.payload.len();
     incoming.queued_bytes -= size;
-    match incoming.take(waiting.tsn, copy) {
+    match incoming.add_data(waiting.tsn, copy) {
         Ok(()) => Ok(()),
         Err(error) => {
             incoming.queued_bytes += size;

@@ -18,7 +18,7 @@ use crate::arrivals::Data;
 use crate::joining::add_part;
 use crate::numbers::number_near;
 use crate::runs::Run;
-use crate::stream::{FIRST_NUMBER, Stream, part_of_data, show_unordered};
+use crate::stream::{FIRST_NUMBER, Stream, deliver_unordered, part_of_data};
 use dcsctp_api::types::{Numbering, SkippedTo, Taken};
 use dcsctp_api::{Message, StreamId};
 use std::alloc::{AllocError, Global};
@@ -63,7 +63,7 @@ pub fn make_stream(
 }
 
 // Adds data to its stream, which exists. The other streams are unchanged.
-fn take_on_made(
+fn add_to_existing_stream(
     alloc: Global,
     streams: &mut BTreeMap<u16, Stream>,
     tsn_number: u64,
@@ -77,12 +77,12 @@ fn take_on_made(
     ensures err { OnErr result ((map message_content ready.new.items ≡ map message_content ready.old.items) × (stream_on chunk.stream_id.0 (map entry_of streams.new.entries) ≡ stream_on chunk.stream_id.0 (map entry_of streams.old.entries)) × (streams_bytes (map entry_of streams.new.entries) ≡ streams_bytes (map entry_of streams.old.entries))) }
 {
     let stream = streams.get_mut(&chunk.stream_id.0).unwrap();
-    let taken = stream.take(alloc, tsn_number, chunk, ready)?;
+    let taken = stream.route_part(alloc, tsn_number, chunk, ready)?;
     Ok(taken)
 }
 
 // Adds data to its stream, which is made first. The other streams are unchanged.
-fn take_on_new(
+fn add_to_new_stream(
     alloc: Global,
     streams: &mut BTreeMap<u16, Stream>,
     tsn_number: u64,
@@ -95,13 +95,13 @@ fn take_on_new(
     ensures err { OnErr result ((map message_content ready.new.items ≡ map message_content ready.old.items) × (stream_on chunk.stream_id.0 (map entry_of streams.new.entries) ≡ stream_on chunk.stream_id.0 (map entry_of streams.old.entries)) × (streams_bytes (map entry_of streams.new.entries) ≡ streams_bytes (map entry_of streams.old.entries))) }
 {
     make_stream(alloc, streams, chunk.stream_id)?;
-    take_on_made(alloc, streams, tsn_number, chunk, ready)
+    add_to_existing_stream(alloc, streams, tsn_number, chunk, ready)
 }
 
 // Adds data to its stream, which is made if nothing was received on it yet. The other streams are unchanged.
 // An existing stream is looked up once.
 #[inline(always)]
-fn take_on(
+fn add_to_stream(
     alloc: Global,
     streams: &mut BTreeMap<u16, Stream>,
     tsn_number: u64,
@@ -115,10 +115,10 @@ fn take_on(
 {
     match streams.get_mut(&chunk.stream_id.0) {
         Some(stream) => {
-            let taken = stream.take(alloc, tsn_number, chunk, ready)?;
+            let taken = stream.route_part(alloc, tsn_number, chunk, ready)?;
             Ok(taken)
         }
-        None => take_on_new(alloc, streams, tsn_number, chunk, ready),
+        None => add_to_new_stream(alloc, streams, tsn_number, chunk, ready),
     }
 }
 
@@ -162,7 +162,7 @@ impl Incoming {
     }
 
     // A part of an unordered message of DATA was received.
-    fn take_unordered(&mut self, tsn_number: u64, chunk: Data) -> Result<(), AllocError>
+    fn add_unordered_data(&mut self, tsn_number: u64, chunk: Data) -> Result<(), AllocError>
         requires { self.old.queued_bytes + length chunk.payload.items < 2 ^ 64 }
         ensures ok { OnOk result (TakesUnorderedData tsn_number (chunk_of chunk) (incoming_of self.old) (incoming_of self.new)) }
         ensures bytes { Balances self.old self.new }
@@ -174,21 +174,21 @@ impl Incoming {
         let part = part_of_data(chunk, u128::from(tsn_number), u64::from(id.0));
         self.ready.try_reserve(1)?;
         let outcome = add_part(self.alloc, &mut self.unordered, part)?;
-        let taken = show_unordered(id, size, outcome, &mut self.ready);
+        let taken = deliver_unordered(id, size, outcome, &mut self.ready);
         self.count(taken);
         Ok(())
     }
 
     // Data of a stream was received, except for unordered DATA.
     #[inline(always)]
-    fn take_on_stream(&mut self, tsn_number: u64, chunk: Data) -> Result<(), AllocError>
+    fn add_stream_data(&mut self, tsn_number: u64, chunk: Data) -> Result<(), AllocError>
         requires { self.old.queued_bytes + length chunk.payload.items < 2 ^ 64 }
         ensures ok { OnOk result (TakesStreamData tsn_number (chunk_of chunk) (incoming_of self.old) (incoming_of self.new)) }
         ensures bytes { Balances self.old self.new }
         ensures err { OnErr result (SameIncoming (incoming_of self.old) (incoming_of self.new)) }
         ensures count { OnErr result (self.new.queued_bytes ≡ self.old.queued_bytes) }
     {
-        let taken = take_on(
+        let taken = add_to_stream(
             self.alloc,
             &mut self.streams,
             tsn_number,
@@ -201,7 +201,7 @@ impl Incoming {
 
     // Data was received whose TSN has this number.
     #[inline(always)]
-    fn take_numbered(&mut self, tsn_number: u64, chunk: Data) -> Result<(), AllocError>
+    fn route_data(&mut self, tsn_number: u64, chunk: Data) -> Result<(), AllocError>
         requires { self.old.queued_bytes + length chunk.payload.items < 2 ^ 64 }
         ensures ok { OnOk result (TakesChunk tsn_number chunk.numbering (chunk_of chunk) (incoming_of self.old) (incoming_of self.new)) }
         ensures bytes { Balances self.old self.new }
@@ -209,16 +209,16 @@ impl Incoming {
         ensures count { OnErr result (self.new.queued_bytes ≡ self.old.queued_bytes) }
     {
         match chunk.numbering {
-            Numbering::Unordered => self.take_unordered(tsn_number, chunk),
+            Numbering::Unordered => self.add_unordered_data(tsn_number, chunk),
             Numbering::Ordered { .. }
             | Numbering::InterleavedOrdered { .. }
-            | Numbering::InterleavedUnordered { .. } => self.take_on_stream(tsn_number, chunk),
+            | Numbering::InterleavedUnordered { .. } => self.add_stream_data(tsn_number, chunk),
         }
     }
 
     /// Handles data, whose bytes can be counted. `Err`: an allocation failed, and nothing has changed.
     #[inline(always)]
-    pub fn take(&mut self, tsn: u32, chunk: Data) -> Result<(), AllocError>
+    pub fn add_data(&mut self, tsn: u32, chunk: Data) -> Result<(), AllocError>
         requires { self.old.queued_bytes + length chunk.payload.items < 2 ^ 64 }
         ensures ok { OnOk result (TakesIncomingChunk tsn (chunk_of chunk) (incoming_of self.old) (incoming_of self.new)) }
         ensures bytes { Balances self.old self.new }
@@ -226,7 +226,7 @@ impl Incoming {
         ensures count { OnErr result (self.new.queued_bytes ≡ self.old.queued_bytes) }
     {
         let tsn_number = number_near(self.last_tsn_number, tsn);
-        self.take_numbered(tsn_number, chunk)?;
+        self.route_data(tsn_number, chunk)?;
         self.last_tsn_number = tsn_number;
         Ok(())
     }

@@ -214,7 +214,7 @@ impl ReassemblyQueue {
         if self.is_deferred(tsn, chunk.stream_id) {
             return self.defer(tsn, chunk);
         }
-        self.incoming.take(tsn, chunk)
+        self.incoming.add_data(tsn, chunk)
     }
 
     // Can the bytes be counted with that many more?

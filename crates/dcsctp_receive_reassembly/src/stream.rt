@@ -78,7 +78,7 @@ pub fn part_of_data(chunk: Data, place: u128, number: u64) -> Part
 
 /// What became of a part of an unordered message with that many bytes: one that makes its message whole makes
 /// it ready. There is room for it.
-pub fn show_unordered(
+pub fn deliver_unordered(
     id: StreamId,
     size: usize,
     outcome: Assembled,
@@ -105,7 +105,7 @@ pub fn show_unordered(
 
 // A part of an unordered message of this stream was received, or a whole one. If an allocation fails, nothing
 // has changed.
-fn take_unordered(
+fn add_and_deliver_at_once(
     alloc: Global,
     id: StreamId,
     fragments: &mut Fragments,
@@ -119,7 +119,7 @@ fn take_unordered(
     let size = part.payload.len();
     ready.try_reserve(1)?;
     let outcome = fragments.add(alloc, part)?;
-    Ok(show_unordered(id, size, outcome, ready))
+    Ok(deliver_unordered(id, size, outcome, ready))
 }
 
 // Does the first message that waits have this number or a smaller one?
@@ -241,7 +241,7 @@ impl Stream {
     // A part of the next message was received, or all of it: a whole one becomes ready with those that waited
     // for it.
     #[inline(always)]
-    fn take_next(
+    fn add_part_of_next(
         &mut self,
         alloc: Global,
         part: Part,
@@ -270,7 +270,7 @@ impl Stream {
     // A part of a message after the next was received, or all of it: a whole one waits. A place for it is
     // taken first, so that nothing fails once its parts are joined.
     #[inline(never)]
-    fn take_ahead(&mut self, alloc: Global, part: Part) -> Result<Taken, AllocError>
+    fn add_part_of_later(&mut self, alloc: Global, part: Part) -> Result<Taken, AllocError>
         requires ahead { self.old.next < part.number }
         requires fresh { get nat_cmp self.old.waiting part.number ≡ None }
         requires place { part.place / 2 ^ 64 ≡ part.number }
@@ -310,7 +310,7 @@ impl Stream {
     /// dropped. If a message of the same number waits already, this one becomes ready once it is whole.
     /// `Err`: an allocation failed, and nothing has changed.
     #[inline(always)]
-    pub fn take_ordered(
+    pub fn add_ordered_part(
         &mut self,
         alloc: Global,
         part: Part,
@@ -325,18 +325,18 @@ impl Stream {
             return Ok(NOTHING);
         }
         if waits(&self.waiting, part.number) {
-            return take_unordered(alloc, self.id, &mut self.ordered, part, ready);
+            return add_and_deliver_at_once(alloc, self.id, &mut self.ordered, part, ready);
         }
         if part.number == self.next {
-            self.take_next(alloc, part, ready)
+            self.add_part_of_next(alloc, part, ready)
         } else {
-            self.take_ahead(alloc, part)
+            self.add_part_of_later(alloc, part)
         }
     }
 
     /// A part of an unordered I-DATA message was received, or a whole one. `Err`: an allocation failed, and
     /// nothing has changed.
-    pub fn take_unordered(
+    pub fn add_unordered_part(
         &mut self,
         alloc: Global,
         part: Part,
@@ -347,12 +347,12 @@ impl Stream {
         ensures ordered { (self.new.id ≡ self.old.id) × (self.new.next ≡ self.old.next) × (self.new.last_unordered ≡ self.old.last_unordered) × (self.new.waiting.entries ≡ self.old.waiting.entries) × (self.new.ordered ≡ self.old.ordered) }
         ensures err { OnErr result ((stream_model self.new ≡ stream_model self.old) × (map message_content ready.new.items ≡ map message_content ready.old.items)) }
     {
-        take_unordered(alloc, self.id, &mut self.unordered, part, ready)
+        add_and_deliver_at_once(alloc, self.id, &mut self.unordered, part, ready)
     }
 
     /// Adds data of this stream, except for unordered DATA. `Err`: an allocation failed, and nothing has
     /// changed.
-    pub fn take(
+    pub fn route_part(
         &mut self,
         alloc: Global,
         tsn_number: u64,
@@ -366,23 +366,23 @@ impl Stream {
             Numbering::Ordered { ssn } => {
                 let number = short_number_from(self.next, ssn);
                 let part = part_of_data(chunk, fragment_place(number, tsn_number), number);
-                self.take_ordered(alloc, part, ready)
+                self.add_ordered_part(alloc, part, ready)
             }
             Numbering::InterleavedOrdered { mid, fsn } => {
                 let number = number_near(self.next, mid);
                 let part = part_of_data(chunk, fragment_place(number, u64::from(fsn)), number);
-                self.take_ordered(alloc, part, ready)
+                self.add_ordered_part(alloc, part, ready)
             }
             Numbering::InterleavedUnordered { mid, fsn } => {
                 let number = number_near(self.last_unordered, mid);
                 let part = part_of_data(chunk, fragment_place(number, u64::from(fsn)), number);
-                let taken = self.take_unordered(alloc, part, ready)?;
+                let taken = self.add_unordered_part(alloc, part, ready)?;
                 self.last_unordered = number;
                 Ok(taken)
             }
             Numbering::Unordered => {
                 let part = part_of_data(chunk, u128::from(tsn_number), 0);
-                self.take_unordered(alloc, part, ready)
+                self.add_unordered_part(alloc, part, ready)
             }
         }
     }

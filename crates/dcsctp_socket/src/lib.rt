@@ -3,7 +3,7 @@
 //! There are four kinds of call. Queries (`state`, `association`, `messages_ready_count`, `has_failed`, ..)
 //! answer and change nothing. Inputs (`handle_input`, `advance_time`) bring what the peer sent, and the
 //! time. Commands (`connect`, `close`, `send`, `reset_streams`, ..) say what the user wants. Polls
-//! (`poll_event`, `get_next_message`, `poll_timeout`) take events and messages, and tell when to call again.
+//! (`poll_event`, `get_next_message`, `poll_timeout`) take events and messages, and say when to call again.
 //!
 //! A user drives it by a loop. This is one round (the crate `dcsctp_example` has it whole, with its contract):
 //!
@@ -35,7 +35,7 @@
 //! earlier. A packet that the peer never answered is sent again then. Each call may move that moment.
 //!
 //! A socket moves to another process by a snapshot: `get_handover_state_and_close` gives it, and a new socket
-//! with the same options goes on from it by `restore_from_state`. The snapshot's types stand in `api::handover`.
+//! with the same options continues from it by `restore_from_state`. The snapshot's types are in `api::handover`.
 #![tactic(auto)]
 
 mod socket;

@@ -23,7 +23,7 @@ pub struct Socket<R> {
 
     failed: bool,
 
-    // The running deadlines. Each call that may move a timer ends by making the list anew.
+    // The running deadlines. Each call that may move a timer ends by making the list again.
     deadlines: Deadlines,
 }
 
@@ -78,7 +78,7 @@ impl<R: Rng + Drop> Socket<R> {
 
     /// Makes a closed socket, at moment zero. Random words come from `rng`; `name` has no effect.
     ///
-    /// The options have to be valid, which `Options::is_valid` tells.
+    /// The options must be valid: see `Options::is_valid`.
     pub fn new(
         alloc: Global,
         name: &str,
@@ -207,7 +207,7 @@ impl<R: Rng + Drop> DcSctpSocket for Socket<R> {
     }
 
     fn advance_time(&mut self, now: SocketTime) -> Result<(), SocketFault> {
-        // The clock of a socket that has failed stands still.
+        // The clock of a socket that has failed doesn't move.
         if self.failed {
             return Err(SocketFault::Failed);
         }

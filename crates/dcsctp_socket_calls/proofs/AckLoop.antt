@@ -1,4 +1,4 @@
--- The SHUTDOWN ACK chunks of a packet are worked one after another.
+-- The SHUTDOWN ACK chunks of a packet are handled one after another.
 use Rattle.std.proofs.Common.{◌≡◌, ℕ, ◌+◌, ◌<◌, Bool, true, false, Option, None, Some, List, [], ◌∷◌, ◌++◌, length, take, drop, get_or, refl, sym, ap, subst, ◌∙◌}
 use Rattle.std.specs.List.{AllByRecursion}
 use Rattle.std.proofs.lemmas.List.{take-append-drop}
@@ -18,7 +18,7 @@ use Rattle.dcsctp_spec_laws.proofs.TurnLemmas.{GoOn, further, and_further, chunk
 use Rattle.dcsctp_core_ends.specs.Shutdown.{is_open_core}
 use Rattle.dcsctp_socket_calls.proofs.ChunkLoop.{contents_of, contents_append, contents_more, contents_split}
 
--- ---- where they are worked alone
+-- ---- where they are handled alone
 
 where_never : (b : Bool) (text : List ℕ) → admitted_where b text ≡ shutdown_acks_alone → true ≡ false
 where_never true text is = absurd (cc)
@@ -84,7 +84,7 @@ no_ack (kinds.ForwardTsn chunk) other = refl
 no_ack (kinds.IForwardTsn chunk) other = refl
 no_ack (kinds.Unknown chunk) other = refl
 
--- ---- turns behind one another
+-- ---- turns one after another
 
 pub turns_append : (e : Endpoint) (tag : ℕ) (xs ys : List Content) (ts us : List Transition) → GoOn ts → ChunkTurns e tag xs [] ts → ChunkTurns (after_all e ts) tag ys [] us
     → ChunkTurns e tag (xs ++ ys) [] (ts ++ us)
@@ -111,7 +111,7 @@ ack_more e now tag list i chunk ts us below is goes_on first here second =
     (turns_append e tag (acks_of (take i list)) (shutdown_acks_in (content_in (chunk_content chunk) ∷ [])) ts us goes_on first
     (subst (λ (x : Endpoint). ChunkTurns x tag (shutdown_acks_in (content_in (chunk_content chunk) ∷ [])) [] us) here second))
 
--- One chunk more had its turn, a SHUTDOWN ACK behind which no other has one.
+-- One chunk more had its turn, a SHUTDOWN ACK after which no other has one.
 pub acks_cut : (e now : Endpoint) (tag : ℕ) (list : List Chunk) (i : ℕ) (chunk : Chunk) (ts : List Transition) (last : Transition) → i < length list → chunk ≡ get_or list i chunk
     → GoOn ts → ChunkTurns e tag (acks_of (take i list)) [] ts → now ≡ after_all e ts → content_in (chunk_content chunk) ≡ shutdown_ack
     → IsTurn now (chunk_input tag (content_in (chunk_content chunk))) last → last.outcome.following ≡ packet_end

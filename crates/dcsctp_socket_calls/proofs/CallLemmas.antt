@@ -38,7 +38,7 @@ refused_packet stream a b packet text is moves =
       moves = moves_one stream a b (reported a.endpoint text) moves;
     }
 
--- A packet whose SHUTDOWN ACK chunks alone are worked has their turns.
+-- A packet whose SHUTDOWN ACK chunks alone are handled has their turns.
 pub acks_worked : {R : Type 0} (stream : R → Stream) (a b : View R) (packet : PacketContent) → admits a.endpoint.core (packet_in packet) ≡ shutdown_acks_alone → AcksMove stream packet a b
     → PacketMoves stream packet a b
 acks_worked stream a b packet is worked =
@@ -124,13 +124,13 @@ unreadable_input {R = R} stream old a b c bytes options text begins counted is n
     let here : (packet : PacketContent) → IsPacket (wire_options a.endpoint.options) packet bytes → ⊥ = λ packet found. none packet (subst (λ (o : WireOptions). IsPacket o packet bytes) (sym (options_of stream a b options counted is)) found) in
     called_input stream bytes old c (subst (λ (v : View R). Called stream bytes v c) begins (unreadable_call stream a b c bytes here counted (subst (λ (t : List ℕ). Moves stream b (refusal_outcome b.endpoint t) c) says moves)))
 
--- ---- where a growth was refused
+-- ---- where an allocation failed
 
 -- no turn was finished
 pub adds_none : (ports : Ports) (events : List (Event (List ℕ))) → AddsFirstEvents ports [] events events
 adds_none ports events = record { added = []; rest = []; behind = sym (append-nil events); front = refl }
 
--- These turns were finished, and no event was added behind theirs.
+-- These turns were finished, and no event was added after theirs.
 pub adds_whole : {R : Type 0} (stream : R → Stream) (a b : View R) (turns : List Transition) (events : List (Event (List ℕ))) → MovesAll stream a turns b → events ≡ b.events
     → AddsFirstEvents (ports_of a.endpoint.options) turns a.events events
 adds_whole stream a b turns events moves same =

@@ -1,4 +1,4 @@
--- The chunks of a packet are worked one after another.
+-- The chunks of a packet are handled one after another.
 use Rattle.std.proofs.Common.{◌≡◌, ℕ, ◌+◌, ◌<◌, List, [], ◌∷◌, ◌++◌, length, map, take, drop, get_or, refl, sym, ap, subst, ◌∙◌, append_assoc}
 use Rattle.std.proofs.lemmas.List.{take_more, take-map, map-append, take-append-drop}
 use Rattle.dcsctp_core.specs.wire.declared.chunk.Chunk.{Chunk}
@@ -44,7 +44,7 @@ worked_as tag content outcome = transition (chunk_input tag content) outcome
 pub is_worked : (e now : Endpoint) (tag : ℕ) (content : Content) (outcome : Outcome) → now ≡ e → ContentTurn now tag content outcome → IsTurn e (chunk_input tag content) (worked_as tag content outcome)
 is_worked e now tag content outcome here turn = record { is = refl; comes = subst (λ (x : Endpoint). ContentTurn x tag content outcome) here turn }
 
--- One more chunk is worked.
+-- One more chunk is handled.
 pub turns_more : (e now : Endpoint) (tag : ℕ) (chunks : List Chunk) (i : ℕ) (chunk : Chunk) (turns : List Transition) (outcome : Outcome)
     → i < length chunks → chunk ≡ get_or chunks i chunk
     → GoOn turns → ChunkTurns e tag (contents_of (take i chunks)) [] turns
@@ -110,7 +110,7 @@ ports_more e now tag content turns outcome here turn same =
     ∙ ap (λ (x : Endpoint). ports_of x.options) here
     ∙ same
 
--- ---- where a growth was refused
+-- ---- where an allocation failed
 
 contents_taken : (count : ℕ) (chunks : List Chunk) → contents_of (take count chunks) ≡ take count (contents_of chunks)
 contents_taken count chunks =

@@ -141,7 +141,7 @@ expiry_keeps e t1_timer o turn = ap ports_of (acts_are_controlled e (t1_expires 
 expiry_keeps e (own_timer timer) o turn = ap ports_of (timer_controlled e timer o turn).1.options
 expiry_keeps e t2_timer o turn = t2_keeps e (has_restart e.timers.t2) o turn
 
--- ---- one timer, and those behind it
+-- ---- one timer, and those after it
 
 -- the turn of a timer
 abbrev expired : Endpoint → Timer → Outcome → Transition
@@ -172,9 +172,9 @@ rested_moves {R = R} stream a b c timer timers has_expired due same rest =
     let here : TurnsMove stream (ExpiryTurns timers has_expired) a c = subst (λ (v : View R). TurnsMove stream (ExpiryTurns timers has_expired) v c) same rest in
     record { turns = here.turns; are = rested_are a.endpoint timer timers has_expired here.turns due here.are; moves = here.moves }
 
--- ---- where a growth was refused
+-- ---- where an allocation failed
 
--- further turns behind those that were cut
+-- further turns after those that were cut
 adds_more : (ports : Ports) (turns more : List Transition) (old new : List (Event (List ℕ))) → AddsFirstEvents ports turns old new → AddsFirstEvents ports (turns ++ more) old new
 adds_more ports turns more old new adds =
     record {
@@ -251,7 +251,7 @@ timer_then stream old mid new timer timers before false (Err error) handled work
 
 -- ---- what follows the timers
 
--- the turns behind, by whether too many errors were counted
+-- the turns that follow, by whether too many errors were counted
 abbrev TurnsWhere : Bool → List Input → Endpoint → List Transition → Type 0
 TurnsWhere many inputs e turns = Turns e (ends_where many inputs) turns
 

@@ -88,7 +88,7 @@ pub nothing_restored : {R : Type 0} (stream : R → Stream) (old start : View R)
     → CallMoved stream (RestoringTurns state) old start
 nothing_restored stream old start state begins none = unmoved stream old start state begins (no_turn_from_closed old.endpoint old.endpoint.core state.socket_state state none refl)
 
--- the turn of a restore, and that of the flush behind it
+-- the turn of a restore, and that of the flush after it
 both_at : (e : Endpoint) (core : Core) (state : Snapshot) (connection : HandoverSocketState) (first second : Transition) → core ≡ closed → connection ≡ states.Connected
     → Turns e (restores state ∷ act_input flushes ∷ []) (first ∷ second ∷ []) → (state.socket_state ≡ connection) → Turns e (inputs_of_restore core state) (first ∷ second ∷ [])
 both_at e closed state connection first second none connected turns is =

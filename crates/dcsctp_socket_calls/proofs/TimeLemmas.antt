@@ -1,4 +1,4 @@
--- The turns of a socket that is told the time, from what the handlers of its timers say.
+-- The turns of `advance_time`, from what the handlers of the timers say.
 use Rattle.std.proofs.Common.{◌≡◌, ◌≤◌, ◌<◌, ℕ, Bool, true, List, [], ◌∷◌, refl, sym, subst, arith}
 use Rattle.std.proofs.lemmas.List.{append-nil}
 use Rattle.std.specs.Prelude.{nat_le}
@@ -51,7 +51,7 @@ time_moves {R = R} stream old start new moment begins later m =
       moves = moves_then stream a here (view_of new) (transition (time_passes moment) (still (clock_at moment a.endpoint)) ∷ []) moved.turns refl (clock_moves stream a moment) moved.moves;
     }
 
--- A growth was refused in what was due.
+-- An allocation failed in what was due.
 pub time_cut : {R : Type 0} (old start : Context R) (moment : ℕ) (es : List (Event (List ℕ))) → view_of start ≡ call_start (view_of old) → start.moment ≤ moment
     → TurnsCut DueTurns (view_of (record start { moment = moment })) es
     → TurnsCut (TurnsOf (advance_call moment)) (view_of old) es
@@ -67,7 +67,7 @@ time_cut {R = R} old start moment es begins later cut =
 
 -- ---- where nothing is due
 
--- What waits in a phase has no deadline but those that are told.
+-- What waits in a phase has no deadline but those that are listed.
 none_due_in : (e : Endpoint) (moment : ℕ) (core : Core) → AwaitsNoCookieAck core → e.moment ≤ moment → moment < next_of e.moment (deadlines_of e (timers_counted core)) → NoneIsDue (clock_at moment e) (timers_in core)
 none_due_in e moment closed phase present next = none_is_due moment e [] present next
 none_due_in e moment (cookie_wait my) phase present next = none_is_due moment e (t1_timer ∷ []) present next

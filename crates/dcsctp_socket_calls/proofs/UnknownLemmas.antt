@@ -50,7 +50,7 @@ report_fits options chunk valid =
     let within : 12 + (8 + length cut + padding_of (8 + length cut)) ≤ packet_size_limit options = padded (length cut) (packet_size_limit options) valid.least_size (whole_size options) (short options chunk) in
     ap (λ (n : ℕ). nat_le (12 + n) (packet_size_limit options)) long ∙ grind (arith, nat_tests, within)
 
--- ---- the peer is told
+-- ---- a report to the peer
 
 -- where a peer is held
 reported_at : (e : Endpoint) (state : State) (tcb : TransmissionControlBlock) (chunk : List ℕ) → tcb_of state ≡ Some tcb
@@ -75,7 +75,7 @@ report_moves {R = R} stream old new tcb chunk bytes limit with_checksum held che
     moves_as stream (view_of old) (view_of new) _ _ (reported_at e old.state tcb chunk held)
     (emitted_sends stream (view_of old) (view_of new) (tcb.capabilities.zero_checksum_method.0 == 0) tcb.peer.tag (plain (unknown_error e chunk)) (report_fits old.options chunk old.valid) out)
 
--- ---- the user is told, and then the peer
+-- ---- a report to the user, and then to the peer
 
 told_is : (e : Endpoint) (state : State) (type : ℕ) (chunk : List ℕ)
     → unknown_chunk_outcome e (core_of state) type chunk ≡ behind [] (error ParseFailed (unknown_text type) ∷ []) (reported_outcome e (core_of state) chunk)
@@ -106,7 +106,7 @@ told_moves {R = R} stream old mid c type text chunk is first second =
     (moves_behind stream (view_of old) (view_of mid) c [] (error ParseFailed (unknown_text type) ∷ []) (reported_outcome (endpoint_of old) (core_of old.state) chunk)
     (told_adds stream (view_of old) (view_of mid) type text is first) (told_draws stream (view_of old) (view_of mid) text first) here)
 
--- The user alone was told.
+-- It was reported to the user alone.
 pub told_cut : {R : Type 0} (stream : R → Stream) (old mid : Context R) (c : View R) (type : ℕ) (text chunk : List ℕ) → text ≡ unknown_text type
     → Moves stream (view_of old) (reports (endpoint_of old) ParseFailed text) (view_of mid) → c ≡ view_of mid
     → CutTurn (view_of old) (unknown_chunk_turn type chunk (view_of old)) c.events

@@ -1,4 +1,4 @@
--- A packet that is worked whole: the turn that stands before its chunks, they, and its end.
+-- A packet that is handled whole: the turn before its chunks, they, and its end.
 use Rattle.std.proofs.Common.{◌≡◌, ℕ, Bool, true, false, List, [], ◌∷◌, refl, ap, subst, ◌∙◌, inl, inr, Result, Ok, Err}
 use Rattle.rand_core.specs.Stream.{Stream}
 use Rattle.dcsctp_core.specs.wire.Content.{PacketContent}
@@ -18,7 +18,7 @@ use Rattle.dcsctp_core_ends.specs.Shutdown.{where_open, repeated_in}
 use Rattle.dcsctp_socket_calls.specs.Parts.{packet_begun, begin_turn, ChunksToEnd, ChunksMove, WholeMoves, ChunksCut, WholeCut, WorksChunks, HandlesWholePacket}
 use Rattle.dcsctp_socket_calls.proofs.ExpiryLemmas.{adds_behind}
 
--- ---- what stands before the chunks
+-- ---- what precedes the chunks
 
 begins_open : (e : Endpoint) (phase : OpenPhase) (my : Pair) (held : Held) → BeginTurn e (open_in phase my held) true (repeated_in e phase my held)
 begins_open e established my held = refl
@@ -81,7 +81,7 @@ worked_whole stream a b c packet first rest =
       moves = moves_then stream a b c (begun packet a ∷ []) rest.turns (begun_ports packet a) (moves_one stream a b (begun packet a) first) rest.moves;
     }
 
--- Some of the chunks had their turns behind it.
+-- Some of the chunks had their turns after it.
 pub whole_cut_rest : {R : Type 0} (stream : R → Stream) (a b : View R) (packet : PacketContent) (events : List (Event (List ℕ))) → Moves stream a (begin_turn packet a) b → ChunksCut packet b events
     → WholeCut packet a events
 whole_cut_rest stream a b packet events first cut =

@@ -5,7 +5,7 @@ use Rattle.dcsctp_core.specs.spec.endpoint.Outcome.{Outcome, still, sends}
 use Rattle.dcsctp_core.specs.spec.endpoint.PlainOutcomes.{unknown_report, unknown_chunk_outcome, unknown_outcome}
 use Rattle.dcsctp_core.specs.View.{View}
 
--- The peer is told, if it is known.
+-- It is reported to the peer, if there is one.
 abbrev pub reported_outcome : Endpoint → Core → List ℕ → Outcome
 reported_outcome e (cookie_echoed my held cookie) chunk = sends e [] [] (unknown_report e held chunk)
 reported_outcome e (open_in phase my held) chunk = sends e [] [] (unknown_report e held chunk)
@@ -14,7 +14,7 @@ reported_outcome e core chunk = still e
 abbrev pub reported_turn : {R : Type 0} → List ℕ → View R → Outcome
 reported_turn chunk view = reported_outcome view.endpoint view.endpoint.core chunk
 
--- The user is told, and then the peer.
+-- It is reported to the user, and then to the peer.
 abbrev pub unknown_chunk_turn : {R : Type 0} → ℕ → List ℕ → View R → Outcome
 unknown_chunk_turn type chunk view = unknown_chunk_outcome view.endpoint view.endpoint.core type chunk
 

@@ -39,7 +39,7 @@ pub fn get_handover_state_and_close<R: Rng>(
     Ok(Ok(state))
 }
 
-/// A closed socket goes on from a snapshot, which has to be valid for its options, and sends what waits. `Err`:
+/// A closed socket continues from a snapshot, which must be valid for its options, and sends what waits. `Err`:
 /// an allocation failed; the first of the call's events may already have been added.
 pub fn restore_from_state<R: Rng>(
     context: &mut Context<R>,

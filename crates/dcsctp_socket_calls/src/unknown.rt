@@ -103,7 +103,7 @@ fn tell<R: Rng>(context: &mut Context<R>, chunk: &UnknownChunk<'_>) -> Result<()
     Ok(())
 }
 
-/// Handles a chunk of a type that isn't known. If its second bit says so, the user is told. So is the peer,
+/// Handles a chunk of a type that isn't known. If its second bit says so, it is reported to the user. So it is to the peer,
 /// by an ERROR with as much of the chunk as fits `mtu`. Unless its first bit says so, no other chunk of the
 /// packet is handled.
 ///

@@ -1,4 +1,5 @@
 pub use Rattle.dcsctp_wire.specs as wire
+pub mod ByResult
 pub mod Ids
 pub mod Offer
 pub mod Readiness

@@ -17,7 +17,7 @@ returns-clause-turn g c =
 pub returns-then-lt-clause-turn : goal.returns-then-lt-clause-turn
 returns-then-lt-clause-turn g c = (tt, early_time_moves g.R.Rng.stream c.args.context.now c.begin_call.new.self c.args.now c.begin_call.ensures (search rules))
 
--- Where nothing is due no growth is refused.
+-- Where nothing is due no allocation fails.
 pub returns-in_err-handle_timers-clause-waits : goal.returns-in_err-handle_timers-clause-waits
 returns-in_err-handle_timers-clause-waits g c =
     rw (err_from_is_err_and c.from_residual.result c.from_residual.ensures.1).1

@@ -20,7 +20,7 @@ pub handle_shutdown_acks-requires : goal.handle_shutdown_acks-requires
 handle_shutdown_acks-requires g c =
     alone_is_shut (core_of c.args.context.now.state) (packet_in (packet_content c.args.packet.now)) (sym c.admit.ensures ∙ ap admission_of c.in-ShutdownAcksAlone.is)
 
--- They are worked.
+-- They are handled.
 pub returns-in_ok-handle_shutdown_acks-in-ShutdownAcksAlone : goal.returns-in_ok-handle_shutdown_acks-in-ShutdownAcksAlone
 returns-in_ok-handle_shutdown_acks-in-ShutdownAcksAlone g c =
     acks_worked g.R.Rng.stream (view_of c.args.context.now) (view_of c.handle_shutdown_acks.new.context) (packet_content c.args.packet.now)

@@ -14,7 +14,7 @@ use Rattle.dcsctp_socket_calls.proofs.AckLoop.{acks_of, ack_more, acks_cut, go_o
 use Rattle.dcsctp_socket_calls.proofs.CallLemmas.{adds_whole}
 use Rattle.dcsctp_socket_calls.proofs.calls.handle_shutdown_acks.Goals as goal
 
--- One more is worked, if it is one.
+-- One more is handled, if it is one.
 pub loop-chunk-preserved : goal.loop-chunk-preserved
 loop-chunk-preserved g c =
     let done = c.loop-chunk.invariant in

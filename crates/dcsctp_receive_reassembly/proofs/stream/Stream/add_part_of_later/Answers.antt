@@ -7,7 +7,7 @@ use Rattle.dcsctp_receive_reassembly.specs.declared.runs.Assembled.{Assembled}
 use Rattle.dcsctp_receive_reassembly.specs.Runs.{IsOfMessage, assembled_of, whole_of}
 use Rattle.dcsctp_receive_reassembly.specs.Streams.{stream_model, HoldsPlace}
 use Rattle.dcsctp_receive_reassembly.proofs.WaitingLemmas.{place_there, takes_waiting}
-use Rattle.dcsctp_receive_reassembly.proofs.stream.Stream.take_ahead.Goals as goal
+use Rattle.dcsctp_receive_reassembly.proofs.stream.Stream.add_part_of_later.Goals as goal
 
 pub fill_place-requires : goal.fill_place-requires
 fill_place-requires c =

@@ -12,34 +12,34 @@ use Rattle.dcsctp_api.specs.spec.queues.Incoming.{stream_on}
 use Rattle.dcsctp_receive_reassembly.proofs.ResultFacts.{on_err}
 use Rattle.dcsctp_receive_reassembly.proofs.StreamBytes.{chunk_counted}
 use Rattle.dcsctp_receive_reassembly.proofs.StreamSums.{Written, stream_written}
-use Rattle.dcsctp_receive_reassembly.proofs.incoming.take_on_made.Goals as goal
+use Rattle.dcsctp_receive_reassembly.proofs.incoming.add_to_existing_stream.Goals as goal
 
 pub returns-clause-ok : goal.returns-clause-ok
 returns-clause-ok c =
     let found : get nat_cmp c.args.streams.now c.args.chunk.stream_id.0 ≡ Some c.unwrap-stream.result.now = sym (subst (λ o. option_copied_mut o ≡ get nat_cmp c.args.streams.now c.args.chunk.stream_id.0) c.unwrap-stream.ensures c.get_mut.ensures.value) in
-    let written : Written c.args.chunk.stream_id.0 c.args.streams.now (c.get_mut.follows.lender c.take.new.self) c.unwrap-stream.result.now c.take.new.self = stream_written c.args.chunk.stream_id.0 c.args.streams.now (c.get_mut.follows.lender c.take.new.self) c.unwrap-stream.result.now c.take.new.self found (c.get_mut.follows.holds c.take.new.self) in
-    subst (λ (old : StreamModel). TakesOnStream c.args.tsn_number (chunk_of c.args.chunk) old (map message_content c.args.ready.now.items) c.in_ok-taken.taken (stream_on c.args.chunk.stream_id.0 (map entry_of (c.get_mut.follows.lender c.take.new.self).entries)) (map message_content c.take.new.ready.items)) (sym written.was)
-    (subst (λ (new : StreamModel). TakesOnStream c.args.tsn_number (chunk_of c.args.chunk) (stream_model c.unwrap-stream.result.now) (map message_content c.args.ready.now.items) c.in_ok-taken.taken new (map message_content c.take.new.ready.items)) (sym written.becomes) c.in_ok-taken.ensures.ok)
+    let written : Written c.args.chunk.stream_id.0 c.args.streams.now (c.get_mut.follows.lender c.route_part.new.self) c.unwrap-stream.result.now c.route_part.new.self = stream_written c.args.chunk.stream_id.0 c.args.streams.now (c.get_mut.follows.lender c.route_part.new.self) c.unwrap-stream.result.now c.route_part.new.self found (c.get_mut.follows.holds c.route_part.new.self) in
+    subst (λ (old : StreamModel). TakesOnStream c.args.tsn_number (chunk_of c.args.chunk) old (map message_content c.args.ready.now.items) c.in_ok-taken.taken (stream_on c.args.chunk.stream_id.0 (map entry_of (c.get_mut.follows.lender c.route_part.new.self).entries)) (map message_content c.route_part.new.ready.items)) (sym written.was)
+    (subst (λ (new : StreamModel). TakesOnStream c.args.tsn_number (chunk_of c.args.chunk) (stream_model c.unwrap-stream.result.now) (map message_content c.args.ready.now.items) c.in_ok-taken.taken new (map message_content c.route_part.new.ready.items)) (sym written.becomes) c.in_ok-taken.ensures.ok)
 
 pub returns-clause-others : goal.returns-clause-others
 returns-clause-others c =
     let found : get nat_cmp c.args.streams.now c.args.chunk.stream_id.0 ≡ Some c.unwrap-stream.result.now = sym (subst (λ o. option_copied_mut o ≡ get nat_cmp c.args.streams.now c.args.chunk.stream_id.0) c.unwrap-stream.ensures c.get_mut.ensures.value) in
-    (stream_written c.args.chunk.stream_id.0 c.args.streams.now (c.get_mut.follows.lender c.take.new.self) c.unwrap-stream.result.now c.take.new.self found (c.get_mut.follows.holds c.take.new.self)).others
+    (stream_written c.args.chunk.stream_id.0 c.args.streams.now (c.get_mut.follows.lender c.route_part.new.self) c.unwrap-stream.result.now c.route_part.new.self found (c.get_mut.follows.holds c.route_part.new.self)).others
 
 pub returns-clause-bytes : goal.returns-clause-bytes
 returns-clause-bytes c =
     let found : get nat_cmp c.args.streams.now c.args.chunk.stream_id.0 ≡ Some c.unwrap-stream.result.now = sym (subst (λ o. option_copied_mut o ≡ get nat_cmp c.args.streams.now c.args.chunk.stream_id.0) c.unwrap-stream.ensures c.get_mut.ensures.value) in
-    let written : Written c.args.chunk.stream_id.0 c.args.streams.now (c.get_mut.follows.lender c.take.new.self) c.unwrap-stream.result.now c.take.new.self = stream_written c.args.chunk.stream_id.0 c.args.streams.now (c.get_mut.follows.lender c.take.new.self) c.unwrap-stream.result.now c.take.new.self found (c.get_mut.follows.holds c.take.new.self) in
-    let counted = chunk_counted c.args.tsn_number (chunk_of c.args.chunk) (stream_model c.unwrap-stream.result.now) (map message_content c.args.ready.now.items) c.in_ok-taken.taken (stream_model c.take.new.self) (map message_content c.take.new.ready.items) c.in_ok-taken.ensures.ok in
+    let written : Written c.args.chunk.stream_id.0 c.args.streams.now (c.get_mut.follows.lender c.route_part.new.self) c.unwrap-stream.result.now c.route_part.new.self = stream_written c.args.chunk.stream_id.0 c.args.streams.now (c.get_mut.follows.lender c.route_part.new.self) c.unwrap-stream.result.now c.route_part.new.self found (c.get_mut.follows.holds c.route_part.new.self) in
+    let counted = chunk_counted c.args.tsn_number (chunk_of c.args.chunk) (stream_model c.unwrap-stream.result.now) (map message_content c.args.ready.now.items) c.in_ok-taken.taken (stream_model c.route_part.new.self) (map message_content c.route_part.new.ready.items) c.in_ok-taken.ensures.ok in
     omega (arith, written.bytes, counted.bytes)
 
 pub returns-in_err-taken-clause-others : goal.returns-in_err-taken-clause-others
 returns-in_err-taken-clause-others c =
     let found : get nat_cmp c.args.streams.now c.args.chunk.stream_id.0 ≡ Some c.unwrap-stream.result.now = sym (subst (λ o. option_copied_mut o ≡ get nat_cmp c.args.streams.now c.args.chunk.stream_id.0) c.unwrap-stream.ensures c.get_mut.ensures.value) in
-    (stream_written c.args.chunk.stream_id.0 c.args.streams.now (c.get_mut.follows.lender c.take.new.self) c.unwrap-stream.result.now c.take.new.self found (c.get_mut.follows.holds c.take.new.self)).others
+    (stream_written c.args.chunk.stream_id.0 c.args.streams.now (c.get_mut.follows.lender c.route_part.new.self) c.unwrap-stream.result.now c.route_part.new.self found (c.get_mut.follows.holds c.route_part.new.self)).others
 
 pub returns-in_err-taken-clause-err : goal.returns-in_err-taken-clause-err
 returns-in_err-taken-clause-err c =
     let found : get nat_cmp c.args.streams.now c.args.chunk.stream_id.0 ≡ Some c.unwrap-stream.result.now = sym (subst (λ o. option_copied_mut o ≡ get nat_cmp c.args.streams.now c.args.chunk.stream_id.0) c.unwrap-stream.ensures c.get_mut.ensures.value) in
-    let written : Written c.args.chunk.stream_id.0 c.args.streams.now (c.get_mut.follows.lender c.take.new.self) c.unwrap-stream.result.now c.take.new.self = stream_written c.args.chunk.stream_id.0 c.args.streams.now (c.get_mut.follows.lender c.take.new.self) c.unwrap-stream.result.now c.take.new.self found (c.get_mut.follows.holds c.take.new.self) in
+    let written : Written c.args.chunk.stream_id.0 c.args.streams.now (c.get_mut.follows.lender c.route_part.new.self) c.unwrap-stream.result.now c.route_part.new.self = stream_written c.args.chunk.stream_id.0 c.args.streams.now (c.get_mut.follows.lender c.route_part.new.self) c.unwrap-stream.result.now c.route_part.new.self found (c.get_mut.follows.holds c.route_part.new.self) in
     on_err c.from_residual.result (c.in_err-taken.ensures.err.1, written.becomes ∙ c.in_err-taken.ensures.err.0 ∙ sym written.was, omega (arith, written.bytes, ap kept_stream_bytes c.in_err-taken.ensures.err.0))
