@@ -26,3 +26,9 @@ pub mod SoundChanges
 pub mod SoundTurns
 pub mod ValidityLemmas
 pub mod InitLemmas
+pub mod RangeLemmas
+pub mod CongestionLemmas
+pub mod SackBlockLemmas
+pub mod WindowLemmas
+pub mod FlushWindowLemmas
+pub mod TrackedLemmas

@@ -1,3 +1,7 @@
+pub mod CongestionLaws
 pub mod LeftLaws
+pub mod RangeLaws
+pub mod SackLaws
 pub mod SoundnessLaws
 pub mod TurnLaws
+pub mod WindowLaws

@@ -4,6 +4,10 @@ ghost use Rattle.std.specs.Prelude.{◌^◌};
 ghost use Rattle.dcsctp_spec_laws.specs.TurnLaws.{InitLeavesAssociation, ChunksAreControlled, ActsAreControlled, TimersAreControlled};
 ghost use Rattle.dcsctp_spec_laws.specs.LeftLaws.{MessagesLeftStay};
 ghost use Rattle.dcsctp_spec_laws.specs.SoundnessLaws.{CallsKeepSoundness, SnapshotsAreValid};
+ghost use Rattle.dcsctp_spec_laws.specs.RangeLaws.{SetsFollowRule};
+ghost use Rattle.dcsctp_spec_laws.specs.SackLaws.{SacksCoverReceived, TrackersStayTracked};
+ghost use Rattle.dcsctp_spec_laws.specs.CongestionLaws.{WindowIsBounded};
+ghost use Rattle.dcsctp_spec_laws.specs.WindowLaws.{PacketsKeepWindow, FlushesKeepWindow};
 ghost use Rattle.dcsctp_spec_lemmas.specs.spec.endpoint.TimeTurns.{TimePassesQuietly};
 
 /// An INIT leaves the association as it is, in every phase (RFC 9260, section 5.2).
@@ -53,4 +57,41 @@ pub fn snapshots_are_valid()
 /// `Options::follow_rfc` all messages that were ready before that turn.
 pub fn messages_left_stay()
     ensures { MessagesLeftStay }
+{}
+
+/// What was received is a set of TSNs, kept in its one canonical form. After a TSN it has that one and what it
+/// had before; after a FORWARD-TSN all up to a TSN too. The rule determines the set, and the definitions compute
+/// it (RFC 9260, section 6.2; RFC 3758, section 3.6).
+pub fn sets_follow_rule()
+    ensures { SetsFollowRule }
+{}
+
+/// The gap ack blocks of a SACK, read back, cover what was received beyond the cumulative TSN, and nothing else.
+/// Where there are more ranges than a SACK lists, they cover the lowest (RFC 9260, section 3.3.4).
+pub fn sacks_cover_received()
+    ensures { SacksCoverReceived }
+{}
+
+/// What the law on SACKs asks of a tracker is so when it is made, and data and FORWARD-TSNs leave it so.
+pub fn trackers_stay_tracked()
+    ensures { TrackersStayTracked }
+{}
+
+/// An acknowledgement lets the congestion window grow by one MTU at most, only if the window was fully used, and
+/// not in fast recovery. A loss leaves half of it, but at least the least threshold; a timeout leaves one MTU
+/// (RFC 9260, sections 7.2.1 to 7.2.4).
+pub fn window_is_bounded()
+    ensures { WindowIsBounded }
+{}
+
+/// A packet is filled with data only while less than the window is in flight, or nothing is. So no more is in
+/// flight after it than before, or than the window and what the packet has room for (RFC 9260, section 6.1).
+pub fn packets_keep_window()
+    ensures { PacketsKeepWindow }
+{}
+
+/// After a flush of any number of packets no more is in flight than before, or than the window and one packet
+/// (RFC 9260, section 6.1).
+pub fn flushes_keep_window()
+    ensures { FlushesKeepWindow }
 {}

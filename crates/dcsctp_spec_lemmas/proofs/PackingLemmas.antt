@@ -77,11 +77,11 @@ packed_again_by now room old new (inl (allowed, sends)) packed = packed_marked_b
 packed_again_by now room old new (inr up) packed = packed_given_up now room up.place old new up.gives_up packed
 
 -- Where a word of payload fits, one of at most this many bytes fits with its header and padding.
-size_fits : (header room len : ℕ) → header + 4 ≤ room → len ≤ payload_room header room → chunk_size header len ≤ room
+pub size_fits : (header room len : ℕ) → header + 4 ≤ room → len ≤ payload_room header room → chunk_size header len ≤ room
 size_fits header room len some at_most = omega arith
 
 -- The send queue gives no more than it is asked for.
-taken_at_most : (max : ℕ) (old : SendQueueState) (told : List (Event (List ℕ))) (now : ℕ) (part : Fragment) (new : SendQueueState) (telling : List (Event (List ℕ)))
+pub taken_at_most : (max : ℕ) (old : SendQueueState) (told : List (Event (List ℕ))) (now : ℕ) (part : Fragment) (new : SendQueueState) (telling : List (Event (List ℕ)))
     → TakesFragment now max old told part new telling → length part.payload ≤ max
 taken_at_most max old told now part new telling takes =
     let same = ap (λ (f : Fragment). length f.payload) takes.is in

@@ -13,6 +13,9 @@ missing cumulative from number [] beyond above below = grind (arith, nat_tests)
 missing cumulative from number (range ∷ ranges) beyond above below =
     grind (arith, nat_tests, missing cumulative range.last number ranges beyond.2 above (omega (arith, beyond.0, beyond.1)), beyond.0, beyond.1)
 
+pub next_missing : (cumulative : ℕ) (ranges : List TsnRange) → IsBeyond cumulative ranges → is_received cumulative (cumulative + 1) ranges ≡ false
+next_missing cumulative ranges beyond = missing cumulative cumulative (cumulative + 1) ranges beyond (omega arith) (omega arith)
+
 abbrev Same : ℕ → ℕ → List TsnRange → List TsnRange → Type 0
 Same c d xs ys = (other : ℕ) → is_received c other xs ≡ is_received d other ys
 
@@ -132,7 +135,7 @@ forwarded_members number cumulative ranges _ beyond = (forwarded_receives number
 -- Where all up to a number are received, the cumulative number isn't below it.
 not_below : (bound reached : ℕ) (ranges : List TsnRange) (members : ℕ → Bool) → IsBeyond reached ranges → ((other : ℕ) → is_received reached other ranges ≡ members other) → ((other : ℕ) → other ≤ bound → members other ≡ true) → bound ≤ reached
 not_below bound reached ranges members beyond is all =
-    let gap : is_received reached (reached + 1) ranges ≡ false = missing reached reached (reached + 1) ranges beyond (omega arith) (omega arith) in
+    let gap : is_received reached (reached + 1) ranges ≡ false = next_missing reached ranges beyond in
     go (members (reached + 1)) (sym (is (reached + 1)) ∙ gap) (all (reached + 1))
   where
     go : (b : Bool) → b ≡ false → (reached + 1 ≤ bound → b ≡ true) → bound ≤ reached

@@ -23,7 +23,8 @@ pub record BegunReset : Type 0 where
 
 -- ---- which it is
 
--- what precedes the streams in a RE-CONFIG chunk of one request: both headers, two request numbers and a TSN (RFC 6525, section 4.1)
+-- what precedes the streams in a RE-CONFIG chunk of one request: both headers, two request numbers and a TSN (RFC 6525,
+-- section 4.1)
 abbrev pub request_size : ℕ
 request_size = chunk_header_size + parameter_header_size + 3 * word_size
 

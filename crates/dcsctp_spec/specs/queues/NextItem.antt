@@ -93,8 +93,8 @@ HoldsBack now room queue = FirstStays now queue × ((can_send queue ≡ false) �
 abbrev pub HaltsAgain : ℕ → ℕ → RetransmissionState → Type 0
 HaltsAgain now room queue = (marked_items queue.outstanding.items ≡ 0) ⊎ HoldsBack now room queue
 
--- Why no new chunk is sent. The windows don't allow it, no word of payload fits, all comparable TSNs are in use, or the send queue gives
--- none.
+-- Why no new chunk is sent. The windows don't allow it, no word of payload fits, all comparable TSNs are in use, or the send
+-- queue gives none.
 abbrev pub HaltsNew : ℕ → RetransmissionState → SendQueueState → Type 0
 HaltsNew room queue waiting =
     (can_send queue ≡ false) ⊎ ((room < header queue.outstanding + word_size) ⊎ ((2 ^ 31 ≤ length queue.outstanding.items + 1) ⊎ GivesNone waiting))

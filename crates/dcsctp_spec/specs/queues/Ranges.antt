@@ -60,7 +60,8 @@ put_before range (next ∷ ranges) = cond (next.first == range.last + 1) (tsn_ra
 abbrev pub put_among : ℕ → List TsnRange → List TsnRange
 -- After all of them, it is a range by itself.
 put_among number [] = tsn_range_of number number ∷ []
--- If it is before the first range, it is put there. If it is right after that range, it extends it. Else its place is further on.
+-- If it is before the first range, it is put there. If it is right after that range, it extends it. Else its place is
+-- further on.
 put_among number (range ∷ ranges) =
     cond (nat_lt number range.first) (put_before (tsn_range_of number number) (range ∷ ranges))
     (cond (number == range.last + 1) (put_before (tsn_range_of range.first number) ranges)

@@ -242,8 +242,8 @@ with_timeout rto tracker =
 abbrev pub block_bytes : ℕ → TsnRange → List ℕ
 block_bytes cumulative range = to_be_bytes w16 (range.first - cumulative) ++ to_be_bytes w16 (range.last - cumulative)
 
--- What a SACK says: the first gap ack blocks, up to the most that it lists, and the TSNs that came again. A law in dcsctp_spec_laws
--- says which TSNs the blocks cover (`sacks_cover_received`).
+-- What a SACK says: the first gap ack blocks, up to the most that it lists, and the TSNs that came again. A law in
+-- dcsctp_spec_laws says which TSNs the blocks cover (`sacks_cover_received`).
 abbrev pub sack_of : TrackerState → ℕ → SackContent
 sack_of tracker window =
     record {

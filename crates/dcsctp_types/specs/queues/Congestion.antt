@@ -28,8 +28,8 @@ new_congestion options window =
 abbrev pub ssthresh_after_loss : CongestionControl → ℕ
 ssthresh_after_loss control = max (control.cwnd / 2) control.least_ssthresh
 
--- When the retransmission timer expires, the threshold is lowered, and the window is one MTU (section 7.2.3). Fast recovery ends,
--- since all that was outstanding is sent again.
+-- When the retransmission timer expires, the threshold is lowered, and the window is one MTU (section 7.2.3). Fast recovery
+-- ends, since all that was outstanding is sent again.
 abbrev pub after_timeout : CongestionControl → CongestionControl
 after_timeout control =
     record control { cwnd = control.mtu; ssthresh = ssthresh_after_loss control; partial_bytes_acked = 0; recovery_exit = None }
