@@ -12,7 +12,7 @@ use Rattle.dcsctp_core.specs.declared.transmission_control_block.TransmissionCon
 abbrev pub delayed : TimerModel → ResetRequest → ResetRequest
 delayed timer request = record request { waits_for_retry = true; timer = timer }
 
--- It waits, and its timer starts anew. Nothing else has moved.
+-- It waits, and its timer starts again. Nothing else has moved.
 pub record Retries (now : ℕ) (old new : TransmissionControlBlock) : Type 0 where
   pub timer : TimerModel
   pub runs : timer.running ≡ started now (reconfiguration_settings old.transfer.timeout.rto)

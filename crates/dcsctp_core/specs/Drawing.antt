@@ -1,8 +1,9 @@
 -- Random words of a call, and the pairs that are made of them.
-use Rattle.std.specs.Prelude.{◌≡◌, ℕ, Result, Ok, Err, [], ◌∷◌, ◌++◌}
+use Rattle.std.specs.Prelude.{◌≡◌, ℕ, Result, [], ◌∷◌, ◌++◌}
 use Rattle.rand_core.specs.Stream.{Stream, next_u32, next_u64}
 use Rattle.dcsctp_transfer.specs.types.declared.association.Pair.{Pair}
 use Rattle.dcsctp_transfer.specs.types.declared.word.Word.{Word}
+use Rattle.dcsctp_transfer.specs.types.ByResult.{ByResult}
 use Rattle.dcsctp_core.specs.declared.context.Context.{Context}
 
 -- the next word, the one after it, and the next word of 64 bits
@@ -30,8 +31,9 @@ pub record DrawsNext {R : Type 0} (stream : R → Stream) (next : Stream → ℕ
 
 -- A word was drawn; or an allocation failed, and nothing has changed but the generator.
 abbrev pub Draws : {R E : Type 0} → (R → Stream) → (Stream → ℕ × Stream) → (ℕ → Word) → Context R → Result ℕ E → Context R → Type 0
-Draws stream next kind old (Ok word) new = DrawsNext stream next kind old word new
-Draws stream next kind old (Err error) new = OnlyDraws old new × (new.words.items ≡ old.words.items) × (new.pairs ≡ old.pairs)
+Draws stream next kind old result new =
+    ByResult (λ word. DrawsNext stream next kind old word new)
+    (OnlyDraws old new × (new.words.items ≡ old.words.items) × (new.pairs ≡ old.pairs)) result
 
 -- The pair is the last that is kept. Nothing else changes.
 pub record KeepsLast {R : Type 0} (old : Context R) (pair : Pair) (new : Context R) : Type 0 where
@@ -42,6 +44,6 @@ pub record KeepsLast {R : Type 0} (old : Context R) (pair : Pair) (new : Context
 
 -- A pair was kept; or an allocation failed, and nothing has changed.
 abbrev pub KeepsPair : {R E : Type 0} → Context R → Pair → Result (Unit {0}) E → Context R → Type 0
-KeepsPair old pair (Ok done) new = KeepsLast old pair new
-KeepsPair old pair (Err error) new =
-    OnlyDraws old new × (new.pairs.items ≡ old.pairs.items) × (new.words ≡ old.words) × (new.generator ≡ old.generator)
+KeepsPair old pair result new =
+    ByResult (λ done. KeepsLast old pair new)
+    (OnlyDraws old new × (new.pairs.items ≡ old.pairs.items) × (new.words ≡ old.words) × (new.generator ≡ old.generator)) result

@@ -1,11 +1,12 @@
 -- What is sent in a flush.
-use Rattle.std.specs.Prelude.{◌≡◌, ◌⊎◌, ◌≤◌, ◌+◌, nat_le, ℕ, length, Bool, true, false, not, Option, None, Some, Result, Ok, Err, List, [], ◌∷◌, ◌++◌, map}
+use Rattle.std.specs.Prelude.{◌≡◌, ◌⊎◌, ◌≤◌, ◌+◌, nat_le, ℕ, length, Bool, true, false, not, Option, None, Some, Result, List, [], ◌∷◌, ◌++◌, map}
 use Rattle.std.specs.List.{flat_map}
 use Rattle.rand_core.specs.Stream.{Stream}
 use Rattle.dcsctp_transfer.specs.wire_build.Building.{Building, bytes_remaining}
 use Rattle.dcsctp_transfer.specs.wire.Spelling.{chunk_bytes, header_bytes, packet_bytes_of}
 use Rattle.dcsctp_transfer.specs.spec.queues.OwnResets.{ready_streams}
 use Rattle.dcsctp_transfer.specs.types.declared.options.Options.{Options}
+use Rattle.dcsctp_transfer.specs.types.ByResult.{ByResult}
 use Rattle.dcsctp_transfer.specs.types.Settings.{ports_of, packet_size_limit}
 use Rattle.dcsctp_transfer.specs.spec.endpoint.Event.{Event, sent}
 use Rattle.dcsctp_transfer.specs.spec.Packet.{Content, chunk_out, Emission}
@@ -74,8 +75,8 @@ abbrev pub HasNoReset : SendQueueState → Option Transfer → Type 0
 HasNoReset queue None = Unit {0}
 HasNoReset queue (Some transfer) = is_none_ready (ready_streams queue) ≡ true
 
--- Nothing has to go into a packet to the peer: neither an acknowledgement nor data. In the first one neither a request to reset
--- streams nor a FORWARD-TSN has to go either.
+-- Nothing must go into a packet to the peer: neither an acknowledgement nor data. Into the first one neither a request to reset
+-- streams nor a FORWARD-TSN must go either.
 abbrev pub NeedsNone : Ask → SendQueueState → Option Transfer → Type 0
 NeedsNone ask queue None = Unit {0}
 NeedsNone ask queue (Some transfer) =
@@ -96,7 +97,7 @@ can_queues_send (Some transfer) = can_send transfer.retransmission
 
 -- ---- one packet of it
 
--- the heartbeat interval starts anew if data went in
+-- the heartbeat interval starts again if data went in
 abbrev pub timers_where : Bool → Endpoint → Timers
 timers_where true e = heartbeats_begun e e.timers
 timers_where false e = e.timers
@@ -174,10 +175,9 @@ pub record AskCut {R : Type 0} (ask : Ask) (old : View R) (draft : Emission) (ev
 
 -- whatever the machine calls the chunks that the packet holds
 abbrev pub FillsWith : {R E : Type 0} → Ask → Building → Context R → Result (Unit {0}) E → Context R → Building → Type 0
-FillsWith ask packet old (Ok done) new filled_packet =
-    (draft : Emission) → packet ≡ packet_for old.options draft → FillsAskedPacket ask (view_of old) draft (view_of new) filled_packet
-FillsWith ask packet old (Err error) new filled_packet =
-    (draft : Emission) → packet ≡ packet_for old.options draft → AskCut ask (view_of old) draft (view_of new).events
+FillsWith ask packet old result new filled_packet =
+    ByResult (λ done. (draft : Emission) → packet ≡ packet_for old.options draft → FillsAskedPacket ask (view_of old) draft (view_of new) filled_packet)
+    ((draft : Emission) → packet ≡ packet_for old.options draft → AskCut ask (view_of old) draft (view_of new).events) result
 
 -- Its turn took place; the result says whether the packet was sent.
 pub record AsksFor {R : Type 0} (stream : R → Stream) (ask : Ask) (old : View R) (draft : Emission) (is_sent : Bool) (new : View R) : Type 0 where
@@ -187,10 +187,9 @@ pub record AsksFor {R : Type 0} (stream : R → Stream) (ask : Ask) (old : View 
   pub moves : Moves stream old (asked old.endpoint draft answer) new
 
 abbrev pub AsksWith : {R E : Type 0} → (R → Stream) → Ask → Building → Context R → Result Bool E → Context R → Type 0
-AsksWith stream ask packet old (Ok is_sent) new =
-    (draft : Emission) → packet ≡ packet_for old.options draft → AsksFor stream ask (view_of old) draft is_sent (view_of new)
-AsksWith stream ask packet old (Err error) new =
-    (draft : Emission) → packet ≡ packet_for old.options draft → AskCut ask (view_of old) draft (view_of new).events
+AsksWith stream ask packet old result new =
+    ByResult (λ is_sent. (draft : Emission) → packet ≡ packet_for old.options draft → AsksFor stream ask (view_of old) draft is_sent (view_of new))
+    ((draft : Emission) → packet ≡ packet_for old.options draft → AskCut ask (view_of old) draft (view_of new).events) result
 
 -- If an allocation failed for data, the first events of some such filling were added.
 abbrev pub TellsData : {R : Type 0} → Option Transfer → View R → Building → View R → Type 0
@@ -200,8 +199,9 @@ TellsData (Some transfer) old packet new =
 
 -- What fills a packet with data does, by whether an allocation failed.
 abbrev pub TriesData : {R E : Type 0} → Building → Context R → Result (Unit {0}) E → Context R → Building → Type 0
-TriesData packet old (Ok done) new filled = FillsPacketData (transfer_of old.state) (view_of old) packet (view_of new) filled
-TriesData packet old (Err error) new filled = TellsData (transfer_of old.state) (view_of old) packet (view_of new)
+TriesData packet old result new filled =
+    ByResult (λ done. FillsPacketData (transfer_of old.state) (view_of old) packet (view_of new) filled)
+    (TellsData (transfer_of old.state) (view_of old) packet (view_of new)) result
 
 -- If an allocation failed for a FORWARD-TSN, the first events about messages that are abandoned were added; the packet may be made
 -- at this moment.
@@ -212,13 +212,15 @@ TellsForward (Some transfer) old new =
 
 -- The FORWARD-TSN, by whether an allocation failed.
 abbrev pub TriesForward : {R E : Type 0} → Building → Context R → Result (Unit {0}) E → Context R → Building → Type 0
-TriesForward packet old (Ok done) new filled = ForwardsAt (transfer_of old.state) (view_of old) packet (view_of new) filled
-TriesForward packet old (Err error) new filled = TellsForward (transfer_of old.state) (view_of old) (view_of new)
+TriesForward packet old result new filled =
+    ByResult (λ done. ForwardsAt (transfer_of old.state) (view_of old) packet (view_of new) filled)
+    (TellsForward (transfer_of old.state) (view_of old) (view_of new)) result
 
 -- What begins a reset, by whether an allocation failed.
 abbrev pub TriesReset : {R E : Type 0} → Building → Context R → Result (Unit {0}) E → Context R → Building → Type 0
-TriesReset packet old (Ok done) new filled = FillsResetRequest (transfer_of old.state) (view_of old) packet (view_of new) filled
-TriesReset packet old (Err error) new filled = (view_of new).events ≡ (view_of old).events
+TriesReset packet old result new filled =
+    ByResult (λ done. FillsResetRequest (transfer_of old.state) (view_of old) packet (view_of new) filled)
+    ((view_of new).events ≡ (view_of old).events) result
 
 -- ---- as many as may be
 
@@ -239,8 +241,8 @@ pub record FlushCut {R : Type 0} (ask : Ask) (count : ℕ) (old : View R) (draft
 
 -- by whether an allocation failed
 abbrev pub FlushesBy : {R E : Type 0} → (R → Stream) → Ask → ℕ → Emission → View R → Result (Unit {0}) E → View R → Type 0
-FlushesBy stream ask count draft old (Ok done) new = FlushesFor stream ask count old draft new
-FlushesBy stream ask count draft old (Err error) new = FlushCut ask count old draft new.events
+FlushesBy stream ask count draft old result new =
+    ByResult (λ done. FlushesFor stream ask count old draft new) (FlushCut ask count old draft new.events) result
 
 -- Later packets of it, to the peer.
 abbrev pub FurtherAt : {R E : Type 0} → (R → Stream) → ℕ → Context R → Result (Unit {0}) E → Context R → Type 0
@@ -270,7 +272,8 @@ sent_where false packet view = view
 abbrev pub KeepsSize : Building → Type 0
 KeepsSize packet = (packet.body ≡ []) ⊎ (12 + length packet.body ≤ packet.size)
 
--- A packet that isn't empty was sent.
+-- A packet that isn't empty was sent; or an allocation failed, and nothing has changed.
 abbrev pub SendsUnlessEmpty : {R E : Type 0} → Building → Context R → Result Bool E → Context R → Type 0
-SendsUnlessEmpty packet old (Ok is_sent) new = (is_sent ≡ not (is_none packet.body)) × (view_of new ≡ sent_where is_sent packet (view_of old))
-SendsUnlessEmpty packet old (Err error) new = view_of new ≡ view_of old
+SendsUnlessEmpty packet old result new =
+    ByResult (λ is_sent. (is_sent ≡ not (is_none packet.body)) × (view_of new ≡ sent_where is_sent packet (view_of old)))
+    (view_of new ≡ view_of old) result

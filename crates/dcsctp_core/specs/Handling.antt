@@ -1,10 +1,11 @@
--- What all handlers have in common: how a turn stands in a contract, and the turns of what all handlers share.
-use Rattle.std.specs.Prelude.{◌≡◌, ℕ, ◌+◌, Bool, Result, Ok, Err, List, [], ◌∷◌, ◌++◌, length, nat_le, if◌then◌else◌}
+-- What all handlers have in common: how their contracts state a turn, and the turns that all of them share.
+use Rattle.std.specs.Prelude.{◌≡◌, ℕ, ◌+◌, Bool, Result, List, [], ◌∷◌, ◌++◌, length, nat_le, if◌then◌else◌}
 use Rattle.rand_core.specs.Stream.{Stream}
 use Rattle.dcsctp_transfer.specs.wire.Content.{ChunkContent}
 use Rattle.dcsctp_transfer.specs.wire.Spelling.{chunk_bytes, header_bytes, packet_bytes_of}
 use Rattle.dcsctp_transfer.specs.types.declared.kinds.ErrorKind.{ErrorKind}
 use Rattle.dcsctp_transfer.specs.types.declared.kinds.ErrorKind.TheVariants.{NoError}
+use Rattle.dcsctp_transfer.specs.types.ByResult.{ByResult}
 use Rattle.dcsctp_transfer.specs.types.Settings.{packet_size_limit}
 use Rattle.dcsctp_transfer.specs.spec.Packet.{Emission}
 use Rattle.dcsctp_transfer.specs.spec.endpoint.Event.{Event, sent, aborted}
@@ -28,18 +29,19 @@ OnlyDrew old new = new ≡ record old { words = new.words; pairs = new.pairs; ge
 
 -- The turn took place; or an allocation failed, and nothing has changed.
 abbrev pub Tries : {R E : Type 0} → (R → Stream) → (View R → Outcome) → Context R → Result (Unit {0}) E → Context R → Type 0
-Tries stream turn old (Ok done) new = Moves stream (view_of old) (turn (view_of old)) (view_of new)
-Tries stream turn old (Err error) new = view_of new ≡ view_of old
+Tries stream turn old result new =
+    ByResult (λ done. Moves stream (view_of old) (turn (view_of old)) (view_of new)) (view_of new ≡ view_of old) result
 
 -- The turn took place; or an allocation failed, and nothing has changed but the words that were drawn.
 abbrev pub TriesDrawing : {R E : Type 0} → (R → Stream) → (View R → Outcome) → Context R → Result (Unit {0}) E → Context R → Type 0
-TriesDrawing stream turn old (Ok done) new = Moves stream (view_of old) (turn (view_of old)) (view_of new)
-TriesDrawing stream turn old (Err error) new = OnlyDrew (view_of old) (view_of new)
+TriesDrawing stream turn old result new =
+    ByResult (λ done. Moves stream (view_of old) (turn (view_of old)) (view_of new)) (OnlyDrew (view_of old) (view_of new)) result
 
 -- The turn took place; or an allocation failed, and the first of its events may have been added.
 abbrev pub TakesTurn : {R E : Type 0} → (R → Stream) → (View R → Outcome) → Context R → Result (Unit {0}) E → Context R → Type 0
-TakesTurn stream turn old (Ok done) new = Moves stream (view_of old) (turn (view_of old)) (view_of new)
-TakesTurn stream turn old (Err error) new = CutTurn (view_of old) (turn (view_of old)) (view_of new).events
+TakesTurn stream turn old result new =
+    ByResult (λ done. Moves stream (view_of old) (turn (view_of old)) (view_of new))
+    (CutTurn (view_of old) (turn (view_of old)) (view_of new).events) result
 
 -- A turn with more than one possible outcome took place; or an allocation failed, and the first of its events may have been
 -- added.
@@ -54,8 +56,8 @@ pub record CutIn {R : Type 0} (Turn : View R → Outcome → Type 0) (old : View
   pub cut : CutTurn old outcome events
 
 abbrev pub TakesOne : {R E : Type 0} → (R → Stream) → (View R → Outcome → Type 0) → Context R → Result (Unit {0}) E → Context R → Type 0
-TakesOne stream Turn old (Ok done) new = TakesPossibleTurn stream Turn (view_of old) (view_of new)
-TakesOne stream Turn old (Err error) new = CutIn Turn (view_of old) (view_of new).events
+TakesOne stream Turn old result new =
+    ByResult (λ done. TakesPossibleTurn stream Turn (view_of old) (view_of new)) (CutIn Turn (view_of old) (view_of new).events) result
 
 -- ---- a chunk's turn, with what follows in its packet
 
@@ -71,13 +73,14 @@ pub record IsHandledTurn {R : Type 0} (stream : R → Stream) (old : View R) (ou
 
 -- The turn took place; or an allocation failed, and the first of its events may have been added.
 abbrev pub HandlesTurn : {R E : Type 0} → (R → Stream) → (View R → Outcome) → Context R → Result Following E → Context R → Type 0
-HandlesTurn stream turn old (Ok next) new = IsHandledTurn stream (view_of old) (turn (view_of old)) next (view_of new)
-HandlesTurn stream turn old (Err error) new = CutTurn (view_of old) (turn (view_of old)) (view_of new).events
+HandlesTurn stream turn old result new =
+    ByResult (λ next. IsHandledTurn stream (view_of old) (turn (view_of old)) next (view_of new))
+    (CutTurn (view_of old) (turn (view_of old)) (view_of new).events) result
 
 -- The turn took place; or an allocation failed, and nothing has changed.
 abbrev pub HandlesWholeTurn : {R E : Type 0} → (R → Stream) → (View R → Outcome) → Context R → Result Following E → Context R → Type 0
-HandlesWholeTurn stream turn old (Ok next) new = IsHandledTurn stream (view_of old) (turn (view_of old)) next (view_of new)
-HandlesWholeTurn stream turn old (Err error) new = view_of new ≡ view_of old
+HandlesWholeTurn stream turn old result new =
+    ByResult (λ next. IsHandledTurn stream (view_of old) (turn (view_of old)) next (view_of new)) (view_of new ≡ view_of old) result
 
 -- the same for a chunk's turn with more than one possible outcome
 pub record HandlesIn {R : Type 0} (stream : R → Stream) (Turn : View R → Outcome → Type 0) (old : View R) (next : Following) (new : View R) : Type 0 where
@@ -87,8 +90,8 @@ pub record HandlesIn {R : Type 0} (stream : R → Stream) (Turn : View R → Out
   pub following : outcome.following ≡ following_of next
 
 abbrev pub HandlesPossibleTurn : {R E : Type 0} → (R → Stream) → (View R → Outcome → Type 0) → Context R → Result Following E → Context R → Type 0
-HandlesPossibleTurn stream Turn old (Ok next) new = HandlesIn stream Turn (view_of old) next (view_of new)
-HandlesPossibleTurn stream Turn old (Err error) new = CutIn Turn (view_of old) (view_of new).events
+HandlesPossibleTurn stream Turn old result new =
+    ByResult (λ next. HandlesIn stream Turn (view_of old) next (view_of new)) (CutIn Turn (view_of old) (view_of new).events) result
 
 -- ---- the turns of what all handlers share
 
@@ -108,7 +111,7 @@ abbrev pub end_event : ErrorKind → List ℕ → Event Emission
 end_event NoError text = events.closed
 end_event kind text = aborted kind text
 
--- An association ends with this event; if there is none, nothing happens.
+-- An association ends with this event; without an association, nothing happens.
 abbrev pub close_turn : {R : Type 0} → Event Emission → View R → Outcome
 close_turn event view = close_outcome view.endpoint view.endpoint.core event
 
@@ -125,5 +128,5 @@ chunk_emitted with_checksum tag chunk view =
 
 -- A packet of this chunk was sent, if it fits; or an allocation failed, and nothing has changed.
 abbrev pub Emits : {R E : Type 0} → Bool → ℕ → ChunkContent → Context R → Result (Unit {0}) E → Context R → Type 0
-Emits with_checksum tag chunk old (Ok done) new = view_of new ≡ chunk_emitted with_checksum tag chunk (view_of old)
-Emits with_checksum tag chunk old (Err error) new = view_of new ≡ view_of old
+Emits with_checksum tag chunk old result new =
+    ByResult (λ done. view_of new ≡ chunk_emitted with_checksum tag chunk (view_of old)) (view_of new ≡ view_of old) result

@@ -1,6 +1,7 @@
 -- What becomes of timers when a moment has come.
-use Rattle.std.specs.Prelude.{◌≡◌, ℕ, Bool, true, false, Option, None, Some, Result, Ok, Err}
+use Rattle.std.specs.Prelude.{◌≡◌, ℕ, Bool, true, false, Option, None, Some, Result}
 use Rattle.rand_core.specs.Stream.{Stream}
+use Rattle.dcsctp_transfer.specs.types.ByResult.{ByResult}
 use Rattle.dcsctp_transfer.specs.spec.endpoint.Endpoint.{Endpoint}
 use Rattle.dcsctp_transfer.specs.spec.endpoint.Timers.{RunningTimer, is_timer_expired, is_restarted, TimerModel, running_after}
 use Rattle.dcsctp_transfer.specs.spec.endpoint.Outcome.{Outcome}
@@ -51,13 +52,13 @@ is_timer_due e timer = has_come e.moment (deadline e timer)
 abbrev pub ExpiryTurn : {R : Type 0} → Timer → View R → Outcome → Type 0
 ExpiryTurn timer view o = Turn view.endpoint (expiry_input view.endpoint timer) o
 
--- The timer expired, and its turn took place; or it isn't due, and nothing has changed; or an allocation failed in its turn.
-abbrev pub Expires : {R E : Type 0} → (R → Stream) → Timer → Context R → Result Bool E → Context R → Type 0
-Expires stream timer old (Ok true) new = (is_timer_due (view_of old).endpoint timer ≡ true) × TakesPossibleTurn stream (ExpiryTurn timer) (view_of old) (view_of new)
-Expires stream timer old (Ok false) new = (is_timer_due (view_of old).endpoint timer ≡ false) × (view_of new ≡ view_of old)
-Expires stream timer old (Err error) new = (is_timer_due (view_of old).endpoint timer ≡ true) × CutIn (ExpiryTurn timer) (view_of old) (view_of new).events
-
--- the same for a timer whose turn allocates nothing
+-- The timer expired, and its turn took place; or it isn't due, and nothing has changed.
 abbrev pub ExpiresAlways : {R : Type 0} → (R → Stream) → Timer → Context R → Bool → Context R → Type 0
 ExpiresAlways stream timer old true new = (is_timer_due (view_of old).endpoint timer ≡ true) × TakesPossibleTurn stream (ExpiryTurn timer) (view_of old) (view_of new)
 ExpiresAlways stream timer old false new = (is_timer_due (view_of old).endpoint timer ≡ false) × (view_of new ≡ view_of old)
+
+-- That is so; or an allocation failed in the turn of a timer that is due, and the first of its events may have been added.
+abbrev pub Expires : {R E : Type 0} → (R → Stream) → Timer → Context R → Result Bool E → Context R → Type 0
+Expires stream timer old result new =
+    ByResult (λ is_expired. ExpiresAlways stream timer old is_expired new)
+    ((is_timer_due (view_of old).endpoint timer ≡ true) × CutIn (ExpiryTurn timer) (view_of old) (view_of new).events) result

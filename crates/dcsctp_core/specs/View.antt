@@ -189,7 +189,7 @@ begun_heartbeats e = record e { timers = heartbeats_begun e e.timers }
 abbrev pub message_counted : Endpoint → Endpoint
 message_counted e = record e { counts = record e.counts { messages_queued = count_up e.counts.messages_queued } }
 
--- the view once its association was dropped and these messages are left; the heartbeat's timers go on
+-- the view once its association was dropped and these messages are left; the heartbeat's timers continue
 abbrev pub association_dropped : {R : Type 0} → View R → List MessageContent → View R
 association_dropped view left =
     let e : Endpoint = view.endpoint in

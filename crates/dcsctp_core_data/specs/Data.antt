@@ -36,7 +36,7 @@ part_arrival part =
 abbrev pub DataAt : {R : Type 0} → Arrival → View R → Outcome → Type 0
 DataAt arrived view o = DataTurn view.endpoint arrived o
 
--- The peer is told that its data has no payload, if it is known.
+-- If the peer is known, an ERROR is sent to it: its data has no payload.
 abbrev pub empty_data_outcome : Endpoint → Core → ℕ → Outcome
 empty_data_outcome e (cookie_echoed my held cookie) tsn = emits e [] (to_peer held (plain (error_of (no_user_data tsn ∷ []))))
 empty_data_outcome e (open_in phase my held) tsn = emits e [] (to_peer held (plain (error_of (no_user_data tsn ∷ []))))
@@ -45,7 +45,7 @@ empty_data_outcome e core tsn = still e
 abbrev pub empty_data_turn : {R : Type 0} → ℕ → View R → Outcome
 empty_data_turn tsn view = empty_data_outcome view.endpoint view.endpoint.core tsn
 
--- The user is told, and then the peer.
+-- The error is reported to the user, and then sent to the peer, if it is known.
 abbrev pub no_user_data_turn : {R : Type 0} → ℕ → View R → Outcome
 no_user_data_turn tsn view = no_user_data_outcome view.endpoint (held_in view.endpoint.core) tsn
 

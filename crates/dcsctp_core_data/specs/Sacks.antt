@@ -33,7 +33,7 @@ Resends e held transfer o = o ≡ still e
 abbrev pub ResendsAt : {R : Type 0} → View R → Outcome → Type 0
 ResendsAt view o = Resends view.endpoint (held_in view.endpoint.core) view.endpoint.queues.transfer o
 
--- A shutdown under way goes on first.
+-- A shutdown under way continues first.
 pub record ProceedsBy (e : Endpoint) (held : Held) (transfer : Transfer) (o : Outcome) : Type 0 where
   pub later : Outcome
   pub resends : ResendsBy (step_outcome e e.core).after held transfer later

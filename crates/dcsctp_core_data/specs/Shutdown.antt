@@ -20,7 +20,7 @@ abbrev pub heeds_in : Endpoint → Core → Option Transfer → ℕ → Bool
 heeds_in e (open_in phase my held) (Some transfer) tsn = heeds_shutdown e.options phase transfer tsn
 heeds_in e core transfer tsn = false
 
--- the window that the peer told last, as the field of a SACK holds it
+-- the last window that the peer reported, as the field of a SACK holds it
 abbrev pub window_of : Option Transfer → ℕ
 window_of None = 0
 window_of (Some transfer) = min transfer.retransmission.peer_window (2 ^ 32 - 1)

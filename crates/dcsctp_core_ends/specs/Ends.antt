@@ -10,11 +10,11 @@ use Rattle.dcsctp_core.specs.spec.Packet.{Content, plain}
 use Rattle.dcsctp_core.specs.spec.endpoint.Endpoint.{Core}
 use Rattle.dcsctp_core.specs.View.{View}
 
--- An ABORT with these causes came.
+-- An ABORT with these causes was received.
 abbrev pub abort_turn : {R : Type 0} → List Cause → View R → Outcome
 abort_turn causes view = abort_outcome view.endpoint causes view.endpoint.core
 
--- An ERROR with these causes came.
+-- An ERROR with these causes was received.
 abbrev pub error_turn : {R : Type 0} → List Cause → View R → Outcome
 error_turn causes view = error_outcome view.endpoint view.endpoint.core causes
 
@@ -22,7 +22,7 @@ error_turn causes view = error_outcome view.endpoint view.endpoint.core causes
 abbrev pub abort_sent_turn : {R : Type 0} → AbortReason → View R → Outcome
 abort_sent_turn reason view = abort_sent view.endpoint view.endpoint.core reason
 
--- The own end aborts the association.
+-- Our end aborts the association.
 abbrev pub aborting_turn : {R : Type 0} → AbortReason → View R → Outcome
 aborting_turn reason view = aborting_outcome view.endpoint view.endpoint.core reason
 

@@ -1,6 +1,7 @@
 -- A socket that is handed over to another process, by its parts.
-use Rattle.std.specs.Prelude.{◌≡◌, ℕ, None, Some, Result, Ok, Err}
+use Rattle.std.specs.Prelude.{◌≡◌, ℕ, None, Some, Result}
 use Rattle.rand_core.specs.Stream.{Stream}
+use Rattle.dcsctp_core.specs.types.ByResult.{ByResult}
 use Rattle.dcsctp_core.specs.types.declared.options.Options.{Options}
 use Rattle.dcsctp_core.specs.spec.endpoint.Endpoint.{Endpoint}
 use Rattle.dcsctp_core.specs.spec.endpoint.Outcome.{Outcome}
@@ -39,5 +40,5 @@ restore_turn state view outcome = RestoreTurn view.endpoint view.endpoint.core s
 
 -- The turn took place; or an allocation failed, and no event was added.
 abbrev pub RestoresAssociation : {R E : Type 0} → (R → Stream) → Snapshot → Context R → Result (Unit {0}) E → Context R → Type 0
-RestoresAssociation stream state old (Ok done) new = TakesPossibleTurn stream (restore_turn state) (view_of old) (view_of new)
-RestoresAssociation stream state old (Err error) new = (view_of new).events ≡ (view_of old).events
+RestoresAssociation stream state old result new =
+    ByResult (λ done. TakesPossibleTurn stream (restore_turn state) (view_of old) (view_of new)) ((view_of new).events ≡ (view_of old).events) result

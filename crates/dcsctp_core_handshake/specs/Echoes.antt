@@ -57,7 +57,7 @@ AssociationAt stream cookie queue events view o =
 abbrev pub EstablishAt : {R : Type 0} → (R → Stream) → Cookie → View R → Outcome → Type 0
 EstablishAt stream cookie view o = AssociationAt stream cookie (queue_where false view.endpoint cookie) (connected ∷ []) view o
 
--- That is so where there was no association, unless its numbers start anew by the RFC.
+-- That is so where there was no association, unless its numbers start again by the RFC.
 abbrev pub EstablishNewAt : {R : Type 0} → (R → Stream) → Cookie → View R → Outcome → Type 0
 EstablishNewAt stream cookie view o = AssociationAt stream cookie (queue_kept view.endpoint cookie) (connected ∷ []) view o
 
@@ -65,7 +65,7 @@ EstablishNewAt stream cookie view o = AssociationAt stream cookie (queue_kept vi
 abbrev pub ReplaceAt : {R : Type 0} → (R → Stream) → Cookie → View R → Outcome → Type 0
 ReplaceAt stream cookie view o = AssociationAt stream cookie (queue_begun view.endpoint cookie) (connected ∷ []) view o
 
--- since the peer began anew
+-- since the peer has restarted
 abbrev pub RestartAt : {R : Type 0} → (R → Stream) → Cookie → View R → Outcome → Type 0
 RestartAt stream cookie view o = AssociationAt stream cookie (queue_begun view.endpoint cookie) (connection_restarted ∷ connected ∷ []) view o
 

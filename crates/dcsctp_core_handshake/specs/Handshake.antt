@@ -1,10 +1,11 @@
 -- What the handlers of the handshake do, as turns of a socket's view.
-use Rattle.std.specs.Prelude.{◌≡◌, ℕ, Option, None, Some, Result, Ok, Err, List, [], ◌∷◌, ◌++◌, map}
+use Rattle.std.specs.Prelude.{◌≡◌, ℕ, Option, None, Some, Result, List, [], ◌∷◌, ◌++◌, map}
 use Rattle.rand_core.specs.Stream.{Stream, next_u32}
 use Rattle.dcsctp_core.specs.types.declared.association.Held.{Held}
 use Rattle.dcsctp_core.specs.types.declared.association.Pair.{Pair}
 use Rattle.dcsctp_core.specs.types.declared.options.Options.{Options}
 use Rattle.dcsctp_core.specs.types.declared.word.Word.TheVariants.{U32}
+use Rattle.dcsctp_core.specs.types.ByResult.{ByResult}
 use Rattle.dcsctp_core.specs.types.Offer.{offer_of, negotiated}
 use Rattle.dcsctp_core.specs.spec.Packet.{Introduction}
 use Rattle.dcsctp_core.specs.spec.endpoint.Endpoint.{Endpoint, Core, closed, cookie_wait, cookie_echoed, open_in, held_in}
@@ -27,20 +28,20 @@ pub record MakesPair {R : Type 0} (stream : R → Stream) (old : Context R) (pai
   pub goes_on : stream (view_of new).generator ≡ left
   pub only : OnlyDraws old new
 
--- The tag is made of the next word; or an allocation failed.
+-- The tag is made of the next word. Or an allocation failed: words may have been drawn and pairs kept, and nothing else has
+-- changed.
 abbrev pub DrawsTag : {R E : Type 0} → (R → Stream) → ℕ → Context R → Result Pair E → Context R → Type 0
-DrawsTag stream first_tsn old (Ok pair) new =
+DrawsTag stream first_tsn old result new =
     let next = stream (view_of old).generator in
-    (pair ≡ record { tag = tag_from (first_word next); first_tsn = first_tsn }) × MakesPair stream old pair (first_word next ∷ []) (next_u32 next).1 new
-DrawsTag stream first_tsn old (Err error) new = OnlyDraws old new
+    ByResult (λ (pair : Pair). (pair ≡ record { tag = tag_from (first_word next); first_tsn = first_tsn })
+    × MakesPair stream old pair (first_word next ∷ []) (next_u32 next).1 new) (OnlyDraws old new) result
 
--- The pair is made of the next two words, its first TSN and then its tag; or an allocation failed.
+-- The pair is made of the next two words, its first TSN and then its tag; or an allocation failed, as above.
 abbrev pub DrawsPair : {R E : Type 0} → (R → Stream) → Context R → Result Pair E → Context R → Type 0
-DrawsPair stream old (Ok pair) new =
+DrawsPair stream old result new =
     let next = stream (view_of old).generator in
-    (pair ≡ pair_from (first_word next) (second_word next))
-    × MakesPair stream old pair (first_word next ∷ second_word next ∷ []) (next_u32 (next_u32 next).1).1 new
-DrawsPair stream old (Err error) new = OnlyDraws old new
+    ByResult (λ (pair : Pair). (pair ≡ pair_from (first_word next) (second_word next))
+    × MakesPair stream old pair (first_word next ∷ second_word next ∷ []) (next_u32 (next_u32 next).1).1 new) (OnlyDraws old new) result
 
 -- ---- INIT
 
@@ -106,7 +107,7 @@ AcceptanceAt stream mine theirs cookie view o =
     (answers : List Answer) × InitAckAnswers view.endpoint theirs (Some cookie) (cookie_wait mine) tie answers
     × (o ≡ accepted_init_ack_by (flush_answered answers) view.endpoint mine theirs (Some cookie) tie)
 
--- An INIT ACK with this cookie came.
+-- An INIT ACK with this cookie was received.
 abbrev pub InitAckAt : {R : Type 0} → Introduction → Option (List ℕ) → View R → Outcome → Type 0
 InitAckAt theirs cookie view o = InitAckTurn view.endpoint theirs cookie o
 

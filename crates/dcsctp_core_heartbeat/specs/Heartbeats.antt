@@ -6,11 +6,11 @@ use Rattle.dcsctp_core.specs.spec.endpoint.Outcome.{Outcome, still}
 use Rattle.dcsctp_core.specs.spec.endpoint.HeartbeatOutcomes.{heartbeat_outcome, info_in, counter_of, heartbeat_ack_outcome, beat}
 use Rattle.dcsctp_core.specs.View.{View}
 
--- A HEARTBEAT with these parameters came.
+-- A HEARTBEAT with these parameters was received.
 abbrev pub heartbeat_turn : {R : Type 0} → List ParameterContent → View R → Outcome
 heartbeat_turn parameters view = heartbeat_outcome view.endpoint view.endpoint.core parameters
 
--- A HEARTBEAT ACK with these parameters came.
+-- A HEARTBEAT ACK with these parameters was received.
 abbrev pub heartbeat_ack_turn : {R : Type 0} → List ParameterContent → View R → Outcome
 heartbeat_ack_turn parameters view = heartbeat_ack_outcome view.endpoint (counter_of (info_in parameters))
 

@@ -1,6 +1,7 @@
 -- What a reset of our own streams does, as turns of a socket's view.
-use Rattle.std.specs.Prelude.{◌≡◌, ℕ, Result, Ok, Err, List, []}
+use Rattle.std.specs.Prelude.{◌≡◌, ℕ, Result, List, []}
 use Rattle.rand_core.specs.Stream.{Stream}
+use Rattle.dcsctp_core.specs.types.ByResult.{ByResult}
 use Rattle.dcsctp_core.specs.spec.queues.OwnResets.{prepared, prepared_all, prepare_events, prepare_all_events}
 use Rattle.dcsctp_core.specs.spec.endpoint.Endpoint.{Endpoint}
 use Rattle.dcsctp_core.specs.spec.endpoint.Outcome.{Outcome, quiet}
@@ -31,6 +32,6 @@ ResetsAt ids view o = OwnResetsTurn view.endpoint ids o
 -- The turn took place, and the result says whether it was refused. Or an allocation failed, and the first of its events may have
 -- been added.
 abbrev pub ResetsOwnStreams : {R E : Type 0} → (R → Stream) → List ℕ → Context R → Result (Result (Unit {0}) ResetStreamsError) E → Context R → Type 0
-ResetsOwnStreams stream ids old (Ok answer) new =
-    (reset_refusal_in answer ≡ reset_refusal (view_of old).endpoint) × TakesPossibleTurn stream (ResetsAt ids) (view_of old) (view_of new)
-ResetsOwnStreams stream ids old (Err error) new = CutIn (ResetsAt ids) (view_of old) (view_of new).events
+ResetsOwnStreams stream ids old result new =
+    ByResult (λ answer. (reset_refusal_in answer ≡ reset_refusal (view_of old).endpoint) × TakesPossibleTurn stream (ResetsAt ids) (view_of old) (view_of new))
+    (CutIn (ResetsAt ids) (view_of old) (view_of new).events) result

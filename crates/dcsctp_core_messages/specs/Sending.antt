@@ -1,39 +1,31 @@
 -- What sending does, as turns of a socket's view.
-use Rattle.std.specs.Prelude.{◌≡◌, ℕ, Bool, true, false, Option, Some, None, Result, Ok, Err, List, [], ◌∷◌, ◌++◌}
+use Rattle.std.specs.Prelude.{◌≡◌, ℕ, Bool, true, false, Option, Some, None, Result, List, [], ◌∷◌, ◌++◌}
 use Rattle.std.specs.Option.{option_map}
 use Rattle.rand_core.specs.Stream.{Stream}
+use Rattle.dcsctp_core.specs.types.ByResult.{ByResult}
 use Rattle.dcsctp_core.specs.types.declared.ids.LifecycleId.{LifecycleId}
 use Rattle.dcsctp_core.specs.types.Ids.{lifecycle_number}
 use Rattle.dcsctp_core.specs.spec.endpoint.Event.{Event, lifecycle_end}
 use Rattle.dcsctp_core.specs.spec.Packet.{Emission}
-use Rattle.dcsctp_core.specs.spec.endpoint.Outcome.{Outcome, still, quiet, reports}
-use Rattle.dcsctp_core.specs.spec.endpoint.MessageOutcomes.{MessageRefusal, sending_refusal, refusal_kind, message_refusal_text, refusal_events, Sending, message_queued, queue_one, queue_all, refused_from, takes_any, SendTurn}
+use Rattle.dcsctp_core.specs.spec.endpoint.Outcome.{Outcome, still, quiet}
+use Rattle.dcsctp_core.specs.spec.endpoint.MessageOutcomes.{MessageRefusal, sending_refusal, refusal_events, Sending, message_queued, queue_one, queue_all, refused_from, takes_any, SendTurn}
 use Rattle.dcsctp_core.specs.api.declared.errors.BatchSendError.{BatchSendError}
 use Rattle.dcsctp_core.specs.api.declared.errors.SendError.{SendError}
 use Rattle.dcsctp_core.specs.api.Messages.{refusal_of, refusal_in, refused_in, IsBatchAnswer}
 use Rattle.dcsctp_core.specs.declared.context.Context.{Context}
 use Rattle.dcsctp_core.specs.View.{View, view_of, Moves, CutTurn}
-use Rattle.dcsctp_core.specs.Handling.{Tries, TakesPossibleTurn, CutIn, TakesOne, FlushAt}
+use Rattle.dcsctp_core.specs.Handling.{TakesPossibleTurn, CutIn, TakesOne, FlushAt}
 use Rattle.dcsctp_core_messages.specs.declared.queueing.QueuedAll.{QueuedAll}
 
 -- ---- a message that is refused
 
--- the events about the message of this name, if it has one
+-- the event about the end of the message of this name, if it has one
 abbrev pub end_events : Option LifecycleId → List (Event Emission)
 end_events None = []
 end_events (Some id) = lifecycle_end (lifecycle_number id) ∷ []
 
 abbrev pub end_turn : {R : Type 0} → Option LifecycleId → View R → Outcome
 end_turn id view = quiet view.endpoint [] (end_events id)
-
--- The end of a message of this name is reported, if it has one; or an allocation failed, and nothing has changed.
-abbrev pub ReportsMessageEnd : {R E : Type 0} → (R → Stream) → Option LifecycleId → Context R → Result (Unit {0}) E → Context R → Type 0
-ReportsMessageEnd stream id old result new = Tries stream (end_turn id) old result new
-
--- The reason why a message is refused is reported; or an allocation failed, and nothing has changed.
-abbrev pub ReportsRefusal : {R E : Type 0} → (R → Stream) → MessageRefusal → Context R → Result (Unit {0}) E → Context R → Type 0
-ReportsRefusal stream refusal old result new =
-    Tries stream (λ view. reports view.endpoint (refusal_kind refusal) (message_refusal_text refusal)) old result new
 
 abbrev pub message_refusal_turn : {R : Type 0} → MessageRefusal → Option LifecycleId → View R → Outcome
 message_refusal_turn refusal id view = quiet view.endpoint [] (refusal_events refusal (option_map lifecycle_number id))
@@ -45,25 +37,25 @@ queued_turn message view = still (message_queued view.endpoint message)
 
 -- The message was taken or refused; or an allocation failed, and the first of its events may have been added.
 abbrev pub Queues : {R E : Type 0} → (R → Stream) → Sending → Context R → Result (Option SendError) E → Context R → Type 0
-Queues stream message old (Ok refused) new =
-    (option_map refusal_of refused ≡ sending_refusal (view_of old).endpoint message)
-    × Moves stream (view_of old) (queue_one (view_of old).endpoint message) (view_of new)
-Queues stream message old (Err error) new = CutTurn (view_of old) (queue_one (view_of old).endpoint message) (view_of new).events
+Queues stream message old result new =
+    ByResult (λ refused. (option_map refusal_of refused ≡ sending_refusal (view_of old).endpoint message)
+    × Moves stream (view_of old) (queue_one (view_of old).endpoint message) (view_of new))
+    (CutTurn (view_of old) (queue_one (view_of old).endpoint message) (view_of new).events) result
 
--- It is noted whether the message of this place was refused.
+-- It is recorded whether the message of this place was refused.
 abbrev pub NotedAt : ℕ → Option MessageRefusal → QueuedAll → QueuedAll → Type 0
 NotedAt place None old new = (new.refused.items ≡ old.refused.items) × (new.has_taken ≡ true)
 NotedAt place (Some refusal) old new =
     (refused_in new.refused.items ≡ refused_in old.refused.items ++ record { place = place; refusal = refusal } ∷ [])
     × (new.has_taken ≡ old.has_taken)
 
--- The message of this place was taken or refused, and that was noted. Or an allocation failed, and the first of its events may
+-- The message of this place was taken or refused, and that was recorded. Or an allocation failed, and the first of its events may
 -- have been added.
 abbrev pub QueuesAt : {R E : Type 0} → (R → Stream) → ℕ → Sending → QueuedAll → Context R → Result (Unit {0}) E → QueuedAll → Context R → Type 0
-QueuesAt stream place message queued old (Ok done) queued_then new =
-    NotedAt place (sending_refusal (view_of old).endpoint message) queued queued_then
-    × Moves stream (view_of old) (queue_one (view_of old).endpoint message) (view_of new)
-QueuesAt stream place message queued old (Err error) queued_then new = CutTurn (view_of old) (queue_one (view_of old).endpoint message) (view_of new).events
+QueuesAt stream place message queued old result queued_then new =
+    ByResult (λ done. NotedAt place (sending_refusal (view_of old).endpoint message) queued queued_then
+    × Moves stream (view_of old) (queue_one (view_of old).endpoint message) (view_of new))
+    (CutTurn (view_of old) (queue_one (view_of old).endpoint message) (view_of new).events) result
 
 -- Each of these was taken or refused.
 pub record AreQueued {R : Type 0} (stream : R → Stream) (messages : List Sending) (old : View R) (queued : QueuedAll) (new : View R) : Type 0 where
@@ -72,8 +64,9 @@ pub record AreQueued {R : Type 0} (stream : R → Stream) (messages : List Sendi
   pub moves : Moves stream old (queue_all old.endpoint messages) new
 
 abbrev pub QueuesAll : {R E : Type 0} → (R → Stream) → List Sending → Context R → Result QueuedAll E → Context R → Type 0
-QueuesAll stream messages old (Ok queued) new = AreQueued stream messages (view_of old) queued (view_of new)
-QueuesAll stream messages old (Err error) new = CutTurn (view_of old) (queue_all (view_of old).endpoint messages) (view_of new).events
+QueuesAll stream messages old result new =
+    ByResult (λ queued. AreQueued stream messages (view_of old) queued (view_of new))
+    (CutTurn (view_of old) (queue_all (view_of old).endpoint messages) (view_of new).events) result
 
 -- ---- send and send_many
 
@@ -82,20 +75,19 @@ SendAt messages view o = SendTurn view.endpoint messages o
 
 -- The message was sent or refused; or an allocation failed, and the first of its events may have been added.
 abbrev pub SendsOne : {R E : Type 0} → (R → Stream) → Sending → Context R → Result (Result (Unit {0}) SendError) E → Context R → Type 0
-SendsOne stream message old (Ok answer) new =
-    (refusal_in answer ≡ sending_refusal (view_of old).endpoint message)
-    × TakesPossibleTurn stream (SendAt (message ∷ [])) (view_of old) (view_of new)
-SendsOne stream message old (Err error) new = CutIn (SendAt (message ∷ [])) (view_of old) (view_of new).events
+SendsOne stream message old result new =
+    ByResult (λ answer. (refusal_in answer ≡ sending_refusal (view_of old).endpoint message)
+    × TakesPossibleTurn stream (SendAt (message ∷ [])) (view_of old) (view_of new))
+    (CutIn (SendAt (message ∷ [])) (view_of old) (view_of new).events) result
 
 -- the same for several
 abbrev pub SendsAll : {R E : Type 0} → (R → Stream) → List Sending → Context R → Result (Result (Unit {0}) BatchSendError) E → Context R → Type 0
-SendsAll stream messages old (Ok answer) new =
-    IsBatchAnswer (refused_from 0 (view_of old).endpoint messages) answer
-    × TakesPossibleTurn stream (SendAt messages) (view_of old) (view_of new)
-SendsAll stream messages old (Err error) new = CutIn (SendAt messages) (view_of old) (view_of new).events
+SendsAll stream messages old result new =
+    ByResult (λ answer. IsBatchAnswer (refused_from 0 (view_of old).endpoint messages) answer
+    × TakesPossibleTurn stream (SendAt messages) (view_of old) (view_of new))
+    (CutIn (SendAt messages) (view_of old) (view_of new).events) result
 
 -- What waits was sent, if it was to; else nothing has changed.
 abbrev pub FlushesWhere : {R E : Type 0} → (R → Stream) → Bool → Context R → Result (Unit {0}) E → Context R → Type 0
 FlushesWhere stream true old result new = TakesOne stream FlushAt old result new
-FlushesWhere stream false old (Ok done) new = view_of new ≡ view_of old
-FlushesWhere stream false old (Err error) new = ⊥
+FlushesWhere stream false old result new = ByResult (λ done. view_of new ≡ view_of old) ⊥ result

@@ -5,8 +5,8 @@ ghost use Rattle.std.specs.Option.{option_map};
 ghost use Rattle.dcsctp_core.specs.spec.endpoint.MessageOutcomes.{message_refusal, refusal_kind, message_refusal_text, is_full};
 ghost use Rattle.dcsctp_core.specs.api.Messages.{refusal_of};
 ghost use Rattle.dcsctp_core.specs.View.{endpoint_of};
-ghost use Rattle.dcsctp_core.specs.Handling.{TakesTurn};
-ghost use Rattle.dcsctp_core_messages.specs.Sending.{message_refusal_turn, ReportsMessageEnd, ReportsRefusal};
+ghost use Rattle.dcsctp_core.specs.Handling.{TakesTurn, Tries, report_turn};
+ghost use Rattle.dcsctp_core_messages.specs.Sending.{message_refusal_turn, end_turn};
 
 use dcsctp_core::Context;
 use dcsctp_core::api::{ErrorKind, LifecycleId, SendError, SocketEvent, StreamId};
@@ -53,7 +53,7 @@ fn tell_end<R: Rng>(
     context: &mut Context<R>,
     lifecycle_id: Option<LifecycleId>,
 ) -> Result<(), AllocError>
-    ensures { ReportsMessageEnd R.stream lifecycle_id context.old result context.new }
+    ensures { Tries R.stream (end_turn lifecycle_id) context.old result context.new }
 {
     if let Some(id) = lifecycle_id {
         context.events.add(SocketEvent::OnLifecycleEnd(id))?;
@@ -87,7 +87,8 @@ fn text_of(error: SendError) -> &'static str
 
 // Reports why a message is refused. `Err`: an allocation failed, and nothing has changed.
 fn report_refusal<R: Rng>(context: &mut Context<R>, error: SendError) -> Result<(), AllocError>
-    ensures { ReportsRefusal R.stream (refusal_of error) context.old result context.new }
+    ensures { Tries R.stream (report_turn (refusal_kind (refusal_of error)) (message_refusal_text (refusal_of error))) context.old result
+        context.new }
 {
     let text = String::from_str(context.alloc, text_of(error))?;
     context.report(kind_of(error), text)?;

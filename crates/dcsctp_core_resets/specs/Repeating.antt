@@ -1,7 +1,8 @@
 -- What the handler of the reconfiguration timer does, as turns of a socket's view (RFC 6525, section 5.1.1).
-use Rattle.std.specs.Prelude.{◌≡◌, ℕ, ◌+◌, Bool, true, false, Option, Some, Result, Ok, Err, [], ◌∷◌, length, nat_le}
+use Rattle.std.specs.Prelude.{◌≡◌, ℕ, ◌+◌, Bool, true, false, Option, Some, Result, [], ◌∷◌, length, nat_le}
 use Rattle.dcsctp_core.specs.wire.Content.{ChunkContent, re_config_chunk, outgoing_ssn_reset_request}
 use Rattle.dcsctp_core.specs.wire.declared.reconfiguration.OutgoingSsnResetRequestParameter.{OutgoingSsnResetRequestParameter}
+use Rattle.dcsctp_core.specs.types.ByResult.{ByResult}
 use Rattle.dcsctp_core.specs.types.declared.association.Held.{Held}
 use Rattle.dcsctp_core.specs.spec.endpoint.Endpoint.{Endpoint, OutstandingRequest, held_in}
 use Rattle.dcsctp_core.specs.spec.endpoint.Outcome.{Outcome, still}
@@ -33,9 +34,10 @@ renumbered_where false is_new state = state
 
 -- The request was sent, if it fits `mtu`, which is answered; or an allocation failed, and nothing has changed.
 abbrev pub EmitsRequest : {R E : Type 0} → Bool → ℕ → ChunkContent → Context R → Result Bool E → Context R → Type 0
-EmitsRequest with_checksum tag chunk old (Ok sent) new =
-    (sent ≡ nat_le (12 + length (chunk_bytes chunk)) (packet_size_limit old.options)) × (view_of new ≡ chunk_emitted with_checksum tag chunk (view_of old))
-EmitsRequest with_checksum tag chunk old (Err error) new = view_of new ≡ view_of old
+EmitsRequest with_checksum tag chunk old result new =
+    ByResult (λ sent. (sent ≡ nat_le (12 + length (chunk_bytes chunk)) (packet_size_limit old.options))
+    × (view_of new ≡ chunk_emitted with_checksum tag chunk (view_of old)))
+    (view_of new ≡ view_of old) result
 
 -- The outstanding request is sent to the peer.
 abbrev pub request_again_outcome : Endpoint → Option Held → Option OutstandingRequest → Outcome

@@ -47,7 +47,7 @@ in_place Astray = changes.astray
 abbrev pub held_with : Held → LastRequest → Held
 held_with held last = with_last held last.number last.result
 
--- and with this own request
+-- and with this request of our own
 abbrev pub held_out : Option ℕ → Held → Held
 held_out outstanding held = record held { own_outstanding = outstanding }
 
@@ -110,7 +110,7 @@ is_completed own.InProgress = false
 is_completed own.Performed = true
 is_completed own.Failed = false
 
--- What was made of parameters, once it has ended so. What it tells comes first if no outgoing request was handled so far.
+-- What was made of parameters, once our request has ended so. Its event comes first if no outgoing request was handled so far.
 abbrev pub own_answer_ended : OwnAnswer → HandledRequests → HandledRequests
 own_answer_ended answer worked = record worked { outstanding = None; own = answer; is_own_first = not worked.has_worked }
 
@@ -180,7 +180,7 @@ pub data Brings (parameter : ResetParameter) (old new : HandledRequests) (effect
   brings_answer : (number : ℕ) (result : ReconfigurationResponseResult) → parameter ≡ reconfiguration_response number result → old.outstanding ≡ Some number → new ≡ with_result result old
       → ((my : Pair) (base : Held) → effects my base ≡ (informed_by my (held_now base old) number result).effects) → answers ≡ [] → Brings parameter old new effects answers
 
--- A parameter was handled: whatever comes after it, the machine goes on from what the code keeps.
+-- A parameter was handled: whatever comes after it, the machine continues from what the code keeps.
 pub record HandlesParameter (reached : Bool) (parameter : ResetParameter) (old new : HandledRequests) : Type 0 where
   pub effects : Pair → Held → List Effect
   pub responses : List Parameter

@@ -1,8 +1,9 @@
 -- What the handler of RE-CONFIG does, as turns of a socket's view (RFC 6525, section 5.2).
-use Rattle.std.specs.Prelude.{◌≡◌, ℕ, Bool, true, false, Option, None, Some, Result, Ok, Err, List, [], ◌∷◌, ◌++◌, take, if◌then◌else◌}
+use Rattle.std.specs.Prelude.{◌≡◌, ℕ, Bool, true, false, Option, None, Some, Result, List, [], ◌∷◌, ◌++◌, take, if◌then◌else◌}
 use Rattle.rand_core.specs.Stream.{Stream}
 use Rattle.dcsctp_core.specs.wire.declared.reconfiguration.OutgoingSsnResetRequestParameter.{OutgoingSsnResetRequestParameter}
 use Rattle.dcsctp_core.specs.wire.declared.reconfiguration.ReconfigurationResponseResult.TheVariants.{SuccessNothingToDo}
+use Rattle.dcsctp_core.specs.types.ByResult.{ByResult}
 use Rattle.dcsctp_core.specs.types.declared.association.Held.{Held}
 use Rattle.dcsctp_core.specs.spec.endpoint.Event.{Event, incoming_stream_reset, streams_reset_failed, streams_reset_performed}
 use Rattle.dcsctp_core.specs.api.declared.events.SocketEvent.{SocketEvent}
@@ -69,16 +70,12 @@ left_at view left events = record view { endpoint = record view.endpoint { queue
 abbrev pub DefersTo : RequestedReset → Transfer → Transfer → Type 0
 DefersTo reset old new = new ≡ defers_reset reset old
 
--- The streams were reset, and the user is told; or an allocation failed, and no event was added.
-abbrev pub Performs : {R E : Type 0} → RequestedReset → Context R → Result (Unit {0}) E → Context R → Type 0
-Performs reset old (Ok done) new =
-    (left : Option Transfer) × ResetsInQueues true false (Some reset) (transfer_of old.state) left × (view_of new ≡ left_at (view_of old) left (incoming_stream_reset reset.streams ∷ []))
-Performs reset old (Err error) new = (view_of new).events ≡ (view_of old).events
-
 -- They are to be reset later; or an allocation failed, and nothing has changed.
 abbrev pub DefersReset : {R E : Type 0} → RequestedReset → Context R → Result (Unit {0}) E → Context R → Type 0
-DefersReset reset old (Ok done) new = (left : Option Transfer) × ResetsInQueues false true (Some reset) (transfer_of old.state) left × (view_of new ≡ left_at (view_of old) left [])
-DefersReset reset old (Err error) new = view_of new ≡ view_of old
+DefersReset reset old result new =
+    ByResult (λ done. (left : Option Transfer) × ResetsInQueues false true (Some reset) (transfer_of old.state) left
+    × (view_of new ≡ left_at (view_of old) left []))
+    (view_of new ≡ view_of old) result
 
 -- what becomes of them below the association
 abbrev pub TreatsInQueues : Treatment → Option RequestedReset → Option Transfer → Option Transfer → Type 0
@@ -88,10 +85,12 @@ abbrev pub incoming_reset_events : Treatment → Option RequestedReset → List 
 incoming_reset_events Performed (Some reset) = incoming_stream_reset reset.streams ∷ []
 incoming_reset_events treatment reset = []
 
+-- The streams were treated so, and the event was added; or an allocation failed, and no event was added.
 abbrev pub TreatsReset : {R E : Type 0} → Treatment → Option RequestedReset → Context R → Result (Unit {0}) E → Context R → Type 0
-TreatsReset treatment reset old (Ok done) new =
-    (left : Option Transfer) × TreatsInQueues treatment reset (transfer_of old.state) left × (view_of new ≡ left_at (view_of old) left (incoming_reset_events treatment reset))
-TreatsReset treatment reset old (Err error) new = (view_of new).events ≡ (view_of old).events
+TreatsReset treatment reset old result new =
+    ByResult (λ done. (left : Option Transfer) × TreatsInQueues treatment reset (transfer_of old.state) left
+    × (view_of new ≡ left_at (view_of old) left (incoming_reset_events treatment reset)))
+    ((view_of new).events ≡ (view_of old).events) result
 
 -- ---- our own request
 
@@ -128,21 +127,22 @@ abbrev pub events_of_option : Option SocketEvent → List (Event (List ℕ))
 events_of_option None = []
 events_of_option (Some event) = event_content event ∷ []
 
--- The own request is in progress, if the peer is known: it waits, and its timer starts anew.
+-- Our request is in progress, if the peer is known: it waits, and its timer starts again.
 abbrev pub RetriesIn : ℕ → Option TransmissionControlBlock → State → State → Type 0
 RetriesIn now None old new = new ≡ old
 RetriesIn now (Some tcb) old new = (after : TransmissionControlBlock) × Retries now tcb after × (new ≡ tcb_changed (λ _. after) old)
 
--- It was answered so, if one is outstanding, and this is to be told.
+-- It was answered so, if one is outstanding, and this event is to be added.
 abbrev pub SettlesRequest : {R : Type 0} → requests.OwnAnswer → Context R → Option SocketEvent → Context R → Type 0
 SettlesRequest answer old told new =
     (outstanding_of old.state ≡ None → answer ≡ own.Unanswered)
     → (view_of new ≡ request_settled_at (own_kind answer) (view_of old)) × (events_of_option told ≡ own_reset_events answer (own_streams (outstanding_of old.state)))
 
--- The user is told.
+-- The event was added, if there is one; or an allocation failed, and no event was added.
 abbrev pub ReportsEvent : {R E : Type 0} → Option SocketEvent → Context R → Result (Unit {0}) E → Context R → Type 0
-ReportsEvent event old (Ok done) new = view_of new ≡ record (view_of old) { events = (view_of old).events ++ events_of_option event }
-ReportsEvent event old (Err error) new = (view_of new).events ≡ (view_of old).events
+ReportsEvent event old result new =
+    ByResult (λ done. view_of new ≡ record (view_of old) { events = (view_of old).events ++ events_of_option event })
+    ((view_of new).events ≡ (view_of old).events) result
 
 -- the events about both, in their order
 abbrev pub both_reset_events : Bool → requests.OwnAnswer → Treatment → Option RequestedReset → List ℕ → List (Event (List ℕ))
@@ -154,10 +154,10 @@ handled_reset_events worked reset old = both_reset_events worked.is_own_first wo
 
 -- What was decided of both was done; or an allocation failed, and the first of the events were added.
 abbrev pub Carried : {R E : Type 0} → HandledRequests → Option RequestedReset → Context R → Result (Unit {0}) E → Context R → Type 0
-Carried worked reset old (Ok done) new =
-    (left : Option Transfer) × TreatsInQueues worked.treatment reset (transfer_of old.state) left
-    × (view_of new ≡ left_at (request_settled_at (own_kind worked.own) (view_of old)) left (handled_reset_events worked reset old))
-Carried worked reset old (Err error) new = (count : ℕ) × ((view_of new).events ≡ (view_of old).events ++ take count (handled_reset_events worked reset old))
+Carried worked reset old result new =
+    ByResult (λ done. (left : Option Transfer) × TreatsInQueues worked.treatment reset (transfer_of old.state) left
+    × (view_of new ≡ left_at (request_settled_at (own_kind worked.own) (view_of old)) left (handled_reset_events worked reset old)))
+    ((count : ℕ) × ((view_of new).events ≡ (view_of old).events ++ take count (handled_reset_events worked reset old))) result
 
 abbrev pub CarriesOut : {R E : Type 0} → HandledRequests → Option RequestedReset → Context R → Result (Unit {0}) E → Context R → Type 0
 CarriesOut worked reset old result new = (outstanding_of old.state ≡ None → worked.own ≡ own.Unanswered) → Carried worked reset old result new

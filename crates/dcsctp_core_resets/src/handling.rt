@@ -12,8 +12,9 @@ ghost use Rattle.dcsctp_core.specs.Answering.{request_ended};
 ghost use Rattle.dcsctp_core.specs.View.{tcb_of, transfer_of, view_of};
 ghost use Rattle.dcsctp_core.specs.Below.{ChangesQueues};
 ghost use Rattle.dcsctp_core.specs.Handling.{Emits, TakesOne, Tries, report_turn};
+ghost use Rattle.dcsctp_core_resets.specs.declared.requests.Treatment.TheVariants.{Performed};
 ghost use Rattle.dcsctp_core_resets.specs.Requests.{AreResponses, reset_parameters};
-ghost use Rattle.dcsctp_core_resets.specs.Resets.{CarriesOut, DefersReset, DefersTo, Finishes, Performs, ReConfigAt, RetriesIn, SettlesRequest, ReportsEvent, TreatsReset, WorksFor, asked_at, heeded_at, responses_turn, wanted_by};
+ghost use Rattle.dcsctp_core_resets.specs.Resets.{CarriesOut, DefersReset, DefersTo, Finishes, ReConfigAt, RetriesIn, SettlesRequest, ReportsEvent, TreatsReset, WorksFor, asked_at, heeded_at, responses_turn, wanted_by};
 
 use crate::reading::{requested, streams_of};
 use crate::requests::{HandledRequests, LastRequest, OwnAnswer, Treatment, handle_requests};
@@ -113,7 +114,7 @@ fn perform<R: Rng>(
     context: &mut Context<R>,
     request: &OutgoingSsnResetRequestParameter<'_>,
 ) -> Result<(), AllocError>
-    ensures { Performs (wanted_by request.now) context.old result context.new }
+    ensures { TreatsReset Performed (Some (wanted_by request.now)) context.old result context.new }
 {
     let streams = streams_of(context.alloc, request)?;
     reset_streams(&mut context.state, &streams)?;

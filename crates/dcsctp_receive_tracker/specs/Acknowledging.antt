@@ -11,7 +11,7 @@ use Rattle.dcsctp_spec_lemmas.specs.spec.queues.Tracker.{greatest_distance}
 abbrev pub IsWithinReach : ℕ → List TsnRange → Type 0
 IsWithinReach cumulative ranges = (number : ℕ) → is_in number ranges ≡ true → number ≤ cumulative + greatest_distance
 
--- The timer doesn't go on once it has expired.
+-- The timer doesn't start again once it has expired.
 pub record RunsOnce (timer : TimerModel) : Type 0 where
   pub next : timer.settings.terms.max_restarts ≡ Some 0
   pub present : IfSome timer.running (λ running. running.terms.max_restarts ≡ Some 0)

@@ -18,7 +18,7 @@ use Rattle.dcsctp_api.specs.spec.Soundness.{HasBytes}
 abbrev pub FindsPlaces : OutstandingState → Type 0
 FindsPlaces outstanding = (place : ℕ) → place < length outstanding.items → distance_to outstanding (tsn_at outstanding place) ≡ place
 
--- It isn't behind, and was sent.
+-- The cumulative TSN is that of an item, or the one before the first.
 abbrev pub was_sent : OutstandingState → ℕ → Type 0
 was_sent outstanding cumulative = acknowledged_count outstanding cumulative ≤ length outstanding.items
 
@@ -88,7 +88,7 @@ TriesNext now max old new (Ok None) = new ≡ old
 TriesNext now max old new (Ok (Some tsn)) = SendsNext now max old new tsn
 TriesNext now max old new (Err error) = new ≡ old
 
--- Nothing changes, or an abandoned item is added that stands for the end of a message.
+-- Nothing changes, or an abandoned item is added as the end of a message.
 pub record AddsEnd (old new : OutstandingState) : Type 0 where
   pub item : Item
   pub is_abandoned : item.progress.state ≡ Abandoned

@@ -1,4 +1,4 @@
--- What an acknowledgement needn't be told again (RFC 9260, section 6.2.1), and which changes leave it so.
+-- Items that no later SACK must acknowledge again (RFC 9260, section 6.2.1), and which changes leave them so.
 use Rattle.std.specs.Prelude.{not, Bool, true, false, nat_lt, if◌then◌else◌}
 use Rattle.dcsctp_api.specs.types.declared.progress.Progress.{Progress}
 use Rattle.dcsctp_api.specs.types.declared.progress.Change.{Change}

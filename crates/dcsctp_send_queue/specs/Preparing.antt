@@ -1,16 +1,17 @@
 -- Our own streams that are prepared to be reset (RFC 6525, section 5.1.2).
-use Rattle.std.specs.Prelude.{◌≡◌, ℕ, Result, Ok, Err, List, ◌++◌}
+use Rattle.std.specs.Prelude.{◌≡◌, ℕ, Result, List, ◌++◌}
+use Rattle.dcsctp_api.specs.types.ByResult.{ByResult}
 use Rattle.dcsctp_api.specs.spec.endpoint.Event.{Event}
 use Rattle.dcsctp_api.specs.spec.queues.OwnResets.{prepared, prepare_events}
 use Rattle.dcsctp_api.specs.spec.queues.SendQueue.{SendQueueState}
 use Rattle.dcsctp_send_streams.specs.Telling.{TellsFront}
 
--- The stream was prepared, and the user was told of it.
+-- The stream was prepared, and its events were added.
 pub record PreparesStream (id : ℕ) (old : SendQueueState) (before : List (Event (List ℕ))) (new : SendQueueState) (after : List (Event (List ℕ))) : Type 0 where
   pub left : new ≡ prepared id old
   pub tells : after ≡ before ++ prepare_events id old
 
--- If an allocation failed, the first of its events are added.
+-- That is so; or an allocation failed, and the first of its events were added.
 abbrev pub TriesStream : {E : Type 0} → ℕ → SendQueueState → List (Event (List ℕ)) → Result (Unit {0}) E → SendQueueState → List (Event (List ℕ)) → Type 0
-TriesStream id old before (Ok done) new after = PreparesStream id old before new after
-TriesStream id old before (Err error) new after = TellsFront before (prepare_events id old) after
+TriesStream id old before result new after =
+    ByResult (λ done. PreparesStream id old before new after) (TellsFront before (prepare_events id old) after) result

@@ -1,6 +1,7 @@
 -- Which messages are abandoned before a FORWARD-TSN (RFC 3758, sections 3.5 and 4.1).
-use Rattle.std.specs.Prelude.{Result, Ok, Err, ◌≡◌, ℕ, Bool, true, false}
+use Rattle.std.specs.Prelude.{Result, ◌≡◌, ℕ, Bool, true, false}
 use Rattle.std.specs.declared.alloc.AllocError.{AllocError}
+use Rattle.dcsctp_api.specs.types.ByResult.{ByResult}
 use Rattle.dcsctp_send_retransmission.specs.States.{RefusesUpAt}
 use Rattle.dcsctp_api.specs.spec.queues.Filling.{Stage, GivesUpAt, StageSteps}
 use Rattle.dcsctp_api.specs.spec.queues.Abandoning.{IsDueAt, NoneDue, GivesUpFirst}
@@ -21,12 +22,9 @@ pub record StopsGivingUp (now : ℕ) (old new : Stage) : Type 0 where
 
 -- Messages are abandoned one after the other, until none is due; or up to where an allocation fails.
 abbrev pub GivesUpDue : {A : Type 0} → ℕ → Stage → Stage → Result A AllocError → Type 0
-GivesUpDue now old new (Ok done) = StageSteps (GivesUpFirst now) old new × NoneDue now new.queue
-GivesUpDue now old new (Err error) = StopsGivingUp now old new
+GivesUpDue now old new result = ByResult (λ done. StageSteps (GivesUpFirst now) old new × NoneDue now new.queue) (StopsGivingUp now old new) result
 
 -- what is done at the item at this place, by whether it is due, and by whether an allocation failed
 abbrev pub GivesUpIf : {A : Type 0} → ℕ → ℕ → Stage → Stage → Bool → Result A AllocError → Type 0
-GivesUpIf now place old new true (Ok done) = GivesUpAt now place old new
-GivesUpIf now place old new true (Err error) = RefusesAt place old new
-GivesUpIf now place old new false (Ok done) = new ≡ old
-GivesUpIf now place old new false (Err error) = ⊥
+GivesUpIf now place old new true result = ByResult (λ done. GivesUpAt now place old new) (RefusesAt place old new) result
+GivesUpIf now place old new false result = ByResult (λ done. new ≡ old) ⊥ result

@@ -40,7 +40,7 @@ HandlesSackInQueue now cumulative window blocks old told new telling (Err error)
 
 -- ---- what is abandoned
 
--- An abandoned item may be added that stands for the end of a message; nothing else changes.
+-- An abandoned item may be added as the end of a message; nothing else changes.
 pub record MayGrow (old new : RetransmissionState) : Type 0 where
   pub ends : MayAddEnd old.outstanding new.outstanding
   pub rest : new ≡ record old { outstanding = new.outstanding }

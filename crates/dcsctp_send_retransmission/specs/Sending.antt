@@ -45,7 +45,7 @@ pub record Filled (bytes : ℕ) (queue : RetransmissionState) (packet : Packet) 
 abbrev pub GoesOnFilling : RetransmissionState → Packet → RetransmissionState → Packet → Type 0
 GoesOnFilling old before new after = (bytes : ℕ) → Filled bytes old before → Filled bytes new after
 
--- Nothing is lost, and the packet goes on being filled.
+-- Nothing is lost, and the packet continues to be filled.
 pub record ContinuesPacket (old : RetransmissionState) (before : Packet) (new : RetransmissionState) (after : Packet) : Type 0 where
   pub keeps : KeepsAllFragments old new
   pub filling : GoesOnFilling old before new after

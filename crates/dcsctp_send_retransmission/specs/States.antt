@@ -1,8 +1,9 @@
--- How a packet is filled: which items are sent again, which are abandoned, which are new, and what is told (RFC 9260, section
--- 6.1; RFC 3758, section 3.5).
-use Rattle.std.specs.Prelude.{Result, Ok, Err, Vec, ◌≡◌, ◌⊎◌, ◌+◌, ◌-◌, ◌^◌, ◌<◌, ◌≤◌, ℕ, Bool, true, false, Some, List, [], ◌∷◌, ◌++◌, length, slice_get}
+-- How a packet is filled: which items are sent again, which are abandoned, which are new, and the events (RFC 9260, section 6.1;
+-- RFC 3758, section 3.5).
+use Rattle.std.specs.Prelude.{Result, Vec, ◌≡◌, ◌⊎◌, ◌+◌, ◌-◌, ◌^◌, ◌<◌, ◌≤◌, ℕ, Bool, true, false, Some, List, [], ◌∷◌, ◌++◌, length, slice_get}
 use Rattle.std.specs.declared.alloc.AllocError.{AllocError}
 use Rattle.std.specs.declared.alloc.Global.{Global}
+use Rattle.dcsctp_api.specs.types.ByResult.{ByResult}
 use Rattle.dcsctp_api.specs.declared.events.SocketEvent.{SocketEvent}
 use Rattle.dcsctp_api.specs.spec.endpoint.Event.{Event}
 use Rattle.dcsctp_api.specs.spec.queues.SendQueue.{SendQueueState}
@@ -62,8 +63,7 @@ pub record StopsBetweenSteps (now : ℕ) (Step : Stage → Stage → Type 0) (ol
 
 -- some steps, by whether an allocation failed
 abbrev pub Goes : {A : Type 0} → ℕ → (Stage → Stage → Type 0) → Stage → Stage → Result A AllocError → Type 0
-Goes now Step old new (Ok done) = StageSteps Step old new
-Goes now Step old new (Err error) = StopsBetweenSteps now Step old new
+Goes now Step old new result = ByResult (λ done. StageSteps Step old new) (StopsBetweenSteps now Step old new) result
 
 -- ---- the whole
 
@@ -77,8 +77,7 @@ abbrev pub StopsFilling : ℕ → Stage → Stage → Type 0
 StopsFilling now old new = StopsBetweenSteps now (StepAgain now) old new ⊎ StopsAnew now old new
 
 abbrev pub GoesFilling : {A : Type 0} → ℕ → Stage → Stage → Result A AllocError → Type 0
-GoesFilling now old new (Ok done) = FillsStage now old new
-GoesFilling now old new (Err error) = StopsFilling now old new
+GoesFilling now old new result = ByResult (λ done. FillsStage now old new) (StopsFilling now old new) result
 
 -- A packet is filled that had that many bytes of room, from a queue, a send queue and events to others.
 pub record FillsFromQueue (now bytes : ℕ) (old : RetransmissionState) (waiting : SendQueueState) (events : List SocketEvent) (new : RetransmissionState) (left : SendQueueState) (telling : List SocketEvent) (tsns : List ℕ) : Type 0 where
@@ -87,9 +86,9 @@ pub record FillsFromQueue (now bytes : ℕ) (old : RetransmissionState) (waiting
 
 -- a packet is filled by whether an allocation failed
 abbrev pub TriesPacket : ℕ → ℕ → RetransmissionState → SendQueueState → List SocketEvent → RetransmissionState → SendQueueState → List SocketEvent → Result (Vec ℕ Global) AllocError → Type 0
-TriesPacket now bytes old waiting events new left telling (Ok tsns) = FillsFromQueue now bytes old waiting events new left telling tsns.items
-TriesPacket now bytes old waiting events new left telling (Err error) =
-    StopsFilling now (stage old waiting events [] bytes) (stage new left telling [] bytes)
+TriesPacket now bytes old waiting events new left telling result =
+    ByResult (λ (tsns : Vec ℕ Global). FillsFromQueue now bytes old waiting events new left telling tsns.items)
+    (StopsFilling now (stage old waiting events [] bytes) (stage new left telling [] bytes)) result
 
 -- The same, and then the timer runs while something is outstanding.
 pub record SendsPacket (now bytes : ℕ) (old : RetransmissionState) (waiting : SendQueueState) (events : List SocketEvent) (new : RetransmissionState) (left : SendQueueState) (telling : List SocketEvent) (result : Result (Vec ℕ Global) AllocError) : Type 0 where
@@ -112,7 +111,8 @@ SendsAt place item old before new after false = (new ≡ old) × (after.tsns.ite
 
 -- a fast retransmission by whether an allocation failed
 abbrev pub TriesAtOnce : ℕ → ℕ → RetransmissionState → RetransmissionState → Result (Vec ℕ Global) AllocError → Type 0
-TriesAtOnce now bytes old new (Ok tsns) = (waiting : SendQueueState) → SendsAtOnce now bytes waiting old new tsns.items
-TriesAtOnce now bytes old new (Err error) =
-    (waiting : SendQueueState) (events : List SocketEvent)
-    → StopsBetweenSteps now (SendsMarked now) (stage (record old { fast_retransmit_due = false }) waiting events [] bytes) (stage new waiting events [] bytes)
+TriesAtOnce now bytes old new result =
+    ByResult (λ (tsns : Vec ℕ Global). (waiting : SendQueueState) → SendsAtOnce now bytes waiting old new tsns.items)
+    ((waiting : SendQueueState) (events : List SocketEvent)
+    → StopsBetweenSteps now (SendsMarked now) (stage (record old { fast_retransmit_due = false }) waiting events [] bytes) (stage new waiting events [] bytes))
+    result

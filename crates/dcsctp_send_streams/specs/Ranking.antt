@@ -21,7 +21,7 @@ pub record AreStreamsKept (streams : List Stream) (turns : List Turn) (room paus
   pub counted : pausing ≡ count_pausing streams
   pub bytes : AllByRecursion HaveBytes streams
 
--- what a search for this number finds: its place, or the place at which it would stand
+-- what a search for this number finds: its place, or the place at which it would be
 abbrev pub IsFound : List Stream → ℕ → Result ℕ ℕ → Type 0
 IsFound streams id (Ok place) = (place < length streams) × ((stream_at streams place).id ≡ id)
 IsFound streams id (Err place) =

@@ -1,10 +1,10 @@
--- What a queue tells the user.
+-- The events that a queue adds for the user.
 use Rattle.std.specs.Prelude.{◌≡◌, ℕ, List, ◌++◌, map}
 use Rattle.dcsctp_api.specs.spec.endpoint.Event.{Event}
 use Rattle.dcsctp_api.specs.declared.events.SocketEvent.{SocketEvent}
 use Rattle.dcsctp_api.specs.Events.{event_content}
 
--- what events say
+-- the contents of events
 abbrev pub contents : List SocketEvent → List (Event (List ℕ))
 contents events = map event_content events
 

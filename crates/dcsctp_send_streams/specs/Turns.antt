@@ -9,7 +9,7 @@ abbrev pub NoneAfter : Turn → List Turn → Type 0
 NoneAfter turn [] = Unit {0}
 NoneAfter turn (other ∷ turns) = (comes_after other turn ≡ false) × NoneAfter turn turns
 
--- The turns stand in order, the last to be asked first.
+-- The turns are in order, the last to be asked first.
 abbrev pub IsOrdered : List Turn → Type 0
 IsOrdered [] = Unit {0}
 IsOrdered (turn ∷ turns) = NoneAfter turn turns × IsOrdered turns

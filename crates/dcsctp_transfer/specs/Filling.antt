@@ -28,7 +28,7 @@ abbrev pub FillsRoom : ℕ → ℕ → Transfer → SendQueueState → Stage →
 FillsRoom now room transfer waiting sent =
     FillsWhere (may_give waiting transfer.retransmission) now (stage_of waiting transfer.retransmission [] room) sent
 
--- Chunks with data were put into a packet, or none, and the user was told of it. Where nothing waits and nothing is outstanding,
+-- Chunks with data were put into a packet, or none, and their events were added. Where nothing waits and nothing is outstanding,
 -- nothing has changed.
 pub record FillsDataPacket (now : ℕ) (old : Transfer) (waiting : SendQueueState) (events : List (Event (List ℕ))) (packet : Building) (new : Transfer) (left : SendQueueState) (telling : List (Event (List ℕ))) (filled : Building) (any : Bool) : Type 0 where
   pub sent : Stage
@@ -45,7 +45,7 @@ pub record FillsDataPacket (now : ℕ) (old : Transfer) (waiting : SendQueueStat
   pub queue : left ≡ sent.waiting
   pub is : new ≡ record old { retransmission = sent.queue }
 
--- If an allocation failed, the user was told the first part of what some such filling tells.
+-- If an allocation failed, the first events of some such filling were added.
 pub record TellsFilling (now room : ℕ) (old : Transfer) (waiting : SendQueueState) (before after : List (Event (List ℕ))) : Type 0 where
   pub sent : Stage
   pub fills : FillsRoom now room old waiting sent

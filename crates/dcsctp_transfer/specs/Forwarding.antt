@@ -1,4 +1,4 @@
--- What tells the peer to wait no longer for messages that were abandoned (RFC 3758, section 3.5; RFC 8260, section 2.3.1).
+-- Chunks by which the peer waits no longer for messages that were abandoned (RFC 3758, section 3.5; RFC 8260, section 2.3.1).
 use Rattle.std.specs.Prelude.{◌≡◌, ◌≤◌, ℕ, length, Option, List, [], ◌++◌, map}
 use Rattle.std.specs.List.{AllByRecursion, flat_map}
 use Rattle.dcsctp_send_retransmission.specs.wire.Content.{ChunkContent, forward_tsn_chunk, i_forward_tsn_chunk}
@@ -36,7 +36,7 @@ abbrev pub AbandonsExpired : ℕ → ℕ → Transfer → SendQueueState → Sta
 AbandonsExpired now room transfer waiting gave_up next chunks =
     GivesUpWhere (may_abandon transfer.retransmission) now transfer room (stage_of waiting transfer.retransmission [] 0) gave_up next chunks
 
--- Messages were abandoned, and the user was told of it. If a chunk was made, the result says when the next one may be made.
+-- Messages were abandoned, and their events were added. If a chunk was made, the result says when the next one may be made.
 pub record MakesForwardTsn (now : ℕ) (old : Transfer) (waiting : SendQueueState) (events : List (Event (List ℕ))) (packet : Building) (new : Transfer) (left : SendQueueState) (telling : List (Event (List ℕ))) (filled : Building) (next : Option ℕ) : Type 0 where
   pub gave_up : Stage
   pub chunks : List Plain
@@ -49,7 +49,7 @@ pub record MakesForwardTsn (now : ℕ) (old : Transfer) (waiting : SendQueueStat
   pub queue : left ≡ gave_up.waiting
   pub is : new ≡ record old { retransmission = gave_up.queue }
 
--- If an allocation failed, the user was told the first part of what is told then.
+-- If an allocation failed, the first of these events were added.
 pub record TellsAbandoning (now : ℕ) (old : Transfer) (waiting : SendQueueState) (before after : List (Event (List ℕ))) : Type 0 where
   pub gave_up : Stage
   pub gives_up : GivesUpAll now (stage_of waiting old.retransmission [] 0) gave_up

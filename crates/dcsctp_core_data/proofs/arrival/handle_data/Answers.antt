@@ -2,7 +2,9 @@ use Rattle.std.proofs.Common.{◌∙◌, OnOk, sym, refl, subst}
 use Rattle.dcsctp_core.specs.spec.queues.IncomingStreams.{ChunkModel}
 use Rattle.dcsctp_core.specs.spec.endpoint.TransferMoves.{ReceivesData}
 use Rattle.std.proofs.lemmas.Result.{err_from_is_err_and}
+use Rattle.dcsctp_core.specs.declared.context.Context.{Context}
 use Rattle.dcsctp_core.specs.View.{view_of}
+use Rattle.dcsctp_core.proofs.LendingLemmas.{left_with}
 use Rattle.dcsctp_core_data.specs.Data.{part_arrival}
 use Rattle.dcsctp_core_data.proofs.ArrivalLemmas.{empty_refused, not_connected, data_cut, data_worked}
 use Rattle.dcsctp_core_data.proofs.arrival.handle_data.Goals as goal
@@ -24,6 +26,8 @@ returns-in_err-data g c =
 
 pub returns : goal.returns
 returns g c =
-    data_worked g.R.Rng.stream c.args.context.now _ c.in-Some.tcb.now c.receive_data.new.self c.receive_data.result (part_arrival c.args.part) refl
+    let old = c.args.context.now in
+    let new : Context g.row.R.Denot = record old { state = left_with old.state c.in-Some.tcb.now c.receive_data.new.self } in
+    data_worked g.R.Rng.stream old new c.in-Some.tcb.now c.receive_data.new.self c.receive_data.result (part_arrival c.args.part) refl
     (sym c.is_empty.ensures ∙ c.if-is_empty.false) c.in-Some.ensures.tcb
     (subst (λ (chunk : ChunkModel). OnOk c.receive_data.result (ReceivesData (record (part_arrival c.args.part) { chunk = chunk }) c.in-Some.tcb.now.transfer c.receive_data.new.self)) c.in_ok-data.ensures c.receive_data.ensures.ok)

@@ -1,7 +1,9 @@
 use Rattle.std.proofs.Common.{refl}
 use Rattle.std.proofs.lemmas.Result.{err_from_is_err_and}
 use Rattle.dcsctp_core.specs.spec.queues.Arrivals.{skipped_in}
+use Rattle.dcsctp_core.specs.declared.context.Context.{Context}
 use Rattle.dcsctp_core.specs.View.{view_of}
+use Rattle.dcsctp_core.proofs.LendingLemmas.{left_with}
 use Rattle.dcsctp_core_data.proofs.ArrivalLemmas.{forward_cut, forward_unasked, forward_worked}
 use Rattle.dcsctp_core_data.proofs.forward.handle_forward_tsn.Goals as goal
 
@@ -15,6 +17,8 @@ returns-in_err-skipped g c =
 
 pub returns : goal.returns
 returns g c =
-    forward_worked g.R.Rng.stream c.args.context.now _ c.in-Some.tcb.now c.handle_forward_tsn.new.self c.handle_forward_tsn.result c.args.chunk.now.new_cumulative_tsn (skipped_in c.args.chunk.now.skipped_streams.now) refl
+    let old = c.args.context.now in
+    let new : Context g.row.R.Denot = record old { state = left_with old.state c.in-Some.tcb.now c.handle_forward_tsn.new.self } in
+    forward_worked g.R.Rng.stream old new c.in-Some.tcb.now c.handle_forward_tsn.new.self c.handle_forward_tsn.result c.args.chunk.now.new_cumulative_tsn (skipped_in c.args.chunk.now.skipped_streams.now) refl
     c.in-Some.ensures.tcb
     (rw (← c.in_ok-skipped.ensures, ← c.deref.ensures.value) c.handle_forward_tsn.ensures.ok)
