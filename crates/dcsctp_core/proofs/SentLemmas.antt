@@ -1,22 +1,24 @@
 -- A packet that is sent, in bytes.
-use Rattle.std.proofs.Common.{◌≡◌, ◌+◌, ◌-◌, ℕ, Bool, true, false, cond, List, [], ◌∷◌, ◌++◌, length, map, refl, sym, ap, ◌∙◌, append_assoc}
-use Rattle.std.specs.Prelude.{nat_le}
+use Rattle.std.proofs.Common.{◌≡◌, ◌==◌, ◌+◌, ◌-◌, ℕ, Bool, true, false, cond, Option, None, Some, List, [], ◌∷◌, ◌++◌, length, map, refl, sym, ap, subst, ◌∙◌, append_assoc}
+use Rattle.std.specs.Prelude.{nat_le, if◌then◌else◌}
 use Rattle.std.proofs.lemmas.List.{append-nil}
 use Rattle.std.specs.List.{flat_map}
 use Rattle.dcsctp_transfer.specs.wire.Content.{ChunkContent}
 use Rattle.dcsctp_transfer.specs.wire.Spelling.{Spelled, by_value, by_list, spelled, other_bytes, parameter_chunk_bytes, spelled_bytes, chunk_bytes, header_bytes, packet_bytes_of}
 use Rattle.dcsctp_transfer.specs.wire_build.Building.{Building, bytes_remaining}
 use Rattle.rand_core.specs.Stream.{Stream}
+use Rattle.dcsctp_transfer.specs.types.declared.association.Held.{Held}
 use Rattle.dcsctp_transfer.specs.types.declared.options.Options.{Options}
 use Rattle.dcsctp_transfer.specs.types.Settings.{ports_of, packet_size_limit}
 use Rattle.dcsctp_transfer.specs.spec.endpoint.Event.{sent}
 use Rattle.dcsctp_transfer.specs.spec.Packet.{Content, Emission, unworked, chunk_out, emission_bytes}
 use Rattle.dcsctp_transfer.specs.spec.endpoint.Endpoint.{Endpoint}
-use Rattle.dcsctp_transfer.specs.spec.endpoint.Outcome.{packet_counted, sends, contents_len}
+use Rattle.dcsctp_transfer.specs.spec.endpoint.Outcome.{still, packet_counted, fits, quiet, sends, emits, to_peer, contents_len}
 use Rattle.dcsctp_transfer.specs.spec.association.Choices.{plain_contents}
 use Rattle.dcsctp_transfer.specs.spec.endpoint.FlushOutcomes.{is_none, room_in}
 use Rattle.dcsctp_core.specs.View.{View, Moves}
-use Rattle.dcsctp_core.specs.Handling.{chunk_emitted}
+use Rattle.dcsctp_core.specs.Handling.{chunk_emitted, emitted_to, sent_to_peer}
+use Rattle.dcsctp_core.proofs.Moving.{moves_still}
 use Rattle.dcsctp_core.specs.Flushing.{packet_being_built, packet_for}
 
 -- A chunk has bytes.
@@ -98,3 +100,39 @@ emitted_sends {R = R} stream a b with_checksum tag content fits here =
     sent_moves stream a b (record { with_checksum = with_checksum; packet = record { tag = tag; contents = content ∷ [] } }) bytes
     (here ∙ ap (λ (test : Bool). cond test out a) fits)
     (ap (packet_bytes_of with_checksum header) (sym (append-nil (chunk_bytes (chunk_out content)))))
+
+-- ---- a packet to the peer
+
+-- a packet of one chunk, by whether it fits
+pub emitted_where : {R : Type 0} (stream : R → Stream) (v : View R) (emission : Emission) (bytes : List ℕ) (b : Bool) → emission_bytes (ports_of v.endpoint.options) emission ≡ bytes
+    → Moves stream v (if b then sends v.endpoint [] [] emission else quiet v.endpoint [] []) (if b then record v { endpoint = packet_counted v.endpoint; events = v.events ++ sent bytes ∷ [] } else v)
+emitted_where stream v emission bytes true is =
+    record {
+      endpoint = refl;
+      events = ap (λ (bs : List ℕ). v.events ++ sent bs ∷ []) (sym is);
+      words = sym (append-nil v.words);
+      pairs = sym (append-nil v.pairs);
+      drawn = refl;
+    }
+emitted_where stream v emission bytes false is = record { endpoint = refl; events = sym (append-nil v.events); words = sym (append-nil v.words); pairs = sym (append-nil v.pairs); drawn = refl }
+
+-- a packet of one chunk to the peer
+pub emits_moves : {R : Type 0} (stream : R → Stream) (v : View R) (held : Held) (content : Content)
+    → Moves stream v (emits v.endpoint [] (to_peer held content)) (chunk_emitted (held.capabilities.zero_checksum_method.0 == 0) held.peer.tag (chunk_out content) v)
+emits_moves {R = R} stream v held content =
+    let options = v.endpoint.options in
+    let emission : Emission = to_peer held content in
+    let bytes : List ℕ = chunk_bytes (chunk_out content) in
+    let spelled : List ℕ = packet_bytes_of emission.with_checksum (header_bytes options.local_port options.remote_port held.peer.tag) bytes in
+    let alone : bytes ++ [] ≡ bytes = append-nil bytes in
+    subst (λ (b : Bool). Moves stream v (if fits v.endpoint emission then sends v.endpoint [] [] emission else quiet v.endpoint [] []) (if b then record v { endpoint = packet_counted v.endpoint; events = v.events ++ sent spelled ∷ [] } else v))
+    (ap (λ (bs : List ℕ). nat_le (12 + length bs) (packet_size_limit options)) alone)
+    (emitted_where stream v emission spelled (fits v.endpoint emission)
+    (ap (λ (bs : List ℕ). packet_bytes_of emission.with_checksum (header_bytes options.local_port options.remote_port held.peer.tag) bs) alone))
+
+-- A chunk was sent to the peer, if it is known and the packet fits.
+pub told_moves : {R : Type 0} (stream : R → Stream) (a b : View R) (content : Content) (peer : Option Held) → b ≡ emitted_to peer (chunk_out content) a
+    → Moves stream a (sent_to_peer a.endpoint peer content) b
+told_moves {R = R} stream a b content None here = subst (λ (v : View R). Moves stream a (still a.endpoint) v) (sym here) (moves_still stream a)
+told_moves {R = R} stream a b content (Some held) here =
+    subst (λ (v : View R). Moves stream a (emits a.endpoint [] (to_peer held content)) v) (sym here) (emits_moves stream a held content)

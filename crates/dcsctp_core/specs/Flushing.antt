@@ -8,6 +8,7 @@ use Rattle.dcsctp_transfer.specs.spec.queues.OwnResets.{ready_streams}
 use Rattle.dcsctp_transfer.specs.types.declared.options.Options.{Options}
 use Rattle.dcsctp_transfer.specs.types.ByResult.{ByResult}
 use Rattle.dcsctp_transfer.specs.types.Settings.{ports_of, packet_size_limit}
+use Rattle.dcsctp_transfer.specs.types.Sizes.{common_header_size}
 use Rattle.dcsctp_transfer.specs.spec.endpoint.Event.{Event, sent}
 use Rattle.dcsctp_transfer.specs.spec.Packet.{Content, chunk_out, Emission}
 use Rattle.dcsctp_transfer.specs.spec.queues.SendQueue.{SendQueueState, has_queued_data}
@@ -270,7 +271,7 @@ sent_where false packet view = view
 
 -- It is empty, or no longer than it may be.
 abbrev pub KeepsSize : Building → Type 0
-KeepsSize packet = (packet.body ≡ []) ⊎ (12 + length packet.body ≤ packet.size)
+KeepsSize packet = (packet.body ≡ []) ⊎ (common_header_size + length packet.body ≤ packet.size)
 
 -- A packet that isn't empty was sent; or an allocation failed, and nothing has changed.
 abbrev pub SendsUnlessEmpty : {R E : Type 0} → Building → Context R → Result Bool E → Context R → Type 0

@@ -1,16 +1,19 @@
 -- What all handlers have in common: how their contracts state a turn, and the turns that all of them share.
-use Rattle.std.specs.Prelude.{◌≡◌, ℕ, ◌+◌, Bool, Result, List, [], ◌∷◌, ◌++◌, length, nat_le, if◌then◌else◌}
+use Rattle.std.specs.Prelude.{◌≡◌, ◌==◌, ℕ, ◌+◌, Bool, Option, None, Some, Result, List, [], ◌∷◌, ◌++◌, length, nat_le, if◌then◌else◌}
 use Rattle.rand_core.specs.Stream.{Stream}
 use Rattle.dcsctp_transfer.specs.wire.Content.{ChunkContent}
 use Rattle.dcsctp_transfer.specs.wire.Spelling.{chunk_bytes, header_bytes, packet_bytes_of}
+use Rattle.dcsctp_transfer.specs.types.declared.association.Held.{Held}
 use Rattle.dcsctp_transfer.specs.types.declared.kinds.ErrorKind.{ErrorKind}
 use Rattle.dcsctp_transfer.specs.types.declared.kinds.ErrorKind.TheVariants.{NoError}
 use Rattle.dcsctp_transfer.specs.types.ByResult.{ByResult}
 use Rattle.dcsctp_transfer.specs.types.Settings.{packet_size_limit}
-use Rattle.dcsctp_transfer.specs.spec.Packet.{Emission}
+use Rattle.dcsctp_transfer.specs.types.Sizes.{common_header_size}
+use Rattle.dcsctp_transfer.specs.spec.Packet.{Content, Emission}
+use Rattle.dcsctp_transfer.specs.spec.endpoint.Endpoint.{Endpoint, held_in}
 use Rattle.dcsctp_transfer.specs.spec.endpoint.Event.{Event, sent, aborted}
 use Rattle.dcsctp_transfer.specs.spec.endpoint.Event as events
-use Rattle.dcsctp_transfer.specs.spec.endpoint.Outcome.{Outcome, packet_counted, reports}
+use Rattle.dcsctp_transfer.specs.spec.endpoint.Outcome.{Outcome, still, packet_counted, reports, emits, to_peer}
 use Rattle.dcsctp_transfer.specs.spec.endpoint.Following.{next_chunk, packet_end, dropped_rest}
 use Rattle.dcsctp_transfer.specs.spec.endpoint.Following as machine
 use Rattle.dcsctp_transfer.specs.spec.endpoint.Turn.{arrival_outcome}
@@ -19,7 +22,7 @@ use Rattle.dcsctp_transfer.specs.spec.endpoint.EndOutcomes.{close_outcome}
 use Rattle.dcsctp_core.specs.declared.following.Following.{Following}
 use Rattle.dcsctp_core.specs.declared.following.Following.TheVariants.{NextChunk, PacketEnd, DroppedRest}
 use Rattle.dcsctp_core.specs.declared.context.Context.{Context}
-use Rattle.dcsctp_core.specs.View.{View, view_of, Moves, CutTurn}
+use Rattle.dcsctp_core.specs.View.{View, core_of, view_of, Moves, CutTurn}
 
 -- ---- a turn, or an allocation that failed
 
@@ -115,11 +118,16 @@ end_event kind text = aborted kind text
 abbrev pub close_turn : {R : Type 0} → Event Emission → View R → Outcome
 close_turn event view = close_outcome view.endpoint view.endpoint.core event
 
+-- A packet of this content is sent to the peer, if it is known and the packet fits.
+abbrev pub sent_to_peer : Endpoint → Option Held → Content → Outcome
+sent_to_peer e None content = still e
+sent_to_peer e (Some held) content = emits e [] (to_peer held content)
+
 -- A chunk that fits `mtu` is sent: its bytes are one more event, and it is counted.
 abbrev pub chunk_emitted : {R : Type 0} → Bool → ℕ → ChunkContent → View R → View R
 chunk_emitted with_checksum tag chunk view =
     let options = view.endpoint.options in
-    if nat_le (12 + length (chunk_bytes chunk)) (packet_size_limit options)
+    if nat_le (common_header_size + length (chunk_bytes chunk)) (packet_size_limit options)
     then record view {
       endpoint = packet_counted view.endpoint;
       events = view.events ++ sent (packet_bytes_of with_checksum (header_bytes options.local_port options.remote_port tag) (chunk_bytes chunk)) ∷ [];
@@ -130,3 +138,14 @@ chunk_emitted with_checksum tag chunk view =
 abbrev pub Emits : {R E : Type 0} → Bool → ℕ → ChunkContent → Context R → Result (Unit {0}) E → Context R → Type 0
 Emits with_checksum tag chunk old result new =
     ByResult (λ done. view_of new ≡ chunk_emitted with_checksum tag chunk (view_of old)) (view_of new ≡ view_of old) result
+
+-- It is sent to the peer, if there is one: under its tag, and with a checksum unless zero checksum was negotiated.
+abbrev pub emitted_to : {R : Type 0} → Option Held → ChunkContent → View R → View R
+emitted_to None chunk view = view
+emitted_to (Some held) chunk view = chunk_emitted (held.capabilities.zero_checksum_method.0 == 0) held.peer.tag chunk view
+
+-- A packet of this chunk was sent to the peer, if there is one and the packet fits; or an allocation failed, and nothing has
+-- changed.
+abbrev pub EmitsToPeer : {R E : Type 0} → ChunkContent → Context R → Result (Unit {0}) E → Context R → Type 0
+EmitsToPeer chunk old result new =
+    ByResult (λ done. view_of new ≡ emitted_to (held_in (core_of old.state)) chunk (view_of old)) (view_of new ≡ view_of old) result

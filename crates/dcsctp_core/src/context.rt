@@ -99,6 +99,7 @@ impl<R: Rng> Context<R> {
     ghost use Rattle.dcsctp_transfer.specs.wire.Content.{chunk_content};
     ghost use Rattle.dcsctp_transfer.specs.wire.Spelling.{chunk_bytes};
     ghost use Rattle.dcsctp_transfer.specs.types.Settings.{packet_size_limit};
+    ghost use Rattle.dcsctp_transfer.specs.types.Sizes.{common_header_size};
     ghost use Rattle.dcsctp_transfer.specs.spec.endpoint.TimeTurns.{own_timer};
     ghost use Rattle.dcsctp_transfer.specs.spec.endpoint.OwnTimers.{heartbeat_interval, heartbeat_timeout, reconfiguration, retransmission};
     ghost use Rattle.dcsctp_transfer.specs.spec.endpoint.HeartbeatOutcomes.{interval_expired, beating, timeout_outcome, answered, is_exhausted};
@@ -107,7 +108,7 @@ impl<R: Rng> Context<R> {
     ghost use Rattle.dcsctp_core.specs.Reconfiguring.{request_over};
     ghost use Rattle.dcsctp_core.specs.View.{Moves, view_of, endpoint_of, outstanding_of, transfer_of, association_dropped, begun_heartbeats, message_counted, fresh_view, call_start};
     ghost use Rattle.dcsctp_core.specs.Drawing.{Draws, KeepsPair};
-    ghost use Rattle.dcsctp_core.specs.Handling.{Tries, Emits, arrival_turn, report_turn, close_turn, end_event};
+    ghost use Rattle.dcsctp_core.specs.Handling.{Tries, Emits, EmitsToPeer, arrival_turn, report_turn, close_turn, end_event};
 
     /// A closed socket with these options, at moment zero.
     pub fn new(alloc: Global, options: Options, generator: R) -> Context<R>
@@ -198,7 +199,8 @@ impl<R: Rng> Context<R> {
 
     /// Does a packet of this chunk alone fit `mtu`?
     pub fn fits(&self, chunk: &Chunk<'_>) -> bool
-        ensures { result ≡ nat_le (12 + length (chunk_bytes (chunk_content chunk.now)))
+        ensures { result ≡ nat_le (common_header_size + length
+            (chunk_bytes (chunk_content chunk.now)))
             (packet_size_limit self.now.options) }
     {
         sizes();
@@ -238,6 +240,23 @@ impl<R: Rng> Context<R> {
         self.events.add(SocketEvent::SendPacket(builder.build()))?;
         self.count_emitted();
         Ok(())
+    }
+
+    /// Emits a packet of one chunk to the peer, as `emit` does: under the peer's tag, and with a checksum
+    /// unless zero checksum was negotiated (RFC 9653, section 5.2). Without a peer nothing is emitted.
+    ///
+    /// `Err`: an allocation failed, and nothing has changed.
+    pub fn emit_to_peer(&mut self, chunk: &Chunk<'_>) -> Result<(), AllocError>
+        ensures { EmitsToPeer (chunk_content chunk.now) self.old result self.new }
+    {
+        match self.state.tcb() {
+            None => Ok(()),
+            Some(tcb) => {
+                let tag = tcb.peer.tag;
+                let write_checksum = !tcb.capabilities.zero_checksum_enabled();
+                self.emit(tag, write_checksum, chunk)
+            }
+        }
     }
 
     // Counts a packet that was emitted; the count saturates.

@@ -5,15 +5,15 @@ use Rattle.dcsctp_core.specs.wire.Content.{no_user_data}
 use Rattle.dcsctp_core.specs.types.declared.association.Held.{Held}
 use Rattle.dcsctp_core.specs.spec.Packet.{error_of, plain}
 use Rattle.dcsctp_core.specs.spec.queues.Transfer.{Transfer}
-use Rattle.dcsctp_core.specs.spec.endpoint.Endpoint.{Endpoint, Core, cookie_echoed, open_in, held_in}
-use Rattle.dcsctp_core.specs.spec.endpoint.Outcome.{Outcome, still, emits, to_peer}
+use Rattle.dcsctp_core.specs.spec.endpoint.Endpoint.{Endpoint, held_in}
+use Rattle.dcsctp_core.specs.spec.endpoint.Outcome.{Outcome, still}
 use Rattle.dcsctp_core.specs.spec.endpoint.DataOutcomes.{DataTurn, no_user_data_outcome, ForwardTurn, AnswersPacket, EndsBy}
 use Rattle.dcsctp_core.specs.types.declared.arrivals.SkippedTo.{SkippedTo}
 use Rattle.dcsctp_core.specs.spec.queues.Arrivals.{Arrival}
 use Rattle.dcsctp_core_data.specs.declared.arrival.DataPart.{DataPart}
 use Rattle.dcsctp_core.specs.declared.context.Context.{Context}
 use Rattle.dcsctp_core.specs.View.{View, transfer_of}
-use Rattle.dcsctp_core.specs.Handling.{TakesOne}
+use Rattle.dcsctp_core.specs.Handling.{TakesOne, sent_to_peer}
 use Rattle.dcsctp_core.specs.Below.{is_peer_acknowledgement_due}
 
 -- what a DATA or I-DATA chunk carries, as the machine has it
@@ -36,14 +36,12 @@ part_arrival part =
 abbrev pub DataAt : {R : Type 0} → Arrival → View R → Outcome → Type 0
 DataAt arrived view o = DataTurn view.endpoint arrived o
 
--- If the peer is known, an ERROR is sent to it: its data has no payload.
-abbrev pub empty_data_outcome : Endpoint → Core → ℕ → Outcome
-empty_data_outcome e (cookie_echoed my held cookie) tsn = emits e [] (to_peer held (plain (error_of (no_user_data tsn ∷ []))))
-empty_data_outcome e (open_in phase my held) tsn = emits e [] (to_peer held (plain (error_of (no_user_data tsn ∷ []))))
-empty_data_outcome e core tsn = still e
+-- If there is a peer, an ERROR is sent to it: its data has no payload.
+abbrev pub empty_data_outcome : Endpoint → Option Held → ℕ → Outcome
+empty_data_outcome e peer tsn = sent_to_peer e peer (plain (error_of (no_user_data tsn ∷ [])))
 
 abbrev pub empty_data_turn : {R : Type 0} → ℕ → View R → Outcome
-empty_data_turn tsn view = empty_data_outcome view.endpoint view.endpoint.core tsn
+empty_data_turn tsn view = empty_data_outcome view.endpoint (held_in view.endpoint.core) tsn
 
 -- The error is reported to the user, and then sent to the peer, if it is known.
 abbrev pub no_user_data_turn : {R : Type 0} → ℕ → View R → Outcome

@@ -1,9 +1,7 @@
 //! Data that is refused: without a payload, and without an association.
 
-ghost use Rattle.std.specs.Prelude.{[], ◌∷◌};
-ghost use Rattle.dcsctp_core.specs.wire.Content.{error_chunk, no_user_data};
 ghost use Rattle.dcsctp_core.specs.spec.endpoint.DataOutcomes.{not_connected_text, no_user_data_text};
-ghost use Rattle.dcsctp_core.specs.Handling.{Emits, TakesTurn, Tries, report_turn};
+ghost use Rattle.dcsctp_core.specs.Handling.{TakesTurn, Tries, report_turn};
 ghost use Rattle.dcsctp_core_data.specs.Data.{empty_data_turn, no_user_data_turn};
 
 use dcsctp_core::Context;
@@ -36,37 +34,18 @@ fn report_no_user_data<R: Rng>(context: &mut Context<R>) -> Result<(), AllocErro
     Ok(())
 }
 
-// Sends an ERROR of the cause No User Data under this tag, if it fits `mtu`.
-//
-// `Err`: an allocation failed, and nothing has changed.
-fn emit_no_user_data<R: Rng>(
-    context: &mut Context<R>,
-    tag: u32,
-    write_checksum: bool,
-    tsn: u32,
-) -> Result<(), AllocError>
-    ensures { Emits write_checksum tag (error_chunk (no_user_data tsn ∷ [])) context.old result context.new }
-{
-    let mut error_causes = Vec::with_capacity(context.alloc, 1)?;
-    error_causes.push(ErrorCause::NoUserData { tsn })?;
-    let error = ErrorChunk { error_causes };
-    context.emit(tag, write_checksum, &Chunk::Error(error))?;
-    Ok(())
-}
-
-// Reports to the peer, if it is known, that its data has no payload. `Err`: an allocation failed, and nothing
-// has changed.
+// Reports to the peer, if it is known, that its data has no payload: by an ERROR of the cause No User Data, if it
+// fits `mtu`. `Err`: an allocation failed, and nothing has changed.
 fn tell_no_user_data<R: Rng>(context: &mut Context<R>, tsn: u32) -> Result<(), AllocError>
     ensures { Tries R.stream (empty_data_turn tsn) context.old result context.new }
 {
-    match context.state.tcb() {
-        None => {}
-        Some(tcb) => {
-            let tag = tcb.peer.tag;
-            let write_checksum = !tcb.capabilities.zero_checksum_enabled();
-            emit_no_user_data(context, tag, write_checksum, tsn)?;
-        }
-    }
+    let Some(_) = context.state.tcb() else {
+        return Ok(());
+    };
+    let mut error_causes = Vec::with_capacity(context.alloc, 1)?;
+    error_causes.push(ErrorCause::NoUserData { tsn })?;
+    let error = ErrorChunk { error_causes };
+    context.emit_to_peer(&Chunk::Error(error))?;
     Ok(())
 }
 

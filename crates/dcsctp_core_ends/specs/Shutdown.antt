@@ -2,7 +2,7 @@
 use Rattle.std.specs.Prelude.{ℕ, Bool, true, false, Option, None, Some, [], ◌∷◌}
 use Rattle.dcsctp_core.specs.types.declared.association.Pair.{Pair}
 use Rattle.dcsctp_core.specs.types.declared.association.Held.{Held}
-use Rattle.dcsctp_core.specs.spec.Packet.{Content, shutdown_complete}
+use Rattle.dcsctp_core.specs.spec.Packet.{shutdown_complete}
 use Rattle.dcsctp_core.specs.spec.endpoint.Endpoint.{Endpoint, Core, cookie_echoed, open_in, OpenPhase, shutdown_pending, shutdown_sent, shutdown_received, held_in}
 use Rattle.dcsctp_core.specs.spec.endpoint.Outcome.{Outcome, still, sends, to_peer}
 use Rattle.dcsctp_core.specs.spec.endpoint.EndOutcomes.{reflected_outcome}
@@ -27,10 +27,10 @@ sends_complete e held = sends e [] [] (to_peer held (shutdown_complete false))
 abbrev pub complete_sent_turn : {R : Type 0} → View R → Outcome
 complete_sent_turn view = to_held sends_complete view.endpoint (held_in view.endpoint.core)
 
--- a packet of this chunk alone
-abbrev pub packet_turn : {R : Type 0} → Bool → ℕ → Content → View R → Outcome
-packet_turn with_checksum tag content view =
-    sends view.endpoint [] [] (record { with_checksum = with_checksum; packet = record { tag = tag; contents = content ∷ [] } })
+-- It is sent with the T bit under this tag.
+abbrev pub complete_reflected_turn : {R : Type 0} → ℕ → View R → Outcome
+complete_reflected_turn tag view =
+    sends view.endpoint [] [] (record { with_checksum = true; packet = record { tag = tag; contents = shutdown_complete true ∷ [] } })
 
 -- ---- where an association is open
 

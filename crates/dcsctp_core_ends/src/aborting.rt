@@ -1,12 +1,12 @@
 //! Our own abort (RFC 9260, section 9.1).
 
-ghost use Rattle.std.specs.Prelude.{◌≡◌, true, false, IsOk, [], ◌∷◌};
-ghost use Rattle.dcsctp_core.specs.wire.Content.{cause_content, abort_chunk};
+ghost use Rattle.std.specs.Prelude.{◌≡◌, true, IsOk, [], ◌∷◌};
+ghost use Rattle.dcsctp_core.specs.wire.Content.{cause_content};
 ghost use Rattle.dcsctp_core.specs.spec.endpoint.Cause.{reason_text, causes_of};
 ghost use Rattle.dcsctp_core.specs.spec.endpoint.EndOutcomes.{end_of};
 ghost use Rattle.dcsctp_core.specs.api.Calls.{is_closed};
 ghost use Rattle.dcsctp_core.specs.View.{core_of};
-ghost use Rattle.dcsctp_core.specs.Handling.{Tries, TakesTurn, Emits, close_turn};
+ghost use Rattle.dcsctp_core.specs.Handling.{Tries, TakesTurn, close_turn};
 ghost use Rattle.dcsctp_core_ends.specs.Ends.{abort_sent_turn, aborting_turn};
 
 use dcsctp_core::Context;
@@ -47,42 +47,22 @@ fn cause_of(reason: AbortReason) -> ErrorCause<'static>
     }
 }
 
-// Sends an ABORT for this reason under this tag, if it fits `mtu`.
-//
-// `Err`: an allocation failed, and nothing has changed.
-fn emit_abort<R: Rng>(
-    context: &mut Context<R>,
-    tag: u32,
-    write_checksum: bool,
-    reason: AbortReason,
-) -> Result<(), AllocError>
-    ensures { Emits write_checksum tag (abort_chunk false (causes_of reason)) context.old result
-        context.new }
-{
-    let mut error_causes = Vec::with_capacity(context.alloc, 1)?;
-    error_causes.push(cause_of(reason))?;
-    let abort = AbortChunk {
-        tag_reflected: false,
-        error_causes,
-    };
-    context.emit(tag, write_checksum, &Chunk::Abort(abort))?;
-    Ok(())
-}
-
 // Sends an ABORT for this reason to the peer, if it is known and it fits `mtu`.
 //
 // `Err`: an allocation failed, and nothing has changed.
 fn send_abort<R: Rng>(context: &mut Context<R>, reason: AbortReason) -> Result<(), AllocError>
     ensures { Tries R.stream (abort_sent_turn reason) context.old result context.new }
 {
-    match context.state.tcb() {
-        None => {}
-        Some(tcb) => {
-            let tag = tcb.peer.tag;
-            let write_checksum = !tcb.capabilities.zero_checksum_enabled();
-            emit_abort(context, tag, write_checksum, reason)?;
-        }
-    }
+    let Some(_) = context.state.tcb() else {
+        return Ok(());
+    };
+    let mut error_causes = Vec::with_capacity(context.alloc, 1)?;
+    error_causes.push(cause_of(reason))?;
+    let abort = AbortChunk {
+        tag_reflected: false,
+        error_causes,
+    };
+    context.emit_to_peer(&Chunk::Abort(abort))?;
     Ok(())
 }
 

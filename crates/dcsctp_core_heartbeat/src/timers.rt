@@ -5,7 +5,7 @@ ghost use Rattle.std.specs.Int.{w32, to_be_bytes};
 ghost use Rattle.dcsctp_core.specs.wire.Content.{heartbeat_chunk, heartbeat_info};
 ghost use Rattle.dcsctp_core.specs.spec.endpoint.TimeTurns.{own_timer};
 ghost use Rattle.dcsctp_core.specs.spec.endpoint.OwnTimers.{heartbeat_interval, heartbeat_timeout};
-ghost use Rattle.dcsctp_core.specs.Handling.{TakesTurn, Emits};
+ghost use Rattle.dcsctp_core.specs.Handling.{TakesTurn, EmitsToPeer};
 ghost use Rattle.dcsctp_core.specs.Timing.{Expires, ExpiresAlways};
 ghost use Rattle.dcsctp_core_heartbeat.specs.Heartbeats.{beat_turn};
 
@@ -14,23 +14,18 @@ use dcsctp_core::wire::{Chunk, HeartbeatRequestChunk, Parameter};
 use rand_core::Rng;
 use std::alloc::AllocError;
 
-// Sends a HEARTBEAT with this counter under this tag, if it fits `mtu`.
+// Sends a HEARTBEAT with this counter to the peer, if it is known and it fits `mtu`.
 //
 // `Err`: an allocation failed, and nothing has changed.
-fn emit_heartbeat<R: Rng>(
-    context: &mut Context<R>,
-    tag: u32,
-    write_checksum: bool,
-    counter: u32,
-) -> Result<(), AllocError>
-    ensures { Emits write_checksum tag (heartbeat_chunk (heartbeat_info (to_be_bytes w32 counter) ∷ []))
-        context.old result context.new }
+fn emit_heartbeat<R: Rng>(context: &mut Context<R>, counter: u32) -> Result<(), AllocError>
+    ensures { EmitsToPeer (heartbeat_chunk (heartbeat_info (to_be_bytes w32 counter) ∷ [])) context.old
+        result context.new }
 {
     let info = counter.to_be_bytes();
     let mut parameters = Vec::with_capacity(context.alloc, 1)?;
     parameters.push(Parameter::HeartbeatInfo { info: &info })?;
     let heartbeat = HeartbeatRequestChunk { parameters };
-    context.emit(tag, write_checksum, &Chunk::HeartbeatRequest(heartbeat))?;
+    context.emit_to_peer(&Chunk::HeartbeatRequest(heartbeat))?;
     Ok(())
 }
 
@@ -39,15 +34,11 @@ fn emit_heartbeat<R: Rng>(
 fn send_heartbeat<R: Rng>(context: &mut Context<R>) -> Result<(), AllocError>
     ensures { TakesTurn R.stream beat_turn context.old result context.new }
 {
-    match context.state.tcb() {
-        None => {}
-        Some(tcb) => {
-            let tag = tcb.peer.tag;
-            let write_checksum = !tcb.capabilities.zero_checksum_enabled();
-            let counter = context.next_heartbeat();
-            emit_heartbeat(context, tag, write_checksum, counter)?;
-        }
-    }
+    let Some(_) = context.state.tcb() else {
+        return Ok(());
+    };
+    let counter = context.next_heartbeat();
+    emit_heartbeat(context, counter)?;
     Ok(())
 }
 

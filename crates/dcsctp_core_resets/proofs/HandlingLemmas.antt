@@ -1,26 +1,24 @@
 -- A RE-CONFIG comes in: its streams, its answers, and all of its turn.
-use Rattle.std.proofs.Common.{◌≡◌, ◌==◌, ◌+◌, ℕ, nat_le, not, length, arith, Bool, true, false, Option, None, Some, Result, Ok, Err, List, [], ◌∷◌, ◌++◌, map, take, refl, sym, ap, subst, ◌∙◌, append_assoc}
-use Rattle.std.specs.Prelude.{is_some, IsTrue, OnOk, OnErr, ◌↔◌, ◌≢◌}
+use Rattle.std.proofs.Common.{◌≡◌, ◌==◌, ◌+◌, ℕ, length, Bool, true, false, Option, None, Some, Result, Ok, Err, List, [], ◌∷◌, ◌++◌, map, take, refl, sym, ap, subst, ◌∙◌, append_assoc}
+use Rattle.std.specs.Prelude.{is_some, OnOk, OnErr}
 use Rattle.std.specs.Option.{option_map}
-use Rattle.std.proofs.lemmas.Bool.Decides.{nat_tests}
 use Rattle.std.proofs.lemmas.List.{append-nil, map-append}
 use Rattle.rand_core.specs.Stream.{Stream}
 use Rattle.dcsctp_core.specs.wire.declared.parameter.Parameter.{Parameter}
 use Rattle.dcsctp_core.specs.wire.Content.{re_config_chunk}
-use Rattle.dcsctp_core.specs.wire.Spelling.{chunk_bytes, header_bytes, packet_bytes_of}
 use Rattle.dcsctp_core.specs.types.declared.association.Pair.{Pair}
 use Rattle.dcsctp_core.specs.types.declared.association.Held.{Held}
 use Rattle.dcsctp_core.specs.types.declared.kinds.ErrorKind.TheVariants.{ProtocolViolation}
 use Rattle.dcsctp_core.specs.wire.declared.reconfiguration.ReconfigurationResponseResult.{ReconfigurationResponseResult}
 use Rattle.dcsctp_core.specs.wire.declared.reconfiguration.ReconfigurationResponseResult.TheVariants.{SuccessNothingToDo, SuccessPerformed, Denied, ErrorWrongSSN, ErrorRequestAlreadyInProgress, ErrorBadSequenceNumber, InProgress}
-use Rattle.dcsctp_core.specs.types.Settings.{Ports, ports_of, packet_size_limit}
+use Rattle.dcsctp_core.specs.types.Settings.{Ports, ports_of}
 use Rattle.dcsctp_core.specs.spec.endpoint.Event.{Event, sent, incoming_stream_reset}
-use Rattle.dcsctp_core.specs.spec.Packet.{Content, re_config, chunk_out, Emission, emission_bytes}
+use Rattle.dcsctp_core.specs.spec.Packet.{re_config, Emission}
 use Rattle.dcsctp_core.specs.spec.Reconfiguration.{RequestedReset, ResetParameter, outgoing_reset_request, incoming_reset_request, reconfiguration_response, other_reset_parameter, reset_parameter_content}
 use Rattle.dcsctp_core.specs.spec.queues.Transfer.{Transfer}
 use Rattle.dcsctp_core.specs.spec.endpoint.Endpoint.{Endpoint, Core, cookie_echoed, open_in, OpenPhase, held_in}
 use Rattle.std.specs.Prelude.{if◌then◌else◌}
-use Rattle.dcsctp_core.specs.spec.endpoint.Outcome.{Outcome, still, quiet, sends, emits, packet_counted, fits, noting, to_peer}
+use Rattle.dcsctp_core.specs.spec.endpoint.Outcome.{Outcome, still, quiet, sends, fits, noting, to_peer}
 use Rattle.dcsctp_core.specs.spec.association.Effect.{Effect, drawn_in}
 use Rattle.dcsctp_core.specs.spec.association.ResetChanges.{RequestPlace, again, next, astray, request_place, RequestOutcome, incoming_by, Informed, informed_by, is_outstanding, informed_where, HandledParameters, work_parameters, work_chunk}
 use Rattle.dcsctp_core.specs.spec.endpoint.FlushOutcomes.{is_none, Answer, draft_to, flush_of, first_ask, packets_allowed}
@@ -36,10 +34,11 @@ use Rattle.dcsctp_core.specs.declared.transmission_control_block.TransmissionCon
 use Rattle.dcsctp_core.specs.declared.state.State.TheVariants.{Closed, CookieWait, CookieEchoed, Open}
 use Rattle.dcsctp_core.specs.Reconfiguring.{request_in}
 use Rattle.dcsctp_core.specs.View.{View, request_number, tcb_of, held_of, phase_in, core_of, outstanding_of, transfer_of, endpoint_of, view_of, Moves}
-use Rattle.dcsctp_core.specs.Handling.{Tries, Emits, chunk_emitted, report_turn, FlushAt, TakesPossibleTurn, CutIn, TakesOne}
+use Rattle.dcsctp_core.specs.Handling.{Tries, emitted_to, EmitsToPeer, report_turn, FlushAt, TakesPossibleTurn, CutIn, TakesOne}
 use Rattle.dcsctp_core.specs.Below.{ChangesQueues}
 use Rattle.dcsctp_core.proofs.BelowLemmas.{below_view, same_view}
 use Rattle.dcsctp_core.proofs.Moving.{moves_still}
+use Rattle.dcsctp_core.proofs.SentLemmas.{emits_moves}
 use Rattle.dcsctp_core.proofs.Composing.{behind, Adds, Draws, moves_behind, moves_as, cut_behind, cut_first, cut_longer, moves_noting, cut_noting}
 use Rattle.dcsctp_core_resets.specs.declared.requests.LastRequest.{LastRequest}
 use Rattle.dcsctp_core_resets.specs.declared.requests.Treatment.{Treatment}
@@ -227,61 +226,27 @@ deferred old state streams reset (Err fault) new here names changes same = here 
 
 -- ---- one packet of them
 
--- a packet of one chunk, by whether it fits
-pub emitted_where : {R : Type 0} (stream : R → Stream) (v : View R) (emission : Emission) (bytes : List ℕ) (b : Bool) → emission_bytes (ports_of v.endpoint.options) emission ≡ bytes
-    → Moves stream v (if b then sends v.endpoint [] [] emission else quiet v.endpoint [] []) (if b then record v { endpoint = packet_counted v.endpoint; events = v.events ++ sent bytes ∷ [] } else v)
-emitted_where stream v emission bytes true is =
-    record {
-      endpoint = refl;
-      events = ap (λ (bs : List ℕ). v.events ++ sent bs ∷ []) (sym is);
-      words = sym (append-nil v.words);
-      pairs = sym (append-nil v.pairs);
-      drawn = refl;
-    }
-emitted_where stream v emission bytes false is = record { endpoint = refl; events = sym (append-nil v.events); words = sym (append-nil v.words); pairs = sym (append-nil v.pairs); drawn = refl }
-
--- a packet of one chunk to the peer
-pub emits_moves : {R : Type 0} (stream : R → Stream) (v : View R) (held : Held) (content : Content)
-    → Moves stream v (emits v.endpoint [] (to_peer held content)) (chunk_emitted (held.capabilities.zero_checksum_method.0 == 0) held.peer.tag (chunk_out content) v)
-emits_moves {R = R} stream v held content =
-    let options = v.endpoint.options in
-    let emission : Emission = to_peer held content in
-    let bytes : List ℕ = chunk_bytes (chunk_out content) in
-    let spelled : List ℕ = packet_bytes_of emission.with_checksum (header_bytes options.local_port options.remote_port held.peer.tag) bytes in
-    let alone : bytes ++ [] ≡ bytes = append-nil bytes in
-    subst (λ (b : Bool). Moves stream v (if fits v.endpoint emission then sends v.endpoint [] [] emission else quiet v.endpoint [] []) (if b then record v { endpoint = packet_counted v.endpoint; events = v.events ++ sent spelled ∷ [] } else v))
-    (ap (λ (bs : List ℕ). nat_le (12 + length bs) (packet_size_limit options)) alone)
-    (emitted_where stream v emission spelled (fits v.endpoint emission)
-    (ap (λ (bs : List ℕ). packet_bytes_of emission.with_checksum (header_bytes options.local_port options.remote_port held.peer.tag) bs) alone))
-
 pub tcb_holds : (s : State) (tcb : TransmissionControlBlock) → tcb_of s ≡ Some tcb → held_in (core_of s) ≡ Some (held_of tcb)
 tcb_holds Closed tcb is = absurd (cc)
 tcb_holds (CookieWait wait) tcb is = absurd (cc)
 tcb_holds (CookieEchoed echoed) tcb is = ap (λ (t : Option TransmissionControlBlock). option_map held_of t) is
 tcb_holds (Open opened) tcb is = ap (λ (t : Option TransmissionControlBlock). option_map held_of t) is
 
--- The answers are sent, or an allocation failed.
-some_sent : {R E : Type 0} (stream : R → Stream) (old : Context R) (result : Result (Unit {0}) E) (new : Context R) (held : Held) (response : ResetParameter) (responses : List ResetParameter) (with_checksum : Bool)
-    → held_in (core_of old.state) ≡ Some held → with_checksum ≡ (held.capabilities.zero_checksum_method.0 == 0)
-    → Emits with_checksum held.peer.tag (re_config_chunk (map reset_parameter_content (response ∷ responses))) old result new → Tries stream (responses_turn (response ∷ responses)) old result new
-some_sent stream old (Ok done) new held response responses with_checksum holds checks h =
-    let content : Content = re_config (response ∷ responses) in
-    subst (λ (v : View _). Moves stream (view_of old) (responses_turn (response ∷ responses) (view_of old)) v)
-    (ap (λ (b : Bool). chunk_emitted b held.peer.tag (chunk_out content) (view_of old)) (sym checks) ∙ sym h)
-    (moves_as stream (view_of old) _ _ _ (turn_is old held (response ∷ responses) holds) (emits_moves stream (view_of old) held content))
-some_sent stream old (Err fault) new held response responses with_checksum holds checks h = h
+-- The answers are sent to the peer, if it is known.
+sent_to : {R : Type 0} (stream : R → Stream) (v : View R) (peer : Option Held) (responses : List ResetParameter) → is_none responses ≡ false
+    → Moves stream v (responses_to v.endpoint peer responses) (emitted_to peer (re_config_chunk (map reset_parameter_content responses)) v)
+sent_to stream v peer [] some = absurd (cc)
+sent_to stream v None (response ∷ responses) some = moves_still stream v
+sent_to stream v (Some held) (response ∷ responses) some = emits_moves stream v held (re_config (response ∷ responses))
 
-pub responses_sent : {R E : Type 0} (stream : R → Stream) (old : Context R) (result : Result (Unit {0}) E) (new : Context R) (tcb : TransmissionControlBlock) (responses : List ResetParameter) (with_checksum : Bool)
-    → is_none responses ≡ false → tcb_of old.state ≡ Some tcb → with_checksum ≡ (tcb.capabilities.zero_checksum_method.0 == 0)
-    → Emits with_checksum tcb.peer.tag (re_config_chunk (map reset_parameter_content responses)) old result new → Tries stream (responses_turn responses) old result new
-responses_sent stream old result new tcb [] with_checksum some holds checks h = absurd (cc)
-responses_sent stream old result new tcb (response ∷ responses) with_checksum some holds checks h =
-    some_sent stream old result new (held_of tcb) response responses with_checksum (tcb_holds old.state tcb holds) checks h
-
--- a flag by what it says
-pub flag_is : (flag : Bool) (method : ℕ) → (IsTrue flag ↔ (method ≢ 0)) → not flag ≡ (method == 0)
-flag_is true method says = grind (arith, nat_tests, says.0 refl)
-flag_is false method says = grind (arith, nat_tests, says.1)
+-- That is so, or an allocation failed.
+pub responses_sent : {R E : Type 0} (stream : R → Stream) (old : Context R) (result : Result (Unit {0}) E) (new : Context R) (responses : List ResetParameter)
+    → is_none responses ≡ false
+    → EmitsToPeer (re_config_chunk (map reset_parameter_content responses)) old result new → Tries stream (responses_turn responses) old result new
+responses_sent stream old (Ok done) new responses some h =
+    subst (λ (v : View _). Moves stream (view_of old) (responses_turn responses (view_of old)) v) (sym h)
+    (sent_to stream (view_of old) (held_in (core_of old.state)) responses some)
+responses_sent stream old (Err fault) new responses some h = h
 
 -- the answers of a flush that took place or was cut
 pub finish_by : {R E : Type 0} (stream : R → Stream) (old mid : Context R) (result : Result (Unit {0}) E) (new : Context R) (held : Held) (b : Bool) (parameters responses : List ResetParameter) → b ≡ false

@@ -28,15 +28,16 @@ use Rattle.dcsctp_core.specs.declared.state.State.TheVariants.{Closed, CookieWai
 use Rattle.dcsctp_core.specs.declared.transmission_control_block.ResetRequest.{ResetRequest}
 use Rattle.dcsctp_core.specs.declared.transmission_control_block.TransmissionControlBlock.{TransmissionControlBlock}
 use Rattle.dcsctp_core.specs.View.{View, request_number, request_of, held_of, core_of, tcb_of, outstanding_of, endpoint_of, view_of, Moves}
-use Rattle.dcsctp_core.specs.Handling.{chunk_emitted, TakesPossibleTurn, CutIn}
+use Rattle.dcsctp_core.specs.Handling.{emitted_to, TakesPossibleTurn, CutIn}
 use Rattle.dcsctp_core.specs.Reconfiguring.{renumbered_by, request_renumbered, tcb_changed, request_over}
 use Rattle.dcsctp_core.specs.Resetting.{IsStream}
 use Rattle.dcsctp_core.specs.Timing.{where_expired, is_timer_due, ExpiryTurn}
 use Rattle.dcsctp_core.proofs.BelowLemmas.{moves_from}
 use Rattle.dcsctp_core.proofs.Composing.{moves_as, cut_first}
 use Rattle.dcsctp_core.proofs.ResetLemmas.{fields_same}
+use Rattle.dcsctp_core.proofs.SentLemmas.{emitted_where, emits_moves}
 use Rattle.dcsctp_core_resets.specs.Repeating.{number_by, renumbered_where, request_again_outcome, renewed_request_outcome, repeated_turn, unless_outcome, unless_turn}
-use Rattle.dcsctp_core_resets.proofs.HandlingLemmas.{tcb_holds, emitted_where, emits_moves}
+use Rattle.dcsctp_core_resets.proofs.HandlingLemmas.{tcb_holds}
 
 -- ---- the packet
 
@@ -75,17 +76,18 @@ again_is e peer asked held request number holds asks numbered =
     ∙ ap (λ (n : Option ℕ). request_emitted e held n (reset_again (Some request))) numbered
 
 -- The packet was sent, if it fits.
-again_sent : {R : Type 0} (stream : R → Stream) (old new : Context R) (tcb : TransmissionControlBlock) (request : ResetRequest) (with_checksum : Bool) (last_tsn : ℕ) (bytes : List ℕ)
-    → tcb_of old.state ≡ Some tcb → tcb.reset_request ≡ Some request → with_checksum ≡ (tcb.capabilities.zero_checksum_method.0 == 0)
+again_sent : {R : Type 0} (stream : R → Stream) (old new : Context R) (tcb : TransmissionControlBlock) (request : ResetRequest) (last_tsn : ℕ)
+    (bytes : List ℕ) → tcb_of old.state ≡ Some tcb → tcb.reset_request ≡ Some request
     → last_tsn ≡ request.last_tsn → last_tsn < 2 ^ 32 → AllByRecursion IsStream (stream_numbers request.streams.items) → bytes ≡ flat_map (to_be_bytes w16) (stream_numbers request.streams.items)
-    → view_of new ≡ chunk_emitted with_checksum tcb.peer.tag (asked_chunk request.number last_tsn bytes) (view_of old) → Moves stream (view_of old) (repeated_turn false (view_of old)) (view_of new)
-again_sent stream old new tcb request with_checksum last_tsn bytes holds asks checks tsn small fit is h =
+    → view_of new ≡ emitted_to (held_in (core_of old.state)) (asked_chunk request.number last_tsn bytes) (view_of old)
+    → Moves stream (view_of old) (repeated_turn false (view_of old)) (view_of new)
+again_sent stream old new tcb request last_tsn bytes holds asks tsn small fit is h =
     let held : Held = held_of tcb in
     let turn = again_is (endpoint_of old) (held_in (core_of old.state)) (outstanding_of old.state) held (kept request) request.number (tcb_holds old.state tcb holds)
     (tcb_asks old.state tcb holds ∙ ap request_of asks) (ap request_number asks) in
     subst (λ (v : View _). Moves stream (view_of old) (repeated_turn false (view_of old)) v)
-    (ap (λ (b : Bool). chunk_emitted b held.peer.tag (chunk_out (content_of request.number request)) (view_of old)) (sym checks)
-    ∙ ap (λ (chunk : ChunkContent). chunk_emitted with_checksum held.peer.tag chunk (view_of old)) (chunk_is request.number request last_tsn bytes tsn small fit is)
+    (ap (λ (chunk : ChunkContent). emitted_to (Some held) chunk (view_of old)) (chunk_is request.number request last_tsn bytes tsn small fit is)
+    ∙ ap (λ (p : Option Held). emitted_to p (asked_chunk request.number last_tsn bytes) (view_of old)) (sym (tcb_holds old.state tcb holds))
     ∙ sym h)
     (moves_as stream (view_of old) _ _ _ turn (emits_moves stream (view_of old) held (content_of request.number request)))
 
@@ -147,13 +149,13 @@ left_by {R = R} true bytes old mid some emits =
     sym (view_renumbered mid mid.state (λ none. some (sym there ∙ none)) ∙ ap (λ (v : View R). renumbered_at v) emits)
 left_by {R = R} false bytes old mid some emits = sym emits
 
-renewed_sent : {R : Type 0} (stream : R → Stream) (old mid : Context R) (tcb : TransmissionControlBlock) (request : ResetRequest) (with_checksum : Bool) (last_tsn : ℕ) (bytes : List ℕ) (b : Bool)
-    → tcb_of old.state ≡ Some tcb → tcb.reset_request ≡ Some request → with_checksum ≡ (tcb.capabilities.zero_checksum_method.0 == 0)
+renewed_sent : {R : Type 0} (stream : R → Stream) (old mid : Context R) (tcb : TransmissionControlBlock) (request : ResetRequest) (last_tsn : ℕ)
+    (bytes : List ℕ) (b : Bool) → tcb_of old.state ≡ Some tcb → tcb.reset_request ≡ Some request
     → last_tsn ≡ request.last_tsn → last_tsn < 2 ^ 32 → AllByRecursion IsStream (stream_numbers request.streams.items) → bytes ≡ flat_map (to_be_bytes w16) (stream_numbers request.streams.items)
     → (b ≡ nat_le (12 + length (chunk_bytes (asked_chunk tcb.next_outgoing_reset_req_seq_nbr last_tsn bytes))) (packet_size_limit old.options))
-    × (view_of mid ≡ chunk_emitted with_checksum tcb.peer.tag (asked_chunk tcb.next_outgoing_reset_req_seq_nbr last_tsn bytes) (view_of old))
+    × (view_of mid ≡ emitted_to (held_in (core_of old.state)) (asked_chunk tcb.next_outgoing_reset_req_seq_nbr last_tsn bytes) (view_of old))
     → Moves stream (view_of old) (repeated_turn true (view_of old)) (view_of (left_behind b true mid))
-renewed_sent {R = R} stream old mid tcb request with_checksum last_tsn bytes b holds asks checks tsn small fit is h =
+renewed_sent {R = R} stream old mid tcb request last_tsn bytes b holds asks tsn small fit is h =
     let held : Held = held_of tcb in
     let options = old.options in
     let number : ℕ = tcb.next_outgoing_reset_req_seq_nbr in
@@ -167,7 +169,8 @@ renewed_sent {R = R} stream old mid tcb request with_checksum last_tsn bytes b h
     let asked : outstanding_of old.state ≡ Some (kept request) = tcb_asks old.state tcb holds ∙ ap request_of asks in
     let turn = renewed_is (endpoint_of old) (held_in (core_of old.state)) (outstanding_of old.state) held (kept request) request.number b (tcb_holds old.state tcb holds) asked (ap request_number asks) fitting in
     let emits : view_of mid ≡ (if b then record (view_of old) { endpoint = packet_counted (endpoint_of old); events = (view_of old).events ++ sent spelled ∷ [] } else view_of old) =
-    h.1 ∙ ap (λ (c : ChunkContent). chunk_emitted with_checksum held.peer.tag c (view_of old)) (sym same) ∙ ap (λ (x : Bool). chunk_emitted x held.peer.tag chunk (view_of old)) checks
+    h.1 ∙ ap (λ (p : Option Held). emitted_to p (asked_chunk number last_tsn bytes) (view_of old)) (tcb_holds old.state tcb holds)
+    ∙ ap (λ (c : ChunkContent). emitted_to (Some held) c (view_of old)) (sym same)
     ∙ ap (λ (x : Bool). let v : View R = (if x then record (view_of old) { endpoint = packet_counted (endpoint_of old); events = (view_of old).events ++ sent spelled ∷ [] } else view_of old) in v)
     (ap (λ (bs : List ℕ). nat_le (12 + length bs) (packet_size_limit options)) (sym alone) ∙ sym fitting) in
     subst (λ (v : View R). Moves stream (view_of old) (repeated_turn true (view_of old)) v) (left_by b spelled old mid (λ none. absurd (cc)) emits)
@@ -176,23 +179,26 @@ renewed_sent {R = R} stream old mid tcb request with_checksum last_tsn bytes b h
     (ap (λ (bs : List ℕ). packet_bytes_of (held.capabilities.zero_checksum_method.0 == 0) (header_bytes options.local_port options.remote_port held.peer.tag) bs) alone)))
 
 -- under its number, or under the next one
-pub request_sent : {R : Type 0} (stream : R → Stream) (old mid : Context R) (tcb : TransmissionControlBlock) (request : ResetRequest) (with_checksum : Bool) (number last_tsn : ℕ) (bytes : List ℕ) (b is_new : Bool)
+pub request_sent : {R : Type 0} (stream : R → Stream) (old mid : Context R) (tcb : TransmissionControlBlock) (request : ResetRequest) (number last_tsn : ℕ)
+    (bytes : List ℕ) (b is_new : Bool)
     → number ≡ number_by is_new request.number tcb.next_outgoing_reset_req_seq_nbr
-    → tcb_of old.state ≡ Some tcb → tcb.reset_request ≡ Some request → with_checksum ≡ (tcb.capabilities.zero_checksum_method.0 == 0)
+    → tcb_of old.state ≡ Some tcb → tcb.reset_request ≡ Some request
     → last_tsn ≡ request.last_tsn → last_tsn < 2 ^ 32 → AllByRecursion IsStream (stream_numbers request.streams.items) → bytes ≡ flat_map (to_be_bytes w16) (stream_numbers request.streams.items)
-    → (b ≡ nat_le (12 + length (chunk_bytes (asked_chunk number last_tsn bytes))) (packet_size_limit old.options)) × (view_of mid ≡ chunk_emitted with_checksum tcb.peer.tag (asked_chunk number last_tsn bytes) (view_of old))
+    → (b ≡ nat_le (12 + length (chunk_bytes (asked_chunk number last_tsn bytes))) (packet_size_limit old.options))
+    × (view_of mid ≡ emitted_to (held_in (core_of old.state)) (asked_chunk number last_tsn bytes) (view_of old))
     → Moves stream (view_of old) (repeated_turn is_new (view_of old)) (view_of (left_behind b is_new mid))
-request_sent stream old mid tcb request with_checksum number last_tsn bytes b false numbered holds asks checks tsn small fit is h =
+request_sent stream old mid tcb request number last_tsn bytes b false numbered holds asks tsn small fit is h =
     subst (λ (s : State). Moves stream (view_of old) (repeated_turn false (view_of old)) (view_of (record mid { state = s }))) (same b)
-    (again_sent stream old mid tcb request with_checksum last_tsn bytes holds asks checks tsn small fit is
-    (h.1 ∙ ap (λ (n : ℕ). chunk_emitted with_checksum tcb.peer.tag (asked_chunk n last_tsn bytes) (view_of old)) numbered))
+    (again_sent stream old mid tcb request last_tsn bytes holds asks tsn small fit is
+    (h.1 ∙ ap (λ (n : ℕ). emitted_to (held_in (core_of old.state)) (asked_chunk n last_tsn bytes) (view_of old)) numbered))
   where
     same : (b : Bool) → mid.state ≡ renumbered_where b false mid.state
     same true = refl
     same false = refl
-request_sent stream old mid tcb request with_checksum number last_tsn bytes b true numbered holds asks checks tsn small fit is h =
-    renewed_sent stream old mid tcb request with_checksum last_tsn bytes b holds asks checks tsn small fit is
-    (subst (λ (n : ℕ). (b ≡ nat_le (12 + length (chunk_bytes (asked_chunk n last_tsn bytes))) (packet_size_limit old.options)) × (view_of mid ≡ chunk_emitted with_checksum tcb.peer.tag (asked_chunk n last_tsn bytes) (view_of old)))
+request_sent stream old mid tcb request number last_tsn bytes b true numbered holds asks tsn small fit is h =
+    renewed_sent stream old mid tcb request last_tsn bytes b holds asks tsn small fit is
+    (subst (λ (n : ℕ). (b ≡ nat_le (12 + length (chunk_bytes (asked_chunk n last_tsn bytes))) (packet_size_limit old.options))
+    × (view_of mid ≡ emitted_to (held_in (core_of old.state)) (asked_chunk n last_tsn bytes) (view_of old)))
     numbered h)
 
 -- ---- the turn of the timer

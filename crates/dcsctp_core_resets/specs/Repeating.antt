@@ -10,11 +10,12 @@ use Rattle.dcsctp_core.specs.spec.endpoint.HeartbeatOutcomes.{is_exhausted}
 use Rattle.dcsctp_core.specs.spec.endpoint.ReconfigurationOutcomes.{reset_again, request_emitted, request_renewed}
 use Rattle.dcsctp_core.specs.wire.Spelling.{chunk_bytes}
 use Rattle.dcsctp_core.specs.types.Settings.{packet_size_limit}
+use Rattle.dcsctp_core.specs.types.Sizes.{common_header_size}
 use Rattle.dcsctp_core.specs.declared.context.Context.{Context}
 use Rattle.dcsctp_core.specs.declared.state.State.{State}
-use Rattle.dcsctp_core.specs.Handling.{chunk_emitted}
+use Rattle.dcsctp_core.specs.Handling.{emitted_to}
 use Rattle.dcsctp_core.specs.Reconfiguring.{request_renumbered, tcb_changed}
-use Rattle.dcsctp_core.specs.View.{View, view_of}
+use Rattle.dcsctp_core.specs.View.{View, core_of, view_of}
 
 -- a RE-CONFIG of this request
 abbrev pub request_chunk : OutgoingSsnResetRequestParameter → ChunkContent
@@ -32,11 +33,12 @@ renumbered_where true true state = tcb_changed request_renumbered state
 renumbered_where true false state = state
 renumbered_where false is_new state = state
 
--- The request was sent, if it fits `mtu`, which is answered; or an allocation failed, and nothing has changed.
-abbrev pub EmitsRequest : {R E : Type 0} → Bool → ℕ → ChunkContent → Context R → Result Bool E → Context R → Type 0
-EmitsRequest with_checksum tag chunk old result new =
-    ByResult (λ sent. (sent ≡ nat_le (12 + length (chunk_bytes chunk)) (packet_size_limit old.options))
-    × (view_of new ≡ chunk_emitted with_checksum tag chunk (view_of old)))
+-- The request was sent to the peer, if there is one and the request fits `mtu`, which is answered; or an allocation failed, and
+-- nothing has changed.
+abbrev pub EmitsRequest : {R E : Type 0} → ChunkContent → Context R → Result Bool E → Context R → Type 0
+EmitsRequest chunk old result new =
+    ByResult (λ sent. (sent ≡ nat_le (common_header_size + length (chunk_bytes chunk)) (packet_size_limit old.options))
+    × (view_of new ≡ emitted_to (held_in (core_of old.state)) chunk (view_of old)))
     (view_of new ≡ view_of old) result
 
 -- The outstanding request is sent to the peer.

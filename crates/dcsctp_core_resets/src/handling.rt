@@ -2,16 +2,13 @@
 
 ghost use Rattle.std.specs.Prelude.{◌≡◌, Some, OnOk, OnErr, IfOk};
 ghost use Rattle.std.specs.Option.{option_map};
-ghost use Rattle.dcsctp_core.specs.wire.Content.{re_config_chunk};
-ghost use Rattle.std.specs.Prelude.{map};
 ghost use Rattle.dcsctp_core.specs.types.Ids.{stream_numbers};
-ghost use Rattle.dcsctp_core.specs.spec.Reconfiguration.{reset_parameter_content};
 ghost use Rattle.dcsctp_core.specs.spec.endpoint.ResetOutcomes.{is_request_reached, reset_refusal_text, ResetsTransferStreams};
 ghost use Rattle.dcsctp_core.specs.Reconfiguring.{request_in, tcb_changed};
 ghost use Rattle.dcsctp_core.specs.Answering.{request_ended};
 ghost use Rattle.dcsctp_core.specs.View.{tcb_of, transfer_of, view_of};
 ghost use Rattle.dcsctp_core.specs.Below.{ChangesQueues};
-ghost use Rattle.dcsctp_core.specs.Handling.{Emits, TakesOne, Tries, report_turn};
+ghost use Rattle.dcsctp_core.specs.Handling.{TakesOne, Tries, report_turn};
 ghost use Rattle.dcsctp_core_resets.specs.declared.requests.Treatment.TheVariants.{Performed};
 ghost use Rattle.dcsctp_core_resets.specs.Requests.{AreResponses, reset_parameters};
 ghost use Rattle.dcsctp_core_resets.specs.Resets.{CarriesOut, DefersReset, DefersTo, Finishes, ReConfigAt, RetriesIn, SettlesRequest, ReportsEvent, TreatsReset, WorksFor, asked_at, heeded_at, responses_turn, wanted_by};
@@ -279,25 +276,6 @@ fn refuse<R: Rng>(context: &mut Context<R>, parameters: &[Parameter<'_>]) -> Res
     Ok(())
 }
 
-// Sends these answers under this tag, if they fit `mtu`. `Err`: an allocation failed, and nothing has
-// changed.
-fn emit_responses<R: Rng>(
-    context: &mut Context<R>,
-    tag: u32,
-    write_checksum: bool,
-    responses: Vec<Parameter<'static>>,
-) -> Result<(), AllocError>
-    ensures { AreResponses responses.entry.items → Emits write_checksum tag
-        (re_config_chunk (map reset_parameter_content (reset_parameters responses.entry.items))) context.old
-        result context.new }
-{
-    let chunk = Chunk::ReConfig(ReConfigChunk {
-        parameters: responses,
-    });
-    context.emit(tag, write_checksum, &chunk)?;
-    Ok(())
-}
-
 // Sends these answers to the peer, if there are some and they fit `mtu`. `Err`: an allocation failed, and
 // nothing has changed.
 fn respond<R: Rng>(
@@ -311,14 +289,10 @@ fn respond<R: Rng>(
     if responses.as_slice().is_empty() {
         return Ok(());
     }
-    match context.state.tcb() {
-        None => Ok(()),
-        Some(tcb) => {
-            let tag = tcb.peer.tag;
-            let write_checksum = !tcb.capabilities.zero_checksum_enabled();
-            emit_responses(context, tag, write_checksum, responses)
-        }
-    }
+    let chunk = Chunk::ReConfig(ReConfigChunk {
+        parameters: responses,
+    });
+    context.emit_to_peer(&chunk)
 }
 
 // Answers the peer, and then sends what waits. A chunk that is an error is reported instead. `Err`: an

@@ -33,21 +33,19 @@ fn number_of(tcb: &TransmissionControlBlock, request: &ResetRequest, is_new: boo
     }
 }
 
-// Sends this request under this tag, if it fits `mtu`. Returns whether it does. `Err`: an allocation failed, and
-// nothing has changed.
+// Sends this request to the peer, if it is known and the request fits `mtu`. Returns whether it fits. `Err`: an
+// allocation failed, and nothing has changed.
 fn emit_request<R: Rng>(
     context: &mut Context<R>,
-    tag: u32,
-    write_checksum: bool,
     request: OutgoingSsnResetRequestParameter<'_>,
 ) -> Result<bool, AllocError>
-    ensures { EmitsRequest write_checksum tag (request_chunk request.entry) context.old result context.new }
+    ensures { EmitsRequest (request_chunk request.entry) context.old result context.new }
 {
     let mut parameters = Vec::with_capacity(context.alloc, 1)?;
     parameters.push(Parameter::OutgoingSsnResetRequest(request))?;
     let chunk = Chunk::ReConfig(ReConfigChunk { parameters });
     let fits = context.fits(&chunk);
-    context.emit(tag, write_checksum, &chunk)?;
+    context.emit_to_peer(&chunk)?;
     Ok(fits)
 }
 
@@ -80,8 +78,6 @@ fn send_request<R: Rng>(context: &mut Context<R>, is_new: bool) -> Result<(), Al
         Some(tcb) => match &tcb.reset_request {
             None => Ok(()),
             Some(request) => {
-                let tag = tcb.peer.tag;
-                let write_checksum = !tcb.capabilities.zero_checksum_enabled();
                 let number = number_of(tcb, request, is_new);
                 let last_tsn = last_tsn_of(request);
                 let streams = stream_bytes(context.alloc, &request.streams)?;
@@ -91,7 +87,7 @@ fn send_request<R: Rng>(context: &mut Context<R>, is_new: bool) -> Result<(), Al
                     sender_last_assigned_tsn: last_tsn,
                     streams: &streams,
                 };
-                let is_sent = emit_request(context, tag, write_checksum, request)?;
+                let is_sent = emit_request(context, request)?;
                 renumber_where(&mut context.state, is_sent, is_new);
                 Ok(())
             }

@@ -1,5 +1,5 @@
 -- A chunk of a type that isn't known is reported.
-use Rattle.std.proofs.Common.{◌≡◌, ◌==◌, ◌≤◌, ◌+◌, ◌-◌, ◌%◌, ℕ, Bool, true, Some, List, [], ◌∷◌, ◌++◌, length, map, take, refl, ap, subst, ◌∙◌, arith}
+use Rattle.std.proofs.Common.{◌≡◌, ◌==◌, ◌≤◌, ◌+◌, ◌-◌, ◌%◌, ℕ, true, List, [], ◌∷◌, ◌++◌, length, map, take, refl, sym, ap, subst, ◌∙◌, arith}
 use Rattle.std.specs.Prelude.{nat_le}
 use Rattle.std.proofs.lemmas.Bool.Decides.{nat_tests}
 use Rattle.std.proofs.lemmas.List.{append-nil, length-take}
@@ -13,16 +13,16 @@ use Rattle.dcsctp_core.specs.types.declared.kinds.ErrorKind.TheVariants.{ParseFa
 use Rattle.dcsctp_core.specs.types.Settings.{packet_size_limit, IsValid, ports_of}
 use Rattle.dcsctp_core.specs.spec.endpoint.Event.{error}
 use Rattle.dcsctp_core.specs.spec.Packet.{plain}
-use Rattle.dcsctp_core.specs.spec.endpoint.Endpoint.{Endpoint}
-use Rattle.dcsctp_core.specs.spec.endpoint.Outcome.{Outcome, sends, reports}
-use Rattle.dcsctp_core.specs.spec.endpoint.PlainOutcomes.{unknown_text, unknown_error, unknown_report, unknown_chunk_outcome}
+use Rattle.dcsctp_core.specs.spec.endpoint.Endpoint.{Endpoint, Core, closed, cookie_wait, cookie_echoed, open_in, held_in}
+use Rattle.dcsctp_core.specs.spec.endpoint.Outcome.{Outcome, still, reports}
+use Rattle.dcsctp_core.specs.spec.endpoint.PlainOutcomes.{unknown_text, unknown_error, unknown_chunk_outcome}
 use Rattle.dcsctp_core.specs.api.Calls.{user_event}
 use Rattle.dcsctp_core.specs.declared.state.State.{State}
 use Rattle.dcsctp_core.specs.declared.state.State.TheVariants.{Closed, CookieWait, CookieEchoed, Open}
-use Rattle.dcsctp_core.specs.declared.transmission_control_block.TransmissionControlBlock.{TransmissionControlBlock}
 use Rattle.dcsctp_core.specs.declared.context.Context.{Context}
-use Rattle.dcsctp_core.specs.View.{View, core_of, tcb_of, held_of, endpoint_of, view_of, Moves, CutTurn}
-use Rattle.dcsctp_core.specs.Handling.{chunk_emitted}
+use Rattle.dcsctp_core.specs.View.{View, core_of, endpoint_of, view_of, Moves, CutTurn}
+use Rattle.dcsctp_core.specs.Handling.{emitted_to}
+use Rattle.dcsctp_core.proofs.Moving.{moves_still}
 use Rattle.dcsctp_core.proofs.Composing.{behind, Adds, Draws, moves_behind, moves_as, cut_after}
 use Rattle.dcsctp_core.proofs.SentLemmas.{emitted_sends}
 use Rattle.dcsctp_socket_calls.specs.Unknown.{reported_outcome, reported_turn, unknown_chunk_turn}
@@ -52,28 +52,29 @@ report_fits options chunk valid =
 
 -- ---- a report to the peer
 
--- where a peer is held
-reported_at : (e : Endpoint) (state : State) (tcb : TransmissionControlBlock) (chunk : List ℕ) → tcb_of state ≡ Some tcb
-    → reported_outcome e (core_of state) chunk ≡ sends e [] [] (unknown_report e (held_of tcb) chunk)
-reported_at e Closed tcb chunk is = absurd (cc)
-reported_at e (CookieWait wait) tcb chunk is = absurd (cc)
-reported_at e (CookieEchoed echoed) tcb chunk is =
-    ap (λ (t : TransmissionControlBlock). sends e [] [] (unknown_report e (held_of t) chunk)) (let same : echoed.tcb ≡ tcb = cc in same)
-reported_at e (Open opened) tcb chunk is =
-    ap (λ (t : TransmissionControlBlock). sends e [] [] (unknown_report e (held_of t) chunk)) (let same : opened.tcb ≡ tcb = cc in same)
+-- if it is known
+reported_in : {R : Type 0} (stream : R → Stream) (a b : View R) (core : Core) (chunk : List ℕ) → IsValid a.endpoint.options
+    → b ≡ emitted_to (held_in core) (error_chunk (unrecognized_chunk_type (take (packet_size_limit a.endpoint.options - 20) chunk) ∷ [])) a
+    → Moves stream a (reported_outcome a.endpoint core chunk) b
+reported_in {R = R} stream a b closed chunk valid here =
+    subst (λ (v : View R). Moves stream a (still a.endpoint) v) (sym here) (moves_still stream a)
+reported_in {R = R} stream a b (cookie_wait my) chunk valid here =
+    subst (λ (v : View R). Moves stream a (still a.endpoint) v) (sym here) (moves_still stream a)
+reported_in stream a b (cookie_echoed my held cookie) chunk valid here =
+    emitted_sends stream a b (held.capabilities.zero_checksum_method.0 == 0) held.peer.tag (plain (unknown_error a.endpoint chunk))
+    (report_fits a.endpoint.options chunk valid) here
+reported_in stream a b (open_in phase my held) chunk valid here =
+    emitted_sends stream a b (held.capabilities.zero_checksum_method.0 == 0) held.peer.tag (plain (unknown_error a.endpoint chunk))
+    (report_fits a.endpoint.options chunk valid) here
 
-pub report_moves : {R : Type 0} (stream : R → Stream) (old new : Context R) (tcb : TransmissionControlBlock) (chunk bytes : List ℕ) (limit : ℕ) (with_checksum : Bool)
-    → tcb_of old.state ≡ Some tcb → with_checksum ≡ (tcb.capabilities.zero_checksum_method.0 == 0) → limit ≡ packet_size_limit old.options - 20 → bytes ≡ take limit chunk
-    → view_of new ≡ chunk_emitted with_checksum tcb.peer.tag (error_chunk (unrecognized_chunk_type bytes ∷ [])) (view_of old)
+pub report_moves : {R : Type 0} (stream : R → Stream) (old new : Context R) (chunk bytes : List ℕ) (limit : ℕ)
+    → limit ≡ packet_size_limit old.options - 20 → bytes ≡ take limit chunk
+    → view_of new ≡ emitted_to (held_in (core_of old.state)) (error_chunk (unrecognized_chunk_type bytes ∷ [])) (view_of old)
     → Moves stream (view_of old) (reported_turn chunk (view_of old)) (view_of new)
-report_moves {R = R} stream old new tcb chunk bytes limit with_checksum held checks limits cut here =
-    let e : Endpoint = endpoint_of old in
-    let taken : bytes ≡ take (packet_size_limit old.options - 20) chunk = cut ∙ ap (λ (n : ℕ). take n chunk) limits in
-    let out : view_of new ≡ chunk_emitted (tcb.capabilities.zero_checksum_method.0 == 0) tcb.peer.tag (error_chunk (unrecognized_chunk_type (take (packet_size_limit old.options - 20) chunk) ∷ [])) (view_of old) =
-    here ∙ ap (λ (b : Bool). chunk_emitted b tcb.peer.tag (error_chunk (unrecognized_chunk_type bytes ∷ [])) (view_of old)) checks
-    ∙ ap (λ (bs : List ℕ). chunk_emitted (tcb.capabilities.zero_checksum_method.0 == 0) tcb.peer.tag (error_chunk (unrecognized_chunk_type bs ∷ [])) (view_of old)) taken in
-    moves_as stream (view_of old) (view_of new) _ _ (reported_at e old.state tcb chunk held)
-    (emitted_sends stream (view_of old) (view_of new) (tcb.capabilities.zero_checksum_method.0 == 0) tcb.peer.tag (plain (unknown_error e chunk)) (report_fits old.options chunk old.valid) out)
+report_moves stream old new chunk bytes limit limits cut here =
+    reported_in stream (view_of old) (view_of new) (core_of old.state) chunk old.valid
+    (here ∙ ap (λ (bs : List ℕ). emitted_to (held_in (core_of old.state)) (error_chunk (unrecognized_chunk_type bs ∷ [])) (view_of old))
+    (cut ∙ ap (λ (n : ℕ). take n chunk) limits))
 
 -- ---- a report to the user, and then to the peer
 

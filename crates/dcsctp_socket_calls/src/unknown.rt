@@ -4,7 +4,7 @@ ghost use Rattle.std.specs.Prelude.{◌≡◌, ◌-◌, false, take, IfOk, [], �
 ghost use Rattle.dcsctp_core.specs.wire.Content.{error_chunk, unrecognized_chunk_type};
 ghost use Rattle.dcsctp_core.specs.types.Settings.{packet_size_limit};
 ghost use Rattle.dcsctp_core.specs.spec.endpoint.PlainOutcomes.{is_reported, after_unknown, unknown_text, unknown_bytes};
-ghost use Rattle.dcsctp_core.specs.Handling.{Emits, TakesTurn, Tries, HandlesTurn, following_of};
+ghost use Rattle.dcsctp_core.specs.Handling.{EmitsToPeer, TakesTurn, Tries, HandlesTurn, following_of};
 ghost use Rattle.dcsctp_socket_calls.specs.Unknown.{unknown_turn, unknown_chunk_turn, reported_turn};
 
 use dcsctp_core::api::ErrorKind;
@@ -51,22 +51,18 @@ fn bytes_of(alloc: Global, chunk: &UnknownChunk<'_>, limit: usize) -> Result<Vec
     Ok(bytes)
 }
 
-// Sends an ERROR of the cause Unrecognized Chunk Type under this tag, with as much of the chunk as fits.
+// Sends an ERROR of the cause Unrecognized Chunk Type to the peer, if it is known, with as much of the chunk as
+// fits.
 //
 // `Err`: an allocation failed, and nothing has changed.
-fn send_error<R: Rng>(
-    context: &mut Context<R>,
-    tag: u32,
-    write_checksum: bool,
-    chunk: &[u8],
-) -> Result<(), AllocError>
-    ensures { Emits write_checksum tag (error_chunk (unrecognized_chunk_type chunk.now ∷ []))
-        context.old result context.new }
+fn send_error<R: Rng>(context: &mut Context<R>, chunk: &[u8]) -> Result<(), AllocError>
+    ensures { EmitsToPeer (error_chunk (unrecognized_chunk_type chunk.now ∷ [])) context.old result
+        context.new }
 {
     let mut error_causes = Vec::with_capacity(context.alloc, 1)?;
     error_causes.push(ErrorCause::UnrecognizedChunkType { chunk })?;
     let error = ErrorChunk { error_causes };
-    context.emit(tag, write_checksum, &Chunk::Error(error))?;
+    context.emit_to_peer(&Chunk::Error(error))?;
     Ok(())
 }
 
@@ -78,16 +74,12 @@ fn report_to_peer<R: Rng>(
     ensures { Tries R.stream (reported_turn (unknown_bytes chunk.now.chunk_type chunk.now.flags
         chunk.now.value.now)) context.old result context.new }
 {
-    match context.state.tcb() {
-        None => {}
-        Some(tcb) => {
-            let tag = tcb.peer.tag;
-            let write_checksum = !tcb.capabilities.zero_checksum_enabled();
-            let limit = context.options.mtu / 4 * 4 - 20;
-            let bytes = bytes_of(context.alloc, chunk, limit)?;
-            send_error(context, tag, write_checksum, &bytes)?;
-        }
-    }
+    let Some(_) = context.state.tcb() else {
+        return Ok(());
+    };
+    let limit = context.options.mtu / 4 * 4 - 20;
+    let bytes = bytes_of(context.alloc, chunk, limit)?;
+    send_error(context, &bytes)?;
     Ok(())
 }
 

@@ -7,7 +7,7 @@ ghost use Rattle.dcsctp_core.specs.spec.endpoint.EndOutcomes.{after_reflected};
 ghost use Rattle.dcsctp_core.specs.View.{core_of, view_of};
 ghost use Rattle.dcsctp_core_ends.specs.Shutdown.{ack_turn, complete_turn, completed_turn, is_open_core, received_turn, reflected_turn, shutdown_turn};
 
-use crate::shutdown::sending::{emit_shutdown_complete, send_shutdown_complete};
+use crate::shutdown::sending::{reflect_shutdown_complete, send_shutdown_complete};
 use crate::shutdown::stepping::{enter_shutdown_ack_sent, step_shutdown};
 use dcsctp_core::api::ErrorKind;
 use dcsctp_core::types::Options;
@@ -86,7 +86,7 @@ pub fn reflect_shutdown_ack<R: Rng>(
     ensures err { OnErr result (view_of context.new ≡ view_of context.old) }
 {
     let following = after_reflected(&context.options);
-    emit_shutdown_complete(context, header_tag, true, true)?;
+    reflect_shutdown_complete(context, header_tag)?;
     Ok(following)
 }
 
