@@ -4,12 +4,14 @@ set -euo pipefail
 cd "$(dirname "$0")/.."
 count=0
 bad=0
-for edit in attacks/dcsctp_*/*.edit crates/*/must-fail/*.edit; do
+for edit in attacks/*/*.edit crates/*/must-fail/*.edit; do
     case $edit in
         attacks/*) crate=${edit#attacks/} ;;
         *) crate=${edit#crates/} ;;
     esac
     crate=crates/${crate%%/*}
+    # Those on definitions name their files from the top.
+    [ -d "$crate" ] || crate=.
     count=$((count + 1))
     text= old=
     while IFS= read -r line || [ -n "$line" ]; do

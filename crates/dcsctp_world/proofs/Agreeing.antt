@@ -1,18 +1,16 @@
--- What a world shows is what a run shows: so its sockets agree.
-use Rattle.std.proofs.Common.{◌≡◌, ◌<◌, ℕ, zero, suc, arith, true, false, Result, Ok, Err, IsErrAnd, take, drop, get_or, length, List, [], ◌∷◌, ◌++◌, map, reverse, refl, sym, ap, subst, ◌∙◌}
+-- What a world shows is what a run shows: so it keeps its promises.
+use Rattle.std.proofs.Common.{◌≡◌, ℕ, suc, List, [], ◌∷◌, map, reverse, refl, sym, ap, subst, ◌∙◌}
 use Rattle.std.specs.List.{AllByRecursion}
-use Rattle.rand_core.specs.Stream.{Stream}
-use Rattle.std.proofs.lemmas.List.{map-append, reverse-reverse}
+use Rattle.std.proofs.lemmas.List.{reverse-reverse}
 use Rattle.dcsctp_core.specs.types.declared.association.Pair.{Pair}
 use Rattle.dcsctp_core.specs.types.declared.options.Options.{Options}
+use Rattle.dcsctp_core.specs.types.declared.schedule.Side.{Side}
 use Rattle.dcsctp_core.specs.types.declared.schedule.Side.TheVariants as sides
-use Rattle.dcsctp_core.specs.types.declared.schedule.Step.{Step}
 use Rattle.dcsctp_core.specs.spec.endpoint.Event.{Event, event_map, sent, connected, closed, connection_restarted, aborted, error, buffered_amount_low, total_buffered_amount_low, streams_reset_failed, streams_reset_performed, incoming_stream_reset, lifecycle_message_fully_sent, lifecycle_message_maybe_expired, lifecycle_message_expired, lifecycle_message_delivered, lifecycle_end}
 use Rattle.dcsctp_core.specs.spec.Packet.{Emission, emission_bytes}
 use Rattle.dcsctp_core.specs.types.Settings.{ports_of}
 use Rattle.dcsctp_core.specs.spec.endpoint.Endpoint.{Endpoint}
 use Rattle.dcsctp_core.specs.spec.endpoint.CallTurns.{Transition, events_of}
-use Rattle.dcsctp_core.specs.types.declared.schedule.Side.{Side}
 use Rattle.dcsctp_spec_runs.specs.Sockets.{PerformedAct, Both, of_side, turns_after, acts_of}
 use Rattle.dcsctp_theorem_sockets.specs.Deadlines.{RunsT1}
 use Rattle.dcsctp_theorem_sockets.specs.Handshake.{ConnectThroughout, handshake_acts, connections_of_events, IsConnected, AreConnected, FittingSocketsConnect}
@@ -21,38 +19,13 @@ use Rattle.dcsctp_theorem_sockets.specs.OneSocket.{IsWithinLimit}
 use Rattle.dcsctp_theorem_sockets.specs.Telling.{HoldsNoted}
 use Rattle.dcsctp_theorem_cookies.specs.Laws.{CookieLaws}
 use Rattle.dcsctp_delivery_shown.specs.Delivery.{UsersReadWhatWasSent}
-use Rattle.dcsctp_core.specs.types.Schedule.{ActContent, step_content, step_act}
+use Rattle.dcsctp_core.specs.types.Schedule.{ActContent}
 use Rattle.dcsctp_world.specs.Shown.{SideShown, WorldView, options_of}
-use Rattle.dcsctp_world.specs.Run.{SideRuns, IsRun}
-use Rattle.dcsctp_core.specs.api.declared.errors.SocketFault.{SocketFault}
-use Rattle.dcsctp_core.specs.api.declared.errors.SocketFault.TheVariants.{OutOfMemory, Failed}
-use Rattle.dcsctp_world.specs.Acts.{Applies, Ran, RunsSteps}
-use Rattle.dcsctp_world.specs.Drawing.{DrawOn, AreWhole}
-use Rattle.dcsctp_world.specs.Recording.{Recording, recorded_stream}
+use Rattle.dcsctp_world.specs.Run.{SideRuns, IsRun, GoesWell}
+use Rattle.dcsctp_world.specs.Handshake.{ShowsConnected, BothConnected, ShownHandshakeConnects}
+use Rattle.dcsctp_world.specs.Promises.{KeepsPromises, Promises}
+use Rattle.dcsctp_world.specs.Recording.{Recording}
 use Rattle.dcsctp_world.proofs.Honest.{honest_run}
-use Rattle.dcsctp_world.specs.Agreement.{Agrees, ShowsConnected, BothConnected, ShownHandshakeConnects}
-
-pub world_agrees : {R : Type 0} → SocketLaws → CookieLaws → UsersReadWhatWasSent → (options : Both Options) (world : WorldView R) → IsRun options world → Agrees options world
-world_agrees law cookies delivery options world h =
-    record {
-      is_run = h;
-      honest = honest_run world.acts (acts_of h.steps) h.acts;
-      connect = λ fit side. law.connect options side h.steps h.usable fit h.run;
-      numbers = λ side. law.numbers options h.steps h.usable h.run side;
-      told = λ side. law.told options h.steps h.usable h.run side;
-      held = λ side. subst (HoldsNoted (of_side side (turns_after h.steps))) (sym (h.sides side).endpoint) (law.held options h.steps h.usable h.run side);
-      anew = λ side. law.anew options h.steps h.usable h.run side;
-      answers = λ side. law.answers options h.steps h.run side;
-      ends = λ side. law.ends options h.steps h.run side;
-      t1 = λ side. subst RunsT1 (sym (h.sides side).endpoint) (law.t1 options h.steps h.usable h.run side);
-      sizes = λ side. subst (AllByRecursion (IsWithinLimit (of_side side options))) (sym (h.sides side).packets) (law.sizes options h.steps h.run side (h.usable side).valid);
-      bursts = λ side. law.bursts options h.steps h.run side;
-      quiet = law.quiet options h.steps h.run;
-      agree = law.agree options h.steps h.usable h.run;
-      given = cookies.given options h.steps h.usable h.run;
-      ages = cookies.ages options h.steps h.usable h.run;
-      delivered = delivery options h.steps h.usable h.in_memory h.run;
-    }
 
 -- ---- the handshake
 
@@ -97,46 +70,43 @@ at_end : (options : Both Options) (side : Side) (run : List PerformedAct) → ac
 at_end options side [] schedule h = absurd (cc)
 at_end options side (worked ∷ earlier) schedule h = h.0 schedule
 
-pub handshake_connects : {R : Type 0} → FittingSocketsConnect → (options : Both Options) (world : WorldView R) → IsRun options world → ShownHandshakeConnects options world
+handshake_connects : {R : Type 0} → FittingSocketsConnect → (options : Both Options) (world : WorldView R) → IsRun options world → ShownHandshakeConnects options world
 handshake_connects law options world run side acts_are fit =
     let are : acts_of run.steps ≡ reverse (handshake_acts side) =
     sym (reverse-reverse (acts_of run.steps)) ∙ ap (λ (l : List ActContent). reverse l) (sym run.acts ∙ acts_are) in
     both_connected options world run (at_end options side run.steps are (law options side run.steps run.usable fit run.run))
 
--- ---- a growth that was refused among several steps
+-- ---- what holds of each socket, and of both
 
-split_at : (steps : List Step) (i : ℕ) (default : Step) → i < length steps → steps ≡ take i steps ++ get_or steps i default ∷ drop (suc i) steps
-split_at [] i default within = absurd (omega (arith, within))
-split_at (x ∷ xs) zero default within = refl
-split_at (x ∷ xs) (suc i) default within = ap (λ (l : List Step). x ∷ l) (split_at xs i default (omega (arith, within)))
-
--- the steps before the one that was refused ran
-refused_at : {R : Type 0} (stream : R → Stream) → SocketLaws → CookieLaws → UsersReadWhatWasSent → (steps : List Step) (i : ℕ) (default : Step) (fault : SocketFault) (old now new : WorldView (Recording R)) → i < length steps
-    → Ran (map step_content (take i steps)) old now → DrawOn (recorded_stream stream) old.sides now.sides → AreWhole now.sides → Applies (step_act (step_content (get_or steps i default))) now (Err fault) new
-    → RunsSteps stream (map step_content steps) old (Err fault) new
-refused_at stream law cookies delivery steps i default OutOfMemory old now new within ran drawn whole out =
+keeps_promises : {R : Type 0} → SocketLaws → (options : Both Options) (world : WorldView R) (run : IsRun options world) (side : Side)
+    → KeepsPromises (of_side side options) (of_side side (turns_after run.steps)) (of_side side world.sides)
+keeps_promises law options world run side =
     record {
-      done = map step_content (take i steps);
-      refused = step_content (get_or steps i default);
-      rest = map step_content (drop (suc i) steps);
-      all = ap (λ (l : List Step). map step_content l) (split_at steps i default within)
-          ∙ map-append step_content (take i steps) (get_or steps i default ∷ drop (suc i) steps);
-      before = now;
-      ran = ran;
-      agrees = world_agrees law cookies delivery (options_of old) now ran.is_run;
-      connects = handshake_connects law.connect (options_of old) now ran.is_run;
-      drawn = drawn;
-      whole = whole;
-      ran_out = out;
+      numbers = law.numbers options run.steps run.usable run.run side;
+      told = law.told options run.steps run.usable run.run side;
+      held = subst (HoldsNoted (of_side side (turns_after run.steps))) (sym (run.sides side).endpoint) (law.held options run.steps run.usable run.run side);
+      anew = law.anew options run.steps run.usable run.run side;
+      answers = law.answers options run.steps run.run side;
+      ends = law.ends options run.steps run.run side;
+      t1 = subst RunsT1 (sym (run.sides side).endpoint) (law.t1 options run.steps run.usable run.run side);
+      sizes = subst (AllByRecursion (IsWithinLimit (of_side side options))) (sym (run.sides side).packets) (law.sizes options run.steps run.run side (run.usable side).valid);
+      bursts = law.bursts options run.steps run.run side;
     }
-refused_at stream law cookies delivery steps i default Failed old now new within ran drawn whole out =
-    let goes_on : now.failed ≡ false = ran.goes_on in
-    let had_failed : now.failed ≡ true = out.had_failed in
-    absurd (cc)
 
-pub ran_out_among : {R : Type 0} (stream : R → Stream) → SocketLaws → CookieLaws → UsersReadWhatWasSent → (steps : List Step) (i : ℕ) (default : Step) (fault : SocketFault) (old now new : WorldView (Recording R)) → i < length steps
-    → Ran (map step_content (take i steps)) old now → DrawOn (recorded_stream stream) old.sides now.sides → AreWhole now.sides → Applies (step_act (step_content (get_or steps i default))) now (Err fault) new
-    → (result : Result (Unit {0}) SocketFault) → IsErrAnd result (λ given. given ≡ fault) → RunsSteps stream (map step_content steps) old result new
-ran_out_among stream law cookies delivery steps i default fault old now new within ran drawn whole out (Ok done) is = absurd is
-ran_out_among stream law cookies delivery steps i default fault old now new within ran drawn whole out (Err given) is =
-    subst (λ (f : SocketFault). RunsSteps stream (map step_content steps) old (Err f) new) (sym is) (refused_at stream law cookies delivery steps i default fault old now new within ran drawn whole out)
+pub world_keeps : {R : Type 0} → SocketLaws → CookieLaws → UsersReadWhatWasSent → (world : WorldView (Recording R)) → GoesWell world → Promises world
+world_keeps law cookies delivery world well =
+    let options : Both Options = options_of world in
+    let run : IsRun options world = well.is_run in
+    record {
+      run = run;
+      whole = well.whole;
+      honest = honest_run world.acts (acts_of run.steps) run.acts;
+      agree = law.agree options run.steps run.usable run.run;
+      given = cookies.given options run.steps run.usable run.run;
+      ages = cookies.ages options run.steps run.usable run.run;
+      delivered = delivery options run.steps run.usable run.in_memory run.run;
+      connect = λ fit side. law.connect options side run.steps run.usable fit run.run;
+      handshake = handshake_connects law.connect options world run;
+      quiet = law.quiet options run.steps run.run;
+      each = keeps_promises law options world run;
+    }

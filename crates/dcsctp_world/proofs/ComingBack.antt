@@ -1,5 +1,6 @@
 -- A restore brings back what the snapshot has of the association.
-use Rattle.std.proofs.Common.{◌≡◌, OnOk, ℕ, zero, suc, Bool, true, false, Option, None, Some, Result, Ok, Err, IfOk, List, [], ◌∷◌, map, refl, sym, subst, ap, ◌∙◌}
+use Rattle.std.proofs.Common.{◌≡◌, ℕ, zero, suc, Bool, true, false, Option, None, Some, Ok, List, [], ◌∷◌, map, refl, sym, subst, ap, ◌∙◌}
+use Rattle.rand_core.specs.Stream.{Stream}
 use Rattle.dcsctp_core.specs.spec.Soundness.{UsesOwnMethod, IsSoundCore, IsSound}
 use Rattle.dcsctp_spec_runs.specs.SoundRuns.{SocketsStaySound}
 use Rattle.dcsctp_core.specs.types.declared.association.Held.{Held}
@@ -19,15 +20,14 @@ use Rattle.dcsctp_core.specs.spec.endpoint.CallTurns.{Transition, Turns, after_a
 use Rattle.dcsctp_core.specs.types.declared.schedule.Side.{Side}
 use Rattle.dcsctp_core.specs.types.declared.schedule.Side.TheVariants as sides
 use Rattle.dcsctp_core.specs.spec.Handover.{readiness_of}
-use Rattle.dcsctp_core.specs.types.Schedule.{OutsideContent, input_outside, handover_outside, restore_outside, outside_act}
+use Rattle.dcsctp_core.specs.types.Schedule.{OutsideContent, input_outside, handover_outside, restore_outside, ActContent, step_act, outside_act}
 use Rattle.dcsctp_core.specs.types.Snapshot.{is_valid_snapshot}
 use Rattle.dcsctp_core.specs.spec.HandoverInputs.{inputs_of_snapshot}
-use Rattle.dcsctp_spec_runs.specs.Sockets.{inputs_where_valid, inputs_of_both, Both, of_side, of_other, side_of_outside, TurnsOfAct}
-use Rattle.dcsctp_core.specs.api.declared.errors.SocketFault.{SocketFault}
+use Rattle.dcsctp_spec_runs.specs.Sockets.{inputs_where_valid, inputs_of_both, Both, of_side, of_other, side_of_outside, side_of_act, TurnsOfAct}
 use Rattle.dcsctp_core.specs.api.Calls.{is_closed}
 use Rattle.dcsctp_world.specs.declared.act.Reply.{Reply}
 use Rattle.dcsctp_world.specs.declared.act.Reply.TheVariants.{Restored}
-use Rattle.dcsctp_world.specs.Acts.{Applied, Applies, with_associations}
+use Rattle.dcsctp_world.specs.Acts.{ActApplied, with_associations}
 use Rattle.dcsctp_world.specs.Growth.{IsReply, IsRestoreReply, IsHandedOver, IsHandedOn}
 use Rattle.dcsctp_world.specs.Shown.{SideShown, WorldView}
 use Rattle.dcsctp_core.specs.spec.endpoint.BegunResets.{BegunReset, after_begun}
@@ -37,7 +37,7 @@ use Rattle.dcsctp_core.specs.spec.endpoint.HandoverOutcomes.{hand_over_outcome}
 use Rattle.dcsctp_core.specs.spec.endpoint.RestoreOutcomes.{own_pair, held_restored, RestoreTurn}
 use Rattle.dcsctp_theorem_sockets.specs.Restores.{RestoredSocketsBeginNothing}
 use Rattle.dcsctp_theorem_sockets.proofs.SnapshotsBack.{held_is}
-use Rattle.dcsctp_world.specs.Returning.{GoesOnFrom, ResumesEstablished, BothSound, RestoresBy}
+use Rattle.dcsctp_world.specs.Returning.{GoesOnFrom, ResumesEstablished, RestoresBy, BringsBack}
 use Rattle.dcsctp_world.specs.Run.{IsRun}
 
 -- ---- a flush keeps the tie tag
@@ -153,6 +153,10 @@ by_act law e new packets (handover_outside side) reply ts sound answer turns aft
 by_act law e new packets (restore_outside side state) reply ts sound answer turns after =
     restored_by law e new e.core (is_valid_snapshot e.options state) state reply ts refl answer turns after
 
+-- No verification tag of either side's association is 0, and its zero checksum method is that of the options or none.
+abbrev pub BothSound : {R : Type 0} → WorldView R → Type 0
+BothSound world = (side : Side) → IsSound (of_side side world.sides).socket.view.endpoint
+
 -- the endpoint of a side
 abbrev EndpointAt : {R : Type 0} → Side → Both (SideShown R) → Endpoint
 EndpointAt side both = (of_side side both).socket.view.endpoint
@@ -161,18 +165,14 @@ noted_keeps : {R : Type 0} (side : Side) (both : Both (SideShown R)) → Endpoin
 noted_keeps sides.A both = refl
 noted_keeps sides.B both = refl
 
-restores_by : {R : Type 0} → RestoredSocketsBeginNothing → (outside : OutsideContent) (reply : Reply) (old new : WorldView R) → BothSound old → Applied (outside_act outside) reply old new
-    → RestoresBy outside reply (EndpointAt (side_of_outside outside) old.sides) (EndpointAt (side_of_outside outside) new.sides)
-restores_by {R} law outside reply old new sound h =
+pub restores_by : {R : Type 0} (stream : R → Stream) → RestoredSocketsBeginNothing → (act : ActContent) (reply : Reply) (old new : WorldView R) → BothSound old → ActApplied stream act reply old new
+    → BringsBack act reply (EndpointAt (side_of_act act) old.sides) (EndpointAt (side_of_act act) new.sides)
+restores_by stream law (step_act step) reply old new sound h = tt
+restores_by stream law (outside_act outside) reply old new sound h =
     let side : Side = side_of_outside outside in
     let grows = h.moves.grows in
     by_act law (EndpointAt side old.sides) (EndpointAt side new.sides) (of_other side old.sides).packets outside reply grows.turns (sound side) h.moves.reply grows.are
-    (ap (λ (both : Both (SideShown R)). EndpointAt side both) h.sides ∙ noted_keeps side h.moved ∙ grows.endpoint)
-
-pub restores_where : {R : Type 0} → RestoredSocketsBeginNothing → (outside : OutsideContent) (old new : WorldView R) (result : Result Reply SocketFault) → OnOk result (BothSound old) → Applies (outside_act outside) old result new
-    → IfOk result (λ (reply : Reply). RestoresBy outside reply (EndpointAt (side_of_outside outside) old.sides) (EndpointAt (side_of_outside outside) new.sides))
-restores_where law outside old new (Ok reply) sound h = restores_by law outside reply old new sound h
-restores_where law outside old new (Err fault) sound h = tt
+    (ap (λ (both : Both (SideShown _)). EndpointAt side both) h.sides ∙ noted_keeps side h.moved ∙ grows.endpoint)
 
 -- ---- both sockets of a run
 

@@ -1,61 +1,28 @@
 -- What a side draws is what its generator gives.
-use Rattle.std.proofs.Common.{◌≡◌, List, [], Result, Ok, Err, OnOk, refl, sym, ap, subst}
-use Rattle.std.proofs.lemmas.List.{append-nil}
+use Rattle.std.proofs.Common.{◌≡◌, List, sym, subst}
 use Rattle.rand_core.specs.Stream.{Stream}
 use Rattle.dcsctp_core.specs.types.declared.schedule.Side.{Side}
 use Rattle.dcsctp_core.specs.types.declared.schedule.Side.TheVariants as sides
 use Rattle.dcsctp_core.specs.types.declared.word.Word.{Word}
-use Rattle.dcsctp_spec_runs.specs.Sockets.{Both, of_side, of_other}
-use Rattle.dcsctp_core.specs.types.queues.Messages.{MessageContent}
+use Rattle.dcsctp_core.specs.types.Schedule.{ActContent}
+use Rattle.dcsctp_core.specs.spec.endpoint.CallTurns.{Transition, words_of}
+use Rattle.dcsctp_spec_runs.specs.Sockets.{Both, of_side, of_other, side_of_act, TurnsOfAct}
 use Rattle.dcsctp_core.specs.api.Calls.{Drawn}
 use Rattle.dcsctp_core.proofs.Moving.{Drawn-append}
-use Rattle.dcsctp_socket.specs.SocketView.{SocketView}
-use Rattle.dcsctp_world.specs.Growth.{CollectsWaiting}
-use Rattle.dcsctp_world.specs.Acts.{with_associations}
-use Rattle.dcsctp_world.specs.Drawing.{CallDraws, SideDraws, DrewFrom, DrawOn}
-use Rattle.dcsctp_world.specs.Shown.{SideShown}
-use Rattle.dcsctp_world.proofs.Stopping.{called_side}
-
--- ---- a call
-
--- no word was drawn
-pub draws_nothing : {R : Type 0} (stream : R → Stream) (old new : SocketView R) → new.view.words ≡ [] → new.view.generator ≡ old.view.generator → CallDraws stream old new
-draws_nothing stream old new none same =
-    subst (λ (words : List Word). Drawn (stream old.view.generator) words (stream new.view.generator)) (sym none) (ap stream same)
-
--- after a call that drew no word
-draws_behind : {R : Type 0} (stream : R → Stream) (old mid new : SocketView R) → CallDraws stream old mid → mid.view.words ≡ [] → CallDraws stream mid new → CallDraws stream old new
-draws_behind stream old mid new first none second =
-    let same : stream mid.view.generator ≡ stream old.view.generator =
-    subst (λ (words : List Word). Drawn (stream old.view.generator) words (stream mid.view.generator)) none first in
-    subst (λ (from : Stream). Drawn from new.view.words (stream new.view.generator)) same second
-
-pub behind_nothing : {R A E : Type 0} (stream : R → Stream) (old mid new : SocketView R) (result : Result A E) → CallDraws stream old mid → mid.view.words ≡ []
-    → OnOk result (CallDraws stream mid new) → OnOk result (CallDraws stream old new)
-behind_nothing stream old mid new (Ok answer) first none second = draws_behind stream old mid new first none second
-behind_nothing stream old mid new (Err error) first none second = tt
+use Rattle.dcsctp_world.specs.declared.act.Reply.{Reply}
+use Rattle.dcsctp_world.specs.Growth.{Grows}
+use Rattle.dcsctp_world.specs.Acts.{with_associations, ActApplied}
+use Rattle.dcsctp_world.specs.Drawing.{DrewFrom, DrawOn}
+use Rattle.dcsctp_world.specs.Shown.{SideShown, WorldView}
 
 -- ---- a side
 
--- the socket's call, and then what it brought was kept
-pub side_draws : {R : Type 0} (stream : R → Stream) (old new : SideShown R) (socket : SocketView R) (sent read : List MessageContent) → CallDraws stream old.socket socket
-    → CollectsWaiting (called_side old socket sent read) new → SideDraws stream old new
-side_draws stream old new socket sent read draws collects =
-    record {
-      added = socket.view.words;
-      behind = collects.words;
-      drawn = subst (λ (rest : Stream). Drawn (stream old.socket.view.generator) socket.view.words rest) (sym (ap stream collects.generator)) draws;
-    }
-
--- no call was made
-pub side_draws_nothing : {R : Type 0} (stream : R → Stream) (side : SideShown R) → SideDraws stream side side
-side_draws_nothing stream side = record { added = []; behind = sym (append-nil side.words); drawn = refl }
-
 -- it drew on
-draws_on : {R : Type 0} (stream : R → Stream) (old new : SideShown R) → SideDraws stream old new → (start : Stream) → DrewFrom stream start old → DrewFrom stream start new
-draws_on stream old new draws start before =
-    subst (λ (words : List Word). Drawn start words (stream new.socket.view.generator)) (sym draws.behind)
-    (Drawn-append start (stream old.socket.view.generator) (stream new.socket.view.generator) old.words draws.added before draws.drawn)
+draws_on : {R : Type 0} {stream : R → Stream} {answer : Reply} (Turns : List Transition → Type 0) (old new : SideShown R) → Grows stream Turns answer old new
+    → (start : Stream) → DrewFrom stream start old → DrewFrom stream start new
+draws_on {stream = stream} Turns old new grows start before =
+    subst (λ (words : List Word). Drawn start words (stream new.socket.view.generator)) (sym grows.words)
+    (Drawn-append start (stream old.socket.view.generator) (stream new.socket.view.generator) old.words (words_of grows.turns) before grows.drawn)
 
 same_draws : {R : Type 0} (stream : R → Stream) (old new : SideShown R) → new ≡ old → (start : Stream) → DrewFrom stream start old → DrewFrom stream start new
 same_draws {R = R} stream old new same start before = subst (λ (side : SideShown R). DrewFrom stream start side) (sym same) before
@@ -63,21 +30,30 @@ same_draws {R = R} stream old new same start before = subst (λ (side : SideShow
 -- ---- both sides
 
 -- one drew, and the other is as it was
-pub draw_on_at : {R : Type 0} (stream : R → Stream) (mover : Side) (old new : Both (SideShown R)) → SideDraws stream (of_side mover old) (of_side mover new)
-    → of_other mover new ≡ of_other mover old → DrawOn stream old new
-draw_on_at stream sides.A old new draws stays sides.A = draws_on stream old.a new.a draws
-draw_on_at stream sides.A old new draws stays sides.B = same_draws stream old.b new.b stays
-draw_on_at stream sides.B old new draws stays sides.A = same_draws stream old.a new.a stays
-draw_on_at stream sides.B old new draws stays sides.B = draws_on stream old.b new.b draws
+draw_on_at : {R : Type 0} {stream : R → Stream} {answer : Reply} (Turns : List Transition → Type 0) (mover : Side) (old new : Both (SideShown R))
+    → Grows stream Turns answer (of_side mover old) (of_side mover new) → of_other mover new ≡ of_other mover old → DrawOn stream old new
+draw_on_at Turns sides.A old new grows stays sides.A = draws_on Turns old.a new.a grows
+draw_on_at {stream = stream} Turns sides.A old new grows stays sides.B = same_draws stream old.b new.b stays
+draw_on_at {stream = stream} Turns sides.B old new grows stays sides.A = same_draws stream old.a new.a stays
+draw_on_at Turns sides.B old new grows stays sides.B = draws_on Turns old.b new.b grows
 
--- then the associations were noted
+-- then the associations were recorded
 noted_from : {R : Type 0} (stream : R → Stream) (start : Stream) (side : Side) (moved : Both (SideShown R)) → DrewFrom stream start (of_side side moved) → DrewFrom stream start (of_side side (with_associations moved))
 noted_from stream start sides.A moved drew = drew
 noted_from stream start sides.B moved drew = drew
 
-pub noted_draw_on : {R : Type 0} (stream : R → Stream) (old moved new : Both (SideShown R)) → DrawOn stream old moved → new ≡ with_associations moved → DrawOn stream old new
+noted_draw_on : {R : Type 0} (stream : R → Stream) (old moved new : Both (SideShown R)) → DrawOn stream old moved → new ≡ with_associations moved → DrawOn stream old new
 noted_draw_on {R = R} stream old moved new draws is side start before =
     subst (λ (both : Both (SideShown R)). DrewFrom stream start (of_side side both)) (sym is) (noted_from stream start side moved (draws side start before))
+
+-- so an act drew
+pub applied_draws : {R : Type 0} (stream : R → Stream) (act : ActContent) (reply : Reply) (old new : WorldView R) → ActApplied stream act reply old new
+    → DrawOn stream old.sides new.sides
+applied_draws stream act reply old new h =
+    let mover : Side = side_of_act act in
+    noted_draw_on stream old.sides h.moved new.sides
+    (draw_on_at (TurnsOfAct (of_side mover old.sides).socket.view.endpoint (of_other mover old.sides).packets act) mover old.sides h.moved h.moves.grows h.moves.other_stays)
+    h.sides
 
 -- ---- several acts
 

@@ -1,6 +1,7 @@
 -- What a side shows once a call was made, and what it brought was kept: messages first.
 use Rattle.std.proofs.Common.{◌≡◌, ℕ, List, [], ◌∷◌, ◌++◌, inr, refl, sym, ap, subst, ◌∙◌}
 use Rattle.std.proofs.lemmas.List.{append-nil}
+use Rattle.rand_core.specs.Stream.{Stream}
 use Rattle.dcsctp_core.specs.types.declared.association.Pair.{Pair}
 use Rattle.dcsctp_core.specs.types.declared.word.Word.{Word}
 use Rattle.dcsctp_core.specs.spec.endpoint.CallTurns.{Transition, after_all, words_of, pairs_of}
@@ -10,10 +11,10 @@ use Rattle.dcsctp_core.specs.types.Schedule.{CallContent}
 use Rattle.dcsctp_core.specs.spec.endpoint.UserTurns.{UserTurns}
 use Rattle.dcsctp_core.specs.types.queues.Messages.{MessageContent}
 use Rattle.dcsctp_delivery_sockets.specs.UserMessages.{messages_sent_in, read_of}
-use Rattle.dcsctp_core.specs.api.Calls.{Follows}
+use Rattle.dcsctp_core.specs.api.Calls.{UserView, Drawn, Follows, MakesCall}
 use Rattle.dcsctp_socket.specs.SocketView.{SocketView, user_view_of}
 use Rattle.dcsctp_world.specs.declared.act.Reply.{Reply}
-use Rattle.dcsctp_world.specs.Growth.{AppendsFirst, CollectsWaiting, CollectsFront, events_for_user, WasCalled, CallMade, Grows, StopsKeeping, IsCallReply}
+use Rattle.dcsctp_world.specs.Growth.{AppendsFirst, CollectsWaiting, CollectsFront, events_for_user, WasCalled, Grows, StopsKeeping, IsCallReply}
 use Rattle.dcsctp_world.specs.Messages.{messages_of_call, read_by}
 use Rattle.dcsctp_world.specs.Shown.{SideShown}
 use Rattle.dcsctp_world.proofs.Keeping.{front_same, front_whole}
@@ -21,52 +22,58 @@ use Rattle.dcsctp_world.proofs.QuietTurns.{AreQuiet}
 use Rattle.dcsctp_world.proofs.SaidMessages.{AreSaid, call_says}
 use Rattle.dcsctp_world.proofs.Stopping.{called_side, stops_after}
 
-grown : {R : Type 0} (Turns : List Transition → Type 0) (answer : Reply) (old new : SideShown R) (socket : SocketView R) (sent read : List MessageContent) (turns : List Transition)
-    → Turns turns → WasCalled answer → old.socket.view.events ≡ [] → Follows (user_view_of old.socket) turns (user_view_of socket)
+grown : {R : Type 0} (stream : R → Stream) (Turns : List Transition → Type 0) (answer : Reply) (old new : SideShown R) (socket : SocketView R)
+    (sent read : List MessageContent) (turns : List Transition)
+    → Turns turns → WasCalled answer → old.socket.view.events ≡ [] → Follows (user_view_of stream old.socket) turns (user_view_of stream socket)
     → sent ≡ old.sent ++ messages_sent_in old.socket.view.endpoint turns → read ≡ old.read ++ read_of old.socket.view.endpoint turns
-    → CollectsWaiting (called_side old socket sent read) new → Grows Turns answer old new
-grown Turns answer old new socket sent read turns turned called empty follows sends reads collects =
+    → CollectsWaiting stream (called_side old socket sent read) new → Grows stream Turns answer old new
+grown stream Turns answer old new socket sent read turns turned called empty follows sends reads collects =
     let waiting : socket.view.events ≡ events_for_user old turns = follows.events ∙ ap (λ (l : List (Event (List ℕ))). l ++ events_for_user old turns) empty in
     record {
       turns = turns;
       are = turned;
-      endpoint = collects.endpoint ∙ follows.endpoint;
-      failed = collects.failed ∙ follows.goes_on ∙ sym follows.runs;
+      endpoint = ap (λ (view : UserView). view.endpoint) collects.socket ∙ follows.endpoint;
+      failed = ap (λ (view : UserView). view.failed) collects.socket ∙ follows.goes_on ∙ sym follows.runs;
       options = collects.options;
-      waiting = collects.waiting;
+      waiting = ap (λ (view : UserView). view.events) collects.socket;
       events = collects.events ∙ ap (λ (l : List (Event (List ℕ))). old.events ++ l) waiting;
       packets = collects.packets ∙ ap (λ (l : List (Event (List ℕ))). old.packets ++ packets_in l) waiting;
       words = collects.words ∙ ap (λ (l : List Word). old.words ++ l) follows.words;
+      drawn = subst (λ (rest : Stream). Drawn (stream old.socket.view.generator) (words_of turns) rest)
+          (sym (ap (λ (view : UserView). view.generator) collects.socket)) follows.drawn;
       pairs = collects.pairs ∙ ap (λ (l : List Pair). old.pairs ++ l) follows.pairs;
       sent = collects.sent ∙ sends;
       read = collects.read ∙ reads;
       associations = collects.associations;
-      last_words = λ made. collects.last_words ∙ follows.words;
-      last_pairs = λ made. collects.last_pairs ∙ follows.pairs;
+      last_words = λ made. ap (λ (view : UserView). view.words) collects.socket ∙ follows.words;
+      last_pairs = λ made. ap (λ (view : UserView). view.pairs) collects.socket ∙ follows.pairs;
       idle = λ none. absurd (subst WasCalled none called);
     }
 
 -- ---- a call that sends and reads nothing
 
-module _ {R : Type 0} (Turns : List Transition → Type 0) (old new : SideShown R) (socket : SocketView R) (turns : List Transition) (turned : Turns turns) (empty : old.socket.view.events ≡ [])
-    (follows : Follows (user_view_of old.socket) turns (user_view_of socket)) (quiet : AreQuiet old.socket.view.endpoint turns) where
-  pub quiet_grows : (answer : Reply) → WasCalled answer → CollectsWaiting (record old { socket = socket }) new → Grows Turns answer old new
+module _ {R : Type 0} (stream : R → Stream) (Turns : List Transition → Type 0) (old new : SideShown R) (socket : SocketView R) (turns : List Transition)
+    (turned : Turns turns) (empty : old.socket.view.events ≡ []) (follows : Follows (user_view_of stream old.socket) turns (user_view_of stream socket))
+    (quiet : AreQuiet old.socket.view.endpoint turns) where
+  pub quiet_grows : (answer : Reply) → WasCalled answer → CollectsWaiting stream (record old { socket = socket }) new → Grows stream Turns answer old new
   quiet_grows answer called collects =
-      grown Turns answer old new socket old.sent old.read turns turned called empty follows
+      grown stream Turns answer old new socket old.sent old.read turns turned called empty follows
       (sym (append-nil old.sent) ∙ ap (λ (l : List MessageContent). old.sent ++ l) (sym quiet.sent))
       (sym (append-nil old.read) ∙ ap (λ (l : List MessageContent). old.read ++ l) (sym quiet.read)) collects
 
   pub quiet_stops : CollectsFront (record old { socket = socket }) new → StopsKeeping Turns old new
   quiet_stops part =
-      stops_after Turns old new socket old.sent old.read turns turned empty follows (front_same (messages_sent_in old.socket.view.endpoint turns) refl)
+      stops_after stream Turns old new socket old.sent old.read turns turned empty follows (front_same (messages_sent_in old.socket.view.endpoint turns) refl)
       (front_same (read_of old.socket.view.endpoint turns) refl) part
 
 -- ---- any call of the user
 
-module _ {R : Type 0} (call : CallContent) (reply : Reply) (old : SideShown R) (socket : SocketView R) (sent read : List MessageContent) (empty : old.socket.view.events ≡ [])
-    (made : CallMade (UserTurns old.socket.view.endpoint call) (IsCallReply old.socket.view.endpoint call) (user_view_of old.socket) reply (user_view_of socket)) where
+module _ {R : Type 0} (stream : R → Stream) (call : CallContent) (reply : Reply) (old : SideShown R) (socket : SocketView R) (sent read : List MessageContent)
+    (empty : old.socket.view.events ≡ [])
+    (made : MakesCall (λ (answer : Reply). IsCallReply old.socket.view.endpoint call answer × WasCalled answer) (UserTurns old.socket.view.endpoint call)
+    (user_view_of stream old.socket) reply (user_view_of stream socket)) where
   said : AreSaid old.socket.view.endpoint call reply made.turns
-  said = call_says old.socket.view.endpoint call reply made.turns made.are made.reply
+  said = call_says old.socket.view.endpoint call reply made.turns made.are made.answers.0
 
   -- its messages were kept
   module _ (new : SideShown R) (sends : sent ≡ old.sent ++ messages_of_call call reply) (reads : read ≡ old.read ++ read_by call reply) where
@@ -76,13 +83,14 @@ module _ {R : Type 0} (call : CallContent) (reply : Reply) (old : SideShown R) (
     reads_all : read ≡ old.read ++ read_of old.socket.view.endpoint made.turns
     reads_all = reads ∙ ap (λ (l : List MessageContent). old.read ++ l) (sym said.read)
 
-    pub call_grows : CollectsWaiting (called_side old socket sent read) new → Grows (UserTurns old.socket.view.endpoint call) reply old new
+    pub call_grows : CollectsWaiting stream (called_side old socket sent read) new → Grows stream (UserTurns old.socket.view.endpoint call) reply old new
     call_grows collects =
-        grown (UserTurns old.socket.view.endpoint call) reply old new socket sent read made.turns made.are made.called empty made.follows sends_all reads_all collects
+        grown stream (UserTurns old.socket.view.endpoint call) reply old new socket sent read made.turns made.are made.answers.1 empty made.follows
+        sends_all reads_all collects
 
     pub call_stops : CollectsFront (called_side old socket sent read) new → StopsKeeping (UserTurns old.socket.view.endpoint call) old new
     call_stops part =
-        stops_after (UserTurns old.socket.view.endpoint call) old new socket sent read made.turns made.are empty made.follows
+        stops_after stream (UserTurns old.socket.view.endpoint call) old new socket sent read made.turns made.are empty made.follows
         (front_whole (messages_sent_in old.socket.view.endpoint made.turns) sends_all) (front_whole (read_of old.socket.view.endpoint made.turns) reads_all) part
 
   -- They were kept in part, and nothing else.

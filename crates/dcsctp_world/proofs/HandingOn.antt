@@ -19,10 +19,12 @@ use Rattle.dcsctp_core.specs.spec.endpoint.CallTurns.{Transition, IsTurn, Turns,
 use Rattle.dcsctp_core.specs.spec.HandoverInputs.{inputs_of_handover, inputs_of_restore}
 use Rattle.dcsctp_spec_runs.specs.Sockets.{inputs_where_valid, inputs_of_both}
 use Rattle.dcsctp_core.specs.spec.endpoint.HandoverOutcomes.{hand_over_outcome}
-use Rattle.dcsctp_core.proofs.spec_lemmas.TurnLists.{drawn_in-append, events_of-append}
+use Rattle.rand_core.specs.Stream.{Stream}
+use Rattle.dcsctp_core.proofs.spec_lemmas.TurnLists.{drawn_in-append, events_of-append, words_of-append}
+use Rattle.dcsctp_core.proofs.Moving.{Drawn-append}
 use Rattle.dcsctp_core.specs.api.declared.errors.SocketFault.{SocketFault}
 use Rattle.dcsctp_core.specs.api.declared.errors.SocketFault.TheVariants.{OutOfMemory, Failed}
-use Rattle.dcsctp_core.specs.api.Calls.{UserView, Follows, user_event}
+use Rattle.dcsctp_core.specs.api.Calls.{UserView, Drawn, Follows, user_event}
 use Rattle.dcsctp_core.specs.api.declared.errors.HandoverError.{HandoverError}
 use Rattle.dcsctp_core.specs.api.declared.errors.HandoverError.TheVariants.{NotReady}
 use Rattle.dcsctp_core.specs.api.declared.errors.RestoreError.TheVariants.{SocketNotClosed}
@@ -30,7 +32,7 @@ use Rattle.dcsctp_core.specs.api.declared.errors.RestoreError.{RestoreError}
 use Rattle.dcsctp_core.specs.api.Handover.{IsHandoverAnswer, RestoresSocket}
 use Rattle.dcsctp_world.specs.declared.act.Reply.{Reply}
 use Rattle.dcsctp_world.specs.declared.act.Reply.TheVariants.{NoCall, Done, Sent, SentMany, Reset, Taken, HandedOver, Restored}
-use Rattle.dcsctp_world.specs.Growth.{Called, HandlesAct, IsHandedOn, IsRestoreReply}
+use Rattle.dcsctp_world.specs.Growth.{CallMade, HandlesAct, IsHandedOn, IsRestoreReply}
 use Rattle.dcsctp_world.specs.Shown.{SideShown}
 use Rattle.dcsctp_world.specs.Outside.{OutsideHandoverTurns, IsHandedOnBy, ValidTurns, IsRestoredBy}
 use Rattle.dcsctp_world.proofs.Stopping.{grows_by_nothing}
@@ -72,6 +74,8 @@ follows_both old mid new t ts words pairs options first second =
           ∙ ap (λ (es : List (Event (List ℕ))). old.events ++ es) (sym (map-append shown (events_of (t ∷ [])) (events_of ts)) ∙ ap (map shown) (sym (events_of-append (t ∷ []) ts)));
       words = second.words ∙ ap (λ (ws : List Word). ws ++ words_of ts) (sym words);
       pairs = second.pairs ∙ ap (λ (ps : List Pair). ps ++ pairs_of ts) (sym pairs) ∙ sym (drawn_in-append t.outcome.effects (effects_of ts));
+      drawn = subst (λ (ws : List Word). Drawn old.generator ws new.generator) (sym (words_of-append (t ∷ []) ts))
+          (Drawn-append old.generator mid.generator new.generator (words_of (t ∷ [])) (words_of ts) first.drawn second.drawn);
     }
 
 -- a socket that was handed over: its turn, and what it leaves
@@ -130,30 +134,22 @@ answer_of (Restored (Err SocketNotClosed)) is = absurd (cc)
 pub hands_on : (old mid new : UserView) (state : Snapshot) (result : Result Reply SocketFault) (turns : List Transition)
     → readiness_of old.endpoint ≡ 0 → state ≡ snapshot_of old.endpoint → is_valid_snapshot mid.endpoint.options state ≡ true
     → Turns old.endpoint (inputs_of_handover (readiness_of old.endpoint)) turns → Follows old turns mid
-    → Called (ValidTurns mid.endpoint state) (IsRestoredBy mid.endpoint state) mid result new
-    → Called (OutsideHandoverTurns old.endpoint) (IsHandedOnBy old.endpoint) old result new
+    → CallMade (ValidTurns mid.endpoint state) (IsRestoredBy mid.endpoint state) mid result new
+    → CallMade (OutsideHandoverTurns old.endpoint) (IsHandedOnBy old.endpoint) old result new
 hands_on old mid new state (Ok answer) turns ready same valid are follows made =
     let h : Left old mid = handed_over old mid (readiness_of old.endpoint) turns ready ready are follows in
-    let at_mid : IsRestoreReply true mid.endpoint.core answer = subst (λ (b : Bool). IsRestoreReply b mid.endpoint.core answer) valid made.reply in
+    let at_mid : IsRestoreReply true mid.endpoint.core answer = subst (λ (b : Bool). IsRestoreReply b mid.endpoint.core answer) valid made.answers.0 in
     let is : answer ≡ Restored (Ok tt) = answer_of answer (subst (λ (c : Core). IsRestoreReply true c answer) h.core at_mid) in
     let turned : Turns old.endpoint (inputs_of_both 0 (snapshot_of old.endpoint)) (h.turn ∷ made.turns) =
     subst (λ (s : Snapshot). Turns old.endpoint (inputs_of_both 0 s) (h.turn ∷ made.turns)) same (turns_of_both old mid h state made.turns made.are valid) in
     record {
-      reply = subst (λ (n : ℕ). IsHandedOn n old.endpoint answer) (sym ready) is;
-      called = made.called;
+      answers = (subst (λ (n : ℕ). IsHandedOn n old.endpoint answer) (sym ready) is, made.answers.1);
       turns = h.turn ∷ made.turns;
       are = subst (λ (n : ℕ). Turns old.endpoint (inputs_of_both n (snapshot_of old.endpoint)) (h.turn ∷ made.turns)) (sym ready) turned;
       follows = follows_both old mid new h.turn made.turns h.words h.pairs h.options h.follows made.follows;
     }
 hands_on old mid new state (Err OutOfMemory) turns ready same valid are follows made = follows.runs
-hands_on old mid new state (Err Failed) turns ready same valid are follows made = let runs : mid.failed ≡ false = follows.goes_on in let failed : mid.failed ≡ true = made in absurd (cc)
-
--- the handover drew no word
-pub hand_over_draws_nothing : (old mid : UserView) (turns : List Transition) → readiness_of old.endpoint ≡ 0 → Turns old.endpoint (inputs_of_handover (readiness_of old.endpoint)) turns
-    → Follows old turns mid → mid.words ≡ []
-hand_over_draws_nothing old mid turns ready are follows =
-    let h : Left old mid = handed_over old mid (readiness_of old.endpoint) turns ready ready are follows in
-    h.follows.words ∙ ap (λ (ws : List Word). ws ++ []) h.words
+hands_on old mid new state (Err Failed) turns ready same valid are follows made = let runs : mid.failed ≡ false = follows.goes_on in let failed : mid.failed ≡ true = made.had_failed in absurd (cc)
 
 -- The options stay, so the snapshot is valid where it is restored.
 pub valid_there : (old mid : UserView) (state : Snapshot) (turns : List Transition) → readiness_of old.endpoint ≡ 0 → is_valid_snapshot old.endpoint.options state ≡ true
@@ -177,12 +173,11 @@ refused_reply e (suc reasons) error some is = is
 
 pub hand_over_refused : (old new : UserView) (error : HandoverError) (turns : List Transition) → IsHandoverAnswer old.endpoint (Err error)
     → Turns old.endpoint (inputs_of_handover (readiness_of old.endpoint)) turns → Follows old turns new
-    → Called (OutsideHandoverTurns old.endpoint) (IsHandedOnBy old.endpoint) old (Ok (HandedOver (Err error))) new
+    → CallMade (OutsideHandoverTurns old.endpoint) (IsHandedOnBy old.endpoint) old (Ok (HandedOver (Err error))) new
 hand_over_refused old new error turns is are follows =
     let some : readiness_of old.endpoint ≢ 0 = is_not_ready old.endpoint error is in
     record {
-      reply = refused_reply old.endpoint (readiness_of old.endpoint) error some is;
-      called = tt;
+      answers = (refused_reply old.endpoint (readiness_of old.endpoint) error some is, tt);
       turns = turns;
       are = refused_at old.endpoint (readiness_of old.endpoint) turns (snapshot_of old.endpoint) some are;
       follows = follows;
@@ -191,21 +186,21 @@ hand_over_refused old new error turns is are follows =
 -- ---- a restore alone
 
 pub restore_called : (old new : UserView) (state : Snapshot) (answer : Result (Unit {0}) RestoreError) → is_valid_snapshot old.endpoint.options state ≡ true
-    → RestoresSocket state old (Ok answer) new → Called (ValidTurns old.endpoint state) (IsRestoredBy old.endpoint state) old (Ok (Restored answer)) new
+    → RestoresSocket state old (Ok answer) new → CallMade (ValidTurns old.endpoint state) (IsRestoredBy old.endpoint state) old (Ok (Restored answer)) new
 restore_called old new state answer valid made =
     record {
-      reply = subst (λ (b : Bool). IsRestoreReply b old.endpoint.core (Restored answer)) (sym valid) made.0;
-      called = tt;
-      turns = made.1;
-      are = subst (λ (b : Bool). Turns old.endpoint (inputs_where_valid b old.endpoint.core state) made.1) (sym valid) made.2;
-      follows = made.3;
+      answers = (subst (λ (b : Bool). IsRestoreReply b old.endpoint.core (Restored answer)) (sym valid) made.answers, tt);
+      turns = made.turns;
+      are = subst (λ (b : Bool). Turns old.endpoint (inputs_where_valid b old.endpoint.core state) made.turns) (sym valid) made.are;
+      follows = made.follows;
     }
 
 -- a snapshot that isn't valid
-pub not_restored_by : {R : Type 0} (old : SideShown R) (state : Snapshot) → is_valid_snapshot old.socket.view.endpoint.options state ≡ false → old.socket.view.events ≡ []
-    → HandlesAct (ValidTurns old.socket.view.endpoint state) (IsRestoredBy old.socket.view.endpoint state) old (Ok NoCall) old
-not_restored_by {R} old state invalid waiting =
+pub not_restored_by : {R : Type 0} (stream : R → Stream) (old : SideShown R) (state : Snapshot) → is_valid_snapshot old.socket.view.endpoint.options state ≡ false
+    → old.socket.view.events ≡ []
+    → HandlesAct stream (ValidTurns old.socket.view.endpoint state) (IsRestoredBy old.socket.view.endpoint state) old (Ok NoCall) old
+not_restored_by {R} stream old state invalid waiting =
     let e : Endpoint = old.socket.view.endpoint in
     let Restoring : Bool → Type 0 = λ is_valid.
-    HandlesAct (λ (ts : List Transition). Turns e (inputs_where_valid is_valid e.core state) ts) (λ (reply : Reply). IsRestoreReply is_valid e.core reply) old (Ok NoCall) old in
-    subst Restoring (sym invalid) (refl, grows_by_nothing _ old tt waiting)
+    HandlesAct stream (λ (ts : List Transition). Turns e (inputs_where_valid is_valid e.core state) ts) (λ (reply : Reply). IsRestoreReply is_valid e.core reply) old (Ok NoCall) old in
+    subst Restoring (sym invalid) (refl, grows_by_nothing stream _ old tt waiting)

@@ -2,6 +2,7 @@
 use Rattle.std.proofs.Common.{◌≡◌, ℕ, false, Option, List, [], ◌∷◌, ◌++◌, map, reverse, refl, sym, ap, subst, ◌∙◌, append_assoc}
 use Rattle.std.proofs.lemmas.List.{map-append}
 use Rattle.std.proofs.lemmas.Grind.{reverse_onto}
+use Rattle.rand_core.specs.Stream.{Stream}
 use Rattle.dcsctp_core.specs.types.declared.association.Pair.{Pair}
 use Rattle.dcsctp_core.specs.types.declared.word.Word.{Word}
 use Rattle.dcsctp_core.specs.types.declared.association.Association.{Association}
@@ -28,7 +29,7 @@ use Rattle.dcsctp_world.specs.Shown.{SideShown, WorldView, fresh_side_shown, fre
 use Rattle.dcsctp_world.specs.Growth.{Grows}
 use Rattle.dcsctp_theorem_sockets.specs.Agreement.{IsUsable}
 use Rattle.dcsctp_world.specs.Run.{SideRuns, IsRun}
-use Rattle.dcsctp_world.specs.Acts.{with_associations, Applied}
+use Rattle.dcsctp_world.specs.Acts.{with_associations, ActApplied}
 use Rattle.dcsctp_world.specs.Parts.{shown, world_of}
 use Rattle.dcsctp_theorem_sockets.proofs.Bursts.{packets_in-append}
 
@@ -99,7 +100,8 @@ read_of-append e (t ∷ xs) ys =
     ap (λ (l : List MessageContent). read_in e t.input ++ l) (read_of-append t.outcome.after xs ys)
     ∙ sym (append_assoc (read_in e t.input) (read_of t.outcome.after xs) (read_of (after_all t.outcome.after xs) ys))
 
-side_grows : {R : Type 0} {answer : Reply} (options : Options) (turns : List Transition) (Turns : List Transition → Type 0) (old new : SideShown R) (grows : Grows Turns answer old new)
+side_grows : {R : Type 0} {stream : R → Stream} {answer : Reply} (options : Options) (turns : List Transition) (Turns : List Transition → Type 0) (old new : SideShown R)
+    (grows : Grows stream Turns answer old new)
     → SameOptions options (endpoint_after options turns).options → SideRuns options turns old → SideRuns options (turns ++ grows.turns) new
 side_grows options turns Turns old new grows kept h =
     let os = grows.turns in
@@ -129,8 +131,8 @@ abbrev SidesRun : {R : Type 0} → Both Options → Both (List Transition) → B
 SidesRun options turns shown side = SideRuns (of_side side options) (of_side side turns) (of_side side shown)
 
 -- the side that moved, and the other
-sides_next : {R : Type 0} {answer : Reply} (options : Both Options) (turns : Both (List Transition)) (old moved : Both (SideShown R)) (Turns : List Transition → Type 0) (mover : Side)
-    (grows : Grows Turns answer (of_side mover old) (of_side mover moved)) → of_other mover moved ≡ of_other mover old
+sides_next : {R : Type 0} {stream : R → Stream} {answer : Reply} (options : Both Options) (turns : Both (List Transition)) (old moved : Both (SideShown R)) (Turns : List Transition → Type 0) (mover : Side)
+    (grows : Grows stream Turns answer (of_side mover old) (of_side mover moved)) → of_other mover moved ≡ of_other mover old
     → SameOptions (of_side mover options) (endpoint_after (of_side mover options) (of_side mover turns)).options
     → ((side : Side) → SidesRun options turns old side) → (side : Side) → SidesRun options (side_turns_added mover grows.turns turns) moved side
 sides_next options turns old moved Turns sides.A grows stays kept before sides.A = side_grows options.a turns.a Turns old.a moved.a grows kept (before sides.A)
@@ -138,16 +140,16 @@ sides_next {R = R} options turns old moved Turns sides.A grows stays kept before
 sides_next {R = R} options turns old moved Turns sides.B grows stays kept before sides.A = subst (λ (s : SideShown R). SideRuns options.a turns.a s) (sym stays) (before sides.A)
 sides_next options turns old moved Turns sides.B grows stays kept before sides.B = side_grows options.b turns.b Turns old.b moved.b grows kept (before sides.B)
 
--- no association was noted yet
-same_associations : {R : Type 0} {answer : Reply} (old moved : Both (SideShown R)) (Turns : List Transition → Type 0) (mover : Side)
-    → Grows Turns answer (of_side mover old) (of_side mover moved) → of_other mover moved ≡ of_other mover old
+-- no association was recorded yet
+same_associations : {R : Type 0} {stream : R → Stream} {answer : Reply} (old moved : Both (SideShown R)) (Turns : List Transition → Type 0) (mover : Side)
+    → Grows stream Turns answer (of_side mover old) (of_side mover moved) → of_other mover moved ≡ of_other mover old
     → (side : Side) → (of_side side moved).associations ≡ (of_side side old).associations
 same_associations old moved Turns sides.A grows stays sides.A = grows.associations
 same_associations {R = R} old moved Turns sides.A grows stays sides.B = ap (λ (s : SideShown R). s.associations) stays
 same_associations {R = R} old moved Turns sides.B grows stays sides.A = ap (λ (s : SideShown R). s.associations) stays
 same_associations old moved Turns sides.B grows stays sides.B = grows.associations
 
--- then both are noted
+-- then both are recorded
 noted : {R : Type 0} (moved : Both (SideShown R)) (side : Side)
     → (of_side side (with_associations moved)).associations ≡ (of_side side moved).associations ++ association_of (of_side side moved).socket.view.endpoint.core ∷ []
 noted moved sides.A = refl
@@ -174,8 +176,9 @@ turns_of options turns old act os runs turned =
     subst (λ (packets : List (List ℕ)). TurnsOfAct (endpoint_after (of_side mover options) (of_side mover turns)) packets act os) (other_packets options turns old mover runs)
     (subst (λ (e : Endpoint). TurnsOfAct e (of_other mover old).packets act os) (runs mover).endpoint turned)
 
-pub is_run_next : {R : Type 0} (options : Both Options) (act : ActContent) (reply : Reply) (old new : WorldView R) → FitsAct act → IsRun options old → Applied act reply old new → IsRun options new
-is_run_next {R = R} options act reply old new fits h applied =
+pub is_run_next : {R : Type 0} (stream : R → Stream) (options : Both Options) (act : ActContent) (reply : Reply) (old new : WorldView R) → FitsAct act → IsRun options old
+    → ActApplied stream act reply old new → IsRun options new
+is_run_next {R = R} stream options act reply old new fits h applied =
     let mover : Side = side_of_act act in
     let moved : Both (SideShown R) = applied.moved in
     let os = applied.moves.grows.turns in

@@ -9,13 +9,13 @@ use Rattle.dcsctp_core.specs.types.Setting.{Setting}
 use Rattle.dcsctp_core.specs.spec.endpoint.SettingOutcomes.{setting_outcome}
 use Rattle.dcsctp_core.specs.api.Calls.{UserView, with_setting}
 use Rattle.dcsctp_world.specs.declared.act.Reply.TheVariants.{Done}
-use Rattle.dcsctp_world.specs.Growth.{Called, IsCallReply}
+use Rattle.dcsctp_world.specs.Growth.{CallMade, IsCallReply}
 
-set_is_called : (setting : Setting) (old : UserView) → old.failed ≡ false → Called (UserTurns old.endpoint (set_call setting)) (IsCallReply old.endpoint (set_call setting)) old (Ok Done) (with_setting setting old)
+set_is_called : (setting : Setting) (old : UserView) → old.failed ≡ false
+    → CallMade (UserTurns old.endpoint (set_call setting)) (IsCallReply old.endpoint (set_call setting)) old (Ok Done) (with_setting setting old)
 set_is_called setting old runs =
     record {
-      reply = refl;
-      called = tt;
+      answers = (refl, tt);
       turns = transition (user_sets setting) (setting_outcome old.endpoint setting) ∷ [];
       are = (record { is = refl; comes = refl }, tt);
       follows = record {
@@ -25,8 +25,12 @@ set_is_called setting old runs =
         events = sym (append-nil old.events);
         words = refl;
         pairs = refl;
+        drawn = refl;
       };
     }
 
-pub setting_called : (setting : Setting) (old new : UserView) → old.failed ≡ false → new ≡ with_setting setting old → Called (UserTurns old.endpoint (set_call setting)) (IsCallReply old.endpoint (set_call setting)) old (Ok Done) new
-setting_called setting old new runs is = subst (λ (view : UserView). Called (UserTurns old.endpoint (set_call setting)) (IsCallReply old.endpoint (set_call setting)) old (Ok Done) view) (sym is) (set_is_called setting old runs)
+pub setting_called : (setting : Setting) (old new : UserView) → old.failed ≡ false → new ≡ with_setting setting old
+    → CallMade (UserTurns old.endpoint (set_call setting)) (IsCallReply old.endpoint (set_call setting)) old (Ok Done) new
+setting_called setting old new runs is =
+    subst (λ (view : UserView). CallMade (UserTurns old.endpoint (set_call setting)) (IsCallReply old.endpoint (set_call setting)) old (Ok Done) view) (sym is)
+    (set_is_called setting old runs)

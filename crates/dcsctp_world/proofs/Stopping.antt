@@ -1,6 +1,7 @@
--- What a side shows where no call was made, and where a growth was refused while an act was worked.
-use Rattle.std.proofs.Common.{◌≡◌, ℕ, true, false, Option, Err, List, [], ◌∷◌, ◌++◌, ◌⊎◌, inl, inr, map, refl, sym, ap, subst, ◌∙◌}
+-- What a side shows if no call was made, and if an allocation failed in an act.
+use Rattle.std.proofs.Common.{◌≡◌, ℕ, false, Option, Result, Ok, Err, List, [], ◌∷◌, ◌++◌, ◌⊎◌, inl, inr, refl, sym, ap, subst, ◌∙◌}
 use Rattle.std.proofs.lemmas.List.{append-nil}
+use Rattle.rand_core.specs.Stream.{Stream}
 use Rattle.dcsctp_core.specs.types.declared.association.Pair.{Pair}
 use Rattle.dcsctp_core.specs.types.declared.word.Word.{Word}
 use Rattle.dcsctp_core.specs.types.declared.association.Association.{Association}
@@ -17,12 +18,12 @@ use Rattle.dcsctp_core.specs.api.declared.errors.SocketFault.TheVariants.{OutOfM
 use Rattle.dcsctp_core.specs.api.Calls.{Follows, HandlesInput}
 use Rattle.dcsctp_socket.specs.SocketView.{SocketView, user_view_of}
 use Rattle.dcsctp_core.specs.types.declared.schedule.Act.{Act}
-use Rattle.dcsctp_core.specs.types.Schedule.{ActContent, act_content}
+use Rattle.dcsctp_core.specs.types.Schedule.{ActContent}
 use Rattle.dcsctp_world.specs.declared.act.Reply.{Reply}
 use Rattle.dcsctp_world.specs.declared.act.Reply.TheVariants.{NoCall}
 use Rattle.dcsctp_world.specs.declared.watched_socket.WatchedSocket.{WatchedSocket}
-use Rattle.dcsctp_world.specs.Shown.{SideShown, WorldView}
-use Rattle.dcsctp_world.specs.Growth.{AppendsFirst, CollectsFront, events_for_user, Called, Grows, ShowsFront, StopsKeeping, FailsAtSide, with_association}
+use Rattle.dcsctp_world.specs.Shown.{SideShown}
+use Rattle.dcsctp_world.specs.Growth.{AppendsFirst, CollectsFront, events_for_user, CallMade, Grows, ShowsFront, StopsKeeping, HandlesAct, IsReply, with_association}
 use Rattle.dcsctp_world.specs.Acts.{ActMoves, ActStops, MovesSide, WorksAct}
 use Rattle.dcsctp_world.specs.Parts.{both, world_of}
 use Rattle.dcsctp_world.proofs.Keeping.{front_same, front_whole}
@@ -33,8 +34,9 @@ called_side old socket sent read = record old { socket = socket; sent = sent; re
 
 -- ---- no call was made
 
-pub grows_by_nothing : {R : Type 0} (Turns : List Transition → Type 0) (side : SideShown R) → Turns [] → side.socket.view.events ≡ [] → Grows Turns NoCall side side
-grows_by_nothing Turns side turned empty =
+pub grows_by_nothing : {R : Type 0} (stream : R → Stream) (Turns : List Transition → Type 0) (side : SideShown R) → Turns [] → side.socket.view.events ≡ []
+    → Grows stream Turns NoCall side side
+grows_by_nothing stream Turns side turned empty =
     record {
       turns = [];
       are = turned;
@@ -45,6 +47,7 @@ grows_by_nothing Turns side turned empty =
       events = sym (append-nil side.events);
       packets = sym (append-nil side.packets);
       words = sym (append-nil side.words);
+      drawn = refl;
       pairs = sym (append-nil side.pairs);
       sent = sym (append-nil side.sent);
       read = sym (append-nil side.read);
@@ -54,7 +57,7 @@ grows_by_nothing Turns side turned empty =
       idle = λ is. refl;
     }
 
--- ---- a growth was refused
+-- ---- an allocation failed
 
 -- nothing was added yet
 pub shows_nothing : {R : Type 0} (turns : List Transition) (old new : SideShown R) → new.options ≡ old.options → new.events ≡ old.events → new.packets ≡ old.packets
@@ -71,18 +74,19 @@ shows_nothing turns old new options events packets words pairs sent read associa
       associations = front_same (association_of (after_all old.socket.view.endpoint turns).core ∷ []) associations;
     }
 
--- the socket itself was refused memory
+-- it failed in the socket itself
 stops_before : {R : Type 0} (Turns : List Transition → Type 0) (old : SideShown R) (socket : SocketView R) → StopsKeeping Turns old (record old { socket = socket })
 stops_before Turns old socket =
     let new = record old { socket = socket } in
     record { turns = []; are = inl refl; shows = shows_nothing [] old new refl refl refl refl refl refl refl refl }
 
--- the call's turns were worked, and then what they brought was kept in part: messages first
-pub stops_after : {R : Type 0} (Turns : List Transition → Type 0) (old new : SideShown R) (socket : SocketView R) (sent read : List MessageContent) (turns : List Transition) → Turns turns
-    → old.socket.view.events ≡ [] → Follows (user_view_of old.socket) turns (user_view_of socket)
+-- the call's turns took place, and then what they brought was kept in part: messages first
+pub stops_after : {R : Type 0} (stream : R → Stream) (Turns : List Transition → Type 0) (old new : SideShown R) (socket : SocketView R) (sent read : List MessageContent)
+    (turns : List Transition) → Turns turns
+    → old.socket.view.events ≡ [] → Follows (user_view_of stream old.socket) turns (user_view_of stream socket)
     → AppendsFirst (messages_sent_in old.socket.view.endpoint turns) old.sent sent → AppendsFirst (read_of old.socket.view.endpoint turns) old.read read
     → CollectsFront (called_side old socket sent read) new → StopsKeeping Turns old new
-stops_after Turns old new socket sent read turns turned empty follows sends reads part =
+stops_after stream Turns old new socket sent read turns turned empty follows sends reads part =
     let waiting : socket.view.events ≡ events_for_user old turns = follows.events ∙ ap (λ (l : List (Event (List ℕ))). l ++ events_for_user old turns) empty in
     record {
       turns = turns;
@@ -101,23 +105,20 @@ stops_after Turns old new socket sent read turns turned empty follows sends read
 
 -- ---- a call that failed in the socket, by its fault
 
-module _ {R : Type 0} (Turns : List Transition → Type 0) (old : SideShown R) (socket : SocketView R) where
-  stays_failed : old.socket.failed ≡ true → socket ≡ old.socket → FailsAtSide Turns old Failed (record old { socket = socket })
-  stays_failed had_failed same = (had_failed, ap (λ (s : SocketView R). let side : SideShown R = record old { socket = s } in side) same)
+module _ {R : Type 0} (stream : R → Stream) (Turns : List Transition → Type 0) (IsIt : Reply → Type 0) (old : SideShown R) (socket : SocketView R) where
+  pub call_fails : (fault : SocketFault) → CallMade Turns IsIt (user_view_of stream old.socket) (Err fault) (user_view_of stream socket)
+      → HandlesAct stream Turns IsIt old (Err fault) (record old { socket = socket })
+  call_fails OutOfMemory runs = (runs, stops_before Turns old socket)
+  call_fails Failed stays = stays.had_failed
 
-  pub call_fails : (IsIt : Reply → Type 0) (fault : SocketFault) → Called Turns IsIt (user_view_of old.socket) (Err fault) (user_view_of socket)
-      → (fault ≡ Failed → socket ≡ old.socket) → FailsAtSide Turns old fault (record old { socket = socket })
-  call_fails IsIt OutOfMemory runs same = (runs, stops_before Turns old socket)
-  call_fails IsIt Failed had_failed same = stays_failed had_failed (same refl)
-
-  pub input_fails : (bytes : List ℕ) (fault : SocketFault) → HandlesInput (user_view_of old.socket) bytes (Err fault) (user_view_of socket)
-      → (fault ≡ Failed → socket ≡ old.socket) → FailsAtSide Turns old fault (record old { socket = socket })
-  input_fails bytes OutOfMemory out same = (out.runs, stops_before Turns old socket)
-  input_fails bytes Failed stays same = stays_failed stays.had_failed (same refl)
+  pub input_fails : (bytes : List ℕ) (fault : SocketFault) → HandlesInput (user_view_of stream old.socket) bytes (Err fault) (user_view_of stream socket)
+      → HandlesAct stream Turns IsIt old (Err fault) (record old { socket = socket })
+  input_fails bytes OutOfMemory out = (out.runs, stops_before Turns old socket)
+  input_fails bytes Failed stays = stays.had_failed
 
 -- ---- associations
 
--- its association was noted, or not
+-- its association was recorded, or not
 abbrev pub MaybeNoted : {R : Type 0} → SideShown R → SideShown R → Type 0
 MaybeNoted side new = (new ≡ side) ⊎ (new ≡ with_association side)
 
@@ -125,7 +126,8 @@ at_noted : {R : Type 0} (side new : SideShown R) → MaybeNoted side new → (P 
 at_noted side new (inl same) P h noted = subst P (sym same) h
 at_noted side new (inr same) P h noted = subst P (sym same) noted
 
-grows_in_part : {R : Type 0} {answer : Reply} (Turns : List Transition → Type 0) (old moved new : SideShown R) (grows : Grows Turns answer old moved) → MaybeNoted moved new → StopsKeeping Turns old new
+grows_in_part : {R : Type 0} {stream : R → Stream} {answer : Reply} (Turns : List Transition → Type 0) (old moved new : SideShown R)
+    (grows : Grows stream Turns answer old moved) → MaybeNoted moved new → StopsKeeping Turns old new
 grows_in_part {R = R} Turns old moved new grows noted =
     let os = grows.turns in
     let now : List (Option Association) = association_of (after_all old.socket.view.endpoint os).core ∷ [] in
@@ -164,7 +166,8 @@ same_socket {R = R} old moved new stays noted =
     let same : MaybeNoted old new = subst (λ (side : SideShown R). MaybeNoted side new) stays noted in
     at_noted old new same (λ (side : SideShown R). side.socket ≡ old.socket) refl refl
 
-at_mover : {R : Type 0} {answer : Reply} (Turns : List Transition → Type 0) (mover : Side) (old moved new : Both (SideShown R)) → Grows Turns answer (of_side mover old) (of_side mover moved)
+at_mover : {R : Type 0} {stream : R → Stream} {answer : Reply} (Turns : List Transition → Type 0) (mover : Side) (old moved new : Both (SideShown R))
+    → Grows stream Turns answer (of_side mover old) (of_side mover moved)
     → of_other mover moved ≡ of_other mover old → MaybeNoted moved.a new.a → MaybeNoted moved.b new.b
     → StopsKeeping Turns (of_side mover old) (of_side mover new) × ShowsFront [] (of_other mover old) (of_other mover new)
     × ((of_other mover new).socket ≡ (of_other mover old).socket)
@@ -173,48 +176,44 @@ at_mover Turns sides.A old moved new grows stays a b =
 at_mover Turns sides.B old moved new grows stays a b =
     (grows_in_part Turns old.b moved.b new.b grows b, other_in_part old.a moved.a new.a stays a, same_socket old.a moved.a new.a stays a)
 
--- the act failed at this side, and the other is as it was
-pub fails_at : {R : Type 0} (act : ActContent) (mover : Side) (fault : SocketFault) (old new : Both (SideShown R)) → side_of_act act ≡ mover
-    → FailsAtSide (TurnsOfAct (of_side mover old).socket.view.endpoint (of_other mover old).packets act) (of_side mover old) fault (of_side mover new)
-    → of_other mover new ≡ of_other mover old → MovesSide act old (Err fault) new
-fails_at {R = R} act mover fault old new is fails stays =
+-- the act was handled at this side, and the other is as it was
+pub moves_at : {R : Type 0} (stream : R → Stream) (act : ActContent) (mover : Side) (result : Result Reply SocketFault) (old new : Both (SideShown R)) → side_of_act act ≡ mover
+    → HandlesAct stream (TurnsOfAct (of_side mover old).socket.view.endpoint (of_other mover old).packets act)
+    (IsReply (of_side mover old).socket.view.endpoint (of_other mover old).packets act) (of_side mover old) result (of_side mover new)
+    → of_other mover new ≡ of_other mover old → MovesSide stream act old result new
+moves_at {R = R} stream act mover result old new is works stays =
     let At : Side → Type 0 = λ side.
-    FailsAtSide (TurnsOfAct (of_side side old).socket.view.endpoint (of_other side old).packets act) (of_side side old) fault (of_side side new)
+    HandlesAct stream (TurnsOfAct (of_side side old).socket.view.endpoint (of_other side old).packets act)
+    (IsReply (of_side side old).socket.view.endpoint (of_other side old).packets act) (of_side side old) result (of_side side new)
     × (of_other side new ≡ of_other side old) in
-    subst At (sym is) (fails, stays)
+    let here : At (side_of_act act) = subst At (sym is) (works, stays) in
+    record { works = here.0; other_stays = here.1 }
 
-same_both : {R : Type 0} (mover : Side) (old new : Both (SideShown R)) → of_side mover new ≡ of_side mover old → of_other mover new ≡ of_other mover old → new ≡ old
-same_both {R = R} sides.A old new mine other =
-    ap (λ (s : SideShown R). let both : Both (SideShown R) = record { a = s; b = new.b } in both) mine
-    ∙ ap (λ (s : SideShown R). let both : Both (SideShown R) = record { a = old.a; b = s } in both) other
-same_both {R = R} sides.B old new mine other =
-    ap (λ (s : SideShown R). let both : Both (SideShown R) = record { a = new.a; b = s } in both) mine
-    ∙ ap (λ (s : SideShown R). let both : Both (SideShown R) = record { a = s; b = old.b } in both) other
+-- it moved its side
+pub act_moves : {R : Type 0} (stream : R → Stream) (act : ActContent) (reply : Reply) (old new : Both (SideShown R)) → MovesSide stream act old (Ok reply) new
+    → ActMoves stream act reply old new
+act_moves stream act reply old new h = record { grows = h.works.1; other_stays = h.other_stays; reply = h.works.0 }
 
--- then it is not among the acts
-pub act_fails : {R : Type 0} (act : ActContent) (fault : SocketFault) (a b new_a new_b : WatchedSocket R) (made : List Act) → MovesSide act (both a b) (Err fault) (both new_a new_b)
-    → WorksAct act (world_of a b made false) (Err fault) (world_of new_a new_b made false)
-act_fails act OutOfMemory a b new_a new_b made fails =
+-- it failed there, and then it is not among the acts
+pub act_fails : {R : Type 0} (stream : R → Stream) (act : ActContent) (fault : SocketFault) (a b new_a new_b : WatchedSocket R) (made : List Act)
+    → MovesSide stream act (both a b) (Err fault) (both new_a new_b) → WorksAct stream act (world_of a b made false) (Err fault) (world_of new_a new_b made false)
+act_fails stream act OutOfMemory a b new_a new_b made fails =
     let old = both a b in
     let new = both new_a new_b in
     let mover : Side = side_of_act act in (
       record {
-        mover = fails.0.1;
-        other = other_in_part (of_other mover old) (of_other mover old) (of_other mover new) refl (inl fails.1);
-        other_socket = ap (λ (side : SideShown _). side.socket) fails.1;
+        mover = fails.works.1;
+        other = other_in_part (of_other mover old) (of_other mover old) (of_other mover new) refl (inl fails.other_stays);
+        other_socket = ap (λ (side : SideShown _). side.socket) fails.other_stays;
       },
       refl,
     )
-act_fails {R = R} act Failed a b new_a new_b made fails = (
-  fails.0.0,
-  ap (λ (sides : Both (SideShown R)). let world : WorldView R = record { sides = sides; acts = map act_content made; failed = false } in world)
-      (same_both (side_of_act act) (both a b) (both new_a new_b) fails.0.1 fails.1),
-)
+act_fails stream act Failed a b new_a new_b made fails = fails.works
 
--- an act moved its side, and then a growth was refused
-pub moved_in_part : {R : Type 0} (act : ActContent) (reply : Reply) (old moved new : Both (SideShown R)) → ActMoves act reply old moved
+-- an act moved its side, and then an allocation failed
+pub moved_in_part : {R : Type 0} (stream : R → Stream) (act : ActContent) (reply : Reply) (old moved new : Both (SideShown R)) → ActMoves stream act reply old moved
     → MaybeNoted moved.a new.a → MaybeNoted moved.b new.b → ActStops act old new
-moved_in_part act reply old moved new moves a b =
+moved_in_part stream act reply old moved new moves a b =
     let both = at_mover (TurnsOfAct (of_side (side_of_act act) old).socket.view.endpoint (of_other (side_of_act act) old).packets act) (side_of_act act) old moved new
     moves.grows moves.other_stays a b in
     record { mover = both.0; other = both.1; other_socket = both.2 }

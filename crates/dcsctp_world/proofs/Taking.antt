@@ -14,7 +14,7 @@ use Rattle.dcsctp_core.specs.spec.endpoint.CallTurns.{transition}
 use Rattle.dcsctp_core.specs.api.Calls.{UserView, Follows}
 use Rattle.dcsctp_core.specs.api.Messages.{TakesNextMessage}
 use Rattle.dcsctp_world.specs.declared.act.Reply.TheVariants.{Taken}
-use Rattle.dcsctp_world.specs.Growth.{Called, IsCallReply}
+use Rattle.dcsctp_world.specs.Growth.{CallMade, IsCallReply}
 
 -- ---- it changes the endpoint alone
 
@@ -42,15 +42,14 @@ take_follows : (old : UserView) (o : Outcome) → old.failed ≡ false → o ≡
 unfolding after_taking
 take_follows old o runs is =
     subst (λ (x : Outcome). Follows old (transition user_takes x ∷ []) (after_taking old x)) (sym is)
-    (record { runs = runs; goes_on = runs; endpoint = refl; events = sym (append-nil old.events); words = refl; pairs = refl })
+    (record { runs = runs; goes_on = runs; endpoint = refl; events = sym (append-nil old.events); words = refl; pairs = refl; drawn = refl })
 
 pub take_called : (old new : UserView) (result : Option Message) → old.failed ≡ false → TakesNextMessage old result new
-    → Called (UserTurns old.endpoint take_call) (IsCallReply old.endpoint take_call) old (Ok (Taken result)) new
+    → CallMade (UserTurns old.endpoint take_call) (IsCallReply old.endpoint take_call) old (Ok (Taken result)) new
 unfolding after_taking
 take_called old new result runs h =
     record {
-      reply = h.first;
-      called = tt;
+      answers = (h.first, tt);
       turns = transition user_takes h.outcome ∷ [];
       are = (record { is = refl; comes = h.turn }, tt);
       follows = subst (λ (view : UserView). Follows old (transition user_takes h.outcome ∷ []) view) (sym h.is)

@@ -23,7 +23,7 @@ noted_whole_at : {R : Type 0} (moved : Both (SideShown (Recording R))) → AreWh
 noted_whole_at moved whole sides.A = whole sides.A
 noted_whole_at moved whole sides.B = whole sides.B
 
--- the associations were noted
+-- the associations were recorded
 pub noted_whole : {R : Type 0} (moved new : Both (SideShown (Recording R))) → AreWhole moved → new ≡ with_associations moved → AreWhole new
 noted_whole {R = R} moved new whole is = subst (λ (both : Both (SideShown (Recording R))). AreWhole both) (sym is) (noted_whole_at moved whole)
 

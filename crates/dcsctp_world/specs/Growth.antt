@@ -1,5 +1,7 @@
 -- How one side grows in an act.
-use Rattle.std.specs.Prelude.{◌≡◌, ℕ, zero, suc, Bool, true, false, Option, None, Some, Result, Ok, Err, List, [], ◌∷◌, ◌++◌, ◌⊎◌, map, length}
+use Rattle.std.specs.Prelude.{◌≡◌, ℕ, zero, suc, Bool, true, false, Option, None, Some, Result, Ok, List, [], ◌∷◌, ◌++◌, ◌⊎◌, map, length}
+use Rattle.rand_core.specs.Stream.{Stream}
+use Rattle.dcsctp_core.specs.types.ByResult.{ByResult}
 use Rattle.dcsctp_core.specs.types.Schedule.{CallContent, connect_call, close_call, shutdown_call, ActContent, call_step, delivery_step, step_act, advance_call, set_call, send_call, send_many_call, reset_call, take_call, hand_over_call, OutsideContent, input_outside, handover_outside, restore_outside, outside_act}
 use Rattle.dcsctp_core.specs.spec.endpoint.Event.{Event, packets_in}
 use Rattle.dcsctp_core.specs.spec.endpoint.Endpoint.{Endpoint, Core, association_of}
@@ -9,8 +11,7 @@ use Rattle.dcsctp_core.specs.types.Settings.{ports_of}
 use Rattle.dcsctp_core.specs.spec.endpoint.CallTurns.{Transition, after_all, words_of, events_of, pairs_of}
 use Rattle.dcsctp_spec_runs.specs.Sockets.{packet_at_number}
 use Rattle.dcsctp_core.specs.api.declared.errors.SocketFault.{SocketFault}
-use Rattle.dcsctp_core.specs.api.declared.errors.SocketFault.TheVariants.{OutOfMemory, Failed}
-use Rattle.dcsctp_core.specs.api.Calls.{UserView, user_event, Follows}
+use Rattle.dcsctp_core.specs.api.Calls.{UserView, user_event, Drawn, ByFault, Calls}
 use Rattle.dcsctp_core.specs.api.Handover.{IsHandoverAnswer, IsRestoreAnswer}
 use Rattle.dcsctp_core.specs.api.Messages.{refusal_in, IsBatchAnswer, ready_messages, IsFirstMessage}
 use Rattle.dcsctp_core.specs.api.Resets.{reset_refusal_in}
@@ -20,6 +21,7 @@ use Rattle.dcsctp_core.specs.spec.endpoint.PreparedResets.{ResetRefusal, reset_r
 use Rattle.dcsctp_delivery_sockets.specs.UserMessages.{messages_sent_in, read_of}
 use Rattle.dcsctp_world.specs.declared.act.Reply.{Reply}
 use Rattle.dcsctp_world.specs.declared.act.Reply.TheVariants.{NoCall, Done, Sent, SentMany, Reset, Taken, HandedOver, Restored}
+use Rattle.dcsctp_socket.specs.SocketView.{user_view_of}
 use Rattle.dcsctp_world.specs.Shown.{SideShown}
 
 -- The new list begins with the old one.
@@ -52,25 +54,21 @@ pub record KeptFront (all : List (Event (List ℕ))) (old new : Kept) : Type 0 w
 
 -- These events were kept, with their packets; or an allocation failed, and they were kept in part.
 abbrev pub KeepsEvents : {E : Type 0} → List (Event (List ℕ)) → Kept → Result (Unit {0}) E → Kept → Type 0
-KeepsEvents added old (Ok done) new = new ≡ with_events added old
-KeepsEvents added old (Err error) new = KeptFront added old new
+KeepsEvents added old result new = ByResult (λ done. new ≡ with_events added old) (KeptFront added old new) result
 
 -- All events that wait in a socket were taken and kept, and nothing else of it changed. Or an allocation failed, and they were
 -- kept in part.
 abbrev pub TakesAll : {E : Type 0} → UserView → Kept → Result (Unit {0}) E → UserView → Kept → Type 0
-TakesAll old kept_before (Ok done) new kept_now = (new ≡ record old { events = [] }) × (kept_now ≡ with_events old.events kept_before)
-TakesAll old kept_before (Err error) new kept_now = KeptFront old.events kept_before kept_now
+TakesAll old kept_before result new kept_now =
+    ByResult (λ done. (new ≡ record old { events = [] }) × (kept_now ≡ with_events old.events kept_before))
+    (KeptFront old.events kept_before kept_now) result
 
 -- ---- a side
 
--- What waits in the socket is taken and kept, with the words and pairs of the last call; the endpoint, the generator and the
--- messages are unchanged.
-pub record CollectsWaiting {R : Type 0} (old new : SideShown R) : Type 0 where
-  pub endpoint : new.socket.view.endpoint ≡ old.socket.view.endpoint
-  pub generator : new.socket.view.generator ≡ old.socket.view.generator
-  pub failed : new.socket.failed ≡ old.socket.failed
+-- The events that wait in the socket are taken and kept, with the words and pairs of the last call. All else is unchanged.
+pub record CollectsWaiting {R : Type 0} (stream : R → Stream) (old new : SideShown R) : Type 0 where
+  pub socket : user_view_of stream new.socket ≡ record (user_view_of stream old.socket) { events = [] }
   pub options : new.options ≡ old.options
-  pub waiting : new.socket.view.events ≡ []
   pub events : new.events ≡ old.events ++ old.socket.view.events
   pub packets : new.packets ≡ old.packets ++ packets_in old.socket.view.events
   pub words : new.words ≡ old.words ++ old.socket.view.words
@@ -78,8 +76,6 @@ pub record CollectsWaiting {R : Type 0} (old new : SideShown R) : Type 0 where
   pub sent : new.sent ≡ old.sent
   pub read : new.read ≡ old.read
   pub associations : new.associations ≡ old.associations
-  pub last_words : new.socket.view.words ≡ old.socket.view.words
-  pub last_pairs : new.socket.view.pairs ≡ old.socket.view.pairs
 
 -- The first of what waits in the socket, and of the words and pairs of the last call, were kept.
 pub record CollectsFront {R : Type 0} (old new : SideShown R) : Type 0 where
@@ -93,9 +89,8 @@ pub record CollectsFront {R : Type 0} (old new : SideShown R) : Type 0 where
   pub associations : new.associations ≡ old.associations
 
 -- What waited was collected; or an allocation failed, and it was collected in part.
-abbrev pub CollectsAll : {R E : Type 0} → SideShown R → Result (Unit {0}) E → SideShown R → Type 0
-CollectsAll old (Ok done) new = CollectsWaiting old new
-CollectsAll old (Err error) new = CollectsFront old new
+abbrev pub CollectsAll : {R E : Type 0} → (R → Stream) → SideShown R → Result (Unit {0}) E → SideShown R → Type 0
+CollectsAll stream old result new = ByResult (λ done. CollectsWaiting stream old new) (CollectsFront old new) result
 
 -- these turns' events as the user of this side sees them
 abbrev pub events_for_user : {R : Type 0} → SideShown R → List Transition → List (Event (List ℕ))
@@ -112,9 +107,9 @@ WasCalled (Taken message) = Unit {0}
 WasCalled (HandedOver answer) = Unit {0}
 WasCalled (Restored answer) = Unit {0}
 
--- Turns of this kind move the socket, and each list grows by what they show; no event waits. If a call was made, its words and
--- pairs are theirs; if none was, nothing changed.
-pub record Grows {R : Type 0} (Turns : List Transition → Type 0) (answer : Reply) (old new : SideShown R) : Type 0 where
+-- Turns of this kind move the socket, and each list grows by what they show; no event waits. The words are what the generator
+-- gave. If a call was made, its words and pairs are theirs; if none was, nothing changed.
+pub record Grows {R : Type 0} (stream : R → Stream) (Turns : List Transition → Type 0) (answer : Reply) (old new : SideShown R) : Type 0 where
   pub turns : List Transition
   pub are : Turns turns
   pub endpoint : new.socket.view.endpoint ≡ after_all old.socket.view.endpoint turns
@@ -124,6 +119,7 @@ pub record Grows {R : Type 0} (Turns : List Transition → Type 0) (answer : Rep
   pub events : new.events ≡ old.events ++ events_for_user old turns
   pub packets : new.packets ≡ old.packets ++ packets_in (events_for_user old turns)
   pub words : new.words ≡ old.words ++ words_of turns
+  pub drawn : Drawn (stream old.socket.view.generator) (words_of turns) (stream new.socket.view.generator)
   pub pairs : new.pairs ≡ old.pairs ++ pairs_of turns
   pub sent : new.sent ≡ old.sent ++ messages_sent_in old.socket.view.endpoint turns
   pub read : new.read ≡ old.read ++ read_of old.socket.view.endpoint turns
@@ -150,30 +146,18 @@ pub record StopsKeeping {R : Type 0} (Turns : List Transition → Type 0) (old n
   pub are : (turns ≡ []) ⊎ Turns turns
   pub shows : ShowsFront turns old new
 
--- Turns failed at a side: an allocation failed, in its socket or in what it shows; or the socket had failed, and nothing has
--- changed.
-abbrev pub FailsAtSide : {R : Type 0} → (List Transition → Type 0) → SideShown R → SocketFault → SideShown R → Type 0
-FailsAtSide Turns old OutOfMemory new = (old.socket.failed ≡ false) × StopsKeeping Turns old new
-FailsAtSide Turns old Failed new = (old.socket.failed ≡ true) × (new ≡ old)
+-- A call of the user was made on a socket, by such turns, and its answer is such a reply. Or an allocation failed in it; or the
+-- socket had failed, and nothing has changed.
+abbrev pub CallMade : (List Transition → Type 0) → (Reply → Type 0) → UserView → Result Reply SocketFault → UserView → Type 0
+CallMade Turns IsIt old result new = Calls (λ reply. IsIt reply × WasCalled reply) Turns (λ before after. before.failed ≡ false) old result new
 
--- A call of the user was made on a socket, by such turns, and its answer is such a reply.
-pub record CallMade (Turns : List Transition → Type 0) (IsIt : Reply → Type 0) (old : UserView) (answer : Reply) (new : UserView) : Type 0 where
-  pub reply : IsIt answer
-  pub called : WasCalled answer
-  pub turns : List Transition
-  pub are : Turns turns
-  pub follows : Follows old turns new
-
--- It was made; or an allocation failed in it; or the socket had failed, and nothing has changed.
-abbrev pub Called : (List Transition → Type 0) → (Reply → Type 0) → UserView → Result Reply SocketFault → UserView → Type 0
-Called Turns IsIt old (Ok answer) new = CallMade Turns IsIt old answer new
-Called Turns IsIt old (Err OutOfMemory) new = old.failed ≡ false
-Called Turns IsIt old (Err Failed) new = old.failed ≡ true
-
--- An act was handled at its side, with such a reply; or it failed.
-abbrev pub HandlesAct : {R : Type 0} → (List Transition → Type 0) → (Reply → Type 0) → SideShown R → Result Reply SocketFault → SideShown R → Type 0
-HandlesAct Turns IsIt old (Ok answer) new = IsIt answer × Grows Turns answer old new
-HandlesAct Turns IsIt old (Err fault) new = FailsAtSide Turns old fault new
+-- An act was handled at its side, with such a reply. Or an allocation failed, in its socket or in what it shows; or the socket
+-- had failed.
+abbrev pub HandlesAct : {R : Type 0} → (R → Stream) → (List Transition → Type 0) → (Reply → Type 0) → SideShown R → Result Reply SocketFault
+    → SideShown R → Type 0
+HandlesAct stream Turns IsIt old result new =
+    ByFault (λ answer. IsIt answer × Grows stream Turns answer old new) ((old.socket.failed ≡ false) × StopsKeeping Turns old new)
+    (old.socket.failed ≡ true) result
 
 -- Each list begins with what it held.
 pub record SideExtends {R : Type 0} (old new : SideShown R) : Type 0 where
@@ -189,10 +173,9 @@ pub record SideExtends {R : Type 0} (old new : SideShown R) : Type 0 where
 abbrev pub with_association : {R : Type 0} → SideShown R → SideShown R
 with_association side = record side { associations = side.associations ++ association_of side.socket.view.endpoint.core ∷ [] }
 
--- The association was noted; or an allocation failed, and nothing has changed.
+-- The association was recorded; or an allocation failed, and nothing has changed.
 abbrev pub Notes : {R E : Type 0} → SideShown R → Result (Unit {0}) E → SideShown R → Type 0
-Notes old (Ok done) new = new ≡ with_association old
-Notes old (Err error) new = new ≡ old
+Notes old result new = ByResult (λ done. new ≡ with_association old) (new ≡ old) result
 
 -- ---- replies
 

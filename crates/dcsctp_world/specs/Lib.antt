@@ -1,10 +1,11 @@
 pub mod Acts
-pub mod Agreement
 pub mod Drawing
 pub mod Growth
+pub mod Handshake
 pub mod Messages
 pub mod Outside
 pub mod Parts
+pub mod Promises
 pub mod Recording
 pub mod Returning
 pub mod Run

@@ -3,6 +3,7 @@ use Rattle.std.specs.Prelude.{◌≡◌, ◌==◌, ◌+◌, ℕ, Bool, Some, Res
 use Rattle.std.specs.List.{list_any}
 use Rattle.dcsctp_core.specs.types.Schedule.{CallContent, send_call, send_many_call, take_call}
 use Rattle.dcsctp_core.specs.types.queues.Messages.{MessageContent, message_content}
+use Rattle.dcsctp_core.specs.types.ByResult.{ByResult}
 use Rattle.dcsctp_core.specs.spec.endpoint.MessageOutcomes.{RefusedMessage}
 use Rattle.dcsctp_core.specs.api.declared.errors.BatchSendError.{BatchSendError}
 use Rattle.dcsctp_core.specs.api.Messages.{refused_in}
@@ -57,5 +58,4 @@ read_by call reply = []
 
 -- All of these were added; or an allocation failed, and the first of them were.
 abbrev pub AddsAllOrFirst : {A E : Type 0} → List A → List A → Result (Unit {0}) E → List A → Type 0
-AddsAllOrFirst all old (Ok done) new = new ≡ old ++ all
-AddsAllOrFirst all old (Err error) new = AppendsFirst all old new
+AddsAllOrFirst all old result new = ByResult (λ done. new ≡ old ++ all) (AppendsFirst all old new) result

@@ -5,32 +5,24 @@ use Rattle.dcsctp_core.specs.types.declared.association.Pair.{Pair}
 use Rattle.dcsctp_core.specs.types.declared.options.Options.{Options}
 use Rattle.dcsctp_core.specs.types.declared.snapshot.HandoverSocketState.TheVariants.{Connected}
 use Rattle.dcsctp_core.specs.spec.endpoint.Endpoint.{Endpoint, open_in, established}
-use Rattle.dcsctp_core.specs.types.Schedule.{OutsideContent, input_outside, handover_outside, restore_outside}
+use Rattle.dcsctp_core.specs.types.Schedule.{OutsideContent, input_outside, handover_outside, restore_outside, ActContent, step_act, outside_act}
 use Rattle.dcsctp_core.specs.types.Snapshot.{Snapshot}
-use Rattle.dcsctp_spec_runs.specs.Sockets.{of_side}
-use Rattle.dcsctp_core.specs.spec.Soundness.{IsSound}
-use Rattle.dcsctp_core.specs.types.declared.schedule.Side.{Side}
-use Rattle.dcsctp_world.specs.Shown.{WorldView}
 use Rattle.dcsctp_core.specs.spec.association.ResumeChanges.{resumed_held}
 use Rattle.dcsctp_core.specs.spec.endpoint.RestoreOutcomes.{own_pair, held_restored}
 use Rattle.dcsctp_world.specs.declared.act.Reply.{Reply}
 use Rattle.dcsctp_world.specs.declared.act.Reply.TheVariants.{Restored}
 
--- Both pairs, the tie tag, what both ends support, and the numbers of requests are those of the snapshot. The flush behind it
--- begins no own request.
+-- Both pairs, the tie tag, what both ends support, and the numbers of requests are those of the snapshot. The flush after
+-- it begins no request of our own.
 pub record GoesOnFrom (options : Options) (state : Snapshot) (new : Endpoint) : Type 0 where
   pub core : new.core ≡ open_in established (own_pair state) (held_restored options state)
   pub tie : new.tie ≡ state.tie_tag
 
--- A socket that was established goes on as it was: with both pairs, the tie tag, what both ends support, and the numbers of
--- requests. No own request is outstanding, and the kept answer is 'nothing to do'.
+-- A socket that was established continues as it was: with both pairs, the tie tag, what both ends support, and the numbers of
+-- requests. No request of our own is outstanding, and the kept answer is 'nothing to do'.
 pub record ResumesEstablished (old : Endpoint) (my : Pair) (held : Held) (new : Endpoint) : Type 0 where
   pub core : new.core ≡ open_in established my (resumed_held held.peer held.capabilities held.own_next held.peer_last)
   pub tie : new.tie ≡ old.tie
-
--- No verification tag of either side's association is 0, and its zero checksum method is that of the options or none.
-abbrev pub BothSound : {R : Type 0} → WorldView R → Type 0
-BothSound world = (side : Side) → IsSound (of_side side world.sides).socket.view.endpoint
 
 -- What an act from outside that restores a socket brings back.
 abbrev pub RestoresBy : OutsideContent → Reply → Endpoint → Endpoint → Type 0
@@ -38,3 +30,8 @@ RestoresBy (input_outside side bytes) reply old new = Unit {0}
 RestoresBy (handover_outside side) reply old new =
     reply ≡ Restored (Ok tt) → (my : Pair) (held : Held) → old.core ≡ open_in established my held → ResumesEstablished old my held new
 RestoresBy (restore_outside side state) reply old new = reply ≡ Restored (Ok tt) → state.socket_state ≡ Connected → GoesOnFrom old.options state new
+
+-- What an act brings back of an association: a step restores no socket.
+abbrev pub BringsBack : ActContent → Reply → Endpoint → Endpoint → Type 0
+BringsBack (step_act step) reply old new = Unit {0}
+BringsBack (outside_act outside) reply old new = RestoresBy outside reply old new

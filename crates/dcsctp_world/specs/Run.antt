@@ -25,8 +25,8 @@ pub record SideRuns {R : Type 0} (options : Options) (turns : List Transition) (
   pub sent : side.sent ≡ messages_sent_in (fresh_endpoint options) turns
   pub read : side.read ≡ read_of (fresh_endpoint options) turns
 
--- All that the world shows is what two sockets with these options show, along one run of what was applied. Each message that a call
--- handed over fits the fields of a chunk, as its types say.
+-- All that the world shows is what two sockets with these options show, along one run of what was applied. Each message that a
+-- call handed over fits the fields of a chunk, as its types say.
 pub record IsRun {R : Type 0} (options : Both Options) (world : WorldView R) : Type 0 where
   pub usable : AreUsable options
   pub steps : List PerformedAct

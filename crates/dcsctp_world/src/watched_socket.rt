@@ -1,6 +1,6 @@
 //! One of the two sockets, with all that it ever showed.
 
-ghost use Rattle.std.specs.Prelude.{◌≡◌, true, [], ◌∷◌, map, OnOk, IfOk, IsErrOf, IsOkUnless};
+ghost use Rattle.std.specs.Prelude.{◌≡◌, true, [], ◌∷◌, map, IfOk, IsOkUnless};
 ghost use Rattle.std.specs.Option.{option_map};
 ghost use Rattle.dcsctp_core.specs.types.Settings.{IsValid};
 ghost use Rattle.dcsctp_core.specs.types.Schedule.{call_content, act_content, send_call, send_many_call, reset_call, take_call, hand_over_call};
@@ -13,9 +13,8 @@ ghost use Rattle.dcsctp_core.specs.spec.endpoint.UserTurns.{UserTurns};
 ghost use Rattle.dcsctp_core.specs.api.Events.{event_content};
 ghost use Rattle.dcsctp_world.specs.declared.act.Reply.TheVariants.{Done};
 ghost use Rattle.dcsctp_socket.specs.SocketView.{user_view_of};
-ghost use Rattle.dcsctp_world.specs.Drawing.{CallDraws, SideDraws};
 ghost use Rattle.dcsctp_world.specs.Shown.{fresh_side_shown};
-ghost use Rattle.dcsctp_world.specs.Growth.{KeepsEvents, TakesAll, CollectsAll, Called, HandlesAct, Notes, IsReply, IsDeliveryReply, IsCallReply};
+ghost use Rattle.dcsctp_world.specs.Growth.{KeepsEvents, TakesAll, CollectsAll, CallMade, HandlesAct, Notes, IsReply, IsDeliveryReply, IsCallReply};
 ghost use Rattle.dcsctp_world.specs.Outside.{OutsideHandoverTurns, IsHandedOnBy, ValidTurns, IsRestoredBy};
 ghost use Rattle.dcsctp_world.specs.Parts.{bytes_of_packets, kept, shown};
 
@@ -85,9 +84,8 @@ fn take_events<R: Rng + Drop>(
     events: &mut Vec<SocketEvent>,
     packets: &mut Vec<Vec<u8>>,
 ) -> Result<(), AllocError>
-    ensures taken { TakesAll (user_view_of socket.old) (kept events.old.items packets.old.items) result
-        (user_view_of socket.new) (kept events.new.items packets.new.items) }
-    ensures generator { socket.new.view.generator ≡ socket.old.view.generator }
+    ensures { TakesAll (user_view_of R.stream socket.old) (kept events.old.items packets.old.items) result
+        (user_view_of R.stream socket.new) (kept events.new.items packets.new.items) }
 {
     while let Some(event) = socket.poll_event() {
         keep_event(events, packets, event)?;
@@ -97,11 +95,9 @@ fn take_events<R: Rng + Drop>(
 
 // Makes a call of the user. The errors are those of the call.
 fn make_call<R: Rng + Drop>(socket: &mut Socket<R>, call: &Call) -> Result<Reply, SocketFault>
-    ensures call { Called (UserTurns socket.old.view.endpoint (call_content call.now))
+    ensures { CallMade (UserTurns socket.old.view.endpoint (call_content call.now))
         (IsCallReply socket.old.view.endpoint (call_content call.now))
-        (user_view_of socket.old) result (user_view_of socket.new) }
-    ensures drawn { OnOk result (CallDraws R.stream socket.old socket.new) }
-    ensures failed { IsErrOf result SocketFault.Failed → socket.new ≡ socket.old }
+        (user_view_of R.stream socket.old) result (user_view_of R.stream socket.new) }
 {
     match call {
         Call::Connect => {
@@ -150,11 +146,9 @@ fn send<R: Rng + Drop>(
     message: &Message,
     options: &SendOptions,
 ) -> Result<Reply, SocketFault>
-    ensures call { Called (UserTurns socket.old.view.endpoint (send_call (message_content message.now) options.now))
+    ensures { CallMade (UserTurns socket.old.view.endpoint (send_call (message_content message.now) options.now))
         (IsCallReply socket.old.view.endpoint (send_call (message_content message.now) options.now))
-        (user_view_of socket.old) result (user_view_of socket.new) }
-    ensures drawn { OnOk result (CallDraws R.stream socket.old socket.new) }
-    ensures failed { IsErrOf result SocketFault.Failed → socket.new ≡ socket.old }
+        (user_view_of R.stream socket.old) result (user_view_of R.stream socket.new) }
 {
     if socket.has_failed() {
         return Err(SocketFault::Failed);
@@ -169,13 +163,11 @@ fn send_many<R: Rng + Drop>(
     messages: &Vec<Message>,
     options: &SendOptions,
 ) -> Result<Reply, SocketFault>
-    ensures call { Called (UserTurns socket.old.view.endpoint
+    ensures { CallMade (UserTurns socket.old.view.endpoint
         (send_many_call (map message_content messages.now.items) options.now))
         (IsCallReply socket.old.view.endpoint
         (send_many_call (map message_content messages.now.items) options.now))
-        (user_view_of socket.old) result (user_view_of socket.new) }
-    ensures drawn { OnOk result (CallDraws R.stream socket.old socket.new) }
-    ensures failed { IsErrOf result SocketFault.Failed → socket.new ≡ socket.old }
+        (user_view_of R.stream socket.old) result (user_view_of R.stream socket.new) }
 {
     if socket.has_failed() {
         return Err(SocketFault::Failed);
@@ -189,11 +181,9 @@ fn reset_streams<R: Rng + Drop>(
     socket: &mut Socket<R>,
     stream_ids: &[StreamId],
 ) -> Result<Reply, SocketFault>
-    ensures call { Called (UserTurns socket.old.view.endpoint (reset_call (stream_numbers stream_ids.now)))
+    ensures { CallMade (UserTurns socket.old.view.endpoint (reset_call (stream_numbers stream_ids.now)))
         (IsCallReply socket.old.view.endpoint (reset_call (stream_numbers stream_ids.now)))
-        (user_view_of socket.old) result (user_view_of socket.new) }
-    ensures drawn { OnOk result (CallDraws R.stream socket.old socket.new) }
-    ensures failed { IsErrOf result SocketFault.Failed → socket.new ≡ socket.old }
+        (user_view_of R.stream socket.old) result (user_view_of R.stream socket.new) }
 {
     let answer = socket.reset_streams(stream_ids)?;
     Ok(Reply::Reset(answer))
@@ -201,11 +191,9 @@ fn reset_streams<R: Rng + Drop>(
 
 // The user takes a message. `Err`: the socket had failed.
 fn take_message<R: Rng + Drop>(socket: &mut Socket<R>) -> Result<Reply, SocketFault>
-    ensures call { Called (UserTurns socket.old.view.endpoint take_call)
+    ensures { CallMade (UserTurns socket.old.view.endpoint take_call)
         (IsCallReply socket.old.view.endpoint take_call)
-        (user_view_of socket.old) result (user_view_of socket.new) }
-    ensures drawn { OnOk result (CallDraws R.stream socket.old socket.new) }
-    ensures failed { IsErrOf result SocketFault.Failed → socket.new ≡ socket.old }
+        (user_view_of R.stream socket.old) result (user_view_of R.stream socket.new) }
 {
     if socket.has_failed() {
         return Err(SocketFault::Failed);
@@ -215,11 +203,9 @@ fn take_message<R: Rng + Drop>(socket: &mut Socket<R>) -> Result<Reply, SocketFa
 
 // The user hands the socket over. The errors are those of the call.
 fn hand_over<R: Rng + Drop>(socket: &mut Socket<R>) -> Result<Reply, SocketFault>
-    ensures call { Called (UserTurns socket.old.view.endpoint hand_over_call)
+    ensures { CallMade (UserTurns socket.old.view.endpoint hand_over_call)
         (IsCallReply socket.old.view.endpoint hand_over_call)
-        (user_view_of socket.old) result (user_view_of socket.new) }
-    ensures drawn { OnOk result (CallDraws R.stream socket.old socket.new) }
-    ensures failed { IsErrOf result SocketFault.Failed → socket.new ≡ socket.old }
+        (user_view_of R.stream socket.old) result (user_view_of R.stream socket.new) }
 {
     let answer = socket.get_handover_state_and_close()?;
     Ok(Reply::HandedOver(answer))
@@ -231,11 +217,9 @@ fn restore<R: Rng + Drop>(
     state: &SocketHandoverState,
 ) -> Result<Reply, SocketFault>
     requires { is_valid_snapshot socket.old.view.endpoint.options (snapshot state.now) ≡ true }
-    ensures call { Called (ValidTurns socket.old.view.endpoint (snapshot state.now))
+    ensures { CallMade (ValidTurns socket.old.view.endpoint (snapshot state.now))
         (IsRestoredBy socket.old.view.endpoint (snapshot state.now))
-        (user_view_of socket.old) result (user_view_of socket.new) }
-    ensures drawn { OnOk result (CallDraws R.stream socket.old socket.new) }
-    ensures failed { IsErrOf result SocketFault.Failed → socket.new ≡ socket.old }
+        (user_view_of R.stream socket.old) result (user_view_of R.stream socket.new) }
 {
     let answer = socket.restore_from_state(state)?;
     Ok(Reply::Restored(answer))
@@ -243,10 +227,8 @@ fn restore<R: Rng + Drop>(
 
 // Hands the socket over, and restores it from its snapshot. The errors are those of the calls.
 fn hand_over_and_restore<R: Rng + Drop>(socket: &mut Socket<R>) -> Result<Reply, SocketFault>
-    ensures call { Called (OutsideHandoverTurns socket.old.view.endpoint) (IsHandedOnBy socket.old.view.endpoint)
-        (user_view_of socket.old) result (user_view_of socket.new) }
-    ensures drawn { OnOk result (CallDraws R.stream socket.old socket.new) }
-    ensures failed { IsErrOf result SocketFault.Failed → socket.new ≡ socket.old }
+    ensures { CallMade (OutsideHandoverTurns socket.old.view.endpoint) (IsHandedOnBy socket.old.view.endpoint)
+        (user_view_of R.stream socket.old) result (user_view_of R.stream socket.new) }
 {
     match socket.get_handover_state_and_close()? {
         Err(error) => Ok(Reply::HandedOver(Err(error))),
@@ -296,7 +278,7 @@ impl<R: Rng + Drop> WatchedSocket<R> {
     // Keeps what the last call brought: its events, the words that it drew, and the pairs that it made of them.
     // `Err`: an allocation failed; the first of them have been kept.
     fn keep_all(&mut self) -> Result<(), AllocError>
-        ensures { CollectsAll (shown self.old) result (shown self.new) }
+        ensures { CollectsAll R.stream (shown self.old) result (shown self.new) }
     {
         take_events(&mut self.socket, &mut self.events, &mut self.packets)?;
         self.words.extend_from_slice(self.socket.drawn_words())?;
@@ -308,10 +290,9 @@ impl<R: Rng + Drop> WatchedSocket<R> {
     // can't be kept.
     fn call(&mut self, call: &Call) -> Result<Reply, SocketFault>
         requires { self.old.socket.view.events ≡ [] }
-        ensures call { HandlesAct (UserTurns self.old.socket.view.endpoint (call_content call.now))
+        ensures { HandlesAct R.stream (UserTurns self.old.socket.view.endpoint (call_content call.now))
             (IsCallReply self.old.socket.view.endpoint (call_content call.now)) (shown self.old) result
             (shown self.new) }
-        ensures drawn { OnOk result (SideDraws R.stream (shown self.old) (shown self.new)) }
     {
         let reply = make_call(&mut self.socket, call)?;
         keep_messages(&mut self.sent, &mut self.read, call, &reply)?;
@@ -322,9 +303,8 @@ impl<R: Rng + Drop> WatchedSocket<R> {
     // Hands over these bytes. The errors are as those of `call`.
     fn hand_in(&mut self, bytes: &[u8]) -> Result<Reply, SocketFault>
         requires { self.old.socket.view.events ≡ [] }
-        ensures call { HandlesAct (HandleInput self.old.socket.view.endpoint bytes.now) (λ reply. reply ≡ Done)
+        ensures { HandlesAct R.stream (HandleInput self.old.socket.view.endpoint bytes.now) (λ reply. reply ≡ Done)
             (shown self.old) result (shown self.new) }
-        ensures drawn { OnOk result (SideDraws R.stream (shown self.old) (shown self.new)) }
     {
         self.socket.handle_input(bytes)?;
         self.keep_all()?;
@@ -334,10 +314,9 @@ impl<R: Rng + Drop> WatchedSocket<R> {
     // Hands over the packet of this number, if there is one. The errors are as those of `call`.
     fn deliver(&mut self, packets: &[Vec<u8>], number: usize) -> Result<Reply, SocketFault>
         requires { self.old.socket.view.events ≡ [] }
-        ensures call { HandlesAct (DeliveryTurns self.old.socket.view.endpoint (packet_at_number number
+        ensures { HandlesAct R.stream (DeliveryTurns self.old.socket.view.endpoint (packet_at_number number
             (bytes_of_packets packets.now))) (IsDeliveryReply (packet_at_number number (bytes_of_packets packets.now)))
             (shown self.old) result (shown self.new) }
-        ensures drawn { OnOk result (SideDraws R.stream (shown self.old) (shown self.new)) }
     {
         match packet_numbered(packets, number) {
             None => Ok(Reply::NoCall),
@@ -348,9 +327,8 @@ impl<R: Rng + Drop> WatchedSocket<R> {
     // Hands the socket over, and restores it from its own snapshot. The errors are as those of `call`.
     fn hand_over_and_restore(&mut self) -> Result<Reply, SocketFault>
         requires { self.old.socket.view.events ≡ [] }
-        ensures call { HandlesAct (OutsideHandoverTurns self.old.socket.view.endpoint)
+        ensures { HandlesAct R.stream (OutsideHandoverTurns self.old.socket.view.endpoint)
             (IsHandedOnBy self.old.socket.view.endpoint) (shown self.old) result (shown self.new) }
-        ensures drawn { OnOk result (SideDraws R.stream (shown self.old) (shown self.new)) }
     {
         let reply = hand_over_and_restore(&mut self.socket)?;
         self.keep_all()?;
@@ -360,10 +338,9 @@ impl<R: Rng + Drop> WatchedSocket<R> {
     // Restores the socket from this snapshot, if it is valid. The errors are as those of `call`.
     fn restore(&mut self, state: &SocketHandoverState) -> Result<Reply, SocketFault>
         requires { self.old.socket.view.events ≡ [] }
-        ensures call { HandlesAct (ValidTurns self.old.socket.view.endpoint (snapshot state.now))
+        ensures { HandlesAct R.stream (ValidTurns self.old.socket.view.endpoint (snapshot state.now))
             (IsRestoredBy self.old.socket.view.endpoint (snapshot state.now)) (shown self.old) result
             (shown self.new) }
-        ensures drawn { OnOk result (SideDraws R.stream (shown self.old) (shown self.new)) }
     {
         if !state.is_valid(&self.socket.options()) {
             return Ok(Reply::NoCall);
@@ -375,12 +352,12 @@ impl<R: Rng + Drop> WatchedSocket<R> {
 
     /// Performs an act at this side, where the other has emitted these packets. `SocketFault::OutOfMemory`: an
     /// allocation failed, in the socket or here; the first part of what the act brings may have been kept.
-    /// `SocketFault::Failed`: the socket had failed, and nothing has changed.
+    /// `SocketFault::Failed`: the socket had failed. No more is promised of that, since a world that has failed
+    /// performs nothing.
     pub fn perform(&mut self, packets: &[Vec<u8>], act: &Act) -> Result<Reply, SocketFault>
         requires { self.old.socket.view.events ≡ [] }
-        ensures call { HandlesAct (TurnsOfAct self.old.socket.view.endpoint (bytes_of_packets packets.now) (act_content act.now))
+        ensures { HandlesAct R.stream (TurnsOfAct self.old.socket.view.endpoint (bytes_of_packets packets.now) (act_content act.now))
             (IsReply self.old.socket.view.endpoint (bytes_of_packets packets.now) (act_content act.now)) (shown self.old) result (shown self.new) }
-        ensures drawn { OnOk result (SideDraws R.stream (shown self.old) (shown self.new)) }
     {
         match act {
             Act::Step(Step::Call(_, call)) => self.call(call),

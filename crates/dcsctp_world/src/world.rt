@@ -57,16 +57,14 @@ impl<R> Model for World<R> {
 ghost use Rattle.std.specs.Prelude.{◌≡◌, ◌↔◌, IsTrue, [], false, map, OnOk, IfOk, IsOkUnless};
 ghost use Rattle.dcsctp_core.specs.types.Settings.{IsValid};
 ghost use Rattle.dcsctp_core.specs.types.Schedule.{act_content, step_content, step_act, outside_content, outside_act, AreHonest};
-ghost use Rattle.dcsctp_spec_runs.specs.Sockets.{of_side, side_of_outside};
+ghost use Rattle.dcsctp_spec_runs.specs.Sockets.{of_side};
 ghost use Rattle.dcsctp_core.specs.types.queues.Messages.{message_content};
 ghost use Rattle.dcsctp_core.specs.api.Events.{event_content};
-ghost use Rattle.dcsctp_world.specs.Shown.{fresh_world, options_of};
+ghost use Rattle.dcsctp_world.specs.Shown.{fresh_world};
 ghost use Rattle.dcsctp_world.specs.Recording.{fresh_recording, recorded_stream};
-ghost use Rattle.dcsctp_world.specs.Drawing.{DrawOn, AreWhole};
-ghost use Rattle.dcsctp_world.specs.Run.{IsRun};
-ghost use Rattle.dcsctp_world.specs.Agreement.{Agrees, ShownHandshakeConnects};
+ghost use Rattle.dcsctp_world.specs.Drawing.{AreWhole};
+ghost use Rattle.dcsctp_world.specs.Promises.{Promises};
 ghost use Rattle.dcsctp_world.specs.Acts.{MovesSide, WorksAct, Applies, RunsSteps};
-ghost use Rattle.dcsctp_world.specs.Returning.{BothSound, RestoresBy};
 ghost use Rattle.dcsctp_world.specs.Parts.{bytes_of_packets, shown, both, world_of};
 
 // Performs an act at its side. The errors are those of `WatchedSocket::perform`; the other side is unchanged.
@@ -77,8 +75,7 @@ fn move_side<R: Rng + Drop>(
 ) -> Result<Reply, SocketFault>
     requires a { a.old.socket.view.events ≡ [] }
     requires b { b.old.socket.view.events ≡ [] }
-    ensures call { MovesSide (act_content act.now) (both a.old b.old) result (both a.new b.new) }
-    ensures drawn { OnOk result (DrawOn R.stream (both a.old b.old) (both a.new b.new)) }
+    ensures { MovesSide R.stream (act_content act.now) (both a.old b.old) result (both a.new b.new) }
 {
     match side_of(act) {
         Side::A => {
@@ -109,9 +106,8 @@ fn perform_and_keep<R: Rng + Drop>(
 ) -> Result<Reply, SocketFault>
     requires a { a.old.socket.view.events ≡ [] }
     requires b { b.old.socket.view.events ≡ [] }
-    ensures call { WorksAct (act_content act) (world_of a.old b.old acts.old.items false) result
-        (world_of a.new b.new acts.new.items false) }
-    ensures drawn { OnOk result (DrawOn (recorded_stream R.stream) (both a.old b.old) (both a.new b.new)) }
+    ensures call { WorksAct (recorded_stream R.stream) (act_content act)
+        (world_of a.old b.old acts.old.items false) result (world_of a.new b.new acts.new.items false) }
     ensures whole { OnOk result (AreWhole (both a.new b.new)) }
 {
     let reply = move_side(a, b, &act)?;
@@ -128,7 +124,7 @@ impl<R: Rng + Drop> World<R> {
     /// Makes two closed sockets with these options; random words come from a generator for each, which keeps
     /// those that it gave.
     ///
-    /// The options have to be valid, which `Options::is_valid` tells.
+    /// The options must be valid, which `Options::is_valid` tests.
     pub fn new(
         alloc: Global,
         a: &Options,
@@ -140,11 +136,14 @@ impl<R: Rng + Drop> World<R> {
         requires b { IsValid b.now }
         ensures fresh { IfOk result (λ world. world ≡ fresh_world (record { a = a.now; b = b.now })
             (record { a = fresh_recording rng_a; b = fresh_recording rng_b })) }
-        ensures run { IfOk result (λ world. IsRun (record { a = a.now; b = b.now }) world) }
+        ensures keeps { IfOk result (λ world. Promises world) }
         ensures fault { IsOkUnless result SocketFault.OutOfMemory }
     {
         options_fit(a);
         options_fit(b);
+        socket_laws();
+        cookie_laws();
+        users_read_what_was_sent();
         let a = WatchedSocket::new(alloc, "a", a, Recorded::new(alloc, rng_a))?;
         let b = WatchedSocket::new(alloc, "b", b, Recorded::new(alloc, rng_b))?;
         Ok(World {
@@ -157,13 +156,7 @@ impl<R: Rng + Drop> World<R> {
 
     // Applies an act. The errors are those of `apply`.
     fn apply_act(&mut self, act: Act) -> Result<Reply, SocketFault>
-        ensures call { Applies (act_content act) self.old result self.new }
-        ensures agreement { OnOk result (Agrees (options_of self.old) self.new) }
-        ensures handshake { OnOk result (ShownHandshakeConnects (options_of self.old) self.new) }
-        ensures sound { OnOk result (BothSound self.old) }
-        ensures drawn { OnOk result (DrawOn (recorded_stream R.stream) self.old.sides self.new.sides) }
-        ensures whole { OnOk result (AreWhole self.new.sides) }
-        ensures options { OnOk result (options_of self.new ≡ options_of self.old) }
+        ensures { Applies R.stream (act_content act) self.old result self.new }
     {
         // A world that has failed applies nothing.
         if self.failed {
@@ -173,6 +166,7 @@ impl<R: Rng + Drop> World<R> {
         cookie_laws();
         users_read_what_was_sent();
         sockets_stay_sound();
+        restored_sockets_begin_nothing();
         act_fits(&act);
         match perform_and_keep(&mut self.a, &mut self.b, &mut self.acts, act) {
             Ok(reply) => Ok(reply),
@@ -191,12 +185,7 @@ impl<R: Rng + Drop> World<R> {
     /// `SocketFault::OutOfMemory`, if an allocation failed for a socket or the world, and
     /// `SocketFault::Failed`, if one failed before.
     pub fn apply(&mut self, step: &Step) -> Result<Reply, SocketFault>
-        ensures call { Applies (step_act (step_content step.now)) self.old result self.new }
-        ensures agreement { OnOk result (Agrees (options_of self.old) self.new) }
-        ensures handshake { OnOk result (ShownHandshakeConnects (options_of self.old) self.new) }
-        ensures drawn { OnOk result (DrawOn (recorded_stream R.stream) self.old.sides self.new.sides) }
-        ensures whole { OnOk result (AreWhole self.new.sides) }
-        ensures options { OnOk result (options_of self.new ≡ options_of self.old) }
+        ensures { Applies R.stream (step_act (step_content step.now)) self.old result self.new }
     {
         // A world that has failed copies no step.
         if self.failed {
@@ -221,19 +210,11 @@ impl<R: Rng + Drop> World<R> {
     /// no such request, so the next own number is that of the snapshot (RFC 6525, section 4.1).
     ///
     /// Once it was applied, `is_honest` is false, and the agreement of the two sockets, what their users read and
-    /// what is said of cookies are promised only up to here. The rest of what `run` says still holds. The errors are those of `apply`.
+    /// what is said of cookies are promised only up to here. The rest of what `run` says still holds. The errors are
+    /// those of `apply`.
     pub fn outside(&mut self, outside: Outside) -> Result<Reply, SocketFault>
-        ensures call { Applies (outside_act (outside_content outside)) self.old result self.new }
-        ensures restored { IfOk result (λ reply. RestoresBy (outside_content outside) reply
-            (of_side (side_of_outside (outside_content outside)) self.old.sides).socket.view.endpoint
-            (of_side (side_of_outside (outside_content outside)) self.new.sides).socket.view.endpoint) }
-        ensures agreement { OnOk result (Agrees (options_of self.old) self.new) }
-        ensures handshake { OnOk result (ShownHandshakeConnects (options_of self.old) self.new) }
-        ensures drawn { OnOk result (DrawOn (recorded_stream R.stream) self.old.sides self.new.sides) }
-        ensures whole { OnOk result (AreWhole self.new.sides) }
-        ensures options { OnOk result (options_of self.new ≡ options_of self.old) }
+        ensures { Applies R.stream (outside_act (outside_content outside)) self.old result self.new }
     {
-        restored_sockets_begin_nothing();
         self.apply_act(Act::Outside(outside))
     }
 
@@ -241,13 +222,14 @@ impl<R: Rng + Drop> World<R> {
     /// allocation failed, what is promised of both sockets holds of the steps before it.
     ///
     /// Over every schedule that loses, repeats, delays and reorders packets the two sockets agree. That has
-    /// two premises: no act comes from outside, which `is_honest` tells, and no side draws a verification tag
-    /// twice, which `pairs` shows. When one side reports OnConnected, its peer has, or had, the matching
-    /// association, with what the two have in common. When it reports OnStreamsResetPerformed, its peer has
-    /// performed that request. The four packets of a handshake, delivered in turn, connect two fresh sockets
-    /// that fit each other (RFC 9260, section 5.1). By the first premise alone, each COOKIE ECHO that a side
-    /// handles bears a cookie that this side gave away before, in an INIT ACK; and a cookie that makes an
-    /// association was given away at most `cookie_lifetime` before, by that side's clock (section 5.1.5).
+    /// two premises. No act comes from outside, so no socket was restored either; `is_honest` tests that. And no
+    /// side draws a verification tag twice, which `pairs` shows. When one side reports OnConnected, its peer has,
+    /// or had, the matching association, with what the two have in common. When it reports
+    /// OnStreamsResetPerformed, its peer has performed that request. The four packets of a handshake, delivered in
+    /// turn, connect two fresh sockets that fit each other (RFC 9260, section 5.1). By the first premise alone,
+    /// each COOKIE ECHO that a side handles has a cookie that this side gave away before, in an INIT ACK. A cookie
+    /// that makes an association was given away at most `cookie_lifetime` before, by that side's clock (section
+    /// 5.1.5).
     ///
     /// What a side's user read (`read`) is what the other's user sent (`sent`): stream, protocol identifier and
     /// bytes, and no message is read twice, in any association. That has further premises. Each verification tag
@@ -262,16 +244,12 @@ impl<R: Rng + Drop> World<R> {
     /// The rest holds whatever comes from outside. In one lifetime an association connects at most once, and
     /// the numbers of requests to reset streams go up by one. Each request that was accepted is performed at
     /// most once (RFC 6525, section 4.1). A request ends by an answer with its number (section 5.2.7). Events
-    /// tell each connection, end and reset, in order, and no other. An association that ends tells it once.
+    /// report each connection, end and reset, in order, and no other. The end of an association is reported once.
     /// While an INIT ACK or a COOKIE ACK is awaited, T1 runs. Time before the next deadline moves the clock
     /// alone, but for a socket that awaits a COOKIE ACK. No packet is longer than the `mtu` of its side, rounded
     /// down to a multiple of 4, and no flush sends more than `max_burst` of them.
     pub fn run(&mut self, steps: &[Step]) -> Result<(), SocketFault>
-        ensures call { RunsSteps R.stream (map step_content steps.now) self.old result self.new }
-        ensures agreement { OnOk result (Agrees (options_of self.old) self.new) }
-        ensures handshake { OnOk result (ShownHandshakeConnects (options_of self.old) self.new) }
-        ensures drawn { OnOk result (DrawOn (recorded_stream R.stream) self.old.sides self.new.sides) }
-        ensures whole { OnOk result (AreWhole self.new.sides) }
+        ensures { RunsSteps R.stream (map step_content steps.now) self.old result self.new }
     {
         // Nor does it run no steps at all.
         if self.failed {

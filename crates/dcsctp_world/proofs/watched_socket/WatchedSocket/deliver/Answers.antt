@@ -3,16 +3,12 @@ use Rattle.dcsctp_spec_runs.specs.Sockets.{DeliveryTurns}
 use Rattle.dcsctp_world.specs.declared.act.Reply.TheVariants.{NoCall}
 use Rattle.dcsctp_world.specs.Growth.{HandlesAct, IsDeliveryReply}
 use Rattle.dcsctp_world.specs.Parts.{shown}
-use Rattle.dcsctp_world.proofs.Drawing.{side_draws_nothing}
 use Rattle.dcsctp_world.proofs.Stopping.{grows_by_nothing}
 use Rattle.dcsctp_world.proofs.watched_socket.WatchedSocket.deliver.Goals as goal
 
-pub returns-in-None-clause-call : goal.returns-in-None-clause-call
-returns-in-None-clause-call g c =
+pub returns-in-None : goal.returns-in-None
+returns-in-None g c =
     let old = c.args.self.now in
     let Delivers : Option (List ℕ) → Type 0 = λ bytes.
-    HandlesAct (DeliveryTurns old.socket.view.endpoint bytes) (IsDeliveryReply bytes) (shown old) (Ok NoCall) (shown old) in
-    subst Delivers (sym c.in-None.ensures) (refl, grows_by_nothing _ (shown old) refl c.requires)
-
-pub returns-in-None-clause-drawn : goal.returns-in-None-clause-drawn
-returns-in-None-clause-drawn g c = side_draws_nothing g.R.Rng.stream (shown c.args.self.now)
+    HandlesAct g.R.Rng.stream (DeliveryTurns old.socket.view.endpoint bytes) (IsDeliveryReply bytes) (shown old) (Ok NoCall) (shown old) in
+    subst Delivers (sym c.in-None.ensures) (refl, grows_by_nothing g.R.Rng.stream _ (shown old) refl c.requires)

@@ -1,0 +1,72 @@
+-- What a world promises of its two sockets, along the run that it shows.
+use Rattle.std.specs.Prelude.{List}
+use Rattle.std.specs.List.{AllByRecursion}
+use Rattle.dcsctp_core.specs.types.declared.options.Options.{Options}
+use Rattle.dcsctp_core.specs.types.declared.schedule.Side.{Side}
+use Rattle.dcsctp_core.specs.types.Schedule.{AreHonest}
+use Rattle.dcsctp_core.specs.spec.endpoint.Endpoint.{fresh_endpoint}
+use Rattle.dcsctp_core.specs.spec.endpoint.CallTurns.{Transition, AlongTurns}
+use Rattle.dcsctp_spec_runs.specs.Past.{Each, InPlace}
+use Rattle.dcsctp_spec_runs.specs.Sockets.{of_side, turns_after, acts_of}
+use Rattle.dcsctp_theorem_sockets.specs.Agreement.{AgreeThroughout, noted_past}
+use Rattle.dcsctp_theorem_sockets.specs.Deadlines.{RunsT1}
+use Rattle.dcsctp_theorem_sockets.specs.Handshake.{AreFitting, ConnectThroughout}
+use Rattle.dcsctp_theorem_sockets.specs.OneSocket.{EndsByAnswer, TellsEnd, IsWithinLimit, TurnKeepsBurst, TimeIsQuiet}
+use Rattle.dcsctp_theorem_sockets.specs.Telling.{TellsNoted, HoldsNoted, AreAnew}
+use Rattle.dcsctp_theorem_cookies.specs.Ages.{AgeThroughout}
+use Rattle.dcsctp_theorem_cookies.specs.Cookies.{GivenThroughout}
+use Rattle.dcsctp_delivery_shown.specs.Delivery.{DeliverThroughout}
+use Rattle.dcsctp_world.specs.Drawing.{AreWhole}
+use Rattle.dcsctp_world.specs.Handshake.{ShownHandshakeConnects}
+use Rattle.dcsctp_world.specs.Recording.{Recording}
+use Rattle.dcsctp_world.specs.Run.{IsRun}
+use Rattle.dcsctp_world.specs.Shown.{SideShown, WorldView, options_of}
+
+-- What each socket keeps, whatever bytes it was handed: by its options, the turns that it had, and what it shows.
+pub record KeepsPromises {R : Type 0} (options : Options) (turns : List Transition) (side : SideShown R) : Type 0 where
+  -- An association connects at most once, and the numbers of requests to reset streams go up by one (RFC 6525, section 4.1).
+  pub numbers : Each InPlace (noted_past turns)
+  -- Each turn's events report the connections, ends and resets that it recorded, in the same order.
+  pub told : AllByRecursion TellsNoted turns
+  -- The socket's association is the one that was recorded last.
+  pub held : HoldsNoted turns side.socket.view.endpoint
+  -- An association of a handshake is recorded only if it differs from the one before.
+  pub anew : AreAnew (fresh_endpoint options) turns
+  -- A request to reset streams ends by an answer with its number.
+  pub answers : AllByRecursion EndsByAnswer turns
+  -- A turn that ends an association reports that once, and no other turn reports an end.
+  pub ends : AlongTurns TellsEnd (fresh_endpoint options) turns
+  -- A socket that awaits an INIT ACK or a COOKIE ACK has T1 running.
+  pub t1 : RunsT1 side.socket.view.endpoint
+  -- No packet is longer than the options allow.
+  pub sizes : AllByRecursion (IsWithinLimit options) side.packets
+  -- No turn sends more packets than its input allows, and what a flush may send.
+  pub bursts : AlongTurns TurnKeepsBurst (fresh_endpoint options) turns
+
+-- What holds of a world that has not failed. `agree` and `delivered` speak of each first part of the run that has no act from
+-- outside, and in which no side drew a verification tag twice. `given` and `ages` have the first of these premises alone.
+pub record Promises {R : Type 0} (world : WorldView (Recording R)) : Type 0 where
+  -- All that the world shows is what a run of two sockets shows.
+  pub run : IsRun (options_of world) world
+  -- The words that it shows are all that its generators gave.
+  pub whole : AreWhole world.sides
+  -- If the acts shown are honest, so are those of the run.
+  pub honest : AreHonest world.acts → AreHonest (acts_of run.steps)
+  -- When one side reports OnConnected, its peer has, or had, the matching association. When one side's request to reset streams
+  -- was performed, its peer performed it.
+  pub agree : AgreeThroughout (options_of world) run.steps
+  -- Each COOKIE ECHO that a side handles has a cookie that this side gave away in an earlier turn.
+  pub given : GivenThroughout run.steps
+  -- If it makes an association, that is at most the cookie's lifetime later.
+  pub ages : AgeThroughout (options_of world) run.steps
+  -- What a user reads is what the other user sent, and no message is read twice. This also needs that each tag serves one
+  -- association, and that not too much goes to it. With interleaving no request to reset streams may fail.
+  pub delivered : DeliverThroughout (options_of world) run.steps
+  -- Wherever the first five acts are a handshake, they connect sockets that fit each other, whatever comes later.
+  pub connect : AreFitting (options_of world) → (side : Side) → ConnectThroughout (options_of world) side run.steps
+  -- A world whose acts are a handshake shows that both are connected.
+  pub handshake : ShownHandshakeConnects (options_of world) world
+  -- Time before the next deadline moves the clock alone, but for a socket that awaits a COOKIE ACK.
+  pub quiet : TimeIsQuiet (options_of world) run.steps
+  -- What each socket keeps by itself.
+  pub each : (side : Side) → KeepsPromises (of_side side (options_of world)) (of_side side (turns_after run.steps)) (of_side side world.sides)
