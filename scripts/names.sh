@@ -1,5 +1,6 @@
 #!/usr/bin/env bash
-# Fails on a name or a path that README.md or docs/ has in backticks, or as a link, and that isn't in the tree.
+# Fails on a name or a path that README.md or docs/ has in backticks, or as a link, and that isn't in the tree; and on a line of
+# a block that quotes a file (its first line names it: ```antt PATH) and that this file doesn't have.
 #
 # A name is each word of a span in backticks: it must be somewhere in the code, the definitions, the proofs, the
 # wrong bodies, the scripts or the cases, or be the name of a file there. A path may leave out `crates/`, `crates/dcsctp_`
@@ -64,5 +65,17 @@ while IFS=$'\t' read -r place span; do
         done
     done
 done < "$folder/spans"
-echo "names: $(wc -l < "$folder/spans") spans, $missing missing"
+
+# ---- the quotes
+
+for file in README.md docs/*.md; do
+    awk -v file="$file" '
+        /^```/ { quoted = $2; next }
+        quoted != "" && NF { print file ":" NR "\t" quoted "\t" $0 }
+    ' "$file"
+done > "$folder/quotes"
+while IFS=$'\t' read -r place path line; do
+    grep -qxF -- "$line" "$path" || { echo "names: $place: $path has no such line: $line"; missing=$((missing + 1)); }
+done < "$folder/quotes"
+echo "names: $(wc -l < "$folder/spans") spans, $(wc -l < "$folder/quotes") quoted lines, $missing missing"
 [ "$missing" = 0 ]
