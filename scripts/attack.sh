@@ -18,7 +18,7 @@ for name in types spec spec_lemmas spec_laws spec_runs; do machine+=("dcsctp_$na
 agreement=dcsctp_theorem_association
 # the laws on delivery, lowest first
 delivery=()
-for name in sending receiving directions turns associations sockets shown; do delivery+=("dcsctp_delivery_$name"); done
+for name in sending receiving directions order turns associations sockets shown; do delivery+=("dcsctp_delivery_$name"); done
 
 # ---- what each attack was tried over
 

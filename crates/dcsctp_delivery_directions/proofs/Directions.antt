@@ -30,7 +30,7 @@ module _ (first : ℕ) (direction : Direction) (small : first < 2 ^ 32) (zero_go
   abbrev pub anew : History
   anew = new_history waits.floors
 
-  begun_flight : (is_interleaved : Bool) (transfer : Option Transfer) → NoneInFlight first is_interleaved transfer → InFlight anew first direction.acknowledged transfer
+  pub begun_flight : (is_interleaved : Bool) (transfer : Option Transfer) → NoneInFlight first is_interleaved transfer → InFlight anew first direction.acknowledged transfer
   begun_flight is_interleaved None is = omega (arith, zero_gone)
   begun_flight is_interleaved (Some transfer) is =
       record {
@@ -45,15 +45,15 @@ module _ (first : ℕ) (direction : Direction) (small : first < 2 ^ 32) (zero_go
       nothing_at zero item at = absurd (cc)
       nothing_at (suc k) item at = absurd (cc)
 
-  begun_pends : (transfer : Option Transfer) → PendsWhere anew transfer
+  pub begun_pends : (transfer : Option Transfer) → PendsWhere anew transfer
   begun_pends None = tt
   begun_pends (Some transfer) = λ mark has. absurd has
 
-  begun_kind : (is_interleaved : Bool) (transfer : Option Transfer) → NoneInFlight first is_interleaved transfer → IsOfKind is_interleaved transfer
+  pub begun_kind : (is_interleaved : Bool) (transfer : Option Transfer) → NoneInFlight first is_interleaved transfer → IsOfKind is_interleaved transfer
   begun_kind is_interleaved None is = tt
   begun_kind is_interleaved (Some transfer) is = is.2
 
-  pub stands_anew : AllByRecursion Fits direction.queued → direction.sent ≡ [] → direction.asking ≡ nothing_asked → (length anew.log < 2 ^ 31 → Arrived first anew direction) → Stands first direction
+  unfoldable pub stands_anew : AllByRecursion Fits direction.queued → direction.sent ≡ [] → direction.asking ≡ nothing_asked → (length anew.log < 2 ^ 31 → Arrived first anew direction) → Stands first direction
   stands_anew fit sent asks arrives =
       let flight = begun_flight direction.queues.queue.is_interleaved direction.queues.transfer none in
       record {
@@ -62,7 +62,7 @@ module _ (first : ℕ) (direction : Direction) (small : first < 2 ^ 32) (zero_go
         next = waits.holds.next;
         queues = record {
           queue_holds = waits.holds.queue_holds;
-          cut = record { pieces = λ n f at. absurd (cc); rows = λ n f some at started. absurd (cc); ascends = λ m n f g less at at'. absurd (cc) };
+          cut = record { pieces = λ n f at. absurd (cc); rows = λ n f some at started. absurd (cc); ascends = λ m n f g less at at'. absurd (cc); climbs = λ m n f g less at at'. absurd (cc) };
           flight = flight;
           pends = begun_pends direction.queues.transfer;
           marks = λ mark has. absurd has;
@@ -76,10 +76,10 @@ module _ (first : ℕ) (direction : Direction) (small : first < 2 ^ 32) (zero_go
         arrived = arrives;
       }
 
-not_performed : (asking : Asking) → asking ≡ nothing_asked → asking.is_performed ≡ true → ⊥
+pub not_performed : (asking : Asking) → asking ≡ nothing_asked → asking.is_performed ≡ true → ⊥
 not_performed asking asks performed = (let clash : false ≡ true = ap (λ (a : Asking). a.is_performed) (sym asks) ∙ performed in absurd (cc))
 
-begun_stands : (options : Options) (first size : ℕ) (direction : Direction) → first < 2 ^ 32 → BeginsDirection options first size direction → Stands first direction
+unfoldable pub begun_stands : (options : Options) (first size : ℕ) (direction : Direction) → first < 2 ^ 32 → BeginsDirection options first size direction → Stands first direction
 begun_stands options first size direction small b =
     stands_anew first direction small b.acknowledged b.flight b.queues b.fit b.sent b.asking
     (λ little.
@@ -102,13 +102,13 @@ no_slots [] none = refl
 no_slots (slot ∷ log) none = absurd (omega (arith, none))
 
 module _ (first : ℕ) (old : Direction) (queued : List Message) (below : EndpointQueues) (s : Stands first old) (awaited : IsAwaited old) where
-  empty : length s.history.log ≡ 0
+  pub empty : length s.history.log ≡ 0
   empty = (let idle : tsns_in_flight old.queues.transfer ≡ 0 = ap tsns_in_flight awaited.transfer in let count = s.count in let acknowledged = awaited.acknowledged in omega (arith, idle, count, acknowledged))
 
   same_queued : queued ++ old.queued ≡ queued
   same_queued = ap (λ (l : List Message). queued ++ l) awaited.queued ∙ append-nil queued
 
-  arrived_anew : (floors : ℕ → Bool → ℕ) → Arrived first s.history old → Arrived first (new_history floors) (record old { queued = queued; queues = below })
+  pub arrived_anew : (floors : ℕ → Bool → ℕ) → Arrived first s.history old → Arrived first (new_history floors) (record old { queued = queued; queues = below })
   arrived_anew floors a =
       record {
         places = a.places;
@@ -120,7 +120,7 @@ module _ (first : ℕ) (old : Direction) (queued : List Message) (below : Endpoi
         cleared = λ is performed. absurd (not_performed old.asking awaited.asking performed);
       }
 
-  started_stands : first < 2 ^ 32 → AllByRecursion Fits queued → QueueWaits queued below.queue → NoneInFlight first below.queue.is_interleaved below.transfer → Stands first (record old { queued = queued; queues = below })
+  unfoldable pub started_stands : first < 2 ^ 32 → AllByRecursion Fits queued → QueueWaits queued below.queue → NoneInFlight first below.queue.is_interleaved below.transfer → Stands first (record old { queued = queued; queues = below })
   started_stands small fit waits none =
       let direction : Direction = record old { queued = queued; queues = below } in
       stands_anew first direction small awaited.acknowledged none waits fit awaited.sent awaited.asking (λ little. arrived_anew waits.floors (s.arrived (omega (arith, empty))))

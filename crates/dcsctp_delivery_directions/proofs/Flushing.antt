@@ -24,7 +24,7 @@ few_before more log little = omega (arith, little, length-append more log)
 
 module _ (first : ℕ) (old : Direction) (s : Stands first old) where
   module _ (below : EndpointQueues) (events : List (Event Emission)) (next : below.queue.next_message_id ≡ old.queues.queue.next_message_id) (kind : below.queue.is_interleaved ≡ old.queues.queue.is_interleaved) where
-    flushed : (begun : Option BegunReset) → SendsLogged old.queued s.history first old.acknowledged old.queues.queue begun below events
+    unfoldable pub flushed : (begun : Option BegunReset) → SendsLogged old.queued s.history first old.acknowledged old.queues.queue begun below events
         → Stands first (record old { queues = below; sent = old.sent ++ packets_in events; asking = asking_with begun old.asking })
     flushed None sends =
         let fewer : Fewer below.queue.streams old.queues.queue.streams = λ id handed. elim (sends.handed id handed) [ inl was ↦ was | inr named ↦ absurd named ] in
@@ -74,7 +74,7 @@ module _ (first : ℕ) (old : Direction) (s : Stands first old) where
               );
         }
 
-  pub stepped_flushes : (e : Endpoint) (draft : Emission) (answers : List Answer) → e.queues ≡ old.queues → NoData draft.packet.contents → FlushAnswers e draft answers
+  unfoldable pub stepped_flushes : (e : Endpoint) (draft : Emission) (answers : List Answer) → e.queues ≡ old.queues → NoData draft.packet.contents → FlushAnswers e draft answers
       → Stands first (record old {
         queues = (flush_of e draft answers).after.queues;
         sent = old.sent ++ packets_in (flush_of e draft answers).events;

@@ -60,12 +60,12 @@ newest_out (suc out) (other ∷ marks) earlier mark newest one is has =
     ]
 
 module _ (first : ℕ) (old : Direction) (s : Stands first old) where
-  now_queues : QueueHolds old.queued s.history old.queues.queue
+  pub now_queues : QueueHolds old.queued s.history old.queues.queue
   now_queues = record { queue_holds = s.queues.queue_holds; next = s.next; numbers = s.queues.numbers }
 
   -- the queue is another one
   module _ (queue : SendQueueState) (kind : queue.is_interleaved ≡ old.queues.queue.is_interleaved) (way : queue.under_way ≡ old.queues.queue.under_way) (fewer : Fewer queue.streams old.queues.queue.streams) where
-    stepped_queue : (out : ℕ) → AreQuiet s.history out queue.streams → QueueHolds old.queued s.history queue
+    unfoldable pub stepped_queue : (out : ℕ) → AreQuiet s.history out queue.streams → QueueHolds old.queued s.history queue
         → Stands first (record old { queues = record old.queues { queue = queue }; asking = record old.asking { out = out } })
     stepped_queue out quiet q =
         record {
@@ -95,10 +95,10 @@ module _ (first : ℕ) (old : Direction) (s : Stands first old) where
               });
         }
 
-    stays_quiet : AreQuiet s.history old.asking.out queue.streams
+    pub stays_quiet : AreQuiet s.history old.asking.out queue.streams
     stays_quiet = quiet_fewer s.history old.asking.out old.queues.queue.streams queue.streams fewer s.quiet
 
-  pub stepped_queues : (now : ℕ) (sending : Sending) → Fits (message_of sending) → 0 < length sending.message.payload → length old.queued + 1 < 2 ^ 64
+  unfoldable pub stepped_queues : (now : ℕ) (sending : Sending) → Fits (message_of sending) → 0 < length sending.message.payload → length old.queued + 1 < 2 ^ 64
       → Stands first (record old { queued = message_of sending ∷ old.queued; queues = record old.queues { queue = sending_queued now sending old.queues.queue } })
   stepped_queues now sending fits some few =
       let q = queueing_hold old.queued s.history now sending old.queues.queue few some s.queues.cut now_queues in
@@ -130,7 +130,7 @@ module _ (first : ℕ) (old : Direction) (s : Stands first old) where
             });
       }
 
-  pub stepped_sets : (setting : Setting) → Stands first (record old { queues = record old.queues { queue = set_in_queue setting old.queues.queue } })
+  unfoldable pub stepped_sets : (setting : Setting) → Stands first (record old { queues = record old.queues { queue = set_in_queue setting old.queues.queue } })
   stepped_sets setting =
       let queue : SendQueueState = set_in_queue setting old.queues.queue in
       let kind = setting_kind setting old.queues.queue in
@@ -138,7 +138,7 @@ module _ (first : ℕ) (old : Direction) (s : Stands first old) where
       let fewer : Fewer queue.streams old.queues.queue.streams = setting_handed setting old.queues.queue in
       stepped_queue queue kind way fewer old.asking.out (stays_quiet queue kind way fewer) (setting_hold old.queued s.history setting old.queues.queue now_queues)
 
-  pub stepped_prepares : (ids : List ℕ) → Stands first (record old { queues = record old.queues { queue = prepared_all ids old.queues.queue } })
+  unfoldable pub stepped_prepares : (ids : List ℕ) → Stands first (record old { queues = record old.queues { queue = prepared_all ids old.queues.queue } })
   stepped_prepares ids =
       let queue : SendQueueState = prepared_all ids old.queues.queue in
       let kind = preparing_kind ids old.queues.queue in
@@ -148,12 +148,12 @@ module _ (first : ℕ) (old : Direction) (s : Stands first old) where
 
   -- ---- a reset that ends
 
-  pub stepped_rolls_back : Stands first (record old { queues = record old.queues { queue = queue_rolled_back old.queues.queue }; asking = all_ended old.asking })
+  unfoldable pub stepped_rolls_back : Stands first (record old { queues = record old.queues { queue = queue_rolled_back old.queues.queue }; asking = all_ended old.asking })
   stepped_rolls_back =
       stepped_queue (queue_rolled_back old.queues.queue) refl refl (λ id handed. absurd (rolled_back_handed old.queues.queue id handed)) 0 (λ id handed. absurd (rolled_back_handed old.queues.queue id handed))
       (rolling_back_hold old.queued s.history old.queues.queue now_queues)
 
-  commits_plain : old.queues.queue.is_interleaved ≡ false → Stands first (record old { queues = record old.queues { queue = queue_committed old.queues.queue }; asking = all_ended old.asking })
+  unfoldable pub commits_plain : old.queues.queue.is_interleaved ≡ false → Stands first (record old { queues = record old.queues { queue = queue_committed old.queues.queue }; asking = all_ended old.asking })
   commits_plain is =
       let q = committing_hold old.queued s.history old.queues.queue now_queues in
       let counts : CountsWhere old.queues.queue.is_interleaved s.history (queue_committed old.queues.queue).streams old.queues.queue.under_way =
@@ -178,7 +178,7 @@ module _ (first : ℕ) (old : Direction) (s : Stands first old) where
         ]
       ]
 
-  commits_interleaved : old.queues.queue.is_interleaved ≡ true → old.asking.out ≤ 1 → old.asking.is_performed ≡ true
+  pub commits_interleaved : old.queues.queue.is_interleaved ≡ true → old.asking.out ≤ 1 → old.asking.is_performed ≡ true
       → Stands first (record old { queues = record old.queues { queue = queue_committed old.queues.queue }; asking = all_ended old.asking })
   commits_interleaved is one performed =
       let q = committing_hold old.queued s.history old.queues.queue now_queues in
@@ -213,10 +213,11 @@ module _ (first : ℕ) (old : Direction) (s : Stands first old) where
             );
       }
 
-  pub stepped_commits : (old.queues.queue.is_interleaved ≡ true → (old.asking.out ≤ 1) × (old.asking.is_performed ≡ true))
+  unfoldable pub commits_by : (b : Bool) → old.queues.queue.is_interleaved ≡ b → (old.queues.queue.is_interleaved ≡ true → (old.asking.out ≤ 1) × (old.asking.is_performed ≡ true))
       → Stands first (record old { queues = record old.queues { queue = queue_committed old.queues.queue }; asking = all_ended old.asking })
-  stepped_commits go_on = go old.queues.queue.is_interleaved refl
-    where
-      go : (b : Bool) → old.queues.queue.is_interleaved ≡ b → Stands first (record old { queues = record old.queues { queue = queue_committed old.queues.queue }; asking = all_ended old.asking })
-      go true is = commits_interleaved is (go_on is).0 (go_on is).1
-      go false is = commits_plain is
+  commits_by true is go_on = commits_interleaved is (go_on is).0 (go_on is).1
+  commits_by false is go_on = commits_plain is
+
+  unfoldable pub stepped_commits : (old.queues.queue.is_interleaved ≡ true → (old.asking.out ≤ 1) × (old.asking.is_performed ≡ true))
+      → Stands first (record old { queues = record old.queues { queue = queue_committed old.queues.queue }; asking = all_ended old.asking })
+  stepped_commits go_on = commits_by old.queues.queue.is_interleaved refl go_on

@@ -40,7 +40,7 @@ over_of : (history : History) (first cumulative id : ℕ) (streams : List Stream
 over_of history first cumulative id streams reassembly c names below =
     record { mark = c.mark; has = subst (λ (l : List Mark). HasEntry c.mark l) (sym c.is) (inl refl); names = names; below = below; passed = c.passed }
 
-stays_cleared : (history : History) (first before after : ℕ) (streams : List Stream) (old new : ReassemblyState) → before ≤ after → ((id : ℕ) → IsOver history first before id → IsClear id old → IsClear id new)
+pub stays_cleared : (history : History) (first before after : ℕ) (streams : List Stream) (old new : ReassemblyState) → before ≤ after → ((id : ℕ) → IsOver history first before id → IsClear id old → IsClear id new)
     → IsCleared history first before streams old → IsCleared history first after streams new
 stays_cleared history first before after streams old new up clears c =
     record {
@@ -53,7 +53,7 @@ stays_cleared history first before after streams old new up clears c =
 
 module _ (first : ℕ) (old : Direction) (small : first < 2 ^ 32) (s : Stands first old) where
   -- the receiver's part is another one
-  stepped_arrived : (tracker : TrackerState) (reassembly : ReassemblyState) → (length s.history.log < 2 ^ 31 → (a : Arrived first s.history old) → HasReceived old.queued s.history first a.places tracker reassembly)
+  unfoldable pub stepped_arrived : (tracker : TrackerState) (reassembly : ReassemblyState) → (length s.history.log < 2 ^ 31 → (a : Arrived first s.history old) → HasReceived old.queued s.history first a.places tracker reassembly)
       → (length s.history.log < 2 ^ 31 → (a : Arrived first s.history old) → old.queues.queue.is_interleaved ≡ true → IsCleared s.history first old.tracker.cumulative old.queues.queue.streams old.reassembly
       → IsCleared s.history first tracker.cumulative old.queues.queue.streams reassembly)
       → Stands first (record old { tracker = tracker; reassembly = reassembly })
@@ -72,29 +72,29 @@ module _ (first : ℕ) (old : Direction) (small : first < 2 ^ 32) (s : Stands fi
       }
 
   -- a receiver knows the log
-  known_log : length s.history.log < 2 ^ 31 → IsUnambiguous s.history
+  pub known_log : length s.history.log < 2 ^ 31 → IsUnambiguous s.history
   known_log little = told s.history old.queues.queue s.queues.numbers little
 
-  known_few : length s.history.log < 2 ^ 31 → Few s.history first
+  pub known_few : length s.history.log < 2 ^ 31 → Few s.history first
   known_few little = few_of first s.history small little
 
-  known_kinds : old.queues.queue.is_interleaved ≡ true → AreOfKind true s.history.log
+  pub known_kinds : old.queues.queue.is_interleaved ≡ true → AreOfKind true s.history.log
   known_kinds is = kinds_of s.queues.numbers (sym is)
 
   module _ (theirs new : Transfer) (same : theirs.tracker ≡ old.tracker) (same' : theirs.reassembly ≡ old.reassembly) where
-    received_at : (a : Arrived first s.history old) → HasReceived old.queued s.history first a.places theirs.tracker theirs.reassembly
+    pub received_at : (a : Arrived first s.history old) → HasReceived old.queued s.history first a.places theirs.tracker theirs.reassembly
     received_at a =
         subst (λ (t : TrackerState). HasReceived old.queued s.history first a.places t theirs.reassembly) (sym same)
         (subst (λ (r : ReassemblyState). HasReceived old.queued s.history first a.places old.tracker r) (sym same') a.received)
 
-    cleared_at : IsCleared s.history first old.tracker.cumulative old.queues.queue.streams old.reassembly → IsCleared s.history first theirs.tracker.cumulative old.queues.queue.streams theirs.reassembly
+    pub cleared_at : IsCleared s.history first old.tracker.cumulative old.queues.queue.streams old.reassembly → IsCleared s.history first theirs.tracker.cumulative old.queues.queue.streams theirs.reassembly
     cleared_at c =
         subst (λ (t : TrackerState). IsCleared s.history first t.cumulative old.queues.queue.streams theirs.reassembly) (sym same)
         (subst (λ (r : ReassemblyState). IsCleared s.history first old.tracker.cumulative old.queues.queue.streams r) (sym same') c)
 
     -- ---- data
 
-    takes_data : (offset : ℕ) (arrival : Arrival) → Carries s.history.log first offset arrival.tsn arrival.chunk → ReceivesData arrival theirs new
+    unfoldable pub takes_data : (offset : ℕ) (arrival : Arrival) → Carries s.history.log first offset arrival.tsn arrival.chunk → ReceivesData arrival theirs new
         → Stands first (record old { tracker = new.tracker; reassembly = new.reassembly })
     takes_data offset arrival carries does =
         stepped_arrived new.tracker new.reassembly
@@ -114,14 +114,14 @@ module _ (first : ℕ) (old : Direction) (small : first < 2 ^ 32) (s : Stands fi
         abbrev last_passed : IsTsn s.history.log first tsn
         last_passed = record { offset = passed; below = omega (arith, below); is = is ∙ omega arith }
 
-      passes : (passed : ℕ) → passed ≤ length s.history.log → tsn ≡ (first + passed + (2 ^ 32 - 1)) % 2 ^ 32 → SkipAll s.history passed entries → length s.history.log < 2 ^ 31 → (a : Arrived first s.history old)
+      pub passes : (passed : ℕ) → passed ≤ length s.history.log → tsn ≡ (first + passed + (2 ^ 32 - 1)) % 2 ^ 32 → SkipAll s.history passed entries → length s.history.log < 2 ^ 31 → (a : Arrived first s.history old)
           → HasReceived old.queued s.history first a.places new.tracker new.reassembly
       passes zero below is skip little a = passing_nothing old.queued s.history first (known_few little) a.places tsn entries theirs new is (received_at a) does
       passes (suc passed) below is skip little a =
           forwarding_keeps old.queued s.history first s.queues.cut (known_log little) (known_few little) a.places tsn entries theirs new (last_passed passed below is)
           (subst (λ (k : ℕ). SkipAll s.history k entries) (omega arith) skip) (received_at a) does
 
-      clears : (passed : ℕ) → passed ≤ length s.history.log → tsn ≡ (first + passed + (2 ^ 32 - 1)) % 2 ^ 32 → SkipAll s.history passed entries → length s.history.log < 2 ^ 31 → (a : Arrived first s.history old)
+      pub clears : (passed : ℕ) → passed ≤ length s.history.log → tsn ≡ (first + passed + (2 ^ 32 - 1)) % 2 ^ 32 → SkipAll s.history passed entries → length s.history.log < 2 ^ 31 → (a : Arrived first s.history old)
           → AreOfKind true s.history.log → (id : ℕ) → IsOver s.history first theirs.tracker.cumulative id → IsClear id theirs.reassembly → IsClear id new.reassembly
       clears zero below is skip little a kinds id over clear =
           subst (λ (r : ReassemblyState). IsClear id r) (sym (passing_nothing_leaves old.queued s.history first (known_few little) a.places tsn entries theirs new is (received_at a) does)) clear
@@ -129,7 +129,7 @@ module _ (first : ℕ) (old : Direction) (small : first < 2 ^ 32) (s : Stands fi
           clear_through_forward old.queued s.history first id a.places tsn entries theirs new kinds (known_few little) (received_at a) over (last_passed passed below is)
           (subst (λ (k : ℕ). SkipAll s.history k entries) (omega arith) skip) clear does
 
-      skips : (passed : IsPassed s.history.log first tsn) → SkipAll s.history passed.passed entries → Stands first (record old { tracker = new.tracker; reassembly = new.reassembly })
+      unfoldable pub skips : (passed : IsPassed s.history.log first tsn) → SkipAll s.history passed.passed entries → Stands first (record old { tracker = new.tracker; reassembly = new.reassembly })
       skips passed skip =
           stepped_arrived new.tracker new.reassembly (λ little a. passes passed.passed passed.below passed.is skip little a)
           (λ little a is c. (
@@ -140,26 +140,26 @@ module _ (first : ℕ) (old : Direction) (small : first < 2 ^ 32) (s : Stands fi
 
     -- ---- the chunks of a packet that was sent
 
-    pub stepped_receives : (emission : Emission) (chunk : DataContent) → HasEntry emission old.sent → HasEntry (plain (unworked (data_chunk chunk))) emission.packet.contents → chunk.payload ≢ []
+    unfoldable pub stepped_receives : (emission : Emission) (chunk : DataContent) → HasEntry emission old.sent → HasEntry (plain (unworked (data_chunk chunk))) emission.packet.contents → chunk.payload ≢ []
         → ReceivesData (data_arrival chunk) theirs new → Stands first (record old { tracker = new.tracker; reassembly = new.reassembly })
     stepped_receives emission chunk was holds some does =
         let is : IsData s.history.log first chunk = content_said s.history first (plain (unworked (data_chunk chunk))) emission.packet.contents (packet_said s.history first emission old.sent s.packets was) holds in
         takes_data is.number (data_arrival chunk) (carries_piece old.queued s.history.log first chunk s.queues.cut s.fit is some) does
 
-    pub stepped_receives_interleaved : (emission : Emission) (chunk : IDataContent) → HasEntry emission old.sent → HasEntry (plain (unworked (i_data_chunk chunk))) emission.packet.contents → chunk.payload ≢ []
+    unfoldable pub stepped_receives_interleaved : (emission : Emission) (chunk : IDataContent) → HasEntry emission old.sent → HasEntry (plain (unworked (i_data_chunk chunk))) emission.packet.contents → chunk.payload ≢ []
         → ReceivesData (i_data_arrival chunk) theirs new → Stands first (record old { tracker = new.tracker; reassembly = new.reassembly })
     stepped_receives_interleaved emission chunk was holds some does =
         let is : IsInterleaved s.history.log first chunk = content_said s.history first (plain (unworked (i_data_chunk chunk))) emission.packet.contents (packet_said s.history first emission old.sent s.packets was) holds in
         takes_data is.number (i_data_arrival chunk) (carries_interleaved old.queued s.history.log first chunk s.queues.cut s.fit is some) does
 
-    pub stepped_forwards : (emission : Emission) (tsn : ℕ) (bytes : List ℕ) → HasEntry emission old.sent → HasEntry (plain (unworked (forward_tsn_chunk tsn bytes))) emission.packet.contents
+    unfoldable pub stepped_forwards : (emission : Emission) (tsn : ℕ) (bytes : List ℕ) → HasEntry emission old.sent → HasEntry (plain (unworked (forward_tsn_chunk tsn bytes))) emission.packet.contents
         → MovesForward tsn (skipped_in bytes) theirs new → Stands first (record old { tracker = new.tracker; reassembly = new.reassembly })
     stepped_forwards emission tsn bytes was holds does =
         let is : IsForward false s.history first tsn bytes =
         content_said s.history first (plain (unworked (forward_tsn_chunk tsn bytes))) emission.packet.contents (packet_said s.history first emission old.sent s.packets was) holds in
         skips tsn (skipped_in bytes) does is.passed (forward_skips s.history first tsn bytes is)
 
-    pub stepped_forwards_interleaved : (emission : Emission) (tsn : ℕ) (bytes : List ℕ) → HasEntry emission old.sent → HasEntry (plain (unworked (i_forward_tsn_chunk tsn bytes))) emission.packet.contents
+    unfoldable pub stepped_forwards_interleaved : (emission : Emission) (tsn : ℕ) (bytes : List ℕ) → HasEntry emission old.sent → HasEntry (plain (unworked (i_forward_tsn_chunk tsn bytes))) emission.packet.contents
         → MovesForward tsn (messages_skipped_in bytes) theirs new → Stands first (record old { tracker = new.tracker; reassembly = new.reassembly })
     stepped_forwards_interleaved emission tsn bytes was holds does =
         let is : IsForward true s.history first tsn bytes =
@@ -168,12 +168,12 @@ module _ (first : ℕ) (old : Direction) (small : first < 2 ^ 32) (s : Stands fi
 
   -- ---- the rest
 
-  pub stepped_tracks : (new : TrackerState) → new.cumulative ≡ old.tracker.cumulative → new.ranges ≡ old.tracker.ranges → Stands first (record old { tracker = new })
+  unfoldable pub stepped_tracks : (new : TrackerState) → new.cumulative ≡ old.tracker.cumulative → new.ranges ≡ old.tracker.ranges → Stands first (record old { tracker = new })
   stepped_tracks new cumulative ranges =
       stepped_arrived new old.reassembly (λ little a. tracked_so old.queued s.history first a.places old.tracker new old.reassembly cumulative ranges a.received)
       (λ little a is c. subst (λ (k : ℕ). IsCleared s.history first k old.queues.queue.streams old.reassembly) (sym cumulative) c)
 
-  pub stepped_defers : (last_tsn : ℕ) (streams : List ℕ) → Stands first (record old { reassembly = deferring last_tsn streams old.reassembly })
+  unfoldable pub stepped_defers : (last_tsn : ℕ) (streams : List ℕ) → Stands first (record old { reassembly = deferring last_tsn streams old.reassembly })
   stepped_defers last_tsn streams =
       stepped_arrived old.tracker (deferring last_tsn streams old.reassembly) (λ little a. deferring_keeps old.queued s.history first a.places last_tsn streams old.tracker old.reassembly a.received)
       (λ little a is c. stays_cleared s.history first old.tracker.cumulative old.tracker.cumulative old.queues.queue.streams old.reassembly (deferring last_tsn streams old.reassembly) (omega arith)
@@ -185,7 +185,7 @@ module _ (first : ℕ) (old : Direction) (small : first < 2 ^ 32) (s : Stands fi
       (λ little a is c. stays_cleared s.history first old.tracker.cumulative old.tracker.cumulative old.queues.queue.streams old.reassembly new (omega arith)
       (λ id over clear. clear_through_resets id streams old.reassembly new clear leaves) c)
 
-  pub stepped_takes : (message : MessageContent) (messages : List MessageContent) → old.reassembly.incoming.ready ≡ message ∷ messages
+  unfoldable pub stepped_takes : (message : MessageContent) (messages : List MessageContent) → old.reassembly.incoming.ready ≡ message ∷ messages
       → Stands first (record old { reassembly = with_ready messages old.reassembly; read = old.read ++ message ∷ [] })
   stepped_takes message messages ready =
       record {

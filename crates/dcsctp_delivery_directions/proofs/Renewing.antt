@@ -15,7 +15,7 @@ use Rattle.dcsctp_delivery_directions.proofs.Performing.{newest_of}
 use Rattle.dcsctp_delivery_directions.proofs.Standing.{IsBehind, AreQuiet, Stands, emissions_both}
 
 -- A stream that was handed out for the newest reset was handed out for it under its other number.
-quiet_renewed : (history : History) (number : ℕ) (newest : Mark) (earlier : List Mark) (out : ℕ) (streams : List Stream) → history.marks ≡ newest ∷ earlier → out ≡ 1
+pub quiet_renewed : (history : History) (number : ℕ) (newest : Mark) (earlier : List Mark) (out : ℕ) (streams : List Stream) → history.marks ≡ newest ∷ earlier → out ≡ 1
     → AreQuiet history out streams → AreQuiet (with_renewed number newest history) out streams
 quiet_renewed history number newest earlier out streams is one quiet id handed =
     elim (quiet id handed) [
@@ -36,7 +36,7 @@ quiet_renewed history number newest earlier out streams is one quiet id handed =
         ]
 
 module _ (first : ℕ) (old : Direction) (s : Stands first old) where
-  pub stepped_renews : (emission : Emission) (newest : BegunReset) (earlier : List BegunReset) (number : ℕ) → old.asking.requests ≡ newest ∷ earlier → old.asking.out ≡ 1
+  unfoldable pub stepped_renews : (emission : Emission) (newest : BegunReset) (earlier : List BegunReset) (number : ℕ) → old.asking.requests ≡ newest ∷ earlier → old.asking.out ≡ 1
       → emission.packet.contents ≡ reset_request number newest.reset ∷ [] → Stands first (record old { sent = old.sent ++ emission ∷ []; asking = asking_renewed number newest old.asking })
   stepped_renews emission newest earlier number asks one contents =
       let m = newest_of s.history.marks newest earlier (sym s.asked ∙ asks) in

@@ -33,12 +33,12 @@ use Rattle.dcsctp_delivery_directions.proofs.Standing.{Stands, emissions_both, s
 -- ---- requests
 
 -- A request that was begun is of a mark.
-record IsMarked (marks : List Mark) (begun : BegunReset) : Type 0 where
-  mark : Mark
-  has : HasEntry mark marks
-  is : mark.begun ≡ begun
+pub record IsMarked (marks : List Mark) (begun : BegunReset) : Type 0 where
+  pub mark : Mark
+  pub has : HasEntry mark marks
+  pub is : mark.begun ≡ begun
 
-marked_of : (marks : List Mark) (begun : BegunReset) → HasEntry begun (map (λ mark. mark.begun) marks) → IsMarked marks begun
+pub marked_of : (marks : List Mark) (begun : BegunReset) → HasEntry begun (map (λ mark. mark.begun) marks) → IsMarked marks begun
 marked_of [] begun h = absurd h
 marked_of (mark ∷ marks) begun h =
     elim h [
@@ -51,18 +51,18 @@ same_pends history transfer pends t is = subst (λ (x : Option Transfer). PendsW
 
 module _ (first : ℕ) (old : Direction) (s : Stands first old) where
   -- what is in flight is sent as the queue numbers messages
-  known_kind : (transfer : Transfer) → old.queues.transfer ≡ Some transfer → transfer.retransmission.outstanding.is_interleaved ≡ old.queues.queue.is_interleaved
+  pub known_kind : (transfer : Transfer) → old.queues.transfer ≡ Some transfer → transfer.retransmission.outstanding.is_interleaved ≡ old.queues.queue.is_interleaved
   known_kind transfer known = subst (λ (t : Option Transfer). IsOfKind old.queues.queue.is_interleaved t) known s.queues.kind
 
-  known_flight : (transfer : Transfer) → old.queues.transfer ≡ Some transfer → Bears s.history first old.acknowledged transfer.retransmission.outstanding
+  pub known_flight : (transfer : Transfer) → old.queues.transfer ≡ Some transfer → Bears s.history first old.acknowledged transfer.retransmission.outstanding
   known_flight transfer known = same_flight s.history first old.acknowledged old.queues.transfer s.queues.flight transfer known
 
-  known_pends : (transfer : Transfer) → old.queues.transfer ≡ Some transfer → Pends s.history transfer.retransmission.reset_begun
+  pub known_pends : (transfer : Transfer) → old.queues.transfer ≡ Some transfer → Pends s.history transfer.retransmission.reset_begun
   known_pends transfer known = same_pends s.history old.queues.transfer s.queues.pends transfer known
 
   -- ---- packets
 
-  stepped_sent : (emission : Emission) → SayAll s.history first emission.packet.contents → Stands first (record old { sent = old.sent ++ emission ∷ [] })
+  unfoldable pub stepped_sent : (emission : Emission) → SayAll s.history first emission.packet.contents → Stands first (record old { sent = old.sent ++ emission ∷ [] })
   stepped_sent emission says =
       record {
         history = s.history;
@@ -76,10 +76,10 @@ module _ (first : ℕ) (old : Direction) (s : Stands first old) where
         arrived = λ little. (let a = s.arrived little in record { places = a.places; were = a.were; once = a.once; received = a.received; cleared = a.cleared });
       }
 
-  pub stepped_speaks : (emission : Emission) → NoData emission.packet.contents → Stands first (record old { sent = old.sent ++ emission ∷ [] })
+  unfoldable pub stepped_speaks : (emission : Emission) → NoData emission.packet.contents → Stands first (record old { sent = old.sent ++ emission ∷ [] })
   stepped_speaks emission no_data = stepped_sent emission (none_said s.history first emission.packet.contents no_data)
 
-  pub stepped_asks_again : (emission : Emission) (begun : BegunReset) → HasEntry begun old.asking.requests → emission.packet.contents ≡ reset_request begun.number begun.reset ∷ []
+  unfoldable pub stepped_asks_again : (emission : Emission) (begun : BegunReset) → HasEntry begun old.asking.requests → emission.packet.contents ≡ reset_request begun.number begun.reset ∷ []
       → Stands first (record old { sent = old.sent ++ emission ∷ [] })
   stepped_asks_again emission begun was contents =
       let m = marked_of s.history.marks begun (subst (λ (l : List BegunReset). HasEntry begun l) s.asked was) in
@@ -89,7 +89,7 @@ module _ (first : ℕ) (old : Direction) (s : Stands first old) where
   -- ---- a fast retransmission
 
   module _ (transfer : Transfer) (left : RetransmissionState) (room : ℕ) (tsns : List ℕ) (stays : Stays old.queued s.history first old.acknowledged (record (empty_stage left old.queues.queue room) { tsns = tsns })) where
-    stepped_stays : (sent : List Emission) → PacketsSay (log_extended stays.more s.history) first sent
+    unfoldable pub stepped_stays : (sent : List Emission) → PacketsSay (log_extended stays.more s.history) first sent
         → Stands first (record old { queues = record old.queues { transfer = Some (record transfer { retransmission = left }) }; sent = sent })
     stepped_stays sent packets =
         record {
@@ -121,16 +121,16 @@ module _ (first : ℕ) (old : Direction) (s : Stands first old) where
               );
         }
 
-    packets_stay : PacketsSay (log_extended stays.more s.history) first old.sent
+    pub packets_stay : PacketsSay (log_extended stays.more s.history) first old.sent
     packets_stay = packets_later s.history (log_extended stays.more s.history) (extends_grown stays.more s.history) first old.sent s.packets
 
-  at_once : (now room : ℕ) (transfer : Transfer) (left : RetransmissionState) (tsns : List ℕ) → old.queues.transfer ≡ Some transfer → SendsAtOnce now room old.queues.queue transfer.retransmission left tsns
+  unfoldable pub at_once : (now room : ℕ) (transfer : Transfer) (left : RetransmissionState) (tsns : List ℕ) → old.queues.transfer ≡ Some transfer → SendsAtOnce now room old.queues.queue transfer.retransmission left tsns
       → Stays old.queued s.history first old.acknowledged (record (empty_stage left old.queues.queue room) { tsns = tsns })
   at_once now room transfer left tsns known sends =
       at_once_stays old.queued s.history first old.acknowledged now room old.queues.queue transfer.retransmission left tsns s.queues.queue_holds s.queues.cut s.queues.numbers (known_kind transfer known) (known_flight transfer known)
       (known_pends transfer known) s.queues.marks sends
 
-  pub stepped_resends : (now room : ℕ) (transfer : Transfer) (left : RetransmissionState) (tsns : List ℕ) (chunks : List Plain) (emission : Emission) → old.queues.transfer ≡ Some transfer
+  unfoldable pub stepped_resends : (now room : ℕ) (transfer : Transfer) (left : RetransmissionState) (tsns : List ℕ) (chunks : List Plain) (emission : Emission) → old.queues.transfer ≡ Some transfer
       → SendsAtOnce now room old.queues.queue transfer.retransmission left tsns → AreChunksOfTsns left.outstanding tsns chunks → emission.packet.contents ≡ plain_contents chunks
       → Stands first (record old { queues = record old.queues { transfer = Some (record transfer { retransmission = left }) }; sent = old.sent ++ emission ∷ [] })
   stepped_resends now room transfer left tsns chunks emission known sends are contents =
@@ -141,7 +141,7 @@ module _ (first : ℕ) (old : Direction) (s : Stands first old) where
       (said_chunks after first left.outstanding.is_interleaved chunks (chunks_of_log after first old.acknowledged left.outstanding tsns chunks (kinds_of stays.stands.numbers stays.stands.kind) stays.stands.bears are)) in
       stepped_stays transfer left room tsns stays (old.sent ++ emission ∷ []) (emissions_both after first old.sent (emission ∷ []) (packets_stay transfer left room tsns stays) (says, tt))
 
-  pub stepped_resends_nothing : (now room : ℕ) (transfer : Transfer) (left : RetransmissionState) (tsns : List ℕ) → old.queues.transfer ≡ Some transfer → SendsAtOnce now room old.queues.queue transfer.retransmission left tsns
+  unfoldable pub stepped_resends_nothing : (now room : ℕ) (transfer : Transfer) (left : RetransmissionState) (tsns : List ℕ) → old.queues.transfer ≡ Some transfer → SendsAtOnce now room old.queues.queue transfer.retransmission left tsns
       → Stands first (record old { queues = record old.queues { transfer = Some (record transfer { retransmission = left }) } })
   stepped_resends_nothing now room transfer left tsns known sends =
       let stays = at_once now room transfer left tsns known sends in
@@ -149,7 +149,7 @@ module _ (first : ℕ) (old : Direction) (s : Stands first old) where
 
   -- ---- what is in flight is another
 
-  stepped_transfer : (transfer : Transfer) (acknowledged : ℕ) → Bears s.history first acknowledged transfer.retransmission.outstanding → Pends s.history transfer.retransmission.reset_begun
+  unfoldable pub stepped_transfer : (transfer : Transfer) (acknowledged : ℕ) → Bears s.history first acknowledged transfer.retransmission.outstanding → Pends s.history transfer.retransmission.reset_begun
       → transfer.retransmission.outstanding.is_interleaved ≡ old.queues.queue.is_interleaved → Stands first (record old { queues = record old.queues { transfer = Some transfer }; acknowledged = acknowledged })
   stepped_transfer transfer acknowledged bears pends kind =
       record {
@@ -165,17 +165,17 @@ module _ (first : ℕ) (old : Direction) (s : Stands first old) where
       }
 
   -- the new state pends as that did
-  pends_as : (transfer : Transfer) (begun : Bool) → old.queues.transfer ≡ Some transfer → begun ≡ transfer.retransmission.reset_begun → Pends s.history begun
+  pub pends_as : (transfer : Transfer) (begun : Bool) → old.queues.transfer ≡ Some transfer → begun ≡ transfer.retransmission.reset_begun → Pends s.history begun
   pends_as transfer begun known same mark has at = same ∙ known_pends transfer known mark has at
 
-  pub stepped_turns_aside : (transfer new : Transfer) → old.queues.transfer ≡ Some transfer → new.retransmission ≡ transfer.retransmission → Stands first (record old { queues = record old.queues { transfer = Some new } })
+  unfoldable pub stepped_turns_aside : (transfer new : Transfer) → old.queues.transfer ≡ Some transfer → new.retransmission ≡ transfer.retransmission → Stands first (record old { queues = record old.queues { transfer = Some new } })
   stepped_turns_aside transfer new known same =
       let bears : Bears s.history first old.acknowledged new.retransmission.outstanding =
       subst (λ (r : RetransmissionState). Bears s.history first old.acknowledged r.outstanding) (sym same) (known_flight transfer known) in
       stepped_transfer new old.acknowledged bears (pends_as transfer new.retransmission.reset_begun known (ap (λ (r : RetransmissionState). r.reset_begun) same))
       (ap (λ (r : RetransmissionState). r.outstanding.is_interleaved) same ∙ known_kind transfer known)
 
-  pub stepped_acknowledges : (now : ℕ) (sack : SackContent) (transfer new : Transfer) → old.queues.transfer ≡ Some transfer → is_sack_valid transfer.retransmission sack.cumulative_tsn_ack ≡ true → TakesSack now sack transfer new
+  unfoldable pub stepped_acknowledges : (now : ℕ) (sack : SackContent) (transfer new : Transfer) → old.queues.transfer ≡ Some transfer → is_sack_valid transfer.retransmission sack.cumulative_tsn_ack ≡ true → TakesSack now sack transfer new
       → Stands first (record old { queues = record old.queues { transfer = Some new }; acknowledged = old.acknowledged + acknowledged_count transfer.retransmission.outstanding sack.cumulative_tsn_ack })
   stepped_acknowledges now sack transfer new known valid does =
       let after : ℕ = old.acknowledged + acknowledged_count transfer.retransmission.outstanding sack.cumulative_tsn_ack in
@@ -186,6 +186,6 @@ module _ (first : ℕ) (old : Direction) (s : Stands first old) where
       (pends_as transfer new.retransmission.reset_begun known (begun ∙ acknowledged_pends now sack.cumulative_tsn_ack sack.a_rwnd does.blocks transfer.retransmission does.left does.acknowledges))
       (ap (λ (o : OutstandingState). o.is_interleaved) same ∙ acknowledged_kind now sack.cumulative_tsn_ack sack.a_rwnd does.blocks transfer.retransmission does.left does.acknowledges ∙ known_kind transfer known)
 
-  pub stepped_loses : (now : ℕ) (transfer : Transfer) → old.queues.transfer ≡ Some transfer → Stands first (record old { queues = record old.queues { transfer = Some (lost_all now transfer) } })
+  unfoldable pub stepped_loses : (now : ℕ) (transfer : Transfer) → old.queues.transfer ≡ Some transfer → Stands first (record old { queues = record old.queues { transfer = Some (lost_all now transfer) } })
   stepped_loses now transfer known =
       stepped_transfer (lost_all now transfer) old.acknowledged (lost_bear s.history first old.acknowledged now transfer.retransmission (known_flight transfer known)) (known_pends transfer known) (known_kind transfer known)

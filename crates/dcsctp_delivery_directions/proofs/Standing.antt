@@ -108,6 +108,7 @@ cut_queued queued m history cut =
       pieces = λ n f at. (let p = cut.pieces n f at in record { at = at_stays f.place m f.message queued p.at; fresh = p.fresh; some = p.some; within = p.within; first = p.first });
       rows = cut.rows;
       ascends = cut.ascends;
+      climbs = cut.climbs;
     }
 
 pub counted_flight : (history : History) (first acknowledged : ℕ) (transfer : Option Transfer) → InFlight history first acknowledged transfer → length history.log ≡ acknowledged + tsns_in_flight transfer

@@ -34,7 +34,7 @@ more_queued old _ (performs newest earlier new asks reached own leaves) = omega 
 more_queued old _ (resets streams new leaves) = omega arith
 more_queued old _ (takes message messages is) = omega arith
 
-pub stepped : (first : ℕ) (old : Direction) → first < 2 ^ 32 → Stands first old → (direction : Direction) → length direction.queued < 2 ^ 64 → DirectionStep old direction → Stands first direction
+unfoldable pub stepped : (first : ℕ) (old : Direction) → first < 2 ^ 32 → Stands first old → (direction : Direction) → length direction.queued < 2 ^ 64 → DirectionStep old direction → Stands first direction
 stepped first old small s _ few (queues now sending fits some) = stepped_queues first old s now sending fits some (omega (arith, few))
 stepped first old small s _ few (sets setting) = stepped_sets first old s setting
 stepped first old small s _ few (prepares ids) = stepped_prepares first old s ids

@@ -1,3 +1,4 @@
 pub mod Directions
 pub mod Marking
 pub mod Requests
+pub mod Calm

@@ -33,7 +33,7 @@ were_more queued more (p ∷ places) (c ∷ contents) were = (
 -- ---- a history that continues
 
 module _ (queued more : List Message) (history wider : History) (goes : GoesOn history wider) where
-  wait_more : (got : List ℕ) (id : ℕ) (places : List ℕ) (wholes : List WholeModel) → WaitQueued queued history got id places wholes → WaitQueued (more ++ queued) wider got id places wholes
+  pub wait_more : (got : List ℕ) (id : ℕ) (places : List ℕ) (wholes : List WholeModel) → WaitQueued queued history got id places wholes → WaitQueued (more ++ queued) wider got id places wholes
   wait_more got id [] [] wait = tt
   wait_more got id [] (w ∷ wholes) wait = absurd wait
   wait_more got id (p ∷ places) [] wait = absurd wait
@@ -53,7 +53,7 @@ module _ (queued more : List Message) (history wider : History) (goes : GoesOn h
             spent = spent_more history wider goes got p is.spent;
           }
 
-  holds_more : (got : List ℕ) (base : ℕ) (read : List ℕ) (incoming : IncomingModel) → HoldsIncoming queued history got base read incoming → HoldsIncoming (more ++ queued) wider got base read incoming
+  unfoldable pub holds_more : (got : List ℕ) (base : ℕ) (read : List ℕ) (incoming : IncomingModel) → HoldsIncoming queued history got base read incoming → HoldsIncoming (more ++ queued) wider got base read incoming
   holds_more got base read incoming holds =
       record {
         waits = holds.waits;

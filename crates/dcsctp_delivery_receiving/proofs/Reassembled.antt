@@ -22,25 +22,25 @@ use Rattle.dcsctp_delivery_receiving.proofs.Kept.{later_named}
 
 -- ---- numbers
 
-first_number : (first offset : ℕ) → first < 2 ^ 32 → offset < 2 ^ 31 → offset ≤ number_near (2 ^ 32) ((first + offset) % 2 ^ 32)
+pub first_number : (first offset : ℕ) → first < 2 ^ 32 → offset < 2 ^ 31 → offset ≤ number_near (2 ^ 32) ((first + offset) % 2 ^ 32)
 first_number first offset small few = grind (arith, nat_tests)
 
-first_base : (first offset : ℕ) → first < 2 ^ 32 → offset < 2 ^ 31 → (number_near (2 ^ 32) ((first + offset) % 2 ^ 32) - offset) % 2 ^ 32 ≡ first
+pub first_base : (first offset : ℕ) → first < 2 ^ 32 → offset < 2 ^ 31 → (number_near (2 ^ 32) ((first + offset) % 2 ^ 32) - offset) % 2 ^ 32 ≡ first
 first_base first offset small few = grind (arith, nat_tests)
 
-first_near : (first offset : ℕ) → first < 2 ^ 32 → offset < 2 ^ 31 → number_near (2 ^ 32) ((first + offset) % 2 ^ 32) - offset + 2 ^ 32 < 2 ^ 64
+pub first_near : (first offset : ℕ) → first < 2 ^ 32 → offset < 2 ^ 31 → number_near (2 ^ 32) ((first + offset) % 2 ^ 32) - offset + 2 ^ 32 < 2 ^ 64
 first_near first offset small few = grind (arith, nat_tests)
 
 same_tsn : (first base offset : ℕ) → base % 2 ^ 32 ≡ first → (first + offset) % 2 ^ 32 ≡ (base + offset) % 2 ^ 32
 same_tsn first base offset same = omega (arith, same)
 
-number_read : (first base last offset tsn : ℕ) → Placed first base last → offset < 2 ^ 31 → tsn ≡ (first + offset) % 2 ^ 32 → number_near last tsn ≡ base + offset
+pub number_read : (first base last offset tsn : ℕ) → Placed first base last → offset < 2 ^ 31 → tsn ≡ (first + offset) % 2 ^ 32 → number_near last tsn ≡ base + offset
 number_read first base last offset tsn is few of =
     ap (λ (l : ℕ). number_near l tsn) is.is ∙ ap (number_near (base + is.worked)) (of ∙ same_tsn first base offset is.same) ∙ tsns_read base is.worked offset is.few few is.near
 
 -- ---- the reassembly queue
 
-bears_of : (history : History) (first base offset tsn number : ℕ) (chunk : ChunkModel) → CarriesCurrent history first offset tsn chunk → number ≡ base + offset → BearsPiece history base number chunk
+unfoldable pub bears_of : (history : History) (first base offset tsn number : ℕ) (chunk : ChunkModel) → CarriesCurrent history first offset tsn chunk → number ≡ base + offset → BearsPiece history base number chunk
 bears_of history first base offset tsn number chunk c is =
     record {
       offset = offset;
@@ -56,7 +56,7 @@ bears_of history first base offset tsn number chunk c is =
       end = c.carries.end;
     }
 
-few_behind : (history : History) (first offset tsn : ℕ) (chunk : ChunkModel) → Few history first → CarriesCurrent history first offset tsn chunk → offset < 2 ^ 31
+pub few_behind : (history : History) (first offset tsn : ℕ) (chunk : ChunkModel) → Few history first → CarriesCurrent history first offset tsn chunk → offset < 2 ^ 31
 few_behind history first offset tsn chunk f c = omega (arith, f.few, at_below offset (Some c.carries.piece) history.log c.carries.at)
 
 module _ (queued : List Message) (history : History) (first : ℕ) (cut : Cut queued history.log) (told : IsUnambiguous history) (f : Few history first) (read : List ℕ) where

@@ -54,6 +54,7 @@ begins queued history max place queue message under_way room queue_holds kinds c
       is_piece = it_is_piece queued history.log max place queue message under_way piece queue_holds.wait queue_holds.ascend queue_holds.distinct front (sym stream_is) old_here old_there refl w.is w.at w.fresh sent_is mid_is refl first refl room roomy unfinished;
       row = λ some started. absurd (omega arith);
       ascends = λ n f at starts of. beyond_front f.place (stream_at queue.streams place).messages message (queue_holds.beyond place n f at (of ∙ sym w.is.stream)) front;
+      climbs = λ n f at starts interleaved same same'. climbs_so queue.is_interleaved counts piece w refl refl refl n f at interleaved same same';
       says = it_says queued history.log max place queue message under_way piece queue_holds.wait queue_holds.ascend queue_holds.distinct front (sym stream_is) old_here old_there refl w.is w.at w.fresh sent_is mid_is refl first refl room roomy unfinished;
       queue_holds = it_hold queued history.log max place queue message under_way piece queue_holds.wait queue_holds.ascend queue_holds.distinct front (sym stream_is) old_here old_there refl w.is w.at w.fresh sent_is mid_is refl first refl room roomy unfinished;
       numbers = record {
@@ -83,3 +84,16 @@ begins queued history max place queue message under_way room queue_holds kinds c
     current_so false kind c piece w within sent stream mid stream' unordered number interleaved = absurd (cc)
     current_so true kind c piece w within sent stream mid stream' unordered number interleaved =
         begun_current history max place queue message under_way piece front within queue_holds.distinct (sym stream) (stream' ∙ sym w.is.stream) (unordered ∙ sym w.is.unordered) mid sent kind c number
+
+    climbs_so : (b : Bool) (c : CountsWhere b history queue.streams None) (piece : Piece) (w : WaitingWasQueued queued (stream_at queue.streams place).id message) → piece.message.stream ≡ w.message.stream
+        → piece.message.is_unordered ≡ w.message.is_unordered → piece.mid ≡ begun_mid b history queue (stream_at queue.streams place).id message.is_unordered under_way.mid c
+        → (n : ℕ) (f : Piece) → at_place n history.log ≡ Some (Some f) → b ≡ true → f.message.stream ≡ piece.message.stream → f.message.is_unordered ≡ piece.message.is_unordered → f.mid < piece.mid
+    climbs_so false c piece w stream' unordered number n f at interleaved same same' = absurd (cc)
+    climbs_so true c piece w stream' unordered number n f at interleaved same same' =
+        let below = c.below n f at in
+        let all : history.floors f.message.stream f.message.is_unordered + c.counts f.message.stream f.message.is_unordered
+        ≡ history.floors (stream_at queue.streams place).id message.is_unordered + c.counts (stream_at queue.streams place).id message.is_unordered =
+        ap (λ (k : ℕ). history.floors k f.message.is_unordered + c.counts k f.message.is_unordered) (same ∙ stream' ∙ sym w.is.stream)
+        ∙ ap (λ (b : Bool). history.floors (stream_at queue.streams place).id b + c.counts (stream_at queue.streams place).id b) (same' ∙ unordered ∙ sym w.is.unordered) in
+        let is : piece.mid ≡ history.floors (stream_at queue.streams place).id message.is_unordered + c.counts (stream_at queue.streams place).id message.is_unordered = number in
+        omega (arith, below, all, is)

@@ -117,6 +117,7 @@ module _ (queued : List Message) (history : History) (max place : ℕ) (queue : 
         is_piece = it_is_piece queued history.log max place queue message under_way (next_piece mid) queue_holds.wait queue_holds.ascend queue_holds.distinct front id old_here old_there refl waited.is waited.at waited.fresh refl mid_is refl first refl room queue_holds.room unfinished;
         row = λ some started. row some;
         ascends = λ n f at starts of. (let clash : under_way.sent ≡ 0 = starts in absurd (omega (arith, going.begun)));
+        climbs = λ n f at starts interleaved of of'. (let clash : under_way.sent ≡ 0 = starts in absurd (omega (arith, going.begun)));
         says = it_says queued history.log max place queue message under_way (next_piece mid) queue_holds.wait queue_holds.ascend queue_holds.distinct front id old_here old_there refl waited.is waited.at waited.fresh refl mid_is refl first refl room queue_holds.room unfinished;
         queue_holds = it_hold queued history.log max place queue message under_way (next_piece mid) queue_holds.wait queue_holds.ascend queue_holds.distinct front id old_here old_there refl waited.is waited.at waited.fresh refl mid_is refl first refl room queue_holds.room unfinished;
         numbers = record {

@@ -32,6 +32,7 @@ cut_none queued log cut =
       pieces = λ n f at. cut.pieces n f (with_none log n f at);
       rows = λ n f some at started. before_stays None log n f (cut.rows n f some (with_none log n f at) started);
       ascends = λ m n f g less at at'. cut.ascends m n f g less (with_none log m f at) (with_none log n g at');
+      climbs = λ m n f g less at at'. cut.climbs m n f g less (with_none log m f at) (with_none log n g at');
     }
 
 pub cut_more : (queued : List Message) (history : History) (part : Fragment) (new : SendQueueState) (handed : HandsOutPiece queued history part new) → Cut queued history.log → Cut queued (Some handed.piece ∷ history.log)
@@ -64,6 +65,23 @@ cut_more queued history part new handed cut =
             elim (at_cases m (Some handed.piece) (Some f) history.log at) [
               | inl e' ↦ (let there : m ≡ length history.log = e'.0 in let below : n < length history.log = at_below n (Some g) history.log old' in absurd (omega arith))
               | inr old ↦ cut.ascends m n f g less old old' starts on
+            ]
+      ];
+      climbs = λ m n f g less at at' starts kind on on'. elim (at_cases n (Some handed.piece) (Some g) history.log at') [
+        | inl e ↦
+            (let same : handed.piece ≡ g = cc in
+            let here : n ≡ length history.log = e.0 in
+            elim (at_cases m (Some handed.piece) (Some f) history.log at) [
+              | inl e' ↦ (let there : m ≡ length history.log = e'.0 in absurd (omega arith))
+              | inr old ↦
+                  subst (λ (h : Piece). f.mid < h.mid) same
+                  (handed.climbs m f old (ap (λ (h : Piece). h.start) same ∙ starts) (ap (λ (h : Piece). h.is_interleaved) same ∙ kind)
+                  (on ∙ ap (λ (h : Piece). h.message.stream) (sym same)) (on' ∙ ap (λ (h : Piece). h.message.is_unordered) (sym same)))
+            ])
+        | inr old' ↦
+            elim (at_cases m (Some handed.piece) (Some f) history.log at) [
+              | inl e' ↦ (let there : m ≡ length history.log = e'.0 in let below : n < length history.log = at_below n (Some g) history.log old' in absurd (omega arith))
+              | inr old ↦ cut.climbs m n f g less old old' starts kind on on'
             ]
       ];
     }

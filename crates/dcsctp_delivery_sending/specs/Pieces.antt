@@ -110,6 +110,8 @@ pub record HandsOutPiece (queued : List Message) (history : History) (part : Fra
   pub is_piece : IsPiece queued piece
   pub row : 0 < length history.log → 0 < piece.start → HasBefore history.log (length history.log) piece
   pub ascends : (n : ℕ) (f : Piece) → at_place n history.log ≡ Some (Some f) → piece.start ≡ 0 → f.message.stream ≡ piece.message.stream → f.place < piece.place
+  pub climbs : (n : ℕ) (f : Piece) → at_place n history.log ≡ Some (Some f) → piece.start ≡ 0 → piece.is_interleaved ≡ true → f.message.stream ≡ piece.message.stream
+      → f.message.is_unordered ≡ piece.message.is_unordered → f.mid < piece.mid
   pub says : CarriesPiece part piece
   pub queue_holds : HoldsQueued queued (Some piece ∷ history.log) new.streams new.under_way
   pub numbers : Numbered (with_slot (Some piece) history) new

@@ -1,0 +1,37 @@
+-- What is promised of one direction of an association beside that each message read was queued, and
+-- none twice: ordered messages of a stream are read in the order in which they were queued, and
+-- without gaps where none is skipped (RFC 9260, section 6.6).
+use Rattle.std.specs.Prelude.{ℕ, Bool, true, false, List}
+use Rattle.dcsctp_spec_lemmas.specs.types.queues.Messages.{MessageContent}
+use Rattle.dcsctp_spec_lemmas.specs.spec.queues.Incoming.{IncomingModel}
+use Rattle.dcsctp_delivery_sending.specs.Log.{Message, History}
+use Rattle.dcsctp_delivery_receiving.specs.Ready.{AreDistinct, WereQueued}
+use Rattle.dcsctp_delivery_directions.specs.Directions.{Delivered}
+use Rattle.dcsctp_delivery_order.specs.Queue.{ComeInOrder, LeaveNoGap}
+use Rattle.dcsctp_delivery_order.specs.Reading.{CountsFromZero}
+use Rattle.dcsctp_delivery_order.specs.Gaps.{SendsInTurn}
+use Rattle.dcsctp_delivery_order.specs.Incoming.{IncomingOrdered}
+
+-- Each message that was read was queued, none twice, and the ordered ones of each stream in the order of reading.
+pub record DeliveredInOrder (queued : List Message) (read : List MessageContent) : Type 0 where
+  pub delivered : Delivered queued read
+  pub in_order : (id : ℕ) → ComeInOrder queued id delivered.places
+
+-- And none of them is left out before another: what was read of a stream's ordered messages is a front part of what was queued.
+pub record DeliveredFront (queued : List Message) (read : List MessageContent) : Type 0 where
+  pub ordered : DeliveredInOrder queued read
+  pub no_gap : (id : ℕ) → LeaveNoGap queued id ordered.delivered.places
+
+-- So it is where the numbers of each stream begin at 0,
+abbrev pub ReadIsInOrder : Type 0
+ReadIsInOrder =
+    (queued : List Message) (history : History) (quiet : ℕ → Bool) (got : List ℕ) (base : ℕ) (places : List ℕ) (incoming : IncomingModel) (read : List MessageContent)
+    → WereQueued queued places read → AreDistinct places → ((id : ℕ) → CountsFromZero history id) → IncomingOrdered false queued history quiet got base places incoming
+    → DeliveredInOrder queued read
+
+-- and where nothing is skipped or reset, and messages are sent in turn.
+abbrev pub ReadIsFront : Type 0
+ReadIsFront =
+    (queued : List Message) (history : History) (got : List ℕ) (base : ℕ) (places : List ℕ) (incoming : IncomingModel) (read : List MessageContent)
+    → WereQueued queued places read → AreDistinct places → ((id : ℕ) → CountsFromZero history id) → ((id : ℕ) → SendsInTurn queued history id)
+    → IncomingOrdered true queued history (λ id. false) got base places incoming → DeliveredFront queued read

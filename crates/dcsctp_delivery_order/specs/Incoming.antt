@@ -1,0 +1,94 @@
+-- What a receiver holds of an association is what its peer queued, each message once, and ordered
+-- messages of a stream become ready in order (RFC 9260, section 6.6; RFC 8260).
+use Rattle.std.specs.Prelude.{◌≡◌, ◌||◌, ℕ, Bool, true, false, Some, List, [], ◌∷◌, ◌++◌}
+use Rattle.std.specs.List.{AllByRecursion}
+use Rattle.dcsctp_spec_lemmas.specs.types.queues.Messages.{MessageContent}
+use Rattle.dcsctp_spec_lemmas.specs.types.declared.arrivals.SkippedTo.{SkippedTo}
+use Rattle.dcsctp_spec_lemmas.specs.spec.queues.Numbers.{number_near}
+use Rattle.dcsctp_spec_lemmas.specs.spec.queues.Runs.{RunModel}
+use Rattle.dcsctp_spec_lemmas.specs.spec.queues.IncomingStreams.{StreamModel, ChunkModel, skipped_stream}
+use Rattle.dcsctp_spec_lemmas.specs.spec.queues.Incoming.{IncomingModel, nothing, stream_on, TakesIncomingChunk, MovesOn, ResetsStreams}
+use Rattle.dcsctp_spec_lemmas.specs.spec.queues.Reassembly.{names_stream}
+use Rattle.dcsctp_delivery_sending.specs.Places.{HasEntry, at_place}
+use Rattle.dcsctp_delivery_sending.specs.Log.{Message, Slot, History, Cut}
+use Rattle.dcsctp_delivery_sending.specs.Numbers.{IsUnambiguous}
+use Rattle.dcsctp_delivery_receiving.specs.Ready.{HoldsAll, WasQueued, WereQueued, BearsPiece, AreNamed}
+use Rattle.dcsctp_delivery_order.specs.Queue.{ComeInOrder}
+use Rattle.dcsctp_delivery_order.specs.Order.{IsBetweenResets}
+use Rattle.dcsctp_delivery_order.specs.Reading.{CountsFromZero, OrderedStream}
+
+-- The stream is in order; or it was reset, and its messages aren't numbered from 0 yet.
+abbrev pub OrderWhere : Bool → Bool → List Message → History → ℕ → List ℕ → List ℕ → StreamModel → Type 0
+OrderWhere gapless false queued history id all waits stream = OrderedStream gapless queued history id all waits stream
+OrderWhere gapless true queued history id all waits stream = IsBetweenResets queued history id all
+
+-- All that is held was queued, and the streams whose numbers begin at 0 are in order. `gapless` is whether nothing was skipped.
+-- `quiet` are the streams that were reset, and on which nothing comes before their messages are numbered from 0 again.
+pub record HoldsOrdered (gapless : Bool) (queued : List Message) (history : History) (quiet : ℕ → Bool) (got : List ℕ) (base : ℕ) (read : List ℕ) (streams : ℕ → StreamModel) (unordered : List RunModel) (ready : List MessageContent) : Type 0 where
+  pub holds : HoldsAll queued history got base read streams unordered ready
+  pub order : (id : ℕ) → CountsFromZero history id → OrderWhere gapless (quiet id) queued history id (read ++ holds.places) (holds.waits id) (streams id)
+
+-- This holds for the received messages of an association.
+abbrev pub IncomingOrdered : Bool → List Message → History → (ℕ → Bool) → List ℕ → ℕ → List ℕ → IncomingModel → Type 0
+IncomingOrdered gapless queued history quiet got base read incoming =
+    HoldsOrdered gapless queued history quiet got base read (λ id. stream_on id incoming.streams) incoming.unordered incoming.ready
+
+-- It holds of an association that was just begun.
+abbrev pub BeginningInOrder : Type 0
+BeginningInOrder = (gapless : Bool) (queued : List Message) (history : History) (quiet : ℕ → Bool) (base : ℕ) → IncomingOrdered gapless queued history quiet [] base [] nothing
+
+-- A chunk whose TSN is new, and that carries the piece of its TSN, leaves it so.
+abbrev pub ReadyInOrder : Type 0
+ReadyInOrder =
+    (gapless : Bool) (queued : List Message) (history : History) (quiet : ℕ → Bool) → Cut queued history.log → IsUnambiguous history
+    → (got : List ℕ) (base tsn : ℕ) (read : List ℕ) (chunk : ChunkModel) (old new : IncomingModel)
+    → (bears : BearsPiece history base (number_near old.last_tsn_number tsn) chunk) → (HasEntry bears.offset got → ⊥) → quiet chunk.stream ≡ false
+    → IncomingOrdered gapless queued history quiet got base read old → TakesIncomingChunk tsn chunk old new
+    → IncomingOrdered gapless queued history quiet (bears.offset ∷ got) base read new
+
+-- None of these entries skips a message of a quiet stream.
+abbrev pub NoneIsQuiet : (ℕ → Bool) → List SkippedTo → Type 0
+NoneIsQuiet quiet entries = AllByRecursion (λ entry. quiet (skipped_stream entry) ≡ false) entries
+
+-- So does an I-FORWARD-TSN, whatever it skips of what was sent,
+abbrev pub SkippingInOrder : Type 0
+SkippingInOrder =
+    (gapless : Bool) (queued : List Message) (history : History) (quiet : ℕ → Bool) (got : List ℕ) (base tsn : ℕ) (read : List ℕ) (entries : List SkippedTo) (old new : IncomingModel)
+    → gapless ≡ false → AreNamed history entries → NoneIsQuiet quiet entries → IncomingOrdered gapless queued history quiet got base read old → MovesOn tsn entries old new → IncomingOrdered gapless queued history quiet got base read new
+
+-- and a reset of streams. They are quiet from then on.
+abbrev pub ResettingInOrder : Type 0
+ResettingInOrder =
+    (gapless : Bool) (queued : List Message) (history : History) (quiet : ℕ → Bool) (got : List ℕ) (base : ℕ) (read streams : List ℕ) (old new : IncomingModel)
+    → IncomingOrdered gapless queued history quiet got base read old → ResetsStreams streams old new → IncomingOrdered gapless queued history (λ id. quiet id || names_stream streams id) got base read new
+
+-- The message that the user reads was queued, and wasn't read before.
+pub record ReadsInOrder (gapless : Bool) (queued : List Message) (history : History) (quiet : ℕ → Bool) (got : List ℕ) (base : ℕ) (read : List ℕ) (incoming : IncomingModel) (message : MessageContent) (messages : List MessageContent) : Type 0 where
+  pub place : ℕ
+  pub was : WasQueued queued place message
+  pub fresh : HasEntry place read → ⊥
+  pub ordered : IncomingOrdered gapless queued history quiet got base (read ++ place ∷ []) (record incoming { ready = messages })
+
+-- This holds for the first that is ready.
+abbrev pub TakingInOrder : Type 0
+TakingInOrder =
+    (gapless : Bool) (queued : List Message) (history : History) (quiet : ℕ → Bool) (got : List ℕ) (base : ℕ) (read : List ℕ) (incoming : IncomingModel) (message : MessageContent) (messages : List MessageContent)
+    → incoming.ready ≡ message ∷ messages → IncomingOrdered gapless queued history quiet got base read incoming → ReadsInOrder gapless queued history quiet got base read incoming message messages
+
+-- What was read of a stream's ordered messages was queued in the order of reading.
+abbrev pub OrderedWasRead : Type 0
+OrderedWasRead =
+    (gapless : Bool) (queued : List Message) (history : History) (quiet : ℕ → Bool) (got : List ℕ) (base : ℕ) (read : List ℕ) (incoming : IncomingModel) (id : ℕ) → CountsFromZero history id
+    → IncomingOrdered gapless queued history quiet got base read incoming → ComeInOrder queued id read
+
+-- The later history has all TSNs of the earlier one, and no floor was raised.
+pub record IsWithin (history later : History) : Type 0 where
+  pub stays : (n : ℕ) (slot : Slot) → at_place n history.log ≡ Some slot → at_place n later.log ≡ Some slot
+  pub floors : later.floors ≡ history.floors
+
+-- The peer may queue more, assign more TSNs and begin resets: the stream is in order as before.
+abbrev pub GrowingInOrder : Type 0
+GrowingInOrder =
+    (gapless : Bool) (queued more : List Message) (history later : History) (quiet : Bool) (id : ℕ) (all waits : List ℕ) (contents : List MessageContent) (stream : StreamModel)
+    → IsWithin history later → WereQueued queued all contents → CountsFromZero later id → (CountsFromZero history id → OrderWhere gapless quiet queued history id all waits stream)
+    → OrderWhere gapless quiet (more ++ queued) later id all waits stream

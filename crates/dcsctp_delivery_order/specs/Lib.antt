@@ -1,0 +1,12 @@
+pub mod Rising
+pub mod Queue
+pub mod Order
+pub mod Reading
+pub mod Reach
+pub mod Incoming
+pub mod Gaps
+pub mod Sending
+pub mod Delivered
+pub mod Runs
+pub mod Received
+pub mod Directions

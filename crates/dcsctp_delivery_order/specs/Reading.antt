@@ -1,0 +1,69 @@
+-- Message identifiers of ordered messages are read right, and tell them apart (RFC 8260, section
+-- 2.1), where the numbers of their stream begin at 0.
+use Rattle.std.specs.Prelude.{◌≡◌, ◌<◌, ◌≤◌, ◌+◌, ◌%◌, ◌^◌, ℕ, true, false, Some, List, Bool}
+use Rattle.dcsctp_spec_lemmas.specs.types.queues.Messages.{MessageContent}
+use Rattle.dcsctp_spec_lemmas.specs.types.declared.arrivals.Taken.{Taken}
+use Rattle.dcsctp_spec_lemmas.specs.types.declared.ids.StreamId.{StreamId}
+use Rattle.dcsctp_spec_lemmas.specs.types.declared.arrivals.SkippedTo.TheVariants.{Mid}
+use Rattle.dcsctp_spec_lemmas.specs.spec.queues.Numbers.{number_near}
+use Rattle.dcsctp_spec_lemmas.specs.spec.queues.Runs.{PartModel}
+use Rattle.dcsctp_spec_lemmas.specs.spec.queues.IncomingStreams.{StreamModel, TakesOrdered, skipped}
+use Rattle.dcsctp_delivery_sending.specs.Places.{HasEntry, at_place}
+use Rattle.dcsctp_delivery_sending.specs.Log.{Message, Piece, History}
+use Rattle.dcsctp_delivery_sending.specs.Numbers.{AreOfKind, IsCurrent}
+use Rattle.dcsctp_delivery_order.specs.Queue.{FollowsQueue}
+use Rattle.dcsctp_delivery_order.specs.Rising.{IsAhead}
+use Rattle.dcsctp_delivery_order.specs.Order.{IsReadAs, StreamInOrder, AreFilled}
+
+-- The log is one of I-DATA whose numbers follow the queue, and tell its messages apart. Those of the ordered messages of this
+-- stream begin at a multiple of 2^32, and fewer than 2^31 were given since its last reset.
+pub record CountsFromZero (history : History) (id : ℕ) : Type 0 where
+  pub kinds : AreOfKind true history.log
+  pub follows : FollowsQueue history.log
+  pub apart : (m n : ℕ) (f g : Piece) → at_place m history.log ≡ Some (Some f) → at_place n history.log ≡ Some (Some g) → f.message.stream ≡ g.message.stream → f.message.is_unordered ≡ g.message.is_unordered
+      → f.mid ≡ g.mid → f.place ≡ g.place
+  pub floor : history.floors id false % 2 ^ 32 ≡ 0
+  pub few : (n : ℕ) (f : Piece) → at_place n history.log ≡ Some (Some f) → f.message.stream ≡ id → f.message.is_unordered ≡ false → f.mid < history.floors id false + 2 ^ 31
+
+-- The next number is one of those from the first on.
+pub record IsInReach (stream : StreamModel) : Type 0 where
+  pub from : 2 ^ 32 ≤ stream.next
+  pub up_to : stream.next ≤ 2 ^ 32 + 2 ^ 31
+
+-- The stream is in order, with its next number in reach, and without a gap if none was skipped.
+pub record OrderedStream (gapless : Bool) (queued : List Message) (history : History) (id : ℕ) (all waits : List ℕ) (stream : StreamModel) : Type 0 where
+  pub order : StreamInOrder queued history id all waits stream
+  pub reach : IsInReach stream
+  pub filled : gapless ≡ true → AreFilled history id all stream.next
+
+-- The piece is one of an ordered message of the stream that was sent since the last reset of that.
+pub record IsSince (history : History) (id offset : ℕ) (piece : Piece) : Type 0 where
+  pub at : at_place offset history.log ≡ Some (Some piece)
+  pub stream : piece.message.stream ≡ id
+  pub ordered : piece.message.is_unordered ≡ false
+  pub current : IsCurrent history piece
+
+-- Its number is read right.
+abbrev pub MidsAreReadRight : Type 0
+MidsAreReadRight =
+    (history : History) (id offset : ℕ) (piece : Piece) (stream : StreamModel) → CountsFromZero history id → IsInReach stream → IsSince history id offset piece
+    → IsReadAs history id piece.place (number_near stream.next (piece.mid % 2 ^ 32))
+
+-- If its message doesn't wait, no message that waits has its number. So it is received as one that is ahead, and never as one
+-- under a number that another has.
+abbrev pub NumbersAreFresh : Type 0
+NumbersAreFresh =
+    (queued : List Message) (history : History) (id place : ℕ) (all waits : List ℕ) (part : PartModel) (stream : StreamModel) → CountsFromZero history id → StreamInOrder queued history id all waits stream
+    → IsReadAs history id place part.number → (HasEntry place waits → ⊥) → stream.next ≤ part.number → IsAhead part stream
+
+-- The next number stays in reach when such a part comes,
+abbrev pub PartsStayInReach : Type 0
+PartsStayInReach =
+    (queued : List Message) (history : History) (id place : ℕ) (all waits : List ℕ) (part : PartModel) (old : StreamModel) (before : List MessageContent) (taken : Taken) (new : StreamModel) (after : List MessageContent)
+    → CountsFromZero history id → StreamInOrder queued history id all waits old → IsReadAs history id place part.number → IsAhead part old → TakesOrdered part old before taken new after → IsInReach old → IsInReach new
+
+-- and when messages up to one that was sent are skipped.
+abbrev pub SkipsStayInReach : Type 0
+SkipsStayInReach =
+    (queued : List Message) (history : History) (id place mid : ℕ) (all waits : List ℕ) (on : StreamId) (old : StreamModel)
+    → CountsFromZero history id → StreamInOrder queued history id all waits old → IsReadAs history id place (number_near old.next mid) → IsInReach old → IsInReach (skipped (Mid on false mid) old)

@@ -1,0 +1,11 @@
+//! Order over one direction of an association: ordered messages of a stream are read in the order in which they were
+//! queued (RFC 9260, section 6.6).
+#![tactic(auto)]
+
+mod laws;
+
+pub use laws::{
+    directions_deliver_in_order, incoming_stays_in_order, mids_are_read_right,
+    numbers_follow_queue, read_is_in_order, rows_leave_no_gap, runs_lie_apart, sending_loses_none,
+    ssns_are_read_right, streams_deliver_rising, streams_stay_in_order,
+};
