@@ -18,10 +18,12 @@ use Rattle.dcsctp_delivery_directions.specs.Directions.{nothing_asked, Delivered
 use Rattle.dcsctp_delivery_directions.specs.Marking.{IsUnspent, DeliveredForGood}
 use Rattle.dcsctp_delivery_directions.proofs.ChunkCounts.{few_for_chunks}
 use Rattle.dcsctp_delivery_directions.proofs.Marking.{directions_deliver_for_good}
+use Rattle.dcsctp_delivery_turns.proofs.Beginnings.{fresh_at_zero}
+use Rattle.dcsctp_delivery_turns.proofs.Unbegun.{fresh_is_at_zero}
 use Rattle.dcsctp_delivery_turns.proofs.Runs.{senders_begin}
-use Rattle.dcsctp_delivery_associations.specs.Ends.{SendingEnd, joined, new_end, Ends, MarksLeft, Between}
+use Rattle.dcsctp_delivery_associations.specs.Ends.{SendingEnd, joined, new_end, Ends, MarksLeft, Awaits, Between}
 use Rattle.dcsctp_delivery_associations.specs.Laws.{AreEnds}
-use Rattle.dcsctp_delivery_associations.specs.Reads.{Read, with_tag, messages_of}
+use Rattle.dcsctp_delivery_associations.specs.Reads.{Read, Reading, nothing_read, with_tag, messages_of}
 use Rattle.dcsctp_delivery_associations.proofs.Growing.{AllFound, set_all}
 
 -- ---- lists of places, one for each tag, in one
@@ -90,7 +92,7 @@ was_unmarked marks queued place content found was =
     let one = found place was.message was.at in
     record { message = one.message; at = one.at; stream = was.stream ∙ one.is.stream; ppid = was.ppid ∙ one.is.ppid; payload = was.payload ∙ one.is.payload }
 
-were_unmarked : (marks queued : List Message) (places : List ℕ) (contents : List MessageContent) → AllFound marks queued → WereQueued marks places contents → WereQueued queued places contents
+pub were_unmarked : (marks queued : List Message) (places : List ℕ) (contents : List MessageContent) → AllFound marks queued → WereQueued marks places contents → WereQueued queued places contents
 were_unmarked marks queued [] [] found were = tt
 were_unmarked marks queued [] (content ∷ contents) found were = absurd were
 were_unmarked marks queued (place ∷ places) [] found were = absurd were
@@ -98,8 +100,8 @@ were_unmarked marks queued (place ∷ places) (content ∷ contents) found were 
 
 -- ---- all associations
 
-module _ (options : Options) (ends : Ends) (e : Endpoint) (queued : List Message) (past : List Effect) (packets : List Emission) (other : Endpoint) (their_past : List Effect) (reads : List Read)
-    (h : Between options ends e queued past packets other their_past reads) (many : length queued < 2 ^ 64) (few : (tag : ℕ) → chunks_to tag packets < 2 ^ 30) where
+module _ (options : Options) (ends : Ends) (e : Endpoint) (queued : List Message) (past : List Effect) (packets : List Emission) (other : Endpoint) (their_past : List Effect) (reading : Reading)
+    (h : Between options ends e queued past packets other their_past reading) (many : length queued < 2 ^ 64) (few : (tag : ℕ) → chunks_to tag packets < 2 ^ 30) where
   delivered : (tag : ℕ) → DeliveredForGood (joined (ends.sends tag) (ends.gets tag))
   delivered tag =
       let fewer = h.sender.short tag in
@@ -126,23 +128,21 @@ module _ (options : Options) (ends : Ends) (e : Endpoint) (queued : List Message
   apart : (one two place : ℕ) → one ≢ two → HasEntry place (lists one) → HasEntry place (lists two) → ⊥
   apart one two place ne has has' = elim (h.sender.pairs one two ne) [ inl l ↦ clash one two place l has has' | inr l ↦ clash two one place l has' has ]
 
-  pub ends_deliver : Delivered queued (messages_of reads)
+  pub ends_deliver : Delivered queued (messages_of reading.reads)
   unfolding lists
   ends_deliver =
-      let all = together queued reads lists
-      (λ tag. were_unmarked (ends.sends tag).queued queued (lists tag) (with_tag tag reads) (h.sender.marks tag)
+      let all = together queued reading.reads lists
+      (λ tag. were_unmarked (ends.sends tag).queued queued (lists tag) (with_tag tag reading.reads) (h.sender.marks tag)
       (subst (WereQueued (ends.sends tag).queued (lists tag)) (sym (h.receiver.were_read tag)) (delivered tag).delivered.were_queued))
       (λ tag. (delivered tag).delivered.once) apart in
       record { places = all.places; were_queued = all.were; once = all.once }
 
 -- ---- two sockets that were just made
 
-pub ends_begin : (mine options : Options) → AreEnds options (fresh_endpoint mine) [] [] [] (fresh_endpoint options) [] []
+pub ends_begin : (mine options : Options) → AreEnds options (fresh_endpoint mine) [] [] [] (fresh_endpoint options) [] nothing_read
 ends_begin mine options =
     record {
       ends = record { sends = λ tag. nothing; gets = λ tag. new_end options 0; firsts = λ tag. 0 };
-      tagged = [];
-      are_all = refl;
       between = record {
         runs = λ tag. senders_begin mine options 0 options.max_receiver_window_buffer_size;
         small = λ tag. omega arith;
@@ -156,11 +156,15 @@ ends_begin mine options =
           last = λ tag ne place below gone. absurd (omega arith);
           pairs = λ one other ne. inl (λ place below gone. absurd (omega arith));
           current = λ some. absurd (some refl);
-          begun = λ tag some. inl (record { queued = refl; sent = refl; acknowledged = refl; transfer = refl; asking = refl });
+          kind = λ some. absurd (some refl);
+          begun = λ tag some. inl awaits;
+          kinds = λ tag some. inl awaits;
           all_sent = tt;
         };
         asks = tt;
-        receiver = record { fits = record { first = 0; asking = nothing_asked; fits = tt }; current = λ transfer there. absurd (cc); left = inl refl; were_read = λ tag. refl; begun = λ tag. inl refl };
+        numbered = λ tag some anew. refl;
+        unbegun = λ never. record { unlinked = refl; idle = refl; zero = fresh_is_at_zero mine };
+        receiver = record { fits = record { first = 0; asking = nothing_asked; fits = tt }; current = λ transfer there. absurd (cc); left = inl refl; last = λ link is. absurd (cc); were_read = λ tag. refl; begun = λ tag. inl refl };
       };
       answered = record {
         pairs = λ tag. record { tag = 0; first_tsn = 0 };
@@ -181,4 +185,7 @@ ends_begin mine options =
     }
   where
     nothing : SendingEnd
-    nothing = record { queued = []; queues = record { queue = empty_queue mine; transfer = None }; acknowledged = 0; sent = []; asking = nothing_asked }
+    nothing = record { queued = []; queues = record { queue = empty_queue mine; transfer = None }; acknowledged = 0; sent = []; asking = nothing_asked; from_zero = true }
+
+    awaits : Awaits nothing
+    awaits = record { queued = refl; sent = refl; acknowledged = refl; transfer = refl; asking = refl; zero = λ is. fresh_at_zero mine }

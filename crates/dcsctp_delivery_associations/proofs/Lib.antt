@@ -7,6 +7,7 @@ pub mod Renewed
 pub mod SenderAsks
 pub mod SenderOpens
 pub mod SenderAnswers
+pub mod Held
 pub mod Senders
 pub mod SenderStays
 pub mod SenderBegins
@@ -27,3 +28,4 @@ pub mod ReceiverBegins
 pub mod ReceiverRests
 pub mod ReceiverTurns
 pub mod Delivers
+pub mod InOrder

@@ -179,6 +179,7 @@ module _ (ends : Ends) (e : Endpoint) (past : List Effect) (d : Endpoint) (their
                 is = ap (λ (a : Asking). a.requests) asked_is ∙ one.is;
                 asks = wants;
                 own = subst (λ (r : RequestedReset). IsOwn r transfer.reassembly.deferral) wants one.own;
+                unknown = ap (λ (a : Asking). a.is_performed) asked_is ∙ one.unknown;
               }
 
       -- Where nothing was asked nothing is performed.

@@ -10,7 +10,7 @@ use Rattle.dcsctp_spec_lemmas.specs.spec.Packet.{Emission}
 use Rattle.dcsctp_spec_runs.specs.Past.{HasEffect}
 use Rattle.dcsctp_spec_lemmas.specs.spec.endpoint.Turn.{Input, Turn}
 use Rattle.dcsctp_spec_runs.specs.World.{after_effects}
-use Rattle.dcsctp_spec_lemmas.specs.spec.association.Effect.{AssociationIdentity, Effect, holds, identity_of}
+use Rattle.dcsctp_spec_lemmas.specs.spec.association.Effect.{AssociationIdentity, Effect, holds, identity_of, identity_in}
 use Rattle.dcsctp_spec_lemmas.specs.spec.queues.Reassembly.{new_reassembly}
 use Rattle.dcsctp_spec_lemmas.specs.spec.queues.Tracker.{new_tracker}
 use Rattle.dcsctp_spec_lemmas.specs.spec.queues.Transfer.{Transfer, EndpointQueues}
@@ -25,7 +25,7 @@ use Rattle.dcsctp_delivery_turns.specs.Actions.{peer_tag, IsCall}
 use Rattle.dcsctp_delivery_turns.specs.Asking.{own_of, AsksFit}
 use Rattle.dcsctp_delivery_turns.specs.Runs.{OpensAssociation}
 use Rattle.dcsctp_delivery_associations.specs.Ends.{ReceivingEnd, joined, new_end, Ends, HadPeer, Awaits, Sender, NewTag, HadTag, Receiver, Between}
-use Rattle.dcsctp_delivery_associations.specs.Reads.{Read, with_tag, messages_of}
+use Rattle.dcsctp_delivery_associations.specs.Reads.{Reading, tag_or, with_tag}
 use Rattle.dcsctp_delivery_associations.proofs.Growing.{set_all}
 use Rattle.dcsctp_delivery_associations.proofs.SenderStays.{set_three}
 use Rattle.dcsctp_delivery_associations.proofs.WhatIsLeft.{goes_left}
@@ -58,8 +58,8 @@ known ends key below queued past their_past packets new s is =
     of_had : HadPeer past new.my.tag (ends.firsts new.my.tag) → ends.firsts new.my.tag ≡ new.peer.first_tsn
     of_had had = sym had.first_is ∙ ap (λ (p : Pair). p.first_tsn) (is.match had.link had.held (inl had.tag_is)).0
 
-module _ (options : Options) (ends : Ends) (e : Endpoint) (queued : List Message) (past : List Effect) (packets : List Emission) (d : Endpoint) (their_past : List Effect) (reads : List Read)
-    (h : Between options ends e queued past packets d their_past reads) (few : length queued < 2 ^ 64) (same : SameOptions options d.options) (input : Input) (o : Outcome) (w : AreAnswered ends e past d their_past) (may : IsCall input) (turn : Turn d input o) where
+module _ (options : Options) (ends : Ends) (e : Endpoint) (queued : List Message) (past : List Effect) (packets : List Emission) (d : Endpoint) (their_past : List Effect) (reading : Reading)
+    (h : Between options ends e queued past packets d their_past reading) (few : length queued < 2 ^ 64) (same : SameOptions options d.options) (input : Input) (o : Outcome) (w : AreAnswered ends e past d their_past) (may : IsCall input) (turn : Turn d input o) where
   module _ (opens : OpensAssociation d input o) (is : NewTag their_past past (identity_of opens.begun.my opens.begun.held)) where
     abbrev tag : ℕ
     tag = opens.begun.my.tag
@@ -88,7 +88,7 @@ module _ (options : Options) (ends : Ends) (e : Endpoint) (queued : List Message
         (subst (λ (g : ReceivingEnd). DirectionRun options first options.max_receiver_window_buffer_size (joined (ends.sends tag) g)) (sym (begun_end options d.options first same)) run)
 
     later_receiver : (firsts : ℕ → ℕ) → firsts tag ≡ first → ((t : ℕ) → t ≢ tag → firsts t ≡ ends.firsts t) → ends.gets tag ≡ new_end options (ends.firsts tag)
-        → Receiver options (record { sends = ends.sends; gets = set_at tag got ends.gets; firsts = firsts }) o.after (after_effects o.effects their_past) reads
+        → Receiver options (record { sends = ends.sends; gets = set_at tag got ends.gets; firsts = firsts }) o.after (after_effects o.effects their_past) (record { reads = reading.reads; last = tag })
     later_receiver firsts here others fresh =
         record {
           fits = opens.fits;
@@ -102,8 +102,9 @@ module _ (options : Options) (ends : Ends) (e : Endpoint) (queued : List Message
                 reassembly = ap (λ (g : ReceivingEnd). g.reassembly) (set_same tag got ends.gets) ∙ ap (λ (t : Transfer). t.reassembly) one;
               }
               );
-          left = goes_left d input o may turn ends.gets (set_at tag got ends.gets) opens.left opens.is h.receiver.left;
-          were_read = set_all (λ t g. with_tag t reads ≡ g.read) tag got ends.gets (h.receiver.were_read tag ∙ ap (λ (g : ReceivingEnd). g.read) fresh) (λ t ne. h.receiver.were_read t);
+          last = λ link is'. own_tag link is';
+          left = goes_left d input o may turn ends.gets (set_at tag got ends.gets) reading.last tag opens.left opens.is h.receiver.left;
+          were_read = set_all (λ t g. with_tag t reading.reads ≡ g.read) tag got ends.gets (h.receiver.were_read tag ∙ ap (λ (g : ReceivingEnd). g.read) fresh) (λ t ne. h.receiver.were_read t);
           begun = λ t. elim (decide t tag) [
             | inl e' ↦ inr (subst (λ (n : ℕ). HadTag (after_effects o.effects their_past) n (firsts n)) (sym e') (subst (λ (n : ℕ). HadTag (after_effects o.effects their_past) tag n) (sym here) had_new))
             | inr ne ↦ other t ne (h.receiver.begun t)
@@ -113,12 +114,18 @@ module _ (options : Options) (ends : Ends) (e : Endpoint) (queued : List Message
         same_transfer : (found : Option Transfer) (one two : Transfer) → found ≡ Some one → found ≡ Some two → one ≡ two
         same_transfer found one two a b = cc
 
+        same_link : (found : Option AssociationIdentity) (one two : AssociationIdentity) → found ≡ Some one → found ≡ Some two → one ≡ two
+        same_link found one two a b = cc
+
+        own_tag : (link : AssociationIdentity) → identity_in o.after.core ≡ Some link → tag ≡ link.my.tag
+        own_tag link there = (let same' : identity_of opens.begun.my opens.begun.held ≡ link = same_link (identity_in o.after.core) (identity_of opens.begun.my opens.begun.held) link opens.linked there in ap (λ (l : AssociationIdentity). l.my.tag) same')
+
         other : (t : ℕ) → t ≢ tag → (ends.gets t ≡ new_end options (ends.firsts t)) ⊎ HadTag their_past t (ends.firsts t)
             → (set_at tag got ends.gets t ≡ new_end options (firsts t)) ⊎ HadTag (after_effects o.effects their_past) t (firsts t)
         other t ne (inl new) = inl (set_other tag t got ends.gets ne ∙ new ∙ ap (new_end options) (sym (others t ne)))
         other t ne (inr had) = inr (subst (λ (n : ℕ). HadTag (after_effects o.effects their_past) t n) (sym (others t ne)) (tag_later o.effects their_past t (ends.firsts t) had))
 
-    crossed_opens : ends.firsts tag ≡ first → ends.gets tag ≡ new_end options (ends.firsts tag) → AreEnds options e queued past packets o.after (after_effects o.effects their_past) (messages_of reads)
+    crossed_opens : ends.firsts tag ≡ first → ends.gets tag ≡ new_end options (ends.firsts tag) → AreEnds options e queued past packets o.after (after_effects o.effects their_past) (record { reads = reading.reads; last = tag })
     crossed_opens here fresh =
         let end : ends.gets tag ≡ new_end options first = fresh ∙ ap (new_end options) here in
         let start : DirectionRun options first options.max_receiver_window_buffer_size (joined (ends.sends tag) (new_end options first)) =
@@ -126,20 +133,20 @@ module _ (options : Options) (ends : Ends) (e : Endpoint) (queued : List Message
         (subst (λ (g : ReceivingEnd). DirectionRun options (ends.firsts tag) options.max_receiver_window_buffer_size (joined (ends.sends tag) g)) end (h.runs tag)) in
         record {
           ends = record { sends = ends.sends; gets = set_at tag got ends.gets; firsts = ends.firsts };
-          tagged = reads;
-          are_all = refl;
           between = record {
             runs = set_all (λ t g. DirectionRun options (ends.firsts t) options.max_receiver_window_buffer_size (joined (ends.sends t) g)) tag got ends.gets
                 (subst (λ (n : ℕ). DirectionRun options n options.max_receiver_window_buffer_size (joined (ends.sends tag) got)) (sym here) (opened start)) (λ t ne. h.runs t);
             small = h.small;
             sender = sender_same ends (set_at tag got ends.gets) (peer_tag e.core) e.queues queued past packets h.sender;
             asks = h.asks;
+            numbered = h.numbered;
+            unbegun = h.unbegun;
             receiver = later_receiver ends.firsts here (λ t ne. refl) fresh;
           };
           answered = opens_answered ends e past d their_past w input o may turn opens is (set_at tag got ends.gets) ends.firsts here (λ t ne. refl) (inl here);
         }
 
-    awaited_opens : Awaits (ends.sends tag) → tag ≢ peer_tag e.core → ends.gets tag ≡ new_end options (ends.firsts tag) → AreEnds options e queued past packets o.after (after_effects o.effects their_past) (messages_of reads)
+    awaited_opens : Awaits (ends.sends tag) → tag ≢ peer_tag e.core → ends.gets tag ≡ new_end options (ends.firsts tag) → AreEnds options e queued past packets o.after (after_effects o.effects their_past) (record { reads = reading.reads; last = tag })
     awaited_opens waits apart fresh =
         let queues = direction_queues options (ends.firsts tag) options.max_receiver_window_buffer_size (joined (ends.sends tag) (ends.gets tag)) (h.runs tag) (h.small tag)
         (let short = h.sender.short tag in omega (arith, few, short)) in
@@ -155,29 +162,34 @@ module _ (options : Options) (ends : Ends) (e : Endpoint) (queued : List Message
           reassembly = refl;
           read = refl;
           asking = waits.asking;
+          zero = waits.zero;
         }) in
         record {
           ends = record { sends = ends.sends; gets = set_at tag got ends.gets; firsts = set_at tag first ends.firsts };
-          tagged = reads;
-          are_all = refl;
           between = record {
             runs = set_three (λ t f s g. DirectionRun options f options.max_receiver_window_buffer_size (joined (ends.sends t) g)) tag first (ends.sends tag) got ends.firsts ends.sends ends.gets (opened start) (λ t ne. h.runs t);
             small = set_all (λ t f. f < 2 ^ 32) tag first ends.firsts is.small (λ t ne. h.small t);
             sender = sender_first ends (set_at tag got ends.gets) tag first (peer_tag e.core) e.queues queued past packets h.sender apart waits;
             asks = subst (λ (n : ℕ). AsksFit n (own_of e) (ends.sends (peer_tag e.core)).asking) (sym (set_other tag (peer_tag e.core) first ends.firsts (λ is'. apart (sym is')))) h.asks;
+            numbered = h.numbered;
+            unbegun = h.unbegun;
             receiver = later_receiver (set_at tag first ends.firsts) (set_same tag first ends.firsts) (λ t ne. set_other tag t first ends.firsts ne) fresh;
           };
           answered = opens_answered ends e past d their_past w input o may turn opens is (set_at tag got ends.gets) (set_at tag first ends.firsts) (set_same tag first ends.firsts) (λ t ne. set_other tag t first ends.firsts ne)
               (inr (waits.asking, apart));
         }
 
-    pub opens_goes : AreEnds options e queued past packets o.after (after_effects o.effects their_past) (messages_of reads)
-    opens_goes =
+    opens_last : AreEnds options e queued past packets o.after (after_effects o.effects their_past) (record { reads = reading.reads; last = tag })
+    opens_last =
         elim (h.receiver.begun tag) [
           | inl fresh ↦ go fresh (known ends (peer_tag e.core) e.queues queued past their_past packets (identity_of opens.begun.my opens.begun.held) h.sender is)
           | inr had ↦ absurd ((is.other had.link had.held).0 had.tag_is)
         ]
       where
-        go : ends.gets tag ≡ new_end options (ends.firsts tag) → Known ends (peer_tag e.core) (identity_of opens.begun.my opens.begun.held) → AreEnds options e queued past packets o.after (after_effects o.effects their_past) (messages_of reads)
+        go : ends.gets tag ≡ new_end options (ends.firsts tag) → Known ends (peer_tag e.core) (identity_of opens.begun.my opens.begun.held) → AreEnds options e queued past packets o.after (after_effects o.effects their_past) (record { reads = reading.reads; last = tag })
         go fresh (is_crossed here) = crossed_opens here fresh
         go fresh (is_awaited waits apart) = awaited_opens waits apart fresh
+
+    pub opens_goes : AreEnds options e queued past packets o.after (after_effects o.effects their_past) (record { reads = reading.reads; last = tag_or reading.last (identity_in o.after.core) })
+    opens_goes =
+        subst (λ (n : ℕ). AreEnds options e queued past packets o.after (after_effects o.effects their_past) (record { reads = reading.reads; last = n })) (sym (ap (tag_or reading.last) opens.linked)) opens_last

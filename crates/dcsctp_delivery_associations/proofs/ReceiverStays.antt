@@ -39,6 +39,8 @@ sender_same ends gets key below queued past packets s =
       last = s.last;
       pairs = s.pairs;
       current = s.current;
+      kind = s.kind;
+      kinds = s.kinds;
       begun = s.begun;
       all_sent = of_more ends (record ends { gets = gets }) packets (λ tag emission some has. has) s.all_sent;
     }
@@ -57,8 +59,10 @@ sender_asked ends tag asking got key below queued past packets s still =
       last = s.last;
       pairs = s.pairs;
       current = s.current;
+      kind = s.kind;
+      kinds = λ t some. elim (s.kinds t some) [ inl waits ↦ inl (still_awaits t waits) | inr had ↦ inr had ];
       begun = λ t some. elim (s.begun t some) [
-        | inl waits ↦ inl (record { queued = waits.queued; sent = waits.sent; acknowledged = waits.acknowledged; transfer = waits.transfer; asking = awaits t waits.asking })
+        | inl waits ↦ inl (still_awaits t waits)
         | inr had ↦ inr had
       ];
       all_sent = of_more ends (asked_ends ends tag asking got) packets (λ t emission some has. has) s.all_sent;
@@ -70,6 +74,9 @@ sender_asked ends tag asking got key below queued past packets s still =
           | inl e ↦ ap (set_at tag asking (λ n. (ends.sends n).asking)) e ∙ set_same tag asking (λ n. (ends.sends n).asking) ∙ still (ap (λ (n : ℕ). (ends.sends n).asking) (sym e) ∙ none)
           | inr ne ↦ set_other tag t asking (λ n. (ends.sends n).asking) ne ∙ none
         ]
+
+    still_awaits : (t : ℕ) → Awaits (ends.sends t) → Awaits ((asked_ends ends tag asking got).sends t)
+    still_awaits t waits = record { queued = waits.queued; sent = waits.sent; acknowledged = waits.acknowledged; transfer = waits.transfer; asking = awaits t waits.asking; zero = waits.zero }
 
 -- The sender has begun no association under this tag.
 pub sender_first : (ends : Ends) (gets : ℕ → ReceivingEnd) (tag first key : ℕ) (below : EndpointQueues) (queued : List Message) (past : List Effect) (packets : List Emission) → Sender ends key below queued past packets
@@ -85,6 +92,8 @@ sender_first ends gets tag first key below queued past packets s ne waits =
       last = s.last;
       pairs = s.pairs;
       current = λ some. subst (λ (n : ℕ). HadPeer past key n) (sym (set_other tag key first ends.firsts (λ is. ne (sym is)))) (s.current some);
+      kind = s.kind;
+      kinds = s.kinds;
       begun = λ t some. elim (decide t tag) [
         | inl e ↦ inl (subst (λ (n : ℕ). Awaits (ends.sends n)) (sym e) waits)
         | inr other ↦ before t other (s.begun t some)

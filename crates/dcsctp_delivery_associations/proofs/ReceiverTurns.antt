@@ -20,7 +20,7 @@ use Rattle.dcsctp_delivery_directions.specs.Directions.{Asking, nothing_asked, D
 use Rattle.dcsctp_delivery_directions.proofs.RequestCounts.{requests_are_sent}
 use Rattle.dcsctp_delivery_turns.specs.Asking.{Own, AsksFit, OutIs}
 use Rattle.dcsctp_delivery_turns.specs.PeerRequests.{KnowsPeerIn}
-use Rattle.dcsctp_delivery_turns.specs.Runs.{IsNewest, PerformsNewest, performed_where, PerformedBy}
+use Rattle.dcsctp_delivery_turns.specs.Runs.{IsNewest, KnowsRequest, PerformsNewest, performed_where, PerformedBy}
 use Rattle.dcsctp_delivery_turns.proofs.PeersTurns.{ends_ask_nothing, unlinked_asks_nothing}
 use Rattle.dcsctp_delivery_associations.specs.Answered.{IsInStep, StandsSo, in_step, plain, requests_of, waiting_deferral, AreAnswered}
 use Rattle.dcsctp_delivery_associations.specs.Laws.{AsksLittle}
@@ -37,10 +37,10 @@ use Rattle.dcsctp_delivery_turns.specs.Asking.{own_of, SomeFit}
 use Rattle.dcsctp_delivery_turns.specs.Sides.{WasSent, receiving}
 use Rattle.dcsctp_delivery_turns.specs.Runs.{ReceiverTurns, receiver_goes_on, receiver_ends, receiver_begins, IdleTurns, idle_stays, idle_begins}
 use Rattle.dcsctp_delivery_turns.proofs.Runs.{receivers_go_on, receivers_begin}
-use Rattle.dcsctp_delivery_associations.specs.Ends.{ReceivingEnd, joined, new_end, Ends, NewTag, HadTag, IsCurrentEnd, Between}
-use Rattle.dcsctp_delivery_associations.specs.Reads.{Read, reads_after, tagged_after, with_tag, messages_of}
+use Rattle.dcsctp_delivery_associations.specs.Ends.{LeavesReady, ReceivingEnd, joined, new_end, Ends, NewTag, HadTag, IsCurrentEnd, Between}
+use Rattle.dcsctp_delivery_associations.specs.Reads.{Read, Reading, tag_or, reading_after, tagged_after, with_tag}
 use Rattle.dcsctp_delivery_associations.proofs.WhatIsLeft.{goes_left, ends_left}
-use Rattle.dcsctp_delivery_associations.proofs.WhatIsRead.{reads_still, opening_still, tagged_messages, own_read, other_read}
+use Rattle.dcsctp_delivery_associations.proofs.WhatIsRead.{reads_still, opening_still, own_read, other_read}
 use Rattle.dcsctp_delivery_associations.proofs.Growing.{set_all}
 use Rattle.dcsctp_delivery_associations.proofs.Own.{unlinked_some}
 use Rattle.dcsctp_delivery_associations.specs.Laws.{AreEnds}
@@ -48,16 +48,18 @@ use Rattle.dcsctp_delivery_associations.proofs.ReceiverStays.{tag_later, begun_l
 use Rattle.dcsctp_delivery_associations.proofs.ReceiverBegins.{opens_goes}
 use Rattle.dcsctp_delivery_associations.proofs.ReceiverRests.{rests, idle_rests}
 
-module _ (options : Options) (ends : Ends) (e : Endpoint) (queued : List Message) (past : List Effect) (packets : List Emission) (d : Endpoint) (their_past : List Effect) (reads : List Read)
-    (h : Between options ends e queued past packets d their_past reads) (few : length queued < 2 ^ 64) (same : SameOptions options d.options) (input : Input) (o : Outcome)
+module _ (options : Options) (ends : Ends) (e : Endpoint) (queued : List Message) (past : List Effect) (packets : List Emission) (d : Endpoint) (their_past : List Effect) (reading : Reading)
+    (h : Between options ends e queued past packets d their_past reading) (few : length queued < 2 ^ 64) (same : SameOptions options d.options) (input : Input) (o : Outcome)
     (new : (begun : Begun d o) → IsOpening (came_by input) → identity_in o.after.core ≡ Some (identity_of begun.my begun.held) → NewTag their_past past (identity_of begun.my begun.held)) (w : AreAnswered ends e past d their_past)
     (little : AsksLittle packets) (new_tags : (link old : AssociationIdentity) → HasEffect (holds link) o.effects → HasEffect (holds old) their_past → old.my.tag ≢ link.my.tag) (may : IsCall input) (turn : Turn d input o) where
   -- what is to be shown of the turn
   abbrev pub Turned : Type 0
-  Turned = AreEnds options e queued past packets o.after (after_effects o.effects their_past) (reads_after d input (messages_of reads))
+  Turned = AreEnds options e queued past packets o.after (after_effects o.effects their_past) (reading_after d input o.after reading)
 
-  unread_goes : reads_after d input (messages_of reads) ≡ messages_of reads → AreEnds options e queued past packets o.after (after_effects o.effects their_past) (messages_of reads) → Turned
-  unread_goes unread goes = subst (λ (l : List MessageContent). AreEnds options e queued past packets o.after (after_effects o.effects their_past) l) (sym unread) goes
+  unread_goes : tagged_after reading.last d input reading.reads ≡ reading.reads
+      → AreEnds options e queued past packets o.after (after_effects o.effects their_past) (record { reads = reading.reads; last = tag_or reading.last (identity_in o.after.core) }) → Turned
+  unread_goes unread goes =
+      subst (λ (l : List Read). AreEnds options e queued past packets o.after (after_effects o.effects their_past) (record { reads = l; last = tag_or reading.last (identity_in o.after.core) })) (sym unread) goes
 
   -- ---- an association continues
 
@@ -71,10 +73,10 @@ module _ (options : Options) (ends : Ends) (e : Endpoint) (queued : List Message
     receives linked left is fits asking still fit answered run =
         let tag : ℕ = c.link.my.tag in
         let got : ReceivingEnd = record { tracker = left.tracker; reassembly = left.reassembly; read = read_after d input (ends.gets tag).read } in
-        record {
+        subst (λ (n : ℕ). AreEnds options e queued past packets o.after (after_effects o.effects their_past) (record { reads = tagged_after n d input reading.reads; last = tag_or reading.last (identity_in o.after.core) })) (sym (h.receiver.last c.link c.linked))
+        (subst (λ (n : ℕ). AreEnds options e queued past packets o.after (after_effects o.effects their_past) (record { reads = tagged_after c.link.my.tag d input reading.reads; last = n })) (sym (ap (tag_or reading.last) (linked ∙ c.linked)))
+        (record {
           ends = asked_ends ends tag asking got;
-          tagged = tagged_after tag d input reads;
-          are_all = tagged_messages tag d input reads;
           between = record {
             runs = λ t. elim (decide t tag) [
               | inl e' ↦
@@ -93,6 +95,8 @@ module _ (options : Options) (ends : Ends) (e : Endpoint) (queued : List Message
                   (fit (ends.firsts (peer_tag e.core)) (own_of e) (subst (λ (n : ℕ). AsksFit (ends.firsts (peer_tag e.core)) (own_of e) (ends.sends n).asking) e' h.asks))
               | inr ne ↦ subst (λ (x : Asking). AsksFit (ends.firsts (peer_tag e.core)) (own_of e) x) (sym (set_other tag (peer_tag e.core) asking (λ n. (ends.sends n).asking) ne)) h.asks
             ];
+            numbered = h.numbered;
+            unbegun = h.unbegun;
             receiver = record {
               fits = fits;
               current = λ other there'. (
@@ -105,10 +109,11 @@ module _ (options : Options) (ends : Ends) (e : Endpoint) (queued : List Message
                     reassembly = ap (λ (g : ReceivingEnd). g.reassembly) (set_same tag got ends.gets) ∙ ap (λ (t : Transfer). t.reassembly) one;
                   }
                   );
-              left = goes_left d input o may turn ends.gets (set_at tag got ends.gets) left is h.receiver.left;
-              were_read = set_all (λ t g. with_tag t (tagged_after tag d input reads) ≡ g.read) tag got ends.gets
-                  (own_read tag d input transfer reads there ∙ ap (read_after d input) (h.receiver.were_read tag))
-                  (λ t ne. other_read tag d input reads t ne ∙ h.receiver.were_read t);
+              left = goes_left d input o may turn ends.gets (set_at tag got ends.gets) reading.last tag left is h.receiver.left;
+              last = λ link there'. ap (λ (l : AssociationIdentity). l.my.tag) (same_link (identity_in o.after.core) c.link link (linked ∙ c.linked) there');
+              were_read = set_all (λ t g. with_tag t (tagged_after tag d input reading.reads) ≡ g.read) tag got ends.gets
+                  (own_read tag d input transfer reading.reads there ∙ ap (read_after d input) (h.receiver.were_read tag))
+                  (λ t ne. other_read tag d input reading.reads t ne ∙ h.receiver.were_read t);
               begun = λ t. elim (decide t tag) [
                 | inl e' ↦ inr (subst (λ (n : ℕ). HadTag (after_effects o.effects their_past) n (ends.firsts n)) (sym e') (tag_later o.effects their_past tag (ends.firsts tag) c.had))
                 | inr ne ↦ others t ne got (begun_later options ends o.effects their_past t (h.receiver.begun t))
@@ -116,8 +121,11 @@ module _ (options : Options) (ends : Ends) (e : Endpoint) (queued : List Message
             };
           };
           answered = answered;
-        }
+        }))
       where
+        same_link : (found : Option AssociationIdentity) (one two : AssociationIdentity) → found ≡ Some one → found ≡ Some two → one ≡ two
+        same_link found one two a b = cc
+
         same_transfer : (found : Option Transfer) (one two : Transfer) → found ≡ Some one → found ≡ Some two → one ≡ two
         same_transfer found one two a b = cc
 
@@ -187,13 +195,13 @@ module _ (options : Options) (ends : Ends) (e : Endpoint) (queued : List Message
           (goes_answered ends e past d their_past w input o may turn new_tags c.link c.linked transfer left there is options.max_receiver_window_buffer_size options
           (joined (ends.sends c.link.my.tag) (ends.gets c.link.my.tag)) (ends.firsts c.link.my.tag) (h.runs c.link.my.tag) refl sent few_asked knows new_same linked is_known (stands left is) asking by _) run
       by_turn is_known stands (receiver_ends none gone unread) =
-          unread_goes (reads_still d input transfer (messages_of reads) there unread)
-          (rests options ends e queued past packets d their_past reads h input o w may turn gone (unlinked_some o.after none) none (none_performed o.effects (ends_ask_nothing d input o transfer may turn there gone))
-          (ends_left d input o may turn ends.gets c.link.my.tag transfer there gone c.reassembly h.receiver.left))
+          unread_goes (reads_still reading.last d input transfer reading.reads there unread)
+          (rests options ends e queued past packets d their_past reading h input o w may turn gone (unlinked_some o.after none) none (none_performed o.effects (ends_ask_nothing d input o transfer may turn there gone))
+          (subst (λ (n : ℕ). LeavesReady ends.gets n o.after.left o.after.queues.transfer) (sym (h.receiver.last c.link c.linked)) (ends_left d input o may turn ends.gets reading.last c.link.my.tag transfer there gone c.reassembly h.receiver.left)))
       by_turn is_known stands (receiver_begins opens) =
-          unread_goes (opening_still d input (messages_of reads) opens.opening) (opens_goes options ends e queued past packets d their_past reads h few same input o w may turn opens (new opens.begun opens.opening opens.linked))
+          unread_goes (opening_still reading.last d input reading.reads opens.opening) (opens_goes options ends e queued past packets d their_past reading h few same input o w may turn opens (new opens.begun opens.opening opens.linked))
 
-      goes_known : (is_known : Bool) → (is_known ≡ true → PerformsNewest (joined (ends.sends c.link.my.tag) (ends.gets c.link.my.tag)) transfer (came_by input) o.effects)
+      goes_known : (is_known : Bool) → KnowsRequest is_known (joined (ends.sends c.link.my.tag) (ends.gets c.link.my.tag)) transfer (came_by input) o.effects
           → ReceiverTurns is_known options (ends.firsts c.link.my.tag) options.max_receiver_window_buffer_size (joined (ends.sends c.link.my.tag) (ends.gets c.link.my.tag)) transfer d input o
       goes_known is_known newest =
           receivers_go_on is_known options (ends.firsts c.link.my.tag) options.max_receiver_window_buffer_size (joined (ends.sends c.link.my.tag) (ends.gets c.link.my.tag)) transfer d input o now there sent newest h.receiver.fits
@@ -211,26 +219,26 @@ module _ (options : Options) (ends : Ends) (e : Endpoint) (queued : List Message
               (joined (ends.sends c.link.my.tag) (ends.gets c.link.my.tag)) (ends.firsts c.link.my.tag) (h.runs c.link.my.tag) refl sent few_asked knows step done
 
       turn_goes : StandsSo (requests_of ends w.pairs c.link.my.tag) their_past transfer.reassembly.deferral → Turned
-      turn_goes (plain kind some) = by_turn false (λ left is. inl kind) (goes_known false (λ known. (let clash : false ≡ true = known in absurd (cc))))
+      turn_goes (plain kind some) = by_turn false (λ left is. inl kind) (goes_known false (inl kind))
       turn_goes (in_step step) = by_left o.after.queues.transfer refl
         where
           by_left : (found : Option Transfer) → o.after.queues.transfer ≡ found → Turned
           by_left None gone =
-              by_turn false (λ left is. (let clash : ◌≡◌ {A = Option Transfer} None (Some left) = sym gone ∙ is in absurd (cc))) (goes_known false (λ known. (let clash : false ≡ true = known in absurd (cc))))
+              by_turn false (λ left is. (let clash : ◌≡◌ {A = Option Transfer} None (Some left) = sym gone ∙ is in absurd (cc))) (goes_known false (inr (newest_so step)))
           by_left (Some left) is =
               elim (newest_or_not ends e past d their_past w input o may turn new_tags c.link c.linked transfer left there is options.max_receiver_window_buffer_size options
               (joined (ends.sends c.link.my.tag) (ends.gets c.link.my.tag)) (ends.firsts c.link.my.tag) (h.runs c.link.my.tag) refl sent few_asked knows step) [
-                | inl newest ↦ by_turn true (λ other there'. newest) (goes_known true (λ known. newest_so step))
-                | inr behind ↦ by_turn false (λ other there'. behind) (goes_known false (λ known. (let clash : false ≡ true = known in absurd (cc))))
+                | inl newest ↦ by_turn true (λ other there'. newest) (goes_known true (newest_so step))
+                | inr behind ↦ by_turn false (λ other there'. behind) (goes_known false (inr (newest_so step)))
               ]
 
   -- ---- in any turn
 
   idle_goes : d.queues.transfer ≡ None → IdleTurns d input o → Turned
   idle_goes nowhere (idle_stays which none fits unread) =
-      idle_rests options ends e queued past packets d their_past reads h input o w may turn nowhere none fits (elim which [ inl gone ↦ gone | inr same' ↦ same' ∙ w.unlinked nowhere ]) (none_performed o.effects (unlinked_asks_nothing d input o may turn (w.unlinked nowhere)).0)
+      idle_rests options ends e queued past packets d their_past reading h input o w may turn nowhere none fits (elim which [ inl gone ↦ gone | inr same' ↦ same' ∙ w.unlinked nowhere ]) (none_performed o.effects (unlinked_asks_nothing d input o may turn (w.unlinked nowhere)).0)
   idle_goes nowhere (idle_begins opens) =
-      unread_goes (opening_still d input (messages_of reads) opens.opening) (opens_goes options ends e queued past packets d their_past reads h few same input o w may turn opens (new opens.begun opens.opening opens.linked))
+      unread_goes (opening_still reading.last d input reading.reads opens.opening) (opens_goes options ends e queued past packets d their_past reading h few same input o w may turn opens (new opens.begun opens.opening opens.linked))
 
   -- What is handled in an association was sent in it.
   abbrev pub Sent : Type 0

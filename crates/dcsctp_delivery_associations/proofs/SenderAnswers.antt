@@ -17,11 +17,11 @@ use Rattle.dcsctp_delivery_sending.proofs.Places.{decide, set_same, set_other}
 use Rattle.dcsctp_delivery_directions.specs.Directions.{Asking, nothing_asked}
 use Rattle.dcsctp_delivery_turns.specs.Actions.{IsCall, peer_tag}
 use Rattle.dcsctp_delivery_turns.specs.Asking.{Own, own_with, own_in, own_of, AreNumbered, IsAsking, OutIs, AsksFit, AskingGrows}
-use Rattle.dcsctp_delivery_turns.specs.Runs.{EndsPerformed, IsBetween, as_it_was, once_performed, once_refused, once_renewed}
+use Rattle.dcsctp_delivery_turns.specs.Runs.{EndsPerformed, RefusesNone, IsBetween, as_it_was, once_performed, once_refused, once_renewed}
 use Rattle.dcsctp_delivery_turns.proofs.Completing.{completes_own}
 use Rattle.dcsctp_delivery_associations.specs.Ends.{SendingEnd, ReceivingEnd, Ends, NewPeer}
 use Rattle.dcsctp_delivery_associations.specs.Answered.{Requests, request_number_at, AnswersRequests, requests_of, waiting_deferral, AreAnswered}
-use Rattle.dcsctp_delivery_associations.specs.Laws.{RefusesNone, CompletesPerformed}
+use Rattle.dcsctp_delivery_associations.specs.Laws.{CompletesPerformed}
 use Rattle.dcsctp_delivery_associations.proofs.RequestNumbers.{same_place, newest_number}
 use Rattle.dcsctp_delivery_associations.proofs.AnsweringRests.{same_requests}
 use Rattle.dcsctp_delivery_associations.proofs.AskedOn as asked

@@ -1,6 +1,6 @@
 -- A turn of the sender in which an association begins.
-use Rattle.std.proofs.Common.{◌≡◌, ◌≢◌, ℕ, ◌<◌, ◌^◌, Option, None, Some, List, [], ◌∷◌, ◌++◌, length, arith, refl, sym, ◌∙◌, ap, subst, inl, inr}
-use Rattle.std.specs.Prelude.{◌⊎◌}
+use Rattle.std.proofs.Common.{◌≡◌, ◌≢◌, ℕ, Bool, true, false, ◌<◌, ◌^◌, Option, None, Some, List, [], ◌∷◌, ◌++◌, length, arith, refl, sym, ◌∙◌, ap, subst, inl, inr}
+use Rattle.std.specs.Prelude.{◌⊎◌, ◌||◌}
 use Rattle.std.specs.List.{AllByRecursion}
 use Rattle.dcsctp_spec_lemmas.specs.types.declared.options.Options.{Options}
 use Rattle.dcsctp_spec_lemmas.specs.types.declared.association.Pair.{Pair}
@@ -21,20 +21,23 @@ use Rattle.dcsctp_delivery_sending.specs.Queueing.{QueueWaits}
 use Rattle.dcsctp_delivery_sending.specs.Marking.{all_marked}
 use Rattle.dcsctp_delivery_sending.proofs.Places.{decide, set_same, set_other}
 use Rattle.dcsctp_delivery_sending.proofs.MarkingAll.{all_marked_keep, all_marked_fit}
-use Rattle.dcsctp_delivery_directions.specs.Directions.{Direction, Asking, nothing_asked, DirectionRun, IsAwaited}
+use Rattle.dcsctp_delivery_directions.specs.Directions.{Direction, Asking, nothing_asked, DirectionRun, IsAwaited, BeginsAtZero}
 use Rattle.dcsctp_delivery_turns.specs.Actions.{peer_tag, Begun}
 use Rattle.dcsctp_delivery_turns.specs.Asking.{own_of, AsksFit, AskingGrows}
 use Rattle.dcsctp_delivery_turns.specs.Addressed.{AreAddressed}
 use Rattle.dcsctp_delivery_turns.specs.Runs.{sender_at, new_direction}
+use Rattle.dcsctp_delivery_turns.proofs.Beginnings.{begun_at_zero}
 use Rattle.dcsctp_delivery_turns.proofs.Runs.{senders_begin}
-use Rattle.dcsctp_delivery_associations.specs.Ends.{SendingEnd, ReceivingEnd, joined, new_end, Ends, HadPeer, Awaits, Sender, NewPeer, HadTag, IsCurrentEnd, Receiver, Between}
+use Rattle.dcsctp_delivery_turns.proofs.Unbegun.{unbegun_begins_at_zero}
+use Rattle.dcsctp_delivery_associations.proofs.Held.{never_held, none_held, some_held}
+use Rattle.dcsctp_delivery_associations.specs.Ends.{SendingEnd, ReceivingEnd, joined, new_end, Ends, HadPeer, HadKind, IsUnbegun, NeverHeld, BeginsAnew, Awaits, Sender, NewPeer, HadTag, IsCurrentEnd, Receiver, Between}
 use Rattle.dcsctp_delivery_directions.proofs.RequestCounts.{requests_more_to, requests_are_sent}
 use Rattle.dcsctp_delivery_associations.specs.Answered.{AnswersRequests, requests_of, waiting_deferral, AreAnswered}
 use Rattle.dcsctp_delivery_associations.proofs.AskedOn.{MayBegin}
 use Rattle.dcsctp_delivery_associations.proofs.Counting.{addressed_requests}
 use Rattle.dcsctp_delivery_associations.proofs.SenderAnswers.{may_begin, begins_answers}
 use Rattle.dcsctp_delivery_associations.specs.Laws.{AreEnds, AsksLittle}
-use Rattle.dcsctp_delivery_associations.specs.Reads.{Read, with_tag, messages_of}
+use Rattle.dcsctp_delivery_associations.specs.Reads.{Reading, with_tag}
 use Rattle.dcsctp_delivery_associations.proofs.Growing.{set_all}
 use Rattle.dcsctp_delivery_associations.proofs.Senders.{link_tag, renewed_end, renewed_ends, renewed}
 use Rattle.dcsctp_delivery_associations.proofs.SenderStays.{set_three, receiver_same}
@@ -50,7 +53,7 @@ data Known (options : Options) (ends : Ends) (d : Endpoint) (new : AssociationId
 same_tag : (core : Option AssociationIdentity) (one two : AssociationIdentity) → core ≡ Some one → core ≡ Some two → one.my.tag ≡ two.my.tag
 same_tag core one two first second = (let same : one ≡ two = cc in ap (λ (l : AssociationIdentity). l.my.tag) same)
 
-module _ (options : Options) (ends : Ends) (d : Endpoint) (past their_past : List Effect) (reads : List Read) (r : Receiver options ends d their_past reads) (new : AssociationIdentity) (is : NewPeer past their_past new) where
+module _ (options : Options) (ends : Ends) (d : Endpoint) (past their_past : List Effect) (reading : Reading) (r : Receiver options ends d their_past reading) (new : AssociationIdentity) (is : NewPeer past their_past new) where
   of_had : HadTag their_past new.peer.tag (ends.firsts new.peer.tag) → ends.firsts new.peer.tag ≡ new.my.first_tsn
   of_had had = sym had.first_is ∙ ap (λ (p : Pair). p.first_tsn) (is.match had.link had.held (inl had.tag_is)).0
 
@@ -71,16 +74,17 @@ module _ (options : Options) (ends : Ends) (d : Endpoint) (past their_past : Lis
   known (Some transfer) there = with_current transfer (r.current transfer there)
 
 -- The receiver's end under this tag is new, and stays so.
-receiver_renewed : (options : Options) (ends : Ends) (sends : ℕ → SendingEnd) (d : Endpoint) (past : List Effect) (reads : List Read) (tag first : ℕ) → Receiver options ends d past reads
+receiver_renewed : (options : Options) (ends : Ends) (sends : ℕ → SendingEnd) (d : Endpoint) (past : List Effect) (reading : Reading) (tag first : ℕ) → Receiver options ends d past reading
     → ends.gets tag ≡ new_end options (ends.firsts tag) → ((transfer : Transfer) (link : AssociationIdentity) → d.queues.transfer ≡ Some transfer → identity_in d.core ≡ Some link → link.my.tag ≢ tag)
-    → Receiver options (record { sends = sends; gets = set_at tag (new_end options first) ends.gets; firsts = set_at tag first ends.firsts }) d past reads
-receiver_renewed options ends sends d past reads tag first r fresh apart =
+    → Receiver options (record { sends = sends; gets = set_at tag (new_end options first) ends.gets; firsts = set_at tag first ends.firsts }) d past reading
+receiver_renewed options ends sends d past reading tag first r fresh apart =
     record {
       fits = r.fits;
       current = λ transfer there. still transfer there (r.current transfer there);
-      left = ready_same ends.gets (set_at tag (new_end options first) ends.gets) d.left d.queues.transfer
+      last = r.last;
+      left = ready_same ends.gets (set_at tag (new_end options first) ends.gets) reading.last d.left d.queues.transfer
           (set_all (λ t g. g.reassembly.incoming.ready ≡ (ends.gets t).reassembly.incoming.ready) tag (new_end options first) ends.gets (sym (ap (λ (g : ReceivingEnd). g.reassembly.incoming.ready) fresh)) (λ t ne. refl)) r.left;
-      were_read = set_all (λ t g. with_tag t reads ≡ g.read) tag (new_end options first) ends.gets (r.were_read tag ∙ ap (λ (g : ReceivingEnd). g.read) fresh) (λ t ne. r.were_read t);
+      were_read = set_all (λ t g. with_tag t reading.reads ≡ g.read) tag (new_end options first) ends.gets (r.were_read tag ∙ ap (λ (g : ReceivingEnd). g.read) fresh) (λ t ne. r.were_read t);
       begun = λ t. elim (decide t tag) [
         | inl e ↦
             inl (subst (λ (n : ℕ). set_at tag (new_end options first) ends.gets n ≡ new_end options (set_at tag first ends.firsts n)) (sym e)
@@ -106,8 +110,8 @@ receiver_renewed options ends sends d past reads tag first r fresh apart =
     other t ne (inl new) = inl (set_other tag t (new_end options first) ends.gets ne ∙ new ∙ ap (new_end options) (sym (set_other tag t first ends.firsts ne)))
     other t ne (inr had) = inr (subst (λ (n : ℕ). HadTag past t n) (sym (set_other tag t first ends.firsts ne)) had)
 
-module _ (options : Options) (ends : Ends) (e : Endpoint) (queued : List Message) (past : List Effect) (packets : List Emission) (d : Endpoint) (their_past : List Effect) (reads : List Read)
-    (h : Between options ends e queued past packets d their_past reads) (input : Input) (o : Outcome) (w : AreAnswered ends e past d their_past) (little : AsksLittle (packets ++ packets_in o.events)) (begun : Begun e o) where
+module _ (options : Options) (ends : Ends) (e : Endpoint) (queued : List Message) (past : List Effect) (packets : List Emission) (d : Endpoint) (their_past : List Effect) (reading : Reading)
+    (h : Between options ends e queued past packets d their_past reading) (input : Input) (o : Outcome) (w : AreAnswered ends e past d their_past) (little : AsksLittle (packets ++ packets_in o.events)) (begun : Begun e o) (follows : o.after.options.follow_rfc ≡ e.options.follow_rfc) (same_kind : o.after.queues.queue.is_interleaved ≡ begun.held.capabilities.message_interleaving) (unbegun : NeverHeld (after_effects o.effects past) → IsUnbegun o.after) where
   abbrev pub new : AssociationIdentity
   new = identity_of begun.my begun.held
 
@@ -115,9 +119,9 @@ module _ (options : Options) (ends : Ends) (e : Endpoint) (queued : List Message
   marks = all_marked (length (ends.sends (peer_tag e.core)).queued) (ends.sends (peer_tag e.core)).queues.queue.streams (ends.sends (peer_tag e.core)).queued
 
   abbrev pub Later : Type 0
-  Later = (other : Options) (room : ℕ) (awaiting : Direction) (queued : List Message) → QueueWaits queued e.queues.queue → AllByRecursion Fits queued → DirectionRun other begun.my.first_tsn room awaiting → IsAwaited awaiting
-      → (acknowledged : ℕ) × (asking : Asking) × AskingGrows nothing_asked asking × AsksFit begun.my.first_tsn (own_of o.after) asking
-      × DirectionRun other begun.my.first_tsn room (sender_at awaiting queued o.after.queues acknowledged (packets_in o.events) asking)
+  Later = (other : Options) (room : ℕ) (awaiting : Direction) (queued : List Message) (from_zero : Bool) → QueueWaits queued e.queues.queue → AllByRecursion Fits queued → DirectionRun other begun.my.first_tsn room awaiting → IsAwaited awaiting
+      → (from_zero ≡ true → BeginsAtZero begun.queue) → (acknowledged : ℕ) × (asking : Asking) × AskingGrows nothing_asked asking × AsksFit begun.my.first_tsn (own_of o.after) asking
+      × DirectionRun other begun.my.first_tsn room (record (sender_at awaiting queued o.after.queues acknowledged (packets_in o.events) asking) { from_zero = from_zero })
 
   new_held : HasEffect (holds new) (after_effects o.effects past)
   new_held = subst (λ (l : List Effect). HasEffect (holds new) (after_effects l past)) (sym begun.noted) (after_within begun.later (holds new ∷ past) (holds new) (inl refl))
@@ -130,6 +134,46 @@ module _ (options : Options) (ends : Ends) (e : Endpoint) (queued : List Message
         tag_is = refl;
         first_is = refl;
       }
+
+  -- Messages interleave as was negotiated.
+  kind_new : HadKind (after_effects o.effects past) begun.held.peer.tag o.after.queues.queue.is_interleaved
+  kind_new = record { link = new; held = new_held; tag_is = refl; kind_is = sym same_kind }
+
+  -- do the numbers of each stream begin at 0?
+  abbrev begins_anew : Bool
+  begins_anew = e.options.follow_rfc || never_held past
+
+  -- Where they are said to, they do.
+  at_zero : begins_anew ≡ true → BeginsAtZero begun.queue
+  at_zero = go e.options.follow_rfc (never_held past) refl refl
+    where
+      go : (follows_it never : Bool) → e.options.follow_rfc ≡ follows_it → never_held past ≡ never → (follows_it || never) ≡ true → BeginsAtZero begun.queue
+      go true never is none is_so = begun_at_zero e o begun is
+      go false true is none is_so = (unbegun_begins_at_zero e o begun (h.unbegun (none_held past none)).zero).0
+      go false false is none is_so = absurd (cc)
+
+  -- So they do in the new association, if it is the only one or the sender follows the RFC, and in each other as before.
+  numbers_anew : NewPeer past their_past new → (end : SendingEnd) → end.from_zero ≡ begins_anew → (tag : ℕ) → tag ≢ 0 → BeginsAnew o.after (after_effects o.effects past) tag → (set_at begun.held.peer.tag end ends.sends tag).from_zero ≡ true
+  numbers_anew is end here =
+      set_all (λ tag s. tag ≢ 0 → BeginsAnew o.after (after_effects o.effects past) tag → s.from_zero ≡ true) begun.held.peer.tag end ends.sends (λ some anew. here ∙ begins_so anew) (λ tag ne some anew. h.numbered tag some (other tag ne anew))
+    where
+      or_true : (b c : Bool) → (b ≡ true) ⊎ (c ≡ true) → (b || c) ≡ true
+      or_true true c which = refl
+      or_true false c (inl is_so) = absurd (cc)
+      or_true false c (inr is_so) = is_so
+
+      never_so : ((link : AssociationIdentity) → HasEffect (holds link) (after_effects o.effects past) → link.peer.tag ≡ begun.held.peer.tag) → (b : Bool) → never_held past ≡ b → never_held past ≡ true
+      never_so only true none = none
+      never_so only false some =
+          (let found = some_held past some in absurd (is.other found.0 found.1 (only found.0 (after_within o.effects past (holds found.0) found.1))))
+
+      begins_so : BeginsAnew o.after (after_effects o.effects past) begun.held.peer.tag → begins_anew ≡ true
+      begins_so (inl anew) = or_true e.options.follow_rfc (never_held past) (inl (sym follows ∙ anew))
+      begins_so (inr only) = or_true e.options.follow_rfc (never_held past) (inr (never_so only (never_held past) refl))
+
+      other : (tag : ℕ) → tag ≢ begun.held.peer.tag → BeginsAnew o.after (after_effects o.effects past) tag → BeginsAnew e past tag
+      other tag ne (inl anew) = inl (sym follows ∙ anew)
+      other tag ne (inr only) = absurd (ne (sym (only new new_held)))
 
   -- What is begun in this turn is little.
   begins_little : AreAddressed begun.held.peer.tag (packets_in o.events) → (options : Options) (size : ℕ) (acknowledged : ℕ) (asking : Asking) (direction : Direction) → AskingGrows nothing_asked asking
@@ -159,41 +203,41 @@ module _ (options : Options) (ends : Ends) (e : Endpoint) (queued : List Message
 
   crossed_begins : NewPeer past their_past new → Awaits (ends.sends begun.held.peer.tag) → identity_in o.after.core ≡ Some new → AreAddressed begun.held.peer.tag (packets_in o.events)
       → QueueWaits marks e.queues.queue → AllByRecursion Fits marks → Later → ends.firsts begun.held.peer.tag ≡ begun.my.first_tsn
-      → AreEnds options o.after queued (after_effects o.effects past) (packets ++ packets_in o.events) d their_past (messages_of reads)
+      → AreEnds options o.after queued (after_effects o.effects past) (packets ++ packets_in o.events) d their_past reading
   crossed_begins is waits linked addressed shown fit later same =
       let to : ℕ = begun.held.peer.tag in
       let ps : List Emission = packets_in o.events in
       let start : DirectionRun options begun.my.first_tsn options.max_receiver_window_buffer_size (joined (ends.sends to) (ends.gets to)) =
       subst (λ (n : ℕ). DirectionRun options n options.max_receiver_window_buffer_size (joined (ends.sends to) (ends.gets to))) same (h.runs to) in
-      let run = later options options.max_receiver_window_buffer_size (joined (ends.sends to) (ends.gets to)) marks shown fit start
-      (record { queued = waits.queued; sent = waits.sent; acknowledged = waits.acknowledged; transfer = waits.transfer; asking = waits.asking }) in
-      let end : SendingEnd = renewed_end ends (peer_tag e.core) e.queues queued past packets h.sender o.effects to o.after.queues run.0 ps run.1 ends.gets ends.firsts in
-      let ends' : Ends = renewed_ends ends (peer_tag e.core) e.queues queued past packets h.sender o.effects to o.after.queues run.0 ps run.1 ends.gets ends.firsts in
+      let run = later options options.max_receiver_window_buffer_size (joined (ends.sends to) (ends.gets to)) marks begins_anew shown fit start
+      (record { queued = waits.queued; sent = waits.sent; acknowledged = waits.acknowledged; transfer = waits.transfer; asking = waits.asking }) at_zero in
+      let end : SendingEnd = renewed_end ends (peer_tag e.core) e.queues queued past packets h.sender o.effects to o.after.queues run.0 ps run.1 begins_anew ends.gets ends.firsts in
+      let ends' : Ends = renewed_ends ends (peer_tag e.core) e.queues queued past packets h.sender o.effects to o.after.queues run.0 ps run.1 begins_anew ends.gets ends.firsts in
       record {
         ends = ends';
-        tagged = reads;
-        are_all = refl;
         between = record {
           runs = set_all (λ tag s. DirectionRun options (ends.firsts tag) options.max_receiver_window_buffer_size (joined s (ends.gets tag))) to end ends.sends
               (subst (λ (n : ℕ). DirectionRun options n options.max_receiver_window_buffer_size (joined end (ends.gets to))) (sym same) run.4) (λ tag ne. h.runs tag);
           small = h.small;
           sender = sender_of ends' linked
-              (renewed ends (peer_tag e.core) e.queues queued past packets h.sender o.effects to o.after.queues run.0 ps run.1 ends.gets ends.firsts (inr waits)
-              (λ some. subst (λ (n : ℕ). HadPeer (after_effects o.effects past) to n) (sym same) had_new) (λ tag ne. refl) addressed);
+              (renewed ends (peer_tag e.core) e.queues queued past packets h.sender o.effects to o.after.queues run.0 ps run.1 begins_anew ends.gets ends.firsts (inr waits)
+              (λ some. subst (λ (n : ℕ). HadPeer (after_effects o.effects past) to n) (sym same) had_new) (λ tag ne. refl) addressed (λ some. kind_new));
           asks = subst (λ (k : ℕ). AsksFit (ends.firsts k) (own_of o.after) (set_at to end ends.sends k).asking) (sym (link_tag o.after.core new linked))
               (subst (λ (s : SendingEnd). AsksFit (ends.firsts to) (own_of o.after) s.asking) (sym (set_same to end ends.sends))
               (subst (λ (n : ℕ). AsksFit n (own_of o.after) run.1) (sym same) run.3));
-          receiver = receiver_same options ends ends'.sends d their_past reads h.receiver;
+          numbered = numbers_anew is end refl;
+          unbegun = unbegun;
+          receiver = receiver_same options ends ends'.sends d their_past reading h.receiver;
         };
         answered = answered_by ends' linked (set_at to begun.my w.pairs)
             (begins_answers ends e past d their_past w new is waits.asking end ends.gets ends.firsts same (λ tag ne. refl)
-            (begins_little addressed options options.max_receiver_window_buffer_size run.0 run.1 (joined (ends.sends to) (ends.gets to)) run.2 run.3 linked run.4) (λ other there tag. same) (after_effects o.effects past) (after_within o.effects past) new_held);
+            (begins_little addressed options options.max_receiver_window_buffer_size run.0 run.1 (record (joined (ends.sends to) (ends.gets to)) { from_zero = begins_anew }) run.2 run.3 linked run.4) (λ other there tag. same) (after_effects o.effects past) (after_within o.effects past) new_held);
       }
 
   fresh_begins : NewPeer past their_past new → Awaits (ends.sends begun.held.peer.tag) → identity_in o.after.core ≡ Some new → AreAddressed begun.held.peer.tag (packets_in o.events)
       → QueueWaits marks e.queues.queue → AllByRecursion Fits marks → Later → ends.gets begun.held.peer.tag ≡ new_end options (ends.firsts begun.held.peer.tag)
       → ((transfer : Transfer) (link : AssociationIdentity) → d.queues.transfer ≡ Some transfer → identity_in d.core ≡ Some link → link.my.tag ≢ begun.held.peer.tag)
-      → AreEnds options o.after queued (after_effects o.effects past) (packets ++ packets_in o.events) d their_past (messages_of reads)
+      → AreEnds options o.after queued (after_effects o.effects past) (packets ++ packets_in o.events) d their_past reading
   fresh_begins is waits linked addressed shown fit later fresh apart =
       let to : ℕ = begun.held.peer.tag in
       let first : ℕ = begun.my.first_tsn in
@@ -201,28 +245,28 @@ module _ (options : Options) (ends : Ends) (e : Endpoint) (queued : List Message
       let gets : ℕ → ReceivingEnd = set_at to (new_end options first) ends.gets in
       let firsts : ℕ → ℕ = set_at to first ends.firsts in
       let run = later options options.max_receiver_window_buffer_size
-      (new_direction options first options.max_receiver_window_buffer_size [] (record { queue = empty_queue options; transfer = None }) 0 []) marks shown fit (senders_begin options options first options.max_receiver_window_buffer_size)
-      (record { queued = refl; sent = refl; acknowledged = refl; transfer = refl; asking = refl }) in
-      let end : SendingEnd = renewed_end ends (peer_tag e.core) e.queues queued past packets h.sender o.effects to o.after.queues run.0 ps run.1 gets firsts in
-      let ends' : Ends = renewed_ends ends (peer_tag e.core) e.queues queued past packets h.sender o.effects to o.after.queues run.0 ps run.1 gets firsts in
+      (new_direction options first options.max_receiver_window_buffer_size [] (record { queue = empty_queue options; transfer = None }) 0 [] true) marks begins_anew shown fit (senders_begin options options first options.max_receiver_window_buffer_size)
+      (record { queued = refl; sent = refl; acknowledged = refl; transfer = refl; asking = refl }) at_zero in
+      let end : SendingEnd = renewed_end ends (peer_tag e.core) e.queues queued past packets h.sender o.effects to o.after.queues run.0 ps run.1 begins_anew gets firsts in
+      let ends' : Ends = renewed_ends ends (peer_tag e.core) e.queues queued past packets h.sender o.effects to o.after.queues run.0 ps run.1 begins_anew gets firsts in
       record {
         ends = ends';
-        tagged = reads;
-        are_all = refl;
         between = record {
           runs = set_three (λ tag f s g. DirectionRun options f options.max_receiver_window_buffer_size (joined s g)) to first end (new_end options first) ends.firsts ends.sends ends.gets run.4 (λ tag ne. h.runs tag);
           small = set_all (λ tag f. f < 2 ^ 32) to first ends.firsts is.small (λ tag ne. h.small tag);
           sender = sender_of ends' linked
-              (renewed ends (peer_tag e.core) e.queues queued past packets h.sender o.effects to o.after.queues run.0 ps run.1 gets firsts (inr waits)
-              (λ some. subst (λ (n : ℕ). HadPeer (after_effects o.effects past) to n) (sym (set_same to first ends.firsts)) had_new) (λ tag ne. set_other to tag first ends.firsts ne) addressed);
+              (renewed ends (peer_tag e.core) e.queues queued past packets h.sender o.effects to o.after.queues run.0 ps run.1 begins_anew gets firsts (inr waits)
+              (λ some. subst (λ (n : ℕ). HadPeer (after_effects o.effects past) to n) (sym (set_same to first ends.firsts)) had_new) (λ tag ne. set_other to tag first ends.firsts ne) addressed (λ some. kind_new));
           asks = subst (λ (k : ℕ). AsksFit (firsts k) (own_of o.after) (set_at to end ends.sends k).asking) (sym (link_tag o.after.core new linked))
               (subst (λ (s : SendingEnd). AsksFit (firsts to) (own_of o.after) s.asking) (sym (set_same to end ends.sends))
               (subst (λ (n : ℕ). AsksFit n (own_of o.after) run.1) (sym (set_same to first ends.firsts)) run.3));
-          receiver = receiver_renewed options ends ends'.sends d their_past reads to first h.receiver fresh apart;
+          numbered = numbers_anew is end refl;
+          unbegun = unbegun;
+          receiver = receiver_renewed options ends ends'.sends d their_past reading to first h.receiver fresh apart;
         };
         answered = answered_by ends' linked (set_at to begun.my w.pairs)
             (begins_answers ends e past d their_past w new is waits.asking end gets firsts (set_same to first ends.firsts) (λ tag ne. set_other to tag first ends.firsts ne)
-            (begins_little addressed options options.max_receiver_window_buffer_size run.0 run.1 (new_direction options first options.max_receiver_window_buffer_size [] (record { queue = empty_queue options; transfer = None }) 0 []) run.2 run.3 linked run.4)
+            (begins_little addressed options options.max_receiver_window_buffer_size run.0 run.1 (new_direction options first options.max_receiver_window_buffer_size [] (record { queue = empty_queue options; transfer = None }) 0 [] begins_anew) run.2 run.3 linked run.4)
             (λ other there tag. absurd (nowhere d.queues.transfer refl other there tag)) (after_effects o.effects past) (after_within o.effects past) new_held);
       }
     where
@@ -232,10 +276,10 @@ module _ (options : Options) (ends : Ends) (e : Endpoint) (queued : List Message
 
   pub begins : NewPeer past their_past new → identity_in o.after.core ≡ Some new → AreAddressed begun.held.peer.tag (packets_in o.events)
       → QueueWaits (ends.sends (peer_tag e.core)).queued e.queues.queue → AllByRecursion Fits (ends.sends (peer_tag e.core)).queued → Later
-      → AreEnds options o.after queued (after_effects o.effects past) (packets ++ packets_in o.events) d their_past (messages_of reads)
+      → AreEnds options o.after queued (after_effects o.effects past) (packets ++ packets_in o.events) d their_past reading
   begins is linked addressed shown fit later =
       elim (h.sender.begun begun.held.peer.tag is.some) [
-        | inl waits ↦ go waits (known options ends d past their_past reads h.receiver new is d.queues.transfer refl)
+        | inl waits ↦ go waits (known options ends d past their_past reading h.receiver new is d.queues.transfer refl)
         | inr had ↦ absurd (is.other had.link had.held had.tag_is)
       ]
     where
@@ -247,6 +291,6 @@ module _ (options : Options) (ends : Ends) (e : Endpoint) (queued : List Message
       fit_marks : AllByRecursion Fits marks
       fit_marks = all_marked_fit (length (ends.sends (peer_tag e.core)).queued) (ends.sends (peer_tag e.core)).queues.queue.streams (ends.sends (peer_tag e.core)).queued fit
 
-      go : Awaits (ends.sends begun.held.peer.tag) → Known options ends d new → AreEnds options o.after queued (after_effects o.effects past) (packets ++ packets_in o.events) d their_past (messages_of reads)
+      go : Awaits (ends.sends begun.held.peer.tag) → Known options ends d new → AreEnds options o.after queued (after_effects o.effects past) (packets ++ packets_in o.events) d their_past reading
       go waits (is_crossed same) = crossed_begins is waits linked addressed holds_marks fit_marks later same
       go waits (is_fresh fresh apart) = fresh_begins is waits linked addressed holds_marks fit_marks later fresh apart

@@ -1,5 +1,5 @@
 -- Each turn of the sender.
-use Rattle.std.proofs.Common.{None, Some, ◌≡◌, ◌≢◌, ◌<◌, ◌-◌, ◌^◌, ℕ, Option, List, [], ◌∷◌, ◌++◌, length, refl, sym, ◌∙◌, ap, arith, subst}
+use Rattle.std.proofs.Common.{None, Some, ◌≡◌, ◌≢◌, ◌<◌, ◌-◌, ◌^◌, ℕ, Option, List, [], ◌∷◌, ◌++◌, length, refl, sym, ◌∙◌, ap, arith, subst, inl}
 use Rattle.std.proofs.lemmas.List.{length-append}
 use Rattle.dcsctp_spec_lemmas.specs.types.declared.options.Options.{Options}
 use Rattle.dcsctp_spec_lemmas.specs.spec.endpoint.Endpoint.{Endpoint, Core, OutstandingRequest}
@@ -8,7 +8,7 @@ use Rattle.dcsctp_spec_lemmas.specs.spec.endpoint.Outcome.{Outcome}
 use Rattle.dcsctp_spec_lemmas.specs.spec.Packet.{Emission}
 use Rattle.dcsctp_spec_lemmas.specs.spec.endpoint.Turn.{Input, Turn}
 use Rattle.dcsctp_spec_runs.specs.World.{after_effects}
-use Rattle.dcsctp_spec_lemmas.specs.spec.association.Effect.{AssociationIdentity, identity_in, Effect, identity_of}
+use Rattle.dcsctp_spec_lemmas.specs.spec.association.Effect.{AssociationIdentity, identity_in, Effect, holds, identity_of}
 use Rattle.dcsctp_spec_lemmas.specs.spec.queues.Transfer.{EndpointQueues}
 use Rattle.dcsctp_theorem_association.proofs.Growth.{after_within}
 use Rattle.dcsctp_delivery_sending.specs.Places.{set_at}
@@ -18,13 +18,16 @@ use Rattle.dcsctp_delivery_directions.proofs.RequestCounts.{requests_more, reque
 use Rattle.dcsctp_delivery_turns.specs.Actions.{IsOpening, came_by, peer_tag, queued_after, Begun, IsCall}
 use Rattle.dcsctp_delivery_turns.specs.Addressed.{AreAddressed}
 use Rattle.dcsctp_delivery_turns.specs.Asking.{own_in, own_of, AsksFit, AskingGrows}
-use Rattle.dcsctp_delivery_turns.specs.Runs.{sender_at, IsBetween, EndsPerformed, SenderTurns, run_goes_on, run_ends, run_begins}
+use Rattle.dcsctp_delivery_turns.specs.Runs.{sender_at, IsBetween, EndsPerformed, RefusesNone, SenderTurns, run_goes_on, run_ends, run_begins}
 use Rattle.dcsctp_delivery_turns.proofs.Completing.{completes_own}
 use Rattle.dcsctp_delivery_turns.proofs.Runs.{senders_go_on}
-use Rattle.dcsctp_delivery_associations.specs.Ends.{SendingEnd, joined, Ends, NewPeer, Between}
+use Rattle.dcsctp_delivery_turns.specs.Unbegun.{UnbegunTurns, stays_unbegun, begins_first}
+use Rattle.dcsctp_delivery_turns.proofs.Unbegun.{stays_at_zero}
+use Rattle.dcsctp_spec_runs.specs.Past.{HasEffect}
+use Rattle.dcsctp_delivery_associations.specs.Ends.{SendingEnd, joined, Ends, IsUnbegun, NeverHeld, NewPeer, Between}
 use Rattle.dcsctp_delivery_associations.specs.Answered.{AnswersRequests, requests_of, waiting_deferral, AreAnswered}
-use Rattle.dcsctp_delivery_associations.specs.Laws.{RefusesNone, CompletesPerformed, AsksLittle, AreEnds}
-use Rattle.dcsctp_delivery_associations.specs.Reads.{Read, messages_of}
+use Rattle.dcsctp_delivery_associations.specs.Laws.{CompletesPerformed, AsksLittle, AreEnds}
+use Rattle.dcsctp_delivery_associations.specs.Reads.{Reading}
 use Rattle.dcsctp_delivery_associations.proofs.AskedOn as asked
 use Rattle.dcsctp_delivery_associations.proofs.AskedOn.{MayBegin}
 use Rattle.dcsctp_delivery_associations.proofs.Renewed.{MayGo, ends_so}
@@ -45,8 +48,8 @@ queues_none more queued same = no_message more (let long = length-append more qu
 
 -- ---- each turn
 
-module _ (options : Options) (ends : Ends) (e : Endpoint) (queued : List Message) (past : List Effect) (packets : List Emission) (d : Endpoint) (their_past : List Effect) (reads : List Read)
-    (h : Between options ends e queued past packets d their_past reads) (input : Input) (o : Outcome) (new : (begun : Begun e o) → IsOpening (came_by input) → identity_in o.after.core ≡ Some (identity_of begun.my begun.held) → NewPeer past their_past (identity_of begun.my begun.held))
+module _ (options : Options) (ends : Ends) (e : Endpoint) (queued : List Message) (past : List Effect) (packets : List Emission) (d : Endpoint) (their_past : List Effect) (reading : Reading)
+    (h : Between options ends e queued past packets d their_past reading) (input : Input) (o : Outcome) (new : (begun : Begun e o) → IsOpening (came_by input) → identity_in o.after.core ≡ Some (identity_of begun.my begun.held) → NewPeer past their_past (identity_of begun.my begun.held))
     (w : AreAnswered ends e past d their_past) (little : AsksLittle (packets ++ packets_in o.events)) where
   abbrev key : ℕ
   key = peer_tag e.core
@@ -162,17 +165,17 @@ module _ (options : Options) (ends : Ends) (e : Endpoint) (queued : List Message
       }
 
   -- the ends once the association has ended
-  abbrev over : EndpointQueues → ℕ → Asking → AreAddressed (peer_tag e.core) (packets_in o.events) → Ends
-  over last acknowledged asking addressed = ended_ends options ends e queued past packets d their_past reads h input o last acknowledged asking addressed
+  abbrev over : (last : EndpointQueues) → ℕ → Asking → AreAddressed (peer_tag e.core) (packets_in o.events) → last.queue.is_interleaved ≡ e.queues.queue.is_interleaved → Ends
+  over last acknowledged asking addressed kind = ended_ends options ends e queued past packets d their_past reading h input o last acknowledged asking addressed kind
 
   ends_answered : (found : Option AssociationIdentity) → identity_in e.core ≡ found → IsCall input → Turn e input o → CompletesPerformed their_past o → identity_in o.after.core ≡ None
-      → (addressed : AreAddressed (peer_tag e.core) (packets_in o.events)) (last : EndpointQueues) → last.queue.is_interleaved ≡ e.queues.queue.is_interleaved → (acknowledged : ℕ) (asking : Asking)
+      → (addressed : AreAddressed (peer_tag e.core) (packets_in o.events)) (last : EndpointQueues) → (kind : last.queue.is_interleaved ≡ e.queues.queue.is_interleaved) → (acknowledged : ℕ) (asking : Asking)
       → AskingGrows (ends.sends (peer_tag e.core)).asking asking → AsksFit (ends.firsts (peer_tag e.core)) (own_of e) asking → length asking.requests < 2 ^ 32 - 1
-      → AreAnswered (over last acknowledged asking addressed) o.after (after_effects o.effects past) d their_past
+      → AreAnswered (over last acknowledged asking addressed kind) o.after (after_effects o.effects past) d their_past
   ends_answered None there may turn completes_so none addressed last kind' acknowledged asking grows fit little' =
       record {
         pairs = w.pairs;
-        answers = subst (λ (l : Option AssociationIdentity). AnswersRequests (requests_of (over last acknowledged asking addressed) w.pairs) l (after_effects o.effects past) (identity_in d.core) their_past (waiting_deferral d.queues.transfer)) (sym none)
+        answers = subst (λ (l : Option AssociationIdentity). AnswersRequests (requests_of (over last acknowledged asking addressed kind') w.pairs) l (after_effects o.effects past) (identity_in d.core) their_past (waiting_deferral d.queues.transfer)) (sym none)
             (closes_answers ends e past d their_past w h.sender.queues_are o.after o.effects (grown_to last acknowledged asking) kind' None (after_effects o.effects past) _
             (idle_answers ends e past d their_past w h.sender.queues_are o.after o.effects (grown_to last acknowledged asking) kind' there (after_effects o.effects past) (after_within o.effects past)));
         unlinked = w.unlinked;
@@ -180,7 +183,7 @@ module _ (options : Options) (ends : Ends) (e : Endpoint) (queued : List Message
   ends_answered (Some link) there may turn completes_so none addressed last kind' acknowledged asking grows fit little' =
       record {
         pairs = w.pairs;
-        answers = subst (λ (l : Option AssociationIdentity). AnswersRequests (requests_of (over last acknowledged asking addressed) w.pairs) l (after_effects o.effects past) (identity_in d.core) their_past (waiting_deferral d.queues.transfer)) (sym none)
+        answers = subst (λ (l : Option AssociationIdentity). AnswersRequests (requests_of (over last acknowledged asking addressed kind') w.pairs) l (after_effects o.effects past) (identity_in d.core) their_past (waiting_deferral d.queues.transfer)) (sym none)
             (closes_answers ends e past d their_past w h.sender.queues_are o.after o.effects (grown_to last acknowledged asking) kind' (Some link) (after_effects o.effects past) _
             (goes link there may turn completes_so o.after (grown_to last acknowledged asking) kind' (ends.sends link.peer.tag).asking as_it_was_asked
             (begins_so link there may turn completes_so e.core e.outstanding (ends.sends link.peer.tag).asking asking there (subst (λ (t : ℕ). AskingGrows (ends.sends t).asking asking) (link_tag e.core link there) grows) fit little')));
@@ -190,27 +193,39 @@ module _ (options : Options) (ends : Ends) (e : Endpoint) (queued : List Message
       as_it_was_asked : MayGo (requests_of ends w.pairs link.peer.tag) their_past (ends.sends link.peer.tag).asking
       as_it_was_asked = ends_so _ asked.as_it_was
 
-  by_turn : IsCall input → Turn e input o → RefusesNone e o → CompletesPerformed their_past o
+  -- A sender that had no association has none after the turn, or one begins.
+  unbegun_after : IsCall input → Turn e input o → NeverHeld (after_effects o.effects past) → IsUnbegun o.after
+  unbegun_after may turn never =
+      let before = h.unbegun (λ link held. never link (after_within o.effects past (holds link) held)) in
+      go (stays_at_zero e input o before.unlinked before.idle before.zero may turn)
+    where
+      go : UnbegunTurns e input o → IsUnbegun o.after
+      go (stays_unbegun unlinked idle at) = record { unlinked = unlinked; idle = idle; zero = at }
+      go (begins_first begun opening linked) =
+          absurd (never (identity_of begun.my begun.held) (subst (λ (l : List Effect). HasEffect (holds (identity_of begun.my begun.held)) (after_effects l past)) (sym begun.noted)
+          (after_within begun.later (holds (identity_of begun.my begun.held) ∷ past) (holds (identity_of begun.my begun.held)) (inl refl))))
+
+  by_turn : o.after.options.follow_rfc ≡ e.options.follow_rfc → IsCall input → Turn e input o → RefusesNone e o → CompletesPerformed their_past o
       → SenderTurns options (ends.firsts (peer_tag e.core)) options.max_receiver_window_buffer_size (joined (ends.sends (peer_tag e.core)) (ends.gets (peer_tag e.core))) e input o
-      → AreEnds options o.after (queued_after e input queued) (after_effects o.effects past) (packets ++ packets_in o.events) d their_past (messages_of reads)
-  by_turn may turn refuses completes_so (run_goes_on linked addressed kind' acknowledged between asking is grows fit run) =
-      goes_on options ends e queued past packets d their_past reads h input o linked addressed acknowledged asking fit
+      → AreEnds options o.after (queued_after e input queued) (after_effects o.effects past) (packets ++ packets_in o.events) d their_past reading
+  by_turn follows may turn refuses completes_so (run_goes_on linked addressed kind' acknowledged between asking is grows fit run) =
+      goes_on options ends e queued past packets d their_past reading h input o follows (unbegun_after may turn) linked kind' addressed acknowledged asking fit
       (goes_answered (identity_in e.core) refl may turn refuses completes_so linked addressed kind' acknowledged between asking is grows fit (few_then addressed o.after.queues acknowledged asking run)) run
-  by_turn may turn refuses completes_so (run_ends none addressed last kind' acknowledged asking grows fit run is shown fit') =
-      ended options ends e queued past packets d their_past reads h input o none addressed last is shown fit' acknowledged asking
+  by_turn follows may turn refuses completes_so (run_ends none addressed last kind' acknowledged asking grows fit run is shown fit') =
+      ended options ends e queued past packets d their_past reading h input o follows (unbegun_after may turn) none addressed last kind' is shown fit' acknowledged asking
       (ends_answered (identity_in e.core) refl may turn completes_so none addressed last kind' acknowledged asking grows fit (few_then addressed last acknowledged asking run)) run
-  by_turn may turn refuses completes_so (run_begins begun opening linked addressed same shown fit later) =
+  by_turn follows may turn refuses completes_so (run_begins begun opening linked addressed kind' same shown fit later) =
       let none : queued_after e input [] ≡ [] = queues_none (queued_after e input []) (ends.sends (peer_tag e.core)).queued (sym (input_adds e input (ends.sends (peer_tag e.core)).queued) ∙ same) in
       let stays : queued_after e input queued ≡ queued = input_adds e input queued ∙ ap (λ (l : List Message). l ++ queued) none in
-      subst (λ (l : List Message). AreEnds options o.after l (after_effects o.effects past) (packets ++ packets_in o.events) d their_past (messages_of reads)) (sym stays)
-      (begins options ends e queued past packets d their_past reads h input o w little begun (new begun opening linked) linked addressed shown fit later)
+      subst (λ (l : List Message). AreEnds options o.after l (after_effects o.effects past) (packets ++ packets_in o.events) d their_past reading) (sym stays)
+      (begins options ends e queued past packets d their_past reading h input o w little begun follows kind' (unbegun_after may turn) (new begun opening linked) linked addressed shown fit later)
 
-  pub sender_turns : length (queued_after e input queued) < 2 ^ 64 → RefusesNone e o → CompletesPerformed their_past o → IsCall input → Turn e input o
-      → AreEnds options o.after (queued_after e input queued) (after_effects o.effects past) (packets ++ packets_in o.events) d their_past (messages_of reads)
-  sender_turns few refuses completes_so may turn =
-      by_turn may turn refuses completes_so
+  pub sender_turns : length (queued_after e input queued) < 2 ^ 64 → RefusesNone e o → CompletesPerformed their_past o → o.after.options.follow_rfc ≡ e.options.follow_rfc → IsCall input → Turn e input o
+      → AreEnds options o.after (queued_after e input queued) (after_effects o.effects past) (packets ++ packets_in o.events) d their_past reading
+  sender_turns few refuses completes_so follows may turn =
+      by_turn follows may turn refuses completes_so
       (senders_go_on options (ends.firsts key) options.max_receiver_window_buffer_size now e input o (h.runs key) (h.small key) h.sender.queues_are h.asks
-      (performed_by (identity_in e.core) refl may turn completes_so) (λ begun opening linked. (new begun opening linked).small)
+      (performed_by (identity_in e.core) refl may turn completes_so) refuses (λ begun opening linked. (new begun opening linked).small)
       (let long = ap (λ (l : List Message). length l) (input_adds e input (ends.sends key).queued) ∙ length-append (queued_after e input []) (ends.sends key).queued in
       let same = ap (λ (l : List Message). length l) (input_adds e input queued) ∙ length-append (queued_after e input []) queued in
       let size = h.sender.long in

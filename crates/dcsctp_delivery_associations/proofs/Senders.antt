@@ -1,5 +1,5 @@
 -- A turn of the sender.
-use Rattle.std.proofs.Common.{◌≡◌, ◌≢◌, ℕ, ◌+◌, ◌≤◌, Option, None, Some, List, [], ◌∷◌, ◌++◌, length, refl, sym, ◌∙◌, ap, arith, subst, inl, inr}
+use Rattle.std.proofs.Common.{◌≡◌, ◌≢◌, ℕ, Bool, ◌+◌, ◌≤◌, Option, None, Some, List, [], ◌∷◌, ◌++◌, length, refl, sym, ◌∙◌, ap, arith, subst, inl, inr}
 use Rattle.std.specs.Prelude.{◌⊎◌}
 use Rattle.std.proofs.lemmas.List.{length-append}
 use Rattle.dcsctp_spec_lemmas.specs.spec.endpoint.Endpoint.{Core, closed, cookie_wait, cookie_echoed, open_in}
@@ -22,7 +22,7 @@ use Rattle.dcsctp_delivery_turns.specs.Addressed.{IsAddressed, AreAddressed}
 use Rattle.dcsctp_delivery_directions.specs.Requests.{requests_in, requests_to}
 use Rattle.dcsctp_delivery_directions.proofs.RequestCounts.{requests_more, requests_more_to}
 use Rattle.dcsctp_delivery_associations.proofs.Counting.{addressed_requests}
-use Rattle.dcsctp_delivery_associations.specs.Ends.{SendingEnd, ReceivingEnd, Ends, MarksLeft, HadPeer, Awaits, IsOfEnds, AreOfEnds, Sender}
+use Rattle.dcsctp_delivery_associations.specs.Ends.{SendingEnd, ReceivingEnd, Ends, MarksLeft, HadPeer, HadKind, Awaits, IsOfEnds, AreOfEnds, Sender}
 use Rattle.dcsctp_delivery_associations.proofs.Counting.{more_to, addressed_counts}
 use Rattle.dcsctp_delivery_associations.proofs.Growing.{set_all, AllFound, found_later, found_then, found_grown, marked_grown, marked_still}
 
@@ -90,12 +90,15 @@ has_back p (q ∷ one) other h = inr (has_back p one other h)
 pub had_later : (effects past : List Effect) (tag first : ℕ) → HadPeer past tag first → HadPeer (after_effects effects past) tag first
 had_later effects past tag first had = record { link = had.link; held = after_within effects past (holds had.link) had.held; tag_is = had.tag_is; first_is = had.first_is }
 
+pub kind_later : (effects past : List Effect) (tag : ℕ) (is_interleaved : Bool) → HadKind past tag is_interleaved → HadKind (after_effects effects past) tag is_interleaved
+kind_later effects past tag is_interleaved had = record { link = had.link; held = after_within effects past (holds had.link) had.held; tag_is = had.tag_is; kind_is = had.kind_is }
+
 -- ---- the current end grows
 
 module _ (ends : Ends) (key : ℕ) (below : EndpointQueues) (queued : List Message) (past : List Effect) (packets : List Emission) (h : Sender ends key below queued past packets)
     (effects : List Effect) (more : List Message) (after : EndpointQueues) (acknowledged : ℕ) (ps : List Emission) (asking : Asking) where
   abbrev pub grown_end : SendingEnd
-  grown_end = record { queued = more ++ (ends.sends key).queued; queues = after; acknowledged = acknowledged; sent = (ends.sends key).sent ++ ps; asking = asking }
+  grown_end = record { queued = more ++ (ends.sends key).queued; queues = after; acknowledged = acknowledged; sent = (ends.sends key).sent ++ ps; asking = asking; from_zero = (ends.sends key).from_zero }
 
   abbrev pub grown_ends : Ends
   grown_ends = record ends { sends = set_at key grown_end ends.sends }
@@ -136,8 +139,8 @@ module _ (ends : Ends) (key : ℕ) (below : EndpointQueues) (queued : List Messa
       both e f (inl l) = inl (subst (λ (s : SendingEnd). MarksLeft s (grown_ends.sends other).queued) (sym e) (subst (λ (s : SendingEnd). MarksLeft (ends.sends one) s.queued) (sym f) l))
       both e f (inr l) = inr (subst (λ (s : SendingEnd). MarksLeft s (grown_ends.sends one).queued) (sym f) (subst (λ (s : SendingEnd). MarksLeft (ends.sends other) s.queued) (sym e) l))
 
-  pub grown : AreAddressed key ps → Sender grown_ends key after (more ++ queued) (after_effects effects past) (packets ++ ps)
-  grown addressed =
+  pub grown : AreAddressed key ps → after.queue.is_interleaved ≡ below.queue.is_interleaved → Sender grown_ends key after (more ++ queued) (after_effects effects past) (packets ++ ps)
+  grown addressed same_kind =
       record {
         queues_are = ap (λ (s : SendingEnd). s.queues) (set_same key grown_end ends.sends);
         long = ap (λ (s : SendingEnd). length s.queued) (set_same key grown_end ends.sends) ∙ length-append more (ends.sends key).queued ∙ ap (λ (n : ℕ). length more + n) h.long ∙ sym (length-append more queued);
@@ -156,28 +159,39 @@ module _ (ends : Ends) (key : ℕ) (below : EndpointQueues) (queued : List Messa
             (subst (λ (s : SendingEnd). MarksLeft (ends.sends tag) s.queued) (sym (set_same key grown_end ends.sends)) (grown_last tag ne));
         pairs = grown_pairs;
         current = λ some. had_later effects past key (ends.firsts key) (h.current some);
+        kind = kind_now;
         begun = λ tag some. elim (decide tag key) [
           | inl e ↦ inr (subst (λ (n : ℕ). HadPeer (after_effects effects past) n (ends.firsts n)) (sym e) (had_later effects past key (ends.firsts key) (h.current (λ is. some (e ∙ is)))))
           | inr ne ↦ begun_before tag ne (h.begun tag some)
         ];
+        kinds = set_all (λ tag s. tag ≢ 0 → Awaits s ⊎ HadKind (after_effects effects past) tag s.queues.queue.is_interleaved) key grown_end ends.sends
+            (λ some. inr (kind_now some))
+            (λ tag ne some. kinds_before tag (h.kinds tag some));
         all_sent = of_both grown_ends packets ps (of_more ends grown_ends packets grown_sent h.all_sent)
             (of_new grown_ends key ps
             (λ emission has. inr (subst (λ (s : SendingEnd). places.HasEntry emission s.sent) (sym (set_same key grown_end ends.sends)) (has_back emission (ends.sends key).sent ps has))) addressed);
       }
     where
+      kind_now : key ≢ 0 → HadKind (after_effects effects past) key after.queue.is_interleaved
+      kind_now some = kind_later effects past key after.queue.is_interleaved (subst (HadKind past key) (sym same_kind) (h.kind some))
+
       begun_before : (tag : ℕ) → tag ≢ key → Awaits (ends.sends tag) ⊎ HadPeer past tag (ends.firsts tag) → Awaits (grown_ends.sends tag) ⊎ HadPeer (after_effects effects past) tag (ends.firsts tag)
       begun_before tag ne (inl waits) = inl (subst Awaits (sym (set_other key tag grown_end ends.sends ne)) waits)
       begun_before tag ne (inr had) = inr (had_later effects past tag (ends.firsts tag) had)
 
+      kinds_before : (tag : ℕ) → Awaits (ends.sends tag) ⊎ HadKind past tag (ends.sends tag).queues.queue.is_interleaved → Awaits (ends.sends tag) ⊎ HadKind (after_effects effects past) tag (ends.sends tag).queues.queue.is_interleaved
+      kinds_before tag (inl waits) = inl waits
+      kinds_before tag (inr had) = inr (kind_later effects past tag (ends.sends tag).queues.queue.is_interleaved had)
+
 -- ---- another end takes its place, in which all that no longer waits is marked
 
 module _ (ends : Ends) (key : ℕ) (below : EndpointQueues) (queued : List Message) (past : List Effect) (packets : List Emission) (h : Sender ends key below queued past packets)
-    (effects : List Effect) (to : ℕ) (after : EndpointQueues) (acknowledged : ℕ) (ps : List Emission) (asking : Asking) (gets : ℕ → ReceivingEnd) (firsts : ℕ → ℕ) where
+    (effects : List Effect) (to : ℕ) (after : EndpointQueues) (acknowledged : ℕ) (ps : List Emission) (asking : Asking) (from_zero : Bool) (gets : ℕ → ReceivingEnd) (firsts : ℕ → ℕ) where
   abbrev pub marked_queue : List Message
   marked_queue = all_marked (length (ends.sends key).queued) (ends.sends key).queues.queue.streams (ends.sends key).queued
 
   abbrev pub renewed_end : SendingEnd
-  renewed_end = record { queued = marked_queue; queues = after; acknowledged = acknowledged; sent = ps; asking = asking }
+  renewed_end = record { queued = marked_queue; queues = after; acknowledged = acknowledged; sent = ps; asking = asking; from_zero = from_zero }
 
   abbrev pub renewed_ends : Ends
   renewed_ends = record { sends = set_at to renewed_end ends.sends; gets = gets; firsts = firsts }
@@ -228,9 +242,9 @@ module _ (ends : Ends) (key : ℕ) (below : EndpointQueues) (queued : List Messa
       nothing e (inl zero) = some (e ∙ zero)
       nothing e (inr waits) = subst (λ (l : List Emission). places.HasEntry emission l) waits.sent (subst (λ (n : ℕ). places.HasEntry emission (ends.sends n).sent) e has)
 
-  pub renewed : (to ≡ 0) ⊎ Awaits (ends.sends to) → (to ≢ 0 → HadPeer (after_effects effects past) to (firsts to)) → ((tag : ℕ) → tag ≢ to → firsts tag ≡ ends.firsts tag) → AreAddressed to ps
+  pub renewed : (to ≡ 0) ⊎ Awaits (ends.sends to) → (to ≢ 0 → HadPeer (after_effects effects past) to (firsts to)) → ((tag : ℕ) → tag ≢ to → firsts tag ≡ ends.firsts tag) → AreAddressed to ps → (to ≢ 0 → HadKind (after_effects effects past) to after.queue.is_interleaved)
       → Sender renewed_ends to after queued (after_effects effects past) (packets ++ ps)
-  renewed fresh had kept addressed =
+  renewed fresh had kept addressed kind =
       record {
         queues_are = ap (λ (s : SendingEnd). s.queues) (set_same to renewed_end ends.sends);
         long = ap (λ (s : SendingEnd). length s.queued) (set_same to renewed_end ends.sends) ∙ are.size ∙ h.long;
@@ -243,10 +257,12 @@ module _ (ends : Ends) (key : ℕ) (below : EndpointQueues) (queued : List Messa
         last = λ tag ne. renewed_behind tag to refl ne;
         pairs = renewed_pairs;
         current = had;
+        kind = kind;
         begun = λ tag some. elim (decide tag to) [
           | inl e ↦ inr (subst (λ (n : ℕ). HadPeer (after_effects effects past) n (firsts n)) (sym e) (had (λ is. some (e ∙ is))))
           | inr ne ↦ begun_before tag ne (h.begun tag some)
         ];
+        kinds = set_all (λ tag s. tag ≢ 0 → Awaits s ⊎ HadKind (after_effects effects past) tag s.queues.queue.is_interleaved) to renewed_end ends.sends (λ some. inr (kind some)) (λ tag ne some. kinds_before tag (h.kinds tag some));
         all_sent = of_both renewed_ends packets ps (of_more ends renewed_ends packets (renewed_sent fresh) h.all_sent)
             (of_new renewed_ends to ps (λ emission has. inr (subst (λ (s : SendingEnd). places.HasEntry emission s.sent) (sym (set_same to renewed_end ends.sends)) has)) addressed);
       }
@@ -254,3 +270,7 @@ module _ (ends : Ends) (key : ℕ) (below : EndpointQueues) (queued : List Messa
       begun_before : (tag : ℕ) → tag ≢ to → Awaits (ends.sends tag) ⊎ HadPeer past tag (ends.firsts tag) → Awaits (renewed_ends.sends tag) ⊎ HadPeer (after_effects effects past) tag (firsts tag)
       begun_before tag ne (inl waits) = inl (subst Awaits (sym (set_other to tag renewed_end ends.sends ne)) waits)
       begun_before tag ne (inr had) = inr (subst (λ (n : ℕ). HadPeer (after_effects effects past) tag n) (sym (kept tag ne)) (had_later effects past tag (ends.firsts tag) had))
+
+      kinds_before : (tag : ℕ) → Awaits (ends.sends tag) ⊎ HadKind past tag (ends.sends tag).queues.queue.is_interleaved → Awaits (ends.sends tag) ⊎ HadKind (after_effects effects past) tag (ends.sends tag).queues.queue.is_interleaved
+      kinds_before tag (inl waits) = inl waits
+      kinds_before tag (inr had) = inr (kind_later effects past tag (ends.sends tag).queues.queue.is_interleaved had)

@@ -14,15 +14,15 @@ use Rattle.dcsctp_delivery_turns.specs.Actions.{IsCall}
 use Rattle.dcsctp_delivery_associations.specs.Ends.{ReceivingEnd, LeavesReady}
 
 -- As much is ready under each tag as before.
-pub ready_same : (gets later : ℕ → ReceivingEnd) (left : List MessageContent) (found : Option Transfer) → ((tag : ℕ) → (later tag).reassembly.incoming.ready ≡ (gets tag).reassembly.incoming.ready)
-    → LeavesReady gets left found → LeavesReady later left found
-ready_same gets later left None same (inl none) = inl none
-ready_same gets later left None same (inr (tag, ready)) = inr (tag, same tag ∙ ready)
-ready_same gets later left (Some transfer) same none = none
+pub ready_same : (gets later : ℕ → ReceivingEnd) (last : ℕ) (left : List MessageContent) (found : Option Transfer) → ((tag : ℕ) → (later tag).reassembly.incoming.ready ≡ (gets tag).reassembly.incoming.ready)
+    → LeavesReady gets last left found → LeavesReady later last left found
+ready_same gets later last left None same (inl none) = inl none
+ready_same gets later last left None same (inr ready) = inr (same last ∙ ready)
+ready_same gets later last left (Some transfer) same none = none
 
 -- Without an association it is as it says.
-pub left_idle : (gets : ℕ → ReceivingEnd) (left : List MessageContent) (found : Option Transfer) → found ≡ None → (left ≡ []) ⊎ ((tag : ℕ) × ((gets tag).reassembly.incoming.ready ≡ left)) → LeavesReady gets left found
-left_idle gets left found none is = subst (LeavesReady gets left) (sym none) is
+pub left_idle : (gets : ℕ → ReceivingEnd) (last : ℕ) (left : List MessageContent) (found : Option Transfer) → found ≡ None → (left ≡ []) ⊎ ((gets last).reassembly.incoming.ready ≡ left) → LeavesReady gets last left found
+left_idle gets last left found none is = subst (LeavesReady gets last left) (sym none) is
 
 -- A call is an input of the socket's own.
 call_is_own : (input : Input) → IsCall input → IsOwnInput input
@@ -51,33 +51,33 @@ call_is_own (restores state) may = absurd may
 
 module _ (d : Endpoint) (input : Input) (o : Outcome) (may : IsCall input) (turn : Turn d input o) where
   -- In an association nothing is left.
-  pub none_left : (gets : ℕ → ReceivingEnd) (transfer : Transfer) → o.after.queues.transfer ≡ Some transfer → LeavesReady gets d.left d.queues.transfer → o.after.left ≡ []
-  none_left gets transfer is before = go d.queues.transfer o.after.queues.transfer (messages_left_stay d input o (call_is_own input may) turn) is before
+  pub none_left : (gets : ℕ → ReceivingEnd) (last : ℕ) (transfer : Transfer) → o.after.queues.transfer ≡ Some transfer → LeavesReady gets last d.left d.queues.transfer → o.after.left ≡ []
+  none_left gets last transfer is before = go d.queues.transfer o.after.queues.transfer (messages_left_stay d input o (call_is_own input may) turn) is before
     where
-      go : (old new : Option Transfer) → LeftWhere d input old new o.after.left → new ≡ Some transfer → LeavesReady gets d.left old → o.after.left ≡ []
+      go : (old new : Option Transfer) → LeftWhere d input old new o.after.left → new ≡ Some transfer → LeavesReady gets last d.left old → o.after.left ≡ []
       go None None stays there ready = absurd (cc)
       go (Some old) None stays there ready = absurd (cc)
       go None (Some new) stays there ready = stays
       go (Some old) (Some new) (inl same) there none = same ∙ none
       go (Some old) (Some new) (inr gone) there none = gone
 
-  pub goes_left : (gets later : ℕ → ReceivingEnd) (transfer : Transfer) → o.after.queues.transfer ≡ Some transfer → LeavesReady gets d.left d.queues.transfer → LeavesReady later o.after.left o.after.queues.transfer
-  goes_left gets later transfer is before = subst (LeavesReady later o.after.left) (sym is) (none_left gets transfer is before)
+  pub goes_left : (gets later : ℕ → ReceivingEnd) (last after : ℕ) (transfer : Transfer) → o.after.queues.transfer ≡ Some transfer → LeavesReady gets last d.left d.queues.transfer → LeavesReady later after o.after.left o.after.queues.transfer
+  goes_left gets later last after transfer is before = subst (LeavesReady later after o.after.left) (sym is) (none_left gets last transfer is before)
 
   -- What an association leaves is what was ready in it.
-  pub ends_left : (gets : ℕ → ReceivingEnd) (tag : ℕ) (transfer : Transfer) → d.queues.transfer ≡ Some transfer → o.after.queues.transfer ≡ None → (gets tag).reassembly ≡ transfer.reassembly → LeavesReady gets d.left d.queues.transfer
-      → LeavesReady gets o.after.left o.after.queues.transfer
-  ends_left gets tag transfer there gone same before =
-      left_idle gets o.after.left o.after.queues.transfer gone
-      (go d.options.follow_rfc d.queues.transfer o.after.queues.transfer (messages_left_stay d input o (call_is_own input may) turn) there gone (subst (LeavesReady gets d.left) there before) refl)
+  pub ends_left : (gets : ℕ → ReceivingEnd) (last tag : ℕ) (transfer : Transfer) → d.queues.transfer ≡ Some transfer → o.after.queues.transfer ≡ None → (gets tag).reassembly ≡ transfer.reassembly → LeavesReady gets last d.left d.queues.transfer
+      → LeavesReady gets tag o.after.left o.after.queues.transfer
+  ends_left gets last tag transfer there gone same before =
+      left_idle gets tag o.after.left o.after.queues.transfer gone
+      (go d.options.follow_rfc d.queues.transfer o.after.queues.transfer (messages_left_stay d input o (call_is_own input may) turn) there gone (subst (LeavesReady gets last d.left) there before) refl)
     where
       go : (b : Bool) (old new : Option Transfer) → LeftWhere d input old new o.after.left → old ≡ Some transfer → new ≡ None → d.left ≡ [] → d.options.follow_rfc ≡ b
-          → (o.after.left ≡ []) ⊎ ((tag : ℕ) × ((gets tag).reassembly.incoming.ready ≡ o.after.left))
+          → (o.after.left ≡ []) ⊎ ((gets tag).reassembly.incoming.ready ≡ o.after.left)
       go b None new stays is none empty follows = absurd (cc)
       go b (Some old) (Some new) stays is none empty follows = absurd (cc)
       go true (Some old) None stays is none empty follows =
           let one : old ≡ transfer = cc in
-          inr (tag, ap (λ (r : ReassemblyState). r.incoming.ready) same ∙ sym (ap (λ (t : Transfer). t.reassembly.incoming.ready) one) ∙ sym (stays ∙ ap (λ (f : Bool). if f then old.reassembly.incoming.ready else d.left) follows))
+          inr (ap (λ (r : ReassemblyState). r.incoming.ready) same ∙ sym (ap (λ (t : Transfer). t.reassembly.incoming.ready) one) ∙ sym (stays ∙ ap (λ (f : Bool). if f then old.reassembly.incoming.ready else d.left) follows))
       go false (Some old) None stays is none empty follows = inl (stays ∙ ap (λ (f : Bool). if f then old.reassembly.incoming.ready else d.left) follows ∙ empty)
 
   -- Without an association the user's call may have taken one.

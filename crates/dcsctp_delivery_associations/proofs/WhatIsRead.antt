@@ -9,14 +9,13 @@ use Rattle.dcsctp_spec_lemmas.specs.types.queues.Messages.{MessageContent}
 use Rattle.dcsctp_spec_lemmas.specs.spec.queues.Transfer.{Transfer}
 use Rattle.dcsctp_spec_laws.specs.LeftLaws.{left_once}
 use Rattle.dcsctp_delivery_turns.specs.Actions.{IsOpening, came_by, with_first, read_where, read_after}
-use Rattle.dcsctp_delivery_associations.specs.Reads.{Read, reads_after, and_first, tagged_after, with_tag, messages_of}
+use Rattle.dcsctp_delivery_associations.specs.Reads.{Read, and_first, tagged_after, with_tag}
 
 -- ---- which turns read
 
 -- A turn reads nothing and takes nothing of what was left, or its input is the user's call.
 pub record ReadsNone (input : Input) : Type 0 where
   pub left : (messages : List MessageContent) → left_once input messages ≡ messages
-  pub all : (e : Endpoint) (reads : List MessageContent) → reads_after e input reads ≡ reads
   pub tagged : (tag : ℕ) (e : Endpoint) (reads : List Read) → tagged_after tag e input reads ≡ reads
   pub own : (e : Endpoint) (read : List MessageContent) → read_after e input read ≡ read
 
@@ -26,55 +25,42 @@ pub data MayRead : Input → Type 0 where
 
 pub may_read : (input : Input) → MayRead input
 may_read user_takes = reads_first
-may_read arrival = reads_none arrival (record { left = λ m. refl; all = λ e r. refl; tagged = λ t e r. refl; own = λ e r. refl })
-may_read (refusal text) = reads_none (refusal text) (record { left = λ m. refl; all = λ e r. refl; tagged = λ t e r. refl; own = λ e r. refl })
-may_read (packet_begins contents) = reads_none (packet_begins contents) (record { left = λ m. refl; all = λ e r. refl; tagged = λ t e r. refl; own = λ e r. refl })
-may_read (chunk_input tag content) = reads_none (chunk_input tag content) (record { left = λ m. refl; all = λ e r. refl; tagged = λ t e r. refl; own = λ e r. refl })
-may_read packet_ends = reads_none packet_ends (record { left = λ m. refl; all = λ e r. refl; tagged = λ t e r. refl; own = λ e r. refl })
-may_read (act_input act) = reads_none (act_input act) (record { left = λ m. refl; all = λ e r. refl; tagged = λ t e r. refl; own = λ e r. refl })
-may_read (user_sets setting) = reads_none (user_sets setting) (record { left = λ m. refl; all = λ e r. refl; tagged = λ t e r. refl; own = λ e r. refl })
-may_read (user_sends messages) = reads_none (user_sends messages) (record { left = λ m. refl; all = λ e r. refl; tagged = λ t e r. refl; own = λ e r. refl })
-may_read (user_resets ids) = reads_none (user_resets ids) (record { left = λ m. refl; all = λ e r. refl; tagged = λ t e r. refl; own = λ e r. refl })
-may_read (timer_expires timer) = reads_none (timer_expires timer) (record { left = λ m. refl; all = λ e r. refl; tagged = λ t e r. refl; own = λ e r. refl })
-may_read (time_passes moment) = reads_none (time_passes moment) (record { left = λ m. refl; all = λ e r. refl; tagged = λ t e r. refl; own = λ e r. refl })
-may_read (restores state) = reads_none (restores state) (record { left = λ m. refl; all = λ e r. refl; tagged = λ t e r. refl; own = λ e r. refl })
+may_read arrival = reads_none arrival (record { left = λ m. refl; tagged = λ t e r. refl; own = λ e r. refl })
+may_read (refusal text) = reads_none (refusal text) (record { left = λ m. refl; tagged = λ t e r. refl; own = λ e r. refl })
+may_read (packet_begins contents) = reads_none (packet_begins contents) (record { left = λ m. refl; tagged = λ t e r. refl; own = λ e r. refl })
+may_read (chunk_input tag content) = reads_none (chunk_input tag content) (record { left = λ m. refl; tagged = λ t e r. refl; own = λ e r. refl })
+may_read packet_ends = reads_none packet_ends (record { left = λ m. refl; tagged = λ t e r. refl; own = λ e r. refl })
+may_read (act_input act) = reads_none (act_input act) (record { left = λ m. refl; tagged = λ t e r. refl; own = λ e r. refl })
+may_read (user_sets setting) = reads_none (user_sets setting) (record { left = λ m. refl; tagged = λ t e r. refl; own = λ e r. refl })
+may_read (user_sends messages) = reads_none (user_sends messages) (record { left = λ m. refl; tagged = λ t e r. refl; own = λ e r. refl })
+may_read (user_resets ids) = reads_none (user_resets ids) (record { left = λ m. refl; tagged = λ t e r. refl; own = λ e r. refl })
+may_read (timer_expires timer) = reads_none (timer_expires timer) (record { left = λ m. refl; tagged = λ t e r. refl; own = λ e r. refl })
+may_read (time_passes moment) = reads_none (time_passes moment) (record { left = λ m. refl; tagged = λ t e r. refl; own = λ e r. refl })
+may_read (restores state) = reads_none (restores state) (record { left = λ m. refl; tagged = λ t e r. refl; own = λ e r. refl })
 
 -- ---- nothing is read
 
 -- An association reads nothing in this turn, so nothing is read.
-pub reads_still : (d : Endpoint) (input : Input) (transfer : Transfer) (reads : List MessageContent) → d.queues.transfer ≡ Some transfer → ((read : List MessageContent) → read_after d input read ≡ read) → reads_after d input reads ≡ reads
-reads_still d input transfer reads there unread = go input (may_read input) unread
+pub reads_still : (tag : ℕ) (d : Endpoint) (input : Input) (transfer : Transfer) (reads : List Read) → d.queues.transfer ≡ Some transfer → ((read : List MessageContent) → read_after d input read ≡ read) → tagged_after tag d input reads ≡ reads
+reads_still tag d input transfer reads there unread = go input (may_read input) unread
   where
-    go : (i : Input) → MayRead i → ((read : List MessageContent) → read_after d i read ≡ read) → reads_after d i reads ≡ reads
+    none_ready : (ready : List MessageContent) → ((read : List MessageContent) → with_first ready read ≡ read) → ready ≡ []
+    none_ready [] none = refl
+    none_ready (message ∷ ready) none = (let clash : message ∷ [] ≡ [] = none [] in absurd (cc))
+
+    go : (i : Input) → MayRead i → ((read : List MessageContent) → read_after d i read ≡ read) → tagged_after tag d i reads ≡ reads
     go _ reads_first none =
-        ap (λ (t : Option Transfer). with_first (ready_where d.left t) reads) there ∙ sym (ap (λ (t : Option Transfer). read_where t reads) there) ∙ none reads
-    go _ (reads_none i rests) none = rests.all d reads
+        let empty : transfer.reassembly.incoming.ready ≡ [] = none_ready transfer.reassembly.incoming.ready (λ read. sym (ap (λ (t : Option Transfer). read_where t read) there) ∙ none read) in
+        ap (λ (t : Option Transfer). and_first tag (ready_where d.left t) reads) there ∙ ap (λ (l : List MessageContent). and_first tag l reads) empty
+    go _ (reads_none i rests) none = rests.tagged tag d reads
 
 -- The chunk by which an association begins reads nothing.
-pub opening_still : (d : Endpoint) (input : Input) (reads : List MessageContent) → IsOpening (came_by input) → reads_after d input reads ≡ reads
-opening_still d input reads opening = go input (may_read input) opening
+pub opening_still : (tag : ℕ) (d : Endpoint) (input : Input) (reads : List Read) → IsOpening (came_by input) → tagged_after tag d input reads ≡ reads
+opening_still tag d input reads opening = go input (may_read input) opening
   where
-    go : (i : Input) → MayRead i → IsOpening (came_by i) → reads_after d i reads ≡ reads
+    go : (i : Input) → MayRead i → IsOpening (came_by i) → tagged_after tag d i reads ≡ reads
     go _ reads_first opens = absurd opens
-    go _ (reads_none i rests) opens = rests.all d reads
-
--- ---- the messages that are read
-
-messages_append : (reads : List Read) (read : Read) → messages_of (reads ++ read ∷ []) ≡ messages_of reads ++ read.message ∷ []
-messages_append [] read = refl
-messages_append (r ∷ reads) read = ap (λ (l : List MessageContent). r.message ∷ l) (messages_append reads read)
-
-pub first_messages : (tag : ℕ) (ready : List MessageContent) (reads : List Read) → messages_of (and_first tag ready reads) ≡ with_first ready (messages_of reads)
-first_messages tag [] reads = refl
-first_messages tag (message ∷ ready) reads = messages_append reads (record { tag = tag; message = message })
-
--- Whatever the tag, they are the same.
-pub tagged_messages : (tag : ℕ) (d : Endpoint) (input : Input) (reads : List Read) → messages_of (tagged_after tag d input reads) ≡ reads_after d input (messages_of reads)
-tagged_messages tag d input reads = go input (may_read input)
-  where
-    go : (i : Input) → MayRead i → messages_of (tagged_after tag d i reads) ≡ reads_after d i (messages_of reads)
-    go _ reads_first = first_messages tag (ready_where d.left d.queues.transfer) reads
-    go _ (reads_none i rests) = ap messages_of (rests.tagged tag d reads) ∙ sym (rests.all d (messages_of reads))
+    go _ (reads_none i rests) opens = rests.tagged tag d reads
 
 -- ---- those of one association
 

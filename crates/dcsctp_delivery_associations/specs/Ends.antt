@@ -1,7 +1,7 @@
 -- All associations of two sockets, in the direction from one to the other: for each verification
 -- tag of the receiver, what the sender has sent to it and what the receiver has received under it.
 -- A tag serves one association.
-use Rattle.std.specs.Prelude.{◌≡◌, ◌≢◌, ◌<◌, ◌≤◌, ◌^◌, ◌⊎◌, ℕ, Option, None, Some, List, [], ◌∷◌, length}
+use Rattle.std.specs.Prelude.{◌≡◌, ◌≢◌, ◌<◌, ◌≤◌, ◌^◌, ◌⊎◌, ℕ, Bool, true, Option, None, Some, List, [], ◌∷◌, length}
 use Rattle.dcsctp_spec_lemmas.specs.types.declared.options.Options.{Options}
 use Rattle.dcsctp_spec_lemmas.specs.spec.endpoint.Endpoint.{Endpoint}
 use Rattle.dcsctp_spec_lemmas.specs.spec.Packet.{Emission}
@@ -17,11 +17,12 @@ use Rattle.dcsctp_delivery_sending.specs.Log.{Message}
 use Rattle.dcsctp_delivery_sending.specs.Flushes.{NoData}
 use Rattle.dcsctp_delivery_sending.specs.ChunkCounts.{chunks_in, chunks_to}
 use Rattle.dcsctp_delivery_sending.specs.Marking.{WaitsNoLonger, FindsMarked, IsMarked}
-use Rattle.dcsctp_delivery_directions.specs.Directions.{Direction, Asking, nothing_asked, DirectionRun}
+use Rattle.dcsctp_delivery_directions.specs.Directions.{Direction, Asking, nothing_asked, BeginsAtZero, DirectionRun}
 use Rattle.dcsctp_delivery_directions.specs.Requests.{requests_in, requests_to}
 use Rattle.dcsctp_delivery_turns.specs.Asking.{own_of, AsksFit, SomeFit}
 use Rattle.dcsctp_delivery_turns.specs.Actions.{NoEnd, peer_tag}
-use Rattle.dcsctp_delivery_associations.specs.Reads.{Read, with_tag}
+use Rattle.dcsctp_delivery_turns.specs.Unbegun.{IsAtZero}
+use Rattle.dcsctp_delivery_associations.specs.Reads.{Reading, with_tag}
 
 -- ---- the two ends of a direction
 
@@ -31,6 +32,7 @@ pub record SendingEnd : Type 0 where
   pub acknowledged : ℕ
   pub sent : List Emission
   pub asking : Asking
+  pub from_zero : Bool
 
 pub record ReceivingEnd : Type 0 where
   pub tracker : TrackerState
@@ -48,6 +50,7 @@ joined sends gets =
       reassembly = gets.reassembly;
       read = gets.read;
       asking = sends.asking;
+      from_zero = sends.from_zero;
     }
 
 -- one at which nothing was received yet
@@ -76,6 +79,27 @@ pub record HadPeer (past : List Effect) (tag first : ℕ) : Type 0 where
   pub tag_is : link.peer.tag ≡ tag
   pub first_is : link.my.first_tsn ≡ first
 
+-- It had one with this tag in which messages interleave, or don't.
+pub record HadKind (past : List Effect) (tag : ℕ) (is_interleaved : Bool) : Type 0 where
+  pub link : AssociationIdentity
+  pub held : HasEffect (holds link) past
+  pub tag_is : link.peer.tag ≡ tag
+  pub kind_is : link.capabilities.message_interleaving ≡ is_interleaved
+
+-- The sender had no association yet, and has numbered no message.
+pub record IsUnbegun (e : Endpoint) : Type 0 where
+  pub unlinked : identity_in e.core ≡ None
+  pub idle : e.queues.transfer ≡ None
+  pub zero : IsAtZero e.queues.queue
+
+abbrev pub NeverHeld : List Effect → Type 0
+NeverHeld past = (link : AssociationIdentity) → HasEffect (holds link) past → ⊥
+
+-- The numbers of each stream begin at 0 in the association with this tag of the peer: the sender follows the RFC (RFC 9260,
+-- section 6.5), or it had no other.
+abbrev pub BeginsAnew : Endpoint → List Effect → ℕ → Type 0
+BeginsAnew e past tag = (e.options.follow_rfc ≡ true) ⊎ ((link : AssociationIdentity) → HasEffect (holds link) past → link.peer.tag ≡ tag)
+
 -- Nothing was sent at this end yet.
 pub record Awaits (sends : SendingEnd) : Type 0 where
   pub queued : sends.queued ≡ []
@@ -83,6 +107,7 @@ pub record Awaits (sends : SendingEnd) : Type 0 where
   pub acknowledged : sends.acknowledged ≡ 0
   pub transfer : sends.queues.transfer ≡ None
   pub asking : sends.asking ≡ nothing_asked
+  pub zero : sends.from_zero ≡ true → BeginsAtZero sends.queues.queue
 
 -- Packets with data are of the association of their tag. No data is ever handled under the tag 0.
 abbrev pub IsOfEnds : Ends → Emission → Type 0
@@ -104,7 +129,9 @@ pub record Sender (ends : Ends) (key : ℕ) (sender_queues : EndpointQueues) (qu
   pub last : (tag : ℕ) → tag ≢ key → MarksLeft (ends.sends tag) (ends.sends key).queued
   pub pairs : (one other : ℕ) → one ≢ other → MarksLeft (ends.sends one) (ends.sends other).queued ⊎ MarksLeft (ends.sends other) (ends.sends one).queued
   pub current : key ≢ 0 → HadPeer past key (ends.firsts key)
+  pub kind : key ≢ 0 → HadKind past key sender_queues.queue.is_interleaved
   pub begun : (tag : ℕ) → tag ≢ 0 → Awaits (ends.sends tag) ⊎ HadPeer past tag (ends.firsts tag)
+  pub kinds : (tag : ℕ) → tag ≢ 0 → Awaits (ends.sends tag) ⊎ HadKind past tag (ends.sends tag).queues.queue.is_interleaved
   pub all_sent : AreOfEnds ends packets
 
 -- What must hold of an association that begins at the sender: its peer's tag is a new one, and what the receiver had under one of
@@ -133,17 +160,18 @@ pub record IsCurrentEnd (ends : Ends) (e : Endpoint) (past : List Effect) (trans
   pub tracker : (ends.gets link.my.tag).tracker ≡ transfer.tracker
   pub reassembly : (ends.gets link.my.tag).reassembly ≡ transfer.reassembly
 
--- What can be taken without an association was received under one of the tags, and in an association nothing is left of the
--- last one.
-abbrev pub LeavesReady : (ℕ → ReceivingEnd) → List MessageContent → Option Transfer → Type 0
-LeavesReady gets left None = (left ≡ []) ⊎ ((tag : ℕ) × ((gets tag).reassembly.incoming.ready ≡ left))
-LeavesReady gets left (Some transfer) = left ≡ []
+-- What can be taken without an association was received in the last one, which had this tag, and in an association nothing is
+-- left of the last one.
+abbrev pub LeavesReady : (ℕ → ReceivingEnd) → ℕ → List MessageContent → Option Transfer → Type 0
+LeavesReady gets last left None = (left ≡ []) ⊎ ((gets last).reassembly.incoming.ready ≡ left)
+LeavesReady gets last left (Some transfer) = left ≡ []
 
-pub record Receiver (options : Options) (ends : Ends) (e : Endpoint) (past : List Effect) (reads : List Read) : Type 0 where
+pub record Receiver (options : Options) (ends : Ends) (e : Endpoint) (past : List Effect) (reading : Reading) : Type 0 where
   pub fits : SomeFit (own_of e)
   pub current : (transfer : Transfer) → e.queues.transfer ≡ Some transfer → IsCurrentEnd ends e past transfer
-  pub left : LeavesReady ends.gets e.left e.queues.transfer
-  pub were_read : (tag : ℕ) → with_tag tag reads ≡ (ends.gets tag).read
+  pub left : LeavesReady ends.gets reading.last e.left e.queues.transfer
+  pub last : (link : AssociationIdentity) → identity_in e.core ≡ Some link → reading.last ≡ link.my.tag
+  pub were_read : (tag : ℕ) → with_tag tag reading.reads ≡ (ends.gets tag).read
   pub begun : (tag : ℕ) → (ends.gets tag ≡ new_end options (ends.firsts tag)) ⊎ HadTag past tag (ends.firsts tag)
 
 -- What must hold of an association that begins at the receiver: both tags are new ones, and what the sender had under one of them
@@ -157,9 +185,11 @@ pub record NewTag (past their_past : List Effect) (link : AssociationIdentity) :
 
 -- ---- both
 
-pub record Between (options : Options) (ends : Ends) (e : Endpoint) (queued : List Message) (past : List Effect) (packets : List Emission) (other : Endpoint) (their_past : List Effect) (reads : List Read) : Type 0 where
+pub record Between (options : Options) (ends : Ends) (e : Endpoint) (queued : List Message) (past : List Effect) (packets : List Emission) (other : Endpoint) (their_past : List Effect) (reading : Reading) : Type 0 where
   pub runs : EndsRun options ends
   pub small : (tag : ℕ) → ends.firsts tag < 2 ^ 32
   pub sender : Sender ends (peer_tag e.core) e.queues queued past packets
   pub asks : AsksFit (ends.firsts (peer_tag e.core)) (own_of e) (ends.sends (peer_tag e.core)).asking
-  pub receiver : Receiver options ends other their_past reads
+  pub numbered : (tag : ℕ) → tag ≢ 0 → BeginsAnew e past tag → (ends.sends tag).from_zero ≡ true
+  pub unbegun : NeverHeld past → IsUnbegun e
+  pub receiver : Receiver options ends other their_past reading

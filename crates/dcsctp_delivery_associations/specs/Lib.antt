@@ -1,4 +1,5 @@
 pub mod Reads
 pub mod Ends
 pub mod Answered
+pub mod InOrder
 pub mod Laws

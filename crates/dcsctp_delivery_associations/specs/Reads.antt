@@ -1,18 +1,11 @@
 -- What the user of a socket reads, in all its associations and after each has ended: each message with
 -- our own tag of its association.
-use Rattle.std.specs.Prelude.{◌==◌, if◌then◌else◌, ℕ, List, [], ◌∷◌, ◌++◌}
+use Rattle.std.specs.Prelude.{◌==◌, if◌then◌else◌, ℕ, Option, None, Some, List, [], ◌∷◌, ◌++◌}
 use Rattle.dcsctp_spec_lemmas.specs.spec.endpoint.DataOutcomes.{ready_where}
 use Rattle.dcsctp_spec_lemmas.specs.spec.endpoint.Endpoint.{Endpoint}
 use Rattle.dcsctp_spec_lemmas.specs.spec.endpoint.Turn.{Input, user_takes}
+use Rattle.dcsctp_spec_lemmas.specs.spec.association.Effect.{AssociationIdentity, identity_in}
 use Rattle.dcsctp_spec_lemmas.specs.types.queues.Messages.{MessageContent}
-use Rattle.dcsctp_delivery_turns.specs.Actions.{with_first}
-
--- the messages that were read, oldest first, with the one that this call reads: the first that can be taken
-abbrev pub reads_after : Endpoint → Input → List MessageContent → List MessageContent
-reads_after e user_takes reads = with_first (ready_where e.left e.queues.transfer) reads
-reads_after e input reads = reads
-
--- ---- by the association
 
 -- a message that was read, and our own tag of the association that received it
 pub record Read : Type 0 where
@@ -28,6 +21,23 @@ and_first tag (message ∷ messages) reads = reads ++ record { tag = tag; messag
 abbrev pub tagged_after : ℕ → Endpoint → Input → List Read → List Read
 tagged_after tag e user_takes reads = and_first tag (ready_where e.left e.queues.transfer) reads
 tagged_after tag e input reads = reads
+
+-- What was read, and our own tag of the association that is there or was the last.
+pub record Reading : Type 0 where
+  pub reads : List Read
+  pub last : ℕ
+
+abbrev pub nothing_read : Reading
+nothing_read = record { reads = []; last = 0 }
+
+-- the own tag of this association, or the one before if there is none
+abbrev pub tag_or : ℕ → Option AssociationIdentity → ℕ
+tag_or last None = last
+tag_or last (Some link) = link.my.tag
+
+-- with what a turn reads that ends at this endpoint: a message that an association left counts as read in it
+abbrev pub reading_after : Endpoint → Input → Endpoint → Reading → Reading
+reading_after e input after reading = record { reads = tagged_after reading.last e input reading.reads; last = tag_or reading.last (identity_in after.core) }
 
 -- those of the association with this own tag
 abbrev pub with_tag : ℕ → List Read → List MessageContent

@@ -1,5 +1,6 @@
 //! The laws of this crate.
 
+ghost use Rattle.dcsctp_delivery_associations.specs.InOrder.{EndsDeliverInOrder};
 ghost use Rattle.dcsctp_delivery_associations.specs.Laws.{EndsBegin, EndsDeliver, ReceiversTurn, SendersTurn};
 
 /// Two sockets that were just made have nothing between them.
@@ -24,4 +25,10 @@ pub fn receivers_turn()
 /// than 2^30 chunks of data went to each verification tag. An association assigns at most two TSNs for each.
 pub fn ends_deliver()
     ensures { EndsDeliver }
+{}
+
+/// What was read in one association comes in the order in which it was queued, stream by stream: so the ordered
+/// messages do, where the numbers of each stream begin at 0.
+pub fn ends_deliver_in_order()
+    ensures { EndsDeliverInOrder }
 {}

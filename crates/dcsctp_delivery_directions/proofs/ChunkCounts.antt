@@ -14,7 +14,7 @@ use Rattle.dcsctp_spec.specs.endpoint.MessageOutcomes.{sending_queued}
 use Rattle.dcsctp_spec.specs.endpoint.SettingOutcomes.{set_in_queue}
 use Rattle.dcsctp_delivery_sending.specs.ChunkCounts.{chunks_in, going, tsns_of, tsns_where, tsns_of_queues}
 use Rattle.dcsctp_delivery_sending.specs.Stages.{Bears}
-use Rattle.dcsctp_delivery_directions.specs.Directions.{Direction, tsns_in_flight, assigned, DirectionStep, queues, sets, prepares, commits, rolls_back, resends, resends_nothing, speaks, asks_again, renews, turns_aside, tracks, defers, flushes, acknowledges, loses, receives, forwards, receives_interleaved, forwards_interleaved, performs, resets, takes, NoneInFlight, DirectionRun, begins, goes_on, starts}
+use Rattle.dcsctp_delivery_directions.specs.Directions.{Direction, tsns_in_flight, assigned, DirectionStep, queues, sets, prepares, commits, rolls_back, resends, resends_nothing, speaks, asks_again, renews, turns_aside, tracks, defers, flushes, acknowledges, loses, receives, forwards, receives_interleaved, forwards_interleaved, performs, performs_earlier, resets, takes, NoneInFlight, DirectionRun, begins, goes_on, starts}
 use Rattle.dcsctp_delivery_sending.proofs.Acknowledged.{acknowledged_bear, lost_bear}
 use Rattle.dcsctp_delivery_sending.proofs.ChunkCounts.{one_at_most, flushes_assign_few, at_once_same}
 use Rattle.dcsctp_delivery_directions.proofs.Directions.{run_stands}
@@ -52,10 +52,10 @@ module _ (options : Options) (first size : ℕ) (small : first < 2 ^ 32) (old : 
   stepped_few : (new : Direction) → DirectionStep old new → FewSent new
   unfolding standing
   stepped_few _ (queues now sending fits some) = by_queue (sending_queued now sending old.queues.queue) refl
-  stepped_few _ (sets setting) = by_queue (set_in_queue setting old.queues.queue) (set_way setting old.queues.queue)
-  stepped_few _ (prepares ids) = by_queue (prepared_all ids old.queues.queue) (all_way ids old.queues.queue)
+  stepped_few _ (sets setting fits) = by_queue (set_in_queue setting old.queues.queue) (set_way setting old.queues.queue)
+  stepped_few _ (prepares ids fit) = by_queue (prepared_all ids old.queues.queue) (all_way ids old.queues.queue)
   stepped_few _ (commits go_on) = by_queue (queue_committed old.queues.queue) refl
-  stepped_few _ rolls_back = by_queue (queue_rolled_back old.queues.queue) refl
+  stepped_few _ (rolls_back unmixed) = by_queue (queue_rolled_back old.queues.queue) refl
   stepped_few _ (flushes e draft answers same no_data allowed) =
       let assigns = flushes_assign_few e draft answers allowed in
       let before : tsns_of_queues e.queues ≡ tsns_of_queues old.queues = ap tsns_of_queues same in
@@ -98,8 +98,9 @@ module _ (options : Options) (first size : ℕ) (small : first < 2 ^ 32) (old : 
   stepped_few _ (forwards_interleaved emission tsn streams theirs new was holds same same' does) = h
   stepped_few _ (tracks new cumulative ranges) = h
   stepped_few _ (defers last_tsn streams) = h
-  stepped_few _ (performs newest earlier new asks reached own leaves) = h
-  stepped_few _ (resets streams new leaves) = h
+  stepped_few _ (performs newest earlier new asks unknown reached own leaves) = h
+  stepped_few _ (resets streams new unmixed some leaves) = h
+  stepped_few _ (performs_earlier newest earlier new asks unknown reached own leaves) = h
   stepped_few _ (takes message messages is) = h
 
 -- ---- a run
@@ -117,7 +118,7 @@ few_sent options first size _ small few (begins direction b) =
 few_sent options first size _ small few (goes_on old direction run step) =
     let before : length old.queued < 2 ^ 64 = omega (arith, few, more_queued old direction step) in
     stepped_few options first size small old run before (few_sent options first size old small before run) direction step
-few_sent options first size _ small few (starts old queued below run awaited fit waits none) =
+few_sent options first size _ small few (starts old queued below from_zero run awaited fit waits none numbered) =
     (let nothing = none_sent first old.acknowledged below.queue.is_interleaved below.queue below.transfer none awaited.acknowledged in omega (arith, nothing))
 
 assigned_below : (queue : SendQueueState) (transfer : Option Transfer) → tsns_in_flight transfer ≤ tsns_where queue transfer

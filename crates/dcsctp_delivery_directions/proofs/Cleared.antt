@@ -41,7 +41,7 @@ at_either (slot ∷ more) log n x at =
     ]
 
 -- a piece of a stream that is handed out isn't new
-not_new : (more log : List Slot) (streams : List Stream) (id n : ℕ) (f : Piece) → AreKept streams more → is_handed_out (stream_named id streams).pause ≡ true → f.message.stream ≡ id
+pub not_new : (more log : List Slot) (streams : List Stream) (id n : ℕ) (f : Piece) → AreKept streams more → is_handed_out (stream_named id streams).pause ≡ true → f.message.stream ≡ id
     → at_place n (more ++ log) ≡ Some (Some f) → at_place n log ≡ Some (Some f)
 not_new more log streams id n f kept handed on at =
     elim (at_either more log n (Some f) at) [

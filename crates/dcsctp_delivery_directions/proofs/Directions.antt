@@ -101,14 +101,14 @@ no_slots : (log : List Slot) → length log ≡ 0 → log ≡ []
 no_slots [] none = refl
 no_slots (slot ∷ log) none = absurd (omega (arith, none))
 
-module _ (first : ℕ) (old : Direction) (queued : List Message) (below : EndpointQueues) (s : Stands first old) (awaited : IsAwaited old) where
+module _ (first : ℕ) (old : Direction) (queued : List Message) (below : EndpointQueues) (from_zero : Bool) (s : Stands first old) (awaited : IsAwaited old) where
   pub empty : length s.history.log ≡ 0
   empty = (let idle : tsns_in_flight old.queues.transfer ≡ 0 = ap tsns_in_flight awaited.transfer in let count = s.count in let acknowledged = awaited.acknowledged in omega (arith, idle, count, acknowledged))
 
   same_queued : queued ++ old.queued ≡ queued
   same_queued = ap (λ (l : List Message). queued ++ l) awaited.queued ∙ append-nil queued
 
-  pub arrived_anew : (floors : ℕ → Bool → ℕ) → Arrived first s.history old → Arrived first (new_history floors) (record old { queued = queued; queues = below })
+  pub arrived_anew : (floors : ℕ → Bool → ℕ) → Arrived first s.history old → Arrived first (new_history floors) (record old { queued = queued; queues = below; from_zero = from_zero })
   arrived_anew floors a =
       record {
         places = a.places;
@@ -120,9 +120,9 @@ module _ (first : ℕ) (old : Direction) (queued : List Message) (below : Endpoi
         cleared = λ is performed. absurd (not_performed old.asking awaited.asking performed);
       }
 
-  unfoldable pub started_stands : first < 2 ^ 32 → AllByRecursion Fits queued → QueueWaits queued below.queue → NoneInFlight first below.queue.is_interleaved below.transfer → Stands first (record old { queued = queued; queues = below })
+  unfoldable pub started_stands : first < 2 ^ 32 → AllByRecursion Fits queued → QueueWaits queued below.queue → NoneInFlight first below.queue.is_interleaved below.transfer → Stands first (record old { queued = queued; queues = below; from_zero = from_zero })
   started_stands small fit waits none =
-      let direction : Direction = record old { queued = queued; queues = below } in
+      let direction : Direction = record old { queued = queued; queues = below; from_zero = from_zero } in
       stands_anew first direction small awaited.acknowledged none waits fit awaited.sent awaited.asking (λ little. arrived_anew waits.floors (s.arrived (omega (arith, empty))))
 
 -- ---- a run
@@ -131,8 +131,8 @@ pub run_stands : (options : Options) (first size : ℕ) (direction : Direction) 
 run_stands options first size _ small few (begins direction b) = begun_stands options first size direction small b
 run_stands options first size _ small few (goes_on old direction run step) =
     stepped first old small (run_stands options first size old small (omega (arith, few, more_queued old direction step)) run) direction few step
-run_stands options first size _ small few (starts old queued below run awaited fit waits none) =
-    started_stands first old queued below (run_stands options first size old small (let none_queued : length old.queued ≡ 0 = ap (λ (l : List Message). length l) awaited.queued in omega (arith, none_queued)) run) awaited small fit waits none
+run_stands options first size _ small few (starts old queued below from_zero run awaited fit waits none numbered) =
+    started_stands first old queued below from_zero (run_stands options first size old small (let none_queued : length old.queued ≡ 0 = ap (λ (l : List Message). length l) awaited.queued in omega (arith, none_queued)) run) awaited small fit waits none
 
 -- what is true of it
 pub direction_queues : (options : Options) (first size : ℕ) (direction : Direction) → DirectionRun options first size direction → first < 2 ^ 32 → length direction.queued < 2 ^ 64 → QueueWaits direction.queued direction.queues.queue × AllByRecursion Fits direction.queued

@@ -7,7 +7,7 @@ pub mod Receiving
 pub mod Performing
 pub mod Renewing
 pub mod Steps
-pub mod Calm
+pub mod Continuing
 pub mod Directions
 pub mod Marking
 pub mod ChunkCounts

@@ -28,7 +28,7 @@ ahead_by first bound cumulative from less few = omega (arith, from, less, few)
 lies_beyond : (ahead : ℕ) → 0 < ahead → ahead < 2 ^ 31 → (nat_lt 0 ahead && nat_lt ahead (2 ^ 31)) ≡ true
 lies_beyond ahead some few = grind (arith, nat_tests)
 
-passed_before : (first bound cumulative : ℕ) → tracked first 0 ≤ cumulative + 1 → bound < 2 ^ 31 → not (is_tsn_beyond ((first + bound + (2 ^ 32 - 1)) % 2 ^ 32) (cumulative % 2 ^ 32)) ≡ true → tracked first bound ≤ cumulative + 1
+pub passed_before : (first bound cumulative : ℕ) → tracked first 0 ≤ cumulative + 1 → bound < 2 ^ 31 → not (is_tsn_beyond ((first + bound + (2 ^ 32 - 1)) % 2 ^ 32) (cumulative % 2 ^ 32)) ≡ true → tracked first bound ≤ cumulative + 1
 passed_before first bound cumulative from few reached =
     elim (leb_tells (tracked first bound) (cumulative + 1)) [
       | inl e ↦ e.1
@@ -43,7 +43,7 @@ passed_before first bound cumulative from few reached =
 
 -- ---- streams by their fields
 
-named_field : (ids : List ℕ) (id : ℕ) → id < 2 ^ 16 → is_named ids id ≡ true → is_named (map stream_field ids) id ≡ true
+pub named_field : (ids : List ℕ) (id : ℕ) → id < 2 ^ 16 → is_named ids id ≡ true → is_named (map stream_field ids) id ≡ true
 named_field [] id small named = absurd (cc)
 named_field (one ∷ ids) id small named = go (one == id) refl named (λ rest. named_field ids id small rest)
   where
@@ -71,7 +71,7 @@ pub newest_of : (marks : List Mark) (begun : BegunReset) (earlier : List BegunRe
 newest_of [] begun earlier is = absurd (cc)
 newest_of (mark ∷ marks) begun earlier is = record { mark = mark; earlier = marks; is = refl; begins = cc }
 
-pub stepped_performs : (first : ℕ) (old : Direction) → first < 2 ^ 32 → Stands first old → (newest : BegunReset) (earlier : List BegunReset) (new : ReassemblyState) → old.asking.requests ≡ newest ∷ earlier
+unfoldable pub stepped_performs : (first : ℕ) (old : Direction) → first < 2 ^ 32 → Stands first old → (newest : BegunReset) (earlier : List BegunReset) (new : ReassemblyState) → old.asking.requests ≡ newest ∷ earlier
     → is_reset_reached newest.reset old.tracker ≡ true → IsOwn newest.reset old.reassembly.deferral → EndsDeferral newest.reset.streams old.reassembly new
     → Stands first (record old { reassembly = new; asking = record old.asking { is_performed = true } })
 stepped_performs first old small s newest earlier new asks reached own leaves =

@@ -2,6 +2,7 @@
 use Rattle.std.proofs.lemmas.Bool.Decides.{leb_tells}
 use Rattle.std.proofs.Common.{◌≡◌, ℕ, zero, suc, Bool, true, false, ◌<◌, ◌≤◌, ◌+◌, ◌^◌, List, [], ◌∷◌, length, take, refl, sym, ◌∙◌, arith, subst, inl, inr}
 use Rattle.std.specs.Prelude.{◌⊎◌, Option, if◌then◌else◌}
+use Rattle.std.specs.List.{AllByRecursion}
 use Rattle.dcsctp_spec.specs.queues.OwnResets.{is_open_pause, with_used, prepared, prepared_open, prepared_all, queue_committed, queue_rolled_back}
 use Rattle.dcsctp_spec.specs.queues.SendQueue.{SendQueueState, queue_stream}
 use Rattle.dcsctp_spec.specs.endpoint.MessageOutcomes.{Sending, sending_queued}
@@ -12,7 +13,7 @@ use Rattle.dcsctp_delivery_sending.specs.Places.{HasEntry}
 use Rattle.dcsctp_delivery_sending.specs.Log.{Fits, Mark, Resets}
 use Rattle.dcsctp_delivery_sending.specs.Numbers.{CountsWhere, IsOfKind, is_handed_out, stream_named}
 use Rattle.dcsctp_delivery_sending.specs.Stages.{AreMarks}
-use Rattle.dcsctp_delivery_sending.specs.Queueing.{QueueHolds, message_of, floors_raised}
+use Rattle.dcsctp_delivery_sending.specs.Queueing.{QueueHolds, SettingFits, message_of, floors_raised}
 use Rattle.dcsctp_delivery_receiving.specs.Clear.{IsClear, IsOver, Unsent}
 use Rattle.dcsctp_delivery_directions.specs.Directions.{Direction, all_ended}
 use Rattle.dcsctp_delivery_sending.proofs.Queueing.{queueing_hold}
@@ -101,7 +102,7 @@ module _ (first : ℕ) (old : Direction) (s : Stands first old) where
   unfoldable pub stepped_queues : (now : ℕ) (sending : Sending) → Fits (message_of sending) → 0 < length sending.message.payload → length old.queued + 1 < 2 ^ 64
       → Stands first (record old { queued = message_of sending ∷ old.queued; queues = record old.queues { queue = sending_queued now sending old.queues.queue } })
   stepped_queues now sending fits some few =
-      let q = queueing_hold old.queued s.history now sending old.queues.queue few some s.queues.cut now_queues in
+      let q = queueing_hold old.queued s.history now sending old.queues.queue fits.stream few some s.queues.cut now_queues in
       let fewer : Fewer (sending_queued now sending old.queues.queue).streams old.queues.queue.streams = queueing_handed now sending old.queues.queue in
       record {
         history = s.history;
@@ -130,21 +131,21 @@ module _ (first : ℕ) (old : Direction) (s : Stands first old) where
             });
       }
 
-  unfoldable pub stepped_sets : (setting : Setting) → Stands first (record old { queues = record old.queues { queue = set_in_queue setting old.queues.queue } })
-  stepped_sets setting =
+  unfoldable pub stepped_sets : (setting : Setting) → SettingFits setting → Stands first (record old { queues = record old.queues { queue = set_in_queue setting old.queues.queue } })
+  stepped_sets setting fits =
       let queue : SendQueueState = set_in_queue setting old.queues.queue in
       let kind = setting_kind setting old.queues.queue in
       let way = set_way setting old.queues.queue in
       let fewer : Fewer queue.streams old.queues.queue.streams = setting_handed setting old.queues.queue in
-      stepped_queue queue kind way fewer old.asking.out (stays_quiet queue kind way fewer) (setting_hold old.queued s.history setting old.queues.queue now_queues)
+      stepped_queue queue kind way fewer old.asking.out (stays_quiet queue kind way fewer) (setting_hold old.queued s.history setting old.queues.queue fits now_queues)
 
-  unfoldable pub stepped_prepares : (ids : List ℕ) → Stands first (record old { queues = record old.queues { queue = prepared_all ids old.queues.queue } })
-  stepped_prepares ids =
+  unfoldable pub stepped_prepares : (ids : List ℕ) → AllByRecursion (λ id. id < 2 ^ 16) ids → Stands first (record old { queues = record old.queues { queue = prepared_all ids old.queues.queue } })
+  stepped_prepares ids fit =
       let queue : SendQueueState = prepared_all ids old.queues.queue in
       let kind = preparing_kind ids old.queues.queue in
       let way = all_way ids old.queues.queue in
       let fewer : Fewer queue.streams old.queues.queue.streams = preparing_handed ids old.queues.queue in
-      stepped_queue queue kind way fewer old.asking.out (stays_quiet queue kind way fewer) (preparing_hold old.queued s.history ids old.queues.queue now_queues)
+      stepped_queue queue kind way fewer old.asking.out (stays_quiet queue kind way fewer) (preparing_hold old.queued s.history ids old.queues.queue fit now_queues)
 
   -- ---- a reset that ends
 
@@ -162,7 +163,7 @@ module _ (first : ℕ) (old : Direction) (s : Stands first old) where
       (record { queue_holds = q.queue_holds; next = q.next; numbers = record { kinds = q.numbers.kinds; counts = counts; kept = q.numbers.kept } })
 
   -- the receiver has performed the reset
-  is_over : old.asking.out ≤ 1 → IsCleared s.history first old.tracker.cumulative old.queues.queue.streams old.reassembly → (id : ℕ) → is_handed_out (stream_named id old.queues.queue.streams).pause ≡ true
+  pub is_over : old.asking.out ≤ 1 → IsCleared s.history first old.tracker.cumulative old.queues.queue.streams old.reassembly → (id : ℕ) → is_handed_out (stream_named id old.queues.queue.streams).pause ≡ true
       → Unsent s.history.log id ⊎ (IsOver s.history first old.tracker.cumulative id × IsClear id old.reassembly)
   is_over one c id handed =
       elim (s.quiet id handed) [
@@ -178,7 +179,7 @@ module _ (first : ℕ) (old : Direction) (s : Stands first old) where
         ]
       ]
 
-  pub commits_interleaved : old.queues.queue.is_interleaved ≡ true → old.asking.out ≤ 1 → old.asking.is_performed ≡ true
+  unfoldable pub commits_interleaved : old.queues.queue.is_interleaved ≡ true → old.asking.out ≤ 1 → old.asking.is_performed ≡ true
       → Stands first (record old { queues = record old.queues { queue = queue_committed old.queues.queue }; asking = all_ended old.asking })
   commits_interleaved is one performed =
       let q = committing_hold old.queued s.history old.queues.queue now_queues in

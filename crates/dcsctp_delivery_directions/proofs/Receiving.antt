@@ -179,7 +179,7 @@ module _ (first : ℕ) (old : Direction) (small : first < 2 ^ 32) (s : Stands fi
       (λ little a is c. stays_cleared s.history first old.tracker.cumulative old.tracker.cumulative old.queues.queue.streams old.reassembly (deferring last_tsn streams old.reassembly) (omega arith)
       (λ id over clear. (clear_through_rest id old.reassembly clear).0 last_tsn streams) c)
 
-  pub stepped_resets : (streams : List ℕ) (new : ReassemblyState) → EndsDeferral streams old.reassembly new → Stands first (record old { reassembly = new })
+  unfoldable pub stepped_resets : (streams : List ℕ) (new : ReassemblyState) → EndsDeferral streams old.reassembly new → Stands first (record old { reassembly = new })
   stepped_resets streams new leaves =
       stepped_arrived old.tracker new (λ little a. left_keeps old.queued s.history first s.queues.cut (known_log little) (known_few little) a.places streams old.tracker old.reassembly new a.received leaves)
       (λ little a is c. stays_cleared s.history first old.tracker.cumulative old.tracker.cumulative old.queues.queue.streams old.reassembly new (omega arith)

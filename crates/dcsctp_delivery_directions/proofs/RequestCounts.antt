@@ -10,7 +10,7 @@ use Rattle.dcsctp_spec.specs.association.Choices.{plain_contents}
 use Rattle.dcsctp_spec.specs.endpoint.BegunResets.{BegunReset, request_contents}
 use Rattle.dcsctp_spec.specs.endpoint.FlushOutcomes.{FillingEvent, filling_event, Answer, answer_contents, filled, goes_out, asked, next_draft, flush_of}
 use Rattle.dcsctp_delivery_sending.specs.Flushes.{NoRequests, NoContent, NoData, reset_begun_by}
-use Rattle.dcsctp_delivery_directions.specs.Directions.{Asking, asking_with, Direction, DirectionStep, queues, sets, prepares, commits, rolls_back, resends, resends_nothing, speaks, asks_again, renews, turns_aside, tracks, defers, flushes, acknowledges, loses, receives, forwards, receives_interleaved, forwards_interleaved, performs, resets, takes, DirectionRun, begins, goes_on, starts}
+use Rattle.dcsctp_delivery_directions.specs.Directions.{Asking, asking_with, Direction, DirectionStep, queues, sets, prepares, commits, rolls_back, resends, resends_nothing, speaks, asks_again, renews, turns_aside, tracks, defers, flushes, acknowledges, loses, receives, forwards, receives_interleaved, forwards_interleaved, performs, performs_earlier, resets, takes, DirectionRun, begins, goes_on, starts}
 use Rattle.dcsctp_delivery_directions.specs.Requests.{one_if_asked, is_request, requests_among, requests_in, requests_to}
 use Rattle.dcsctp_delivery_directions.proofs.Requests.{packets_apart, told_then, told_alone}
 
@@ -104,10 +104,10 @@ one_more old emission h = (let more = requests_more old.sent (emission ∷ []) i
 
 stepped : (old new : Direction) → AreSent old → DirectionStep old new → AreSent new
 stepped old _ h (queues now sending fits some) = h
-stepped old _ h (sets setting) = h
-stepped old _ h (prepares ids) = h
+stepped old _ h (sets setting fits) = h
+stepped old _ h (prepares ids fit) = h
 stepped old _ h (commits go_on) = h
-stepped old _ h rolls_back = h
+stepped old _ h (rolls_back unmixed) = h
 stepped old _ h (flushes e draft answers same no_data allowed) =
     let more = requests_more old.sent (packets_in (flush_of e draft answers).events) in
     let begun = flush_counts e draft answers in
@@ -130,12 +130,13 @@ stepped old _ h (receives_interleaved emission chunk theirs new was holds some s
 stepped old _ h (forwards_interleaved emission tsn streams theirs new was holds same same' does) = h
 stepped old _ h (tracks new cumulative ranges) = h
 stepped old _ h (defers last_tsn streams) = h
-stepped old _ h (performs newest earlier new asks reached own leaves) = h
-stepped old _ h (resets streams new leaves) = h
+stepped old _ h (performs newest earlier new asks unknown reached own leaves) = h
+stepped old _ h (resets streams new unmixed some leaves) = h
+stepped old _ h (performs_earlier newest earlier new asks unknown reached own leaves) = h
 stepped old _ h (takes message messages is) = h
 
 pub requests_are_sent : (options : Options) (first size : ℕ) (direction : Direction) → DirectionRun options first size direction → length direction.asking.requests ≤ requests_in direction.sent
 requests_are_sent options first size _ (begins direction b) =
     (let asked : length direction.asking.requests ≡ 0 = ap (λ (a : Asking). length a.requests) b.asking in omega (arith, asked))
 requests_are_sent options first size _ (goes_on old direction run step) = stepped old direction (requests_are_sent options first size old run) step
-requests_are_sent options first size _ (starts old queued below run awaited fit waits none) = requests_are_sent options first size old run
+requests_are_sent options first size _ (starts old queued below from_zero run awaited fit waits none numbered) = requests_are_sent options first size old run

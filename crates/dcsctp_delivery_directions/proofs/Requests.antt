@@ -13,7 +13,7 @@ use Rattle.dcsctp_spec.specs.endpoint.FlushOutcomes.{FillingEvent, amount_is_low
 use Rattle.dcsctp_delivery_sending.specs.Places.{HasEntry}
 use Rattle.dcsctp_delivery_sending.specs.Flushes.{NoContent, NoData, reset_begun_by}
 use Rattle.dcsctp_delivery_sending.proofs.PausedFlushes.{later_begun}
-use Rattle.dcsctp_delivery_directions.specs.Directions.{Asking, asking_with, Direction, DirectionStep, queues, sets, prepares, commits, rolls_back, resends, resends_nothing, speaks, asks_again, renews, turns_aside, tracks, defers, flushes, acknowledges, loses, receives, forwards, receives_interleaved, forwards_interleaved, performs, resets, takes, DirectionRun, begins, goes_on, starts}
+use Rattle.dcsctp_delivery_directions.specs.Directions.{Asking, asking_with, Direction, DirectionStep, queues, sets, prepares, commits, rolls_back, resends, resends_nothing, speaks, asks_again, renews, turns_aside, tracks, defers, flushes, acknowledges, loses, receives, forwards, receives_interleaved, forwards_interleaved, performs, performs_earlier, resets, takes, DirectionRun, begins, goes_on, starts}
 use Rattle.dcsctp_delivery_directions.specs.Requests.{IsOfBegun}
 
 -- ---- the packets among events
@@ -165,10 +165,10 @@ one_more requests emissions emission are one = sent_both requests emissions (emi
 
 stepped : (old new : Direction) → OfBegun old → DirectionStep old new → OfBegun new
 stepped old _ h (queues now sending fits some) = h
-stepped old _ h (sets setting) = h
-stepped old _ h (prepares ids) = h
+stepped old _ h (sets setting fits) = h
+stepped old _ h (prepares ids fit) = h
 stepped old _ h (commits go_on) = h
-stepped old _ h rolls_back = h
+stepped old _ h (rolls_back unmixed) = h
 stepped old _ h (flushes e draft answers same no_data allowed) =
     let asking : Asking = asking_with (reset_begun_by answers) old.asking in
     sent_both asking.requests old.sent (packets_in (flush_of e draft answers).events) (asked_later (reset_begun_by answers) old.asking old.sent h)
@@ -192,14 +192,15 @@ stepped old _ h (receives_interleaved emission chunk theirs new was holds some s
 stepped old _ h (forwards_interleaved emission tsn streams theirs new was holds same same' does) = h
 stepped old _ h (tracks new cumulative ranges) = h
 stepped old _ h (defers last_tsn streams) = h
-stepped old _ h (performs newest earlier new asks reached own leaves) = h
-stepped old _ h (resets streams new leaves) = h
+stepped old _ h (performs newest earlier new asks unknown reached own leaves) = h
+stepped old _ h (resets streams new unmixed some leaves) = h
+stepped old _ h (performs_earlier newest earlier new asks unknown reached own leaves) = h
 stepped old _ h (takes message messages is) = h
 
 pub all_of_begun : (options : Options) (first size : ℕ) (direction : Direction) → DirectionRun options first size direction → SentOfBegun direction.asking.requests direction.sent
 all_of_begun options first size _ (begins direction b) = subst (SentOfBegun direction.asking.requests) (sym b.sent) tt
 all_of_begun options first size _ (goes_on old direction run step) = stepped old direction (all_of_begun options first size old run) step
-all_of_begun options first size _ (starts old queued below run awaited fit waits none) = all_of_begun options first size old run
+all_of_begun options first size _ (starts old queued below from_zero run awaited fit waits none numbered) = all_of_begun options first size old run
 
 -- ---- one of them
 

@@ -1,9 +1,12 @@
 -- One direction of an association, by the relations of the machine: what one side queues and sends,
 -- and what the other side receives and its user reads (RFC 9260, section 6), with interleaving or
 -- without (RFC 8260).
-use Rattle.std.specs.Prelude.{◌≡◌, ◌≢◌, ◌<◌, ◌≤◌, ◌+◌, ◌^◌, ℕ, suc, Bool, true, false, not, Option, None, Some, List, [], ◌∷◌, ◌++◌, length}
+use Rattle.std.specs.Prelude.{◌≡◌, ◌≢◌, ◌<◌, ◌≤◌, ◌+◌, ◌%◌, ◌^◌, ℕ, suc, Bool, true, false, not, Option, None, Some, List, [], ◌∷◌, ◌++◌, length}
 use Rattle.dcsctp_spec.specs.wire.Content.{DataContent, IDataContent, SackContent, data_chunk, i_data_chunk, forward_tsn_chunk, i_forward_tsn_chunk}
 use Rattle.dcsctp_spec.specs.types.declared.options.Options.{Options}
+use Rattle.dcsctp_spec.specs.types.declared.sending.UnderWay.{UnderWay}
+use Rattle.dcsctp_spec.specs.types.queues.SendStreams.{Waiting, Stream, front_of}
+use Rattle.dcsctp_spec.specs.queues.SendQueue.{SendQueueState}
 use Rattle.dcsctp_spec.specs.endpoint.Endpoint.{Endpoint}
 use Rattle.dcsctp_spec.specs.endpoint.Event.{packets_in}
 use Rattle.dcsctp_spec.specs.Packet.{Plain, unworked, plain, Emission}
@@ -24,6 +27,7 @@ use Rattle.dcsctp_spec.specs.queues.Transfer.{Transfer, EndpointQueues}
 use Rattle.dcsctp_spec.specs.endpoint.FlushOutcomes.{Answer, FlushAnswers, flush_of}
 use Rattle.dcsctp_spec.specs.endpoint.MessageOutcomes.{Sending, sending_queued}
 use Rattle.dcsctp_spec.specs.endpoint.TransferMoves.{ReceivesData, MovesForward, TakesSack, lost_all}
+use Rattle.dcsctp_delivery_sending.specs.Numbers.{stream_named, next_mid}
 use Rattle.dcsctp_delivery_sending.specs.Places.{HasEntry}
 use Rattle.dcsctp_delivery_sending.specs.Log.{Fits, Message}
 use Rattle.dcsctp_spec.specs.Reconfiguration.{RequestedReset}
@@ -31,7 +35,7 @@ use Rattle.dcsctp_spec.specs.association.FlushChanges.{reset_request}
 use Rattle.dcsctp_spec.specs.queues.Numbers.{is_tsn_beyond}
 use Rattle.dcsctp_spec.specs.endpoint.BegunResets.{BegunReset}
 use Rattle.dcsctp_delivery_sending.specs.Flushes.{NoData, reset_begun_by}
-use Rattle.dcsctp_delivery_sending.specs.Queueing.{message_of, QueueWaits}
+use Rattle.dcsctp_delivery_sending.specs.Queueing.{message_of, SettingFits, QueueWaits}
 use Rattle.dcsctp_delivery_receiving.specs.Clear.{IsOwn}
 use Rattle.dcsctp_delivery_receiving.specs.Ready.{AreDistinct, WereQueued}
 use Rattle.std.specs.List.{AllByRecursion}
@@ -64,6 +68,8 @@ pub record Direction : Type 0 where
   -- what its user read, oldest first
   pub read : List MessageContent
   pub asking : Asking
+  -- Did the sender begin with number 0 on each stream (RFC 9260, section 6.5)?
+  pub from_zero : Bool
 
 -- once this reset was begun, if one was
 abbrev pub asking_with : Option BegunReset → Asking → Asking
@@ -95,13 +101,13 @@ pub data DirectionStep (old : Direction) : Direction → Type 0 where
   -- The user queues a message.
   queues : (now : ℕ) (sending : Sending) → Fits (message_of sending) → 0 < length sending.message.payload
       → DirectionStep old (record old { queued = message_of sending ∷ old.queued; queues = record old.queues { queue = sending_queued now sending old.queues.queue } })
-  -- The user sets something, or streams are prepared to be reset; or a reset was performed, or was not. With interleaving it is
-  -- the only one that has no end, and the receiver has performed it.
-  sets : (setting : Setting) → DirectionStep old (record old { queues = record old.queues { queue = set_in_queue setting old.queues.queue } })
-  prepares : (ids : List ℕ) → DirectionStep old (record old { queues = record old.queues { queue = prepared_all ids old.queues.queue } })
+  -- The user sets something, or streams are prepared to be reset, each by a number of 16 bits; or a reset was performed, or was
+  -- not. With interleaving it is the only one that has no end, the receiver has performed it, and none fails.
+  sets : (setting : Setting) → SettingFits setting → DirectionStep old (record old { queues = record old.queues { queue = set_in_queue setting old.queues.queue } })
+  prepares : (ids : List ℕ) → AllByRecursion (λ id. id < 2 ^ 16) ids → DirectionStep old (record old { queues = record old.queues { queue = prepared_all ids old.queues.queue } })
   commits : (old.queues.queue.is_interleaved ≡ true → (old.asking.out ≤ 1) × (old.asking.is_performed ≡ true))
       → DirectionStep old (record old { queues = record old.queues { queue = queue_committed old.queues.queue }; asking = all_ended old.asking })
-  rolls_back : DirectionStep old (record old { queues = record old.queues { queue = queue_rolled_back old.queues.queue }; asking = all_ended old.asking })
+  rolls_back : old.queues.queue.is_interleaved ≡ false → DirectionStep old (record old { queues = record old.queues { queue = queue_rolled_back old.queues.queue }; asking = all_ended old.asking })
   -- A flush, whose first packet holds no data. It may begin a reset of streams.
   flushes : (e : Endpoint) (draft : Emission) (answers : List Answer) → e.queues ≡ old.queues → NoData draft.packet.contents → FlushAnswers e draft answers
       → DirectionStep old (record old {
@@ -150,11 +156,18 @@ pub data DirectionStep (old : Direction) : Direction → Type 0 where
   tracks : (new : TrackerState) → new.cumulative ≡ old.tracker.cumulative → new.ranges ≡ old.tracker.ranges → DirectionStep old (record old { tracker = new })
   -- Streams are to be reset once all up to a TSN was received, whichever they are, and whatever it is.
   defers : (last_tsn : ℕ) (streams : List ℕ) → DirectionStep old (record old { reassembly = deferring last_tsn streams old.reassembly })
-  -- The newest reset is performed: all that was sent before it was received, and what waits, waits for it.
-  performs : (newest : BegunReset) (earlier : List BegunReset) (new : ReassemblyState) → old.asking.requests ≡ newest ∷ earlier → is_reset_reached newest.reset old.tracker ≡ true → IsOwn newest.reset old.reassembly.deferral
+  -- The newest reset is performed: all that was sent before it was received, and what waits, waits for it. With interleaving it
+  -- wasn't performed before under its number.
+  performs : (newest : BegunReset) (earlier : List BegunReset) (new : ReassemblyState) → old.asking.requests ≡ newest ∷ earlier
+      → (old.queues.queue.is_interleaved ≡ true → old.asking.is_performed ≡ false) → is_reset_reached newest.reset old.tracker ≡ true → IsOwn newest.reset old.reassembly.deferral
       → EndsDeferral newest.reset.streams old.reassembly new → DirectionStep old (record old { reassembly = new; asking = record old.asking { is_performed = true } })
-  -- Streams are reset, whichever.
-  resets : (streams : List ℕ) (new : ReassemblyState) → EndsDeferral streams old.reassembly new → DirectionStep old (record old { reassembly = new })
+  -- An earlier request than the newest is performed, which wants the same: the newest is that one, sent again under another number,
+  -- and with interleaving it wasn't performed under that yet.
+  performs_earlier : (newest : BegunReset) (earlier : List BegunReset) (new : ReassemblyState) → old.asking.requests ≡ newest ∷ earlier
+      → (old.queues.queue.is_interleaved ≡ true → old.asking.is_performed ≡ false) → is_reset_reached newest.reset old.tracker ≡ true → IsOwn newest.reset old.reassembly.deferral
+      → EndsDeferral newest.reset.streams old.reassembly new → DirectionStep old (record old { reassembly = new })
+  -- Without interleaving streams are reset, whichever, where the sender has begun a request.
+  resets : (streams : List ℕ) (new : ReassemblyState) → old.queues.queue.is_interleaved ≡ false → old.asking.requests ≢ [] → EndsDeferral streams old.reassembly new → DirectionStep old (record old { reassembly = new })
   -- Its user reads a message.
   takes : (message : MessageContent) (messages : List MessageContent) → old.reassembly.incoming.ready ≡ message ∷ messages
       → DirectionStep old (record old { reassembly = with_ready messages old.reassembly; read = old.read ++ message ∷ [] })
@@ -164,6 +177,17 @@ abbrev pub NoneInFlight : ℕ → Bool → Option Transfer → Type 0
 NoneInFlight first is_interleaved None = Unit {0}
 NoneInFlight first is_interleaved (Some transfer) =
     (transfer.retransmission.outstanding.first_tsn ≡ first) × (transfer.retransmission.outstanding.items ≡ []) × (transfer.retransmission.outstanding.is_interleaved ≡ is_interleaved)
+
+-- A message under way is unordered, if one is.
+abbrev pub RestIsUnordered : List Stream → Option UnderWay → Type 0
+RestIsUnordered streams under_way =
+    (u : UnderWay) (waiting : Waiting) → under_way ≡ Some u → front_of (stream_named u.stream_id.0 streams).messages ≡ Some waiting
+    → waiting.is_unordered ≡ true
+
+-- No ordered message is under way, and the next one of each stream has the number 0.
+pub record BeginsAtZero (queue : SendQueueState) : Type 0 where
+  pub rest : RestIsUnordered queue.streams queue.under_way
+  pub zero : (id : ℕ) → next_mid false (stream_named id queue.streams) % 2 ^ 32 ≡ 0
 
 -- An association begins; what was queued before may wait.
 pub record BeginsDirection (options : Options) (first size : ℕ) (direction : Direction) : Type 0 where
@@ -176,6 +200,7 @@ pub record BeginsDirection (options : Options) (first size : ℕ) (direction : D
   pub reassembly : direction.reassembly ≡ new_reassembly size
   pub read : direction.read ≡ []
   pub asking : direction.asking ≡ nothing_asked
+  pub zero : direction.from_zero ≡ true → BeginsAtZero direction.queues.queue
 
 -- Its sender has no association yet.
 pub record IsAwaited (direction : Direction) : Type 0 where
@@ -190,8 +215,8 @@ pub data DirectionRun (options : Options) (first size : ℕ) : Direction → Typ
   begins : (direction : Direction) → BeginsDirection options first size direction → DirectionRun options first size direction
   goes_on : (old direction : Direction) → DirectionRun options first size old → DirectionStep old direction → DirectionRun options first size direction
   -- The sender begins after the receiver.
-  starts : (old : Direction) (queued : List Message) (sender_queues : EndpointQueues) → DirectionRun options first size old → IsAwaited old → AllByRecursion Fits queued → QueueWaits queued sender_queues.queue → NoneInFlight first sender_queues.queue.is_interleaved sender_queues.transfer
-      → DirectionRun options first size (record old { queued = queued; queues = sender_queues })
+  starts : (old : Direction) (queued : List Message) (sender_queues : EndpointQueues) (from_zero : Bool) → DirectionRun options first size old → IsAwaited old → AllByRecursion Fits queued → QueueWaits queued sender_queues.queue → NoneInFlight first sender_queues.queue.is_interleaved sender_queues.transfer
+      → (from_zero ≡ true → BeginsAtZero sender_queues.queue) → DirectionRun options first size (record old { queued = queued; queues = sender_queues; from_zero = from_zero })
 
 -- Each message that was read was queued, and none twice.
 pub record Delivered (queued : List Message) (read : List MessageContent) : Type 0 where

@@ -1,4 +1,3 @@
 pub mod Directions
 pub mod Marking
 pub mod Requests
-pub mod Calm

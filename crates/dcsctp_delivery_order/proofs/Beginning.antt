@@ -7,7 +7,7 @@ use Rattle.dcsctp_spec_lemmas.specs.spec.queues.SendQueue.{SendQueueState}
 use Rattle.dcsctp_delivery_sending.specs.Log.{Message, new_history}
 use Rattle.dcsctp_delivery_sending.specs.Numbers.{stream_named, next_mid, CountsMessages, CountsWhere}
 use Rattle.dcsctp_delivery_sending.specs.Queueing.{QueueWaits}
-use Rattle.dcsctp_delivery_order.specs.Directions.{RestIsUnordered, BeginsAtZero}
+use Rattle.dcsctp_delivery_directions.specs.Directions.{RestIsUnordered, BeginsAtZero}
 
 -- ordered messages are counted from the next one
 abbrev floors_of : List Stream → (ℕ → Bool → ℕ) → ℕ → Bool → ℕ

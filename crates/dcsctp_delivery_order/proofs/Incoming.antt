@@ -44,7 +44,7 @@ beginning_in_order gapless queued history quiet base =
 
 -- ---- streams that are reset
 
-quiet_where : (gapless : Bool) (queued : List Message) (history : History) (b : Bool) (id : ℕ) (all waits : List ℕ) (stream : StreamModel) → OrderWhere gapless b queued history id all waits stream → IsBetweenResets queued history id all
+pub quiet_where : (gapless : Bool) (queued : List Message) (history : History) (b : Bool) (id : ℕ) (all waits : List ℕ) (stream : StreamModel) → OrderWhere gapless b queued history id all waits stream → IsBetweenResets queued history id all
 quiet_where gapless queued history false id all waits stream o = come_between queued history id all waits stream o.order
 quiet_where gapless queued history true id all waits stream between = between
 

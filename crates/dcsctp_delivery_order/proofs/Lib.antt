@@ -14,5 +14,11 @@ pub mod Runs
 pub mod Held
 pub mod Follows
 pub mod Received
-pub mod Beginning
+pub mod Ending
+pub mod Taken
+pub mod Unsent
+pub mod Raised
+pub mod Quiet
+pub mod Steps
 pub mod Directions
+pub mod Beginning

@@ -30,7 +30,7 @@ module _ (queued : List Message) (id : ℕ) where
     in_order_joined xs ys one.1 two (λ x' y l r. across x' y (inr l) r),
   )
 
-  in_order_none : (xs : List ℕ) → ((x : ℕ) → HasEntry x xs → IsOrderedOn queued id x → ⊥) → ComeInOrder queued id xs
+  pub in_order_none : (xs : List ℕ) → ((x : ℕ) → HasEntry x xs → IsOrderedOn queued id x → ⊥) → ComeInOrder queued id xs
   in_order_none [] none = tt
   in_order_none (x ∷ xs) none = (λ later has on on'. absurd (none x (inl refl) on), in_order_none xs (λ x' h. none x' (inr h)))
 

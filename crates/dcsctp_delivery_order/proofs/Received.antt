@@ -1,82 +1,86 @@
--- What is received where no stream is reset leaves each stream in order.
+-- What is received leaves each stream in order: nothing that is new is of a quiet stream.
 use Rattle.std.proofs.Common.{◌≡◌, ℕ, Bool, true, false, ◌<◌, ◌+◌, ◌-◌, ◌%◌, ◌^◌, List, [], ◌∷◌, ◌++◌, length, refl, sym, ◌∙◌, ap, arith, subst, inl, inr}
-use Rattle.std.specs.Prelude.{◌&&◌, not, if◌then◌else◌, Some}
+use Rattle.std.specs.Prelude.{◌&&◌, not, if◌then◌else◌, Option, None, Some}
+use Rattle.std.proofs.lemmas.List.{append-nil}
 use Rattle.dcsctp_spec_lemmas.specs.types.declared.arrivals.SkippedTo.{SkippedTo}
 use Rattle.dcsctp_spec_lemmas.specs.types.declared.tracking.TsnRange.{TsnRange}
-use Rattle.dcsctp_spec_lemmas.specs.types.queues.Messages.{MessageContent}
 use Rattle.dcsctp_spec_lemmas.specs.spec.queues.Arrivals.{Arrival}
 use Rattle.dcsctp_spec_lemmas.specs.spec.queues.Numbers.{number_near}
 use Rattle.dcsctp_spec_lemmas.specs.spec.queues.Ranges.{IsBeyond, is_received}
-use Rattle.dcsctp_spec_lemmas.specs.spec.queues.Runs.{WholeModel}
-use Rattle.dcsctp_spec_lemmas.specs.spec.queues.IncomingStreams.{StreamModel, ChunkModel, skipped_stream}
-use Rattle.dcsctp_spec_lemmas.specs.spec.queues.Incoming.{IncomingModel, stream_on, TakesIncomingChunk, MovesOn}
-use Rattle.dcsctp_spec_lemmas.specs.spec.queues.Reassembly.{ReassemblyState, can_count, entries_beside, is_data_deferred, is_forward_deferred, names_stream, AddsData, SkipsData, with_ready, deferring}
+use Rattle.dcsctp_spec_lemmas.specs.spec.queues.IncomingStreams.{ChunkModel, skipped_stream}
+use Rattle.dcsctp_spec_lemmas.specs.spec.queues.Incoming.{IncomingModel, TakesIncomingChunk, MovesOn}
+use Rattle.dcsctp_spec_lemmas.specs.spec.queues.Reassembly.{ReassemblyState, can_count, entries_beside, is_data_deferred, is_forward_deferred, names_stream, AddsData, SkipsData, DeferralModel, waiting_of, entered, deferring}
 use Rattle.dcsctp_spec_lemmas.specs.spec.queues.Tracker.{TrackerState, has_received, is_new_tsn, observed, is_forward, is_valid_tsn, after_forward, delay_over, moved_forward}
 use Rattle.dcsctp_spec_lemmas.specs.spec.queues.Transfer.{Transfer}
 use Rattle.dcsctp_spec_lemmas.specs.spec.endpoint.TransferMoves.{AddsWhere, has_room, dropping, ReceivesWhere, SkipsWhere, GoesForward, MovesWhere, ReceivesData, MovesForward, TakesData as TakesArrival}
-use Rattle.dcsctp_delivery_sending.specs.Places.{HasEntry, at_place}
-use Rattle.dcsctp_delivery_sending.specs.Log.{Message, Slot, History, Cut}
-use Rattle.dcsctp_delivery_sending.specs.Numbers.{IsUnambiguous}
+use Rattle.dcsctp_delivery_sending.specs.Places.{HasEntry}
+use Rattle.dcsctp_delivery_sending.specs.Log.{Message, History, Cut}
+use Rattle.dcsctp_delivery_sending.specs.Numbers.{AreOfKind, IsUnambiguous}
 use Rattle.dcsctp_delivery_sending.proofs.Places.{at_below}
-use Rattle.dcsctp_delivery_receiving.specs.Ready.{WasQueued, WereQueued, WaitQueued, IsNear, fresh, near, AreNamed, IsNamedEntry, SkipAll, HoldsIncoming}
-use Rattle.dcsctp_delivery_receiving.specs.Received.{Carries, CarriesCurrent, IsTsn, SkipsTo, Reassembles, untouched, placed, HasReceived, Few}
+use Rattle.dcsctp_delivery_receiving.specs.Ready.{AreDistinct, AreNamed, IsNamedEntry, SkipAll}
+use Rattle.dcsctp_delivery_receiving.specs.Received.{Carries, CarriesCurrent, IsTsn, SkipsTo, DefersData, Few}
 use Rattle.dcsctp_delivery_receiving.specs.Tracked.{tracked, Tracks}
-use Rattle.dcsctp_delivery_receiving.proofs.Continuing.{GoesOn}
+use Rattle.dcsctp_delivery_receiving.specs.Clear.{NoneSkips, IsOver}
+use Rattle.dcsctp_delivery_receiving.proofs.Clear.{old_tsn, forward_behind, all_skip_others}
 use Rattle.dcsctp_delivery_receiving.proofs.Current.{OthersArePast, carries_current, skips_to}
-use Rattle.dcsctp_delivery_receiving.proofs.Distinct.{has_left, has_right}
-use Rattle.dcsctp_delivery_receiving.proofs.Growing.{holds_more}
+use Rattle.dcsctp_delivery_receiving.proofs.Distinct.{has_either, distinct_with}
 use Rattle.dcsctp_delivery_receiving.proofs.Kept.{all_left, deferred_by, each_named}
-use Rattle.dcsctp_delivery_receiving.proofs.Reassembled.{first_number, first_base, first_near, number_read, few_behind, bears_of}
+use Rattle.dcsctp_delivery_receiving.proofs.Reassembled.{first_number, first_base, first_near, number_read, few_behind, bears_of, waiting_data}
 use Rattle.dcsctp_delivery_receiving.proofs.Taking.{nothing_passed}
-use Rattle.dcsctp_delivery_receiving.proofs.Tracked.{new_is_new, passing_keeps, delayed_tracks, new_beyond, forward_beyond, more_given_out}
-use Rattle.dcsctp_delivery_receiving.proofs.Waiting.{both_queued}
-use Rattle.dcsctp_delivery_order.specs.Queue.{ComeInOrder}
-use Rattle.dcsctp_delivery_order.specs.Order.{AreReadAs}
-use Rattle.dcsctp_delivery_order.specs.Rising.{AscendFrom}
-use Rattle.dcsctp_delivery_order.specs.Incoming.{IncomingOrdered, NoneIsQuiet, IsWithin}
-use Rattle.dcsctp_delivery_order.specs.Received.{none_quiet, ReassemblesInOrder, none_handled, some_handled, HasReceivedInOrder}
-use Rattle.dcsctp_delivery_order.proofs.Incoming.{growing_in_order, taking_in_order}
+use Rattle.dcsctp_delivery_receiving.proofs.Tracked.{new_is_new, passing_keeps, delayed_tracks, new_beyond, forward_beyond}
+use Rattle.dcsctp_delivery_order.specs.Incoming.{IncomingOrdered, NoneIsQuiet}
+use Rattle.dcsctp_delivery_order.specs.Received.{ReassemblesInOrder, none_handled, some_handled, HasReceivedInOrder}
 use Rattle.dcsctp_delivery_order.proofs.Ready.{ready_in_order}
 use Rattle.dcsctp_delivery_order.proofs.Skipping.{skipping_in_order}
 
+-- ---- streams that aren't quiet
+
+-- If a stream isn't quiet wherever that leads to something false, it isn't.
+pub loud_by : (quiet : ℕ → Bool) (id : ℕ) → (quiet id ≡ true → ⊥) → quiet id ≡ false
+loud_by quiet id not_quiet = go (quiet id) refl
+  where
+    go : (b : Bool) → quiet id ≡ b → quiet id ≡ false
+    go true is = absurd (not_quiet is)
+    go false is = is
+
+pub loud_entries : (quiet : ℕ → Bool) (entries : List SkippedTo) → ((id : ℕ) → quiet id ≡ true → NoneSkips id entries) → NoneIsQuiet quiet entries
+loud_entries quiet [] none = tt
+loud_entries quiet (entry ∷ entries) none = (loud_by quiet (skipped_stream entry) (λ is. (none (skipped_stream entry) is).0 refl), loud_entries quiet entries (λ id is. (none id is).1))
+
 -- ---- the reassembly queue
 
-all_loud : (entries : List SkippedTo) → NoneIsQuiet none_quiet entries
-all_loud [] = tt
-all_loud (entry ∷ entries) = (refl, all_loud entries)
-
-module _ (queued : List Message) (history : History) (first : ℕ) (cut : Cut queued history.log) (told : IsUnambiguous history) (f : Few history first) (read : List ℕ) where
-  data_in_order : (got : List ℕ) (offset tsn : ℕ) (chunk : ChunkModel) (old new : IncomingModel) → CarriesCurrent history first offset tsn chunk → (HasEntry offset got → ⊥) → ReassemblesInOrder queued history first got read old → TakesIncomingChunk tsn chunk old new
-      → ReassemblesInOrder queued history first (offset ∷ got) read new
+module _ (queued : List Message) (history : History) (first : ℕ) (cut : Cut queued history.log) (told : IsUnambiguous history) (f : Few history first) (quiet : ℕ → Bool) (read : List ℕ) where
+  pub data_in_order : (got : List ℕ) (offset tsn : ℕ) (chunk : ChunkModel) (old new : IncomingModel) → CarriesCurrent history first offset tsn chunk → (HasEntry offset got → ⊥) → quiet chunk.stream ≡ false
+      → ReassemblesInOrder queued history quiet first got read old → TakesIncomingChunk tsn chunk old new → ReassemblesInOrder queued history quiet first (offset ∷ got) read new
   unfolding bears_of
-  data_in_order got offset tsn chunk old new c is_new (some_handled base is holds) takes =
+  data_in_order got offset tsn chunk old new c is_new loud (some_handled base is holds) takes =
       let few = few_behind history first offset tsn chunk f c in
       let number = number_read first base old.last_tsn_number offset tsn is few c.carries.is in
       some_handled base (record { same = is.same; near = is.near; worked = offset; few = few; is = takes.last ∙ number })
-      (ready_in_order false queued history none_quiet cut told got base tsn read chunk old new (bears_of history first base offset tsn (number_near old.last_tsn_number tsn) chunk c number) is_new refl holds takes)
-  data_in_order got offset tsn chunk old new c is_new (none_handled none last empty) takes =
+      (ready_in_order false queued history quiet cut told got base tsn read chunk old new (bears_of history first base offset tsn (number_near old.last_tsn_number tsn) chunk c number) is_new loud holds takes)
+  data_in_order got offset tsn chunk old new c is_new loud (none_handled none last empty) takes =
       let few = few_behind history first offset tsn chunk f c in
       let base : ℕ = number_near (2 ^ 32) ((first + offset) % 2 ^ 32) - offset in
       let up = first_number first offset f.small few in
       let number : number_near old.last_tsn_number tsn ≡ base + offset = ap (λ (l : ℕ). number_near l tsn) last ∙ ap (number_near (2 ^ 32)) c.carries.is ∙ omega (arith, up) in
       some_handled base (record { same = first_base first offset f.small few; near = first_near first offset f.small few; worked = offset; few = few; is = takes.last ∙ number })
-      (ready_in_order false queued history none_quiet cut told got base tsn read chunk old new (bears_of history first base offset tsn (number_near old.last_tsn_number tsn) chunk c number) is_new refl
-      (subst (λ (l : List ℕ). IncomingOrdered false queued history none_quiet l base read old) (sym none) (empty base)) takes)
+      (ready_in_order false queued history quiet cut told got base tsn read chunk old new (bears_of history first base offset tsn (number_near old.last_tsn_number tsn) chunk c number) is_new loud
+      (subst (λ (l : List ℕ). IncomingOrdered false queued history quiet l base read old) (sym none) (empty base)) takes)
 
-  forward_in_order : (got : List ℕ) (tsn : ℕ) (entries : List SkippedTo) (old new : IncomingModel) → IsTsn history.log first tsn → AreNamed history entries → ReassemblesInOrder queued history first got read old → MovesOn tsn entries old new
-      → ReassemblesInOrder queued history first got read new
-  forward_in_order got tsn entries old new t names (some_handled base is holds) moves =
+  pub forward_in_order : (got : List ℕ) (tsn : ℕ) (entries : List SkippedTo) (old new : IncomingModel) → IsTsn history.log first tsn → AreNamed history entries → NoneIsQuiet quiet entries
+      → ReassemblesInOrder queued history quiet first got read old → MovesOn tsn entries old new → ReassemblesInOrder queued history quiet first got read new
+  forward_in_order got tsn entries old new t names loud (some_handled base is holds) moves =
       let few : t.offset < 2 ^ 31 = omega (arith, f.few, t.below) in
       let number = number_read first base old.last_tsn_number t.offset tsn is few t.is in
       some_handled base (record { same = is.same; near = is.near; worked = t.offset; few = few; is = moves.last ∙ number })
-      (skipping_in_order false refl queued history none_quiet got base read tsn entries old new names (all_loud entries) holds moves)
-  forward_in_order got tsn entries old new t names (none_handled none last empty) moves =
+      (skipping_in_order false refl queued history quiet got base read tsn entries old new names loud holds moves)
+  forward_in_order got tsn entries old new t names loud (none_handled none last empty) moves =
       let few : t.offset < 2 ^ 31 = omega (arith, f.few, t.below) in
       let base : ℕ = number_near (2 ^ 32) ((first + t.offset) % 2 ^ 32) - t.offset in
       let up = first_number first t.offset f.small few in
       let number : number_near old.last_tsn_number tsn ≡ base + t.offset = ap (λ (l : ℕ). number_near l tsn) last ∙ ap (number_near (2 ^ 32)) t.is ∙ omega (arith, up) in
       some_handled base (record { same = first_base first t.offset f.small few; near = first_near first t.offset f.small few; worked = t.offset; few = few; is = moves.last ∙ number })
-      (skipping_in_order false refl queued history none_quiet got base read tsn entries old new names (all_loud entries) (subst (λ (l : List ℕ). IncomingOrdered false queued history none_quiet l base read old) (sym none) (empty base)) moves)
+      (skipping_in_order false refl queued history quiet got base read tsn entries old new names loud (subst (λ (l : List ℕ). IncomingOrdered false queued history quiet l base read old) (sym none) (empty base)) moves)
 
 -- ---- the tracker
 
@@ -97,50 +101,105 @@ tracks_alike first count taken tracker now same same' t =
     alike : (number : ℕ) → has_received now number ≡ has_received tracker number
     alike number = ap (λ (c : ℕ). is_received c number now.ranges) same ∙ ap (λ (l : List TsnRange). is_received tracker.cumulative number l) same'
 
-pub tracked_in_order : (queued : List Message) (history : History) (first : ℕ) (read : List ℕ) (tracker now : TrackerState) (reassembly : ReassemblyState) → now.cumulative ≡ tracker.cumulative → now.ranges ≡ tracker.ranges
-    → HasReceivedInOrder queued history first read tracker reassembly → HasReceivedInOrder queued history first read now reassembly
-tracked_in_order queued history first read tracker now reassembly same same' r =
-    record { got = r.got; tracks = tracks_alike first (length history.log) r.got tracker now same same' r.tracks; holds = r.holds }
+module _ (queued : List Message) (history : History) (quiet : ℕ → Bool) (first : ℕ) (read : List ℕ) where
+  -- the tracker moves alone
+  tracked_on : (tracker now : TrackerState) (reassembly : ReassemblyState) (r : HasReceivedInOrder queued history quiet first read tracker reassembly) → Tracks first (length history.log) r.taken now
+      → HasReceivedInOrder queued history quiet first read now reassembly
+  tracked_on tracker now reassembly r tracks =
+      record {
+        taken = r.taken;
+        got = r.got;
+        later = r.later;
+        tracks = tracks;
+        got_taken = r.got_taken;
+        later_taken = r.later_taken;
+        apart = r.apart;
+        distinct = r.distinct;
+        holds = r.holds;
+        defers = r.defers;
+      }
 
--- the tracker moves alone
-tracked_on : (queued : List Message) (history : History) (first : ℕ) (read : List ℕ) (tracker now : TrackerState) (reassembly : ReassemblyState) (r : HasReceivedInOrder queued history first read tracker reassembly)
-    → Tracks first (length history.log) r.got now → HasReceivedInOrder queued history first read now reassembly
-tracked_on queued history first read tracker now reassembly r tracks = record { got = r.got; tracks = tracks; holds = r.holds }
+  pub tracked_in_order : (tracker now : TrackerState) (reassembly : ReassemblyState) → now.cumulative ≡ tracker.cumulative → now.ranges ≡ tracker.ranges → HasReceivedInOrder queued history quiet first read tracker reassembly
+      → HasReceivedInOrder queued history quiet first read now reassembly
+  tracked_in_order tracker now reassembly same same' r = tracked_on tracker now reassembly r (tracks_alike first (length history.log) r.taken tracker now same same' r.tracks)
 
--- and so is a reset that is deferred
-pub deferring_in_order : (queued : List Message) (history : History) (first : ℕ) (read : List ℕ) (last_tsn : ℕ) (streams : List ℕ) (tracker : TrackerState) (reassembly : ReassemblyState)
-    → HasReceivedInOrder queued history first read tracker reassembly → HasReceivedInOrder queued history first read tracker (deferring last_tsn streams reassembly)
-deferring_in_order queued history first read last_tsn streams tracker reassembly r = record { got = r.got; tracks = r.tracks; holds = r.holds }
+  -- a reset is deferred
+  pub deferring_in_order : (last_tsn : ℕ) (streams : List ℕ) (tracker : TrackerState) (reassembly : ReassemblyState) → HasReceivedInOrder queued history quiet first read tracker reassembly
+      → HasReceivedInOrder queued history quiet first read tracker (deferring last_tsn streams reassembly)
+  deferring_in_order last_tsn streams tracker reassembly r =
+      record {
+        taken = r.taken;
+        got = r.got;
+        later = r.later;
+        tracks = r.tracks;
+        got_taken = r.got_taken;
+        later_taken = r.later_taken;
+        apart = r.apart;
+        distinct = r.distinct;
+        holds = r.holds;
+        defers = go reassembly.deferral r.defers;
+      }
+    where
+      go : (d : Option DeferralModel) → DefersData history first r.later (waiting_of d) → DefersData history first r.later (waiting_of (entered last_tsn streams d))
+      go None defers = defers
+      go (Some d) defers = defers
 
 -- ---- data
 
-module _ (queued : List Message) (history : History) (first : ℕ) (cut : Cut queued history.log) (told : IsUnambiguous history) (f : Few history first) (read : List ℕ) where
-  -- a chunk whose TSN is new
-  added : (offset tsn : ℕ) (chunk : ChunkModel) (tracker now : TrackerState) (old new : ReassemblyState) → CarriesCurrent history first offset tsn chunk → (r : HasReceivedInOrder queued history first read tracker old)
-      → Tracks first (length history.log) (offset ∷ r.got) now → (HasEntry offset r.got → ⊥) → AddsData tsn chunk old new → HasReceivedInOrder queued history first read now new
-  added offset tsn chunk tracker now old new c r tracks is_new adds = go (can_count (length chunk.payload) old) refl
-    where
-      go : (counts : Bool) → can_count (length chunk.payload) old ≡ counts → HasReceivedInOrder queued history first read now new
-      go false counts =
-          subst (λ (s : ReassemblyState). HasReceivedInOrder queued history first read now s) (sym (adds.too_much counts))
-          (tracked_on queued history first read tracker now old r (tracks_fewer first (length history.log) (offset ∷ r.got) r.got now (λ k h. inr h) tracks))
-      go true counts = by_deferral (is_data_deferred tsn chunk.stream old.deferral) refl
-        where
-          by_deferral : (waits : Bool) → is_data_deferred tsn chunk.stream old.deferral ≡ waits → HasReceivedInOrder queued history first read now new
-          by_deferral true deferred =
-              subst (λ (s : ReassemblyState). HasReceivedInOrder queued history first read now s) (sym (adds.deferred counts deferred))
-              (record { got = r.got; tracks = tracks_fewer first (length history.log) (offset ∷ r.got) r.got now (λ k h. inr h) tracks; holds = r.holds })
-          by_deferral false deferred =
-              record {
-                got = offset ∷ r.got;
-                tracks = tracks;
-                holds = data_in_order queued history first cut told f read r.got offset tsn chunk old.incoming new.incoming c is_new r.holds (adds.taken counts deferred).incoming;
-              }
+-- All pieces of a quiet stream came before a reset of it, up to which all was received.
+abbrev pub QuietAreOver : History → (ℕ → Bool) → ℕ → ℕ → Type 0
+QuietAreOver history quiet first cumulative = (id : ℕ) → quiet id ≡ true → IsOver history first cumulative id
 
-  taken_in_order : (offset : ℕ) (arrival : Arrival) (old new : Transfer) → Carries history.log first offset arrival.tsn arrival.chunk → OthersArePast history first old.tracker.cumulative
-      → HasReceivedInOrder queued history first read old.tracker old.reassembly → TakesArrival arrival old new → HasReceivedInOrder queued history first read new.tracker new.reassembly
-  taken_in_order offset arrival old new c past r takes =
-      subst (λ (t : TrackerState). HasReceivedInOrder queued history first read t new.reassembly) (sym (ap (λ (t : Transfer). t.tracker) takes.rest)) (go (is_new_tsn arrival.tsn old.tracker) refl takes.reassembly)
+module _ (queued : List Message) (history : History) (first : ℕ) (cut : Cut queued history.log) (told : IsUnambiguous history) (f : Few history first) (quiet : ℕ → Bool) (read : List ℕ) where
+  -- a chunk whose TSN is new
+  added : (offset tsn : ℕ) (chunk : ChunkModel) (tracker now : TrackerState) (old new : ReassemblyState) → CarriesCurrent history first offset tsn chunk → (r : HasReceivedInOrder queued history quiet first read tracker old)
+      → Tracks first (length history.log) (offset ∷ r.taken) now → (HasEntry offset r.taken → ⊥) → quiet chunk.stream ≡ false → AddsData tsn chunk old new → HasReceivedInOrder queued history quiet first read now new
+  added offset tsn chunk tracker now old new c r tracks is_new loud adds = go (can_count (length chunk.payload) old) refl (is_data_deferred tsn chunk.stream old.deferral) refl
+    where
+      go : (counts : Bool) → can_count (length chunk.payload) old ≡ counts → (waits : Bool) → is_data_deferred tsn chunk.stream old.deferral ≡ waits → HasReceivedInOrder queued history quiet first read now new
+      go false counts waits deferred =
+          subst (λ (s : ReassemblyState). HasReceivedInOrder queued history quiet first read now s) (sym (adds.too_much counts))
+          (tracked_on queued history quiet first read tracker now old r (tracks_fewer first (length history.log) (offset ∷ r.taken) r.taken now (λ k h. inr h) tracks))
+      go true counts true deferred =
+          subst (λ (s : ReassemblyState). HasReceivedInOrder queued history quiet first read now s) (sym (adds.deferred counts deferred))
+          (record {
+            taken = offset ∷ r.taken;
+            got = r.got;
+            later = r.later ++ offset ∷ [];
+            tracks = tracks;
+            got_taken = λ k h. inr (r.got_taken k h);
+            later_taken = λ k h. elim (has_either k r.later (offset ∷ []) h) [
+              | inl l ↦ inr (r.later_taken k l)
+              | inr e ↦ elim e [ inl e' ↦ inl e' | inr t ↦ absurd t ]
+            ];
+            apart = λ k h g. elim (has_either k r.later (offset ∷ []) h) [
+              | inl l ↦ r.apart k l g
+              | inr e ↦ elim e [ inl e' ↦ is_new (r.got_taken offset (subst (λ (j : ℕ). HasEntry j r.got) e' g)) | inr t ↦ absurd t ]
+            ];
+            distinct = distinct_with offset r.later [] (subst (λ (l : List ℕ). AreDistinct l) (sym (append-nil r.later)) r.distinct)
+                (λ h. is_new (r.later_taken offset (subst (λ (l : List ℕ). HasEntry offset l) (append-nil r.later) h)));
+            holds = r.holds;
+            defers = waiting_data history first offset tsn chunk r.later old.deferral deferred c r.defers;
+          })
+      go true counts false deferred =
+          let takes = adds.taken counts deferred in
+          record {
+            taken = offset ∷ r.taken;
+            got = offset ∷ r.got;
+            later = r.later;
+            tracks = tracks;
+            got_taken = λ k h. elim h [ inl e ↦ inl e | inr t ↦ inr (r.got_taken k t) ];
+            later_taken = λ k h. inr (r.later_taken k h);
+            apart = λ k h g. elim g [ inl e ↦ is_new (r.later_taken offset (subst (λ (j : ℕ). HasEntry j r.later) e h)) | inr t ↦ r.apart k h t ];
+            distinct = r.distinct;
+            holds = data_in_order queued history first cut told f quiet read r.got offset tsn chunk old.incoming new.incoming c (λ h. is_new (r.got_taken offset h)) loud r.holds takes.incoming;
+            defers = subst (λ (d : Option DeferralModel). DefersData history first r.later (waiting_of d)) (sym takes.deferral) r.defers;
+          }
+
+  taken_in_order : (offset : ℕ) (arrival : Arrival) (old new : Transfer) → Carries history.log first offset arrival.tsn arrival.chunk → OthersArePast history first old.tracker.cumulative → QuietAreOver history quiet first old.tracker.cumulative
+      → HasReceivedInOrder queued history quiet first read old.tracker old.reassembly → TakesArrival arrival old new → HasReceivedInOrder queued history quiet first read new.tracker new.reassembly
+  taken_in_order offset arrival old new c past over r takes =
+      subst (λ (t : TrackerState). HasReceivedInOrder queued history quiet first read t new.reassembly) (sym (ap (λ (t : Transfer). t.tracker) takes.rest)) (go (is_new_tsn arrival.tsn old.tracker) refl takes.reassembly)
     where
       now : TrackerState
       now = observed arrival.tsn arrival.immediate_ack old.tracker
@@ -148,38 +207,43 @@ module _ (queued : List Message) (history : History) (first : ℕ) (cut : Cut qu
       below : offset < length history.log
       below = at_below offset (Some c.piece) history.log c.at
 
-      tracks : Tracks first (length history.log) (offset ∷ r.got) now
+      tracks : Tracks first (length history.log) (offset ∷ r.taken) now
       tracks =
-          subst (λ (t : ℕ). Tracks first (length history.log) (offset ∷ r.got) (observed t arrival.immediate_ack old.tracker)) (sym c.is)
-          (new_is_new first (length history.log) offset arrival.immediate_ack r.got old.tracker f.small f.few below r.tracks).0
+          subst (λ (t : ℕ). Tracks first (length history.log) (offset ∷ r.taken) (observed t arrival.immediate_ack old.tracker)) (sym c.is)
+          (new_is_new first (length history.log) offset arrival.immediate_ack r.taken old.tracker f.small f.few below r.tracks).0
 
       by_offset : is_new_tsn arrival.tsn old.tracker ≡ true → is_new_tsn ((first + offset) % 2 ^ 32) old.tracker ≡ true
       by_offset is = subst (λ (t : ℕ). is_new_tsn t old.tracker ≡ true) c.is is
 
+      -- nothing new is of a quiet stream
+      loud : is_new_tsn arrival.tsn old.tracker ≡ true → quiet arrival.chunk.stream ≡ false
+      loud is = loud_by quiet arrival.chunk.stream (λ silent. (let o = over arrival.chunk.stream silent in
+          old_tsn first (length history.log) offset o.mark.bound r.taken old.tracker f.small f.few below r.tracks (o.below offset c.piece c.at (sym c.stream)) o.passed (by_offset is)))
+
       go : (b : Bool) → is_new_tsn arrival.tsn old.tracker ≡ b → AddsWhere b arrival.tsn arrival.chunk old.reassembly new.reassembly
-          → HasReceivedInOrder queued history first read (observed arrival.tsn arrival.immediate_ack old.tracker) new.reassembly
+          → HasReceivedInOrder queued history quiet first read (observed arrival.tsn arrival.immediate_ack old.tracker) new.reassembly
       go true is adds =
           added offset arrival.tsn arrival.chunk old.tracker now old.reassembly new.reassembly
-          (carries_current history first old.tracker.cumulative past offset arrival.tsn arrival.chunk (new_beyond first (length history.log) offset r.got old.tracker f.small f.few below r.tracks (by_offset is)) c) r tracks
-          ((new_is_new first (length history.log) offset arrival.immediate_ack r.got old.tracker f.small f.few below r.tracks).1 (by_offset is)) adds
+          (carries_current history first old.tracker.cumulative past offset arrival.tsn arrival.chunk (new_beyond first (length history.log) offset r.taken old.tracker f.small f.few below r.tracks (by_offset is)) c) r tracks
+          ((new_is_new first (length history.log) offset arrival.immediate_ack r.taken old.tracker f.small f.few below r.tracks).1 (by_offset is)) (loud is) adds
       go false is adds =
-          subst (λ (s : ReassemblyState). HasReceivedInOrder queued history first read now s) (sym adds)
-          (tracked_on queued history first read old.tracker now old.reassembly r (tracks_fewer first (length history.log) (offset ∷ r.got) r.got now (λ k h. inr h) tracks))
+          subst (λ (s : ReassemblyState). HasReceivedInOrder queued history quiet first read now s) (sym adds)
+          (tracked_on queued history quiet first read old.tracker now old.reassembly r (tracks_fewer first (length history.log) (offset ∷ r.taken) r.taken now (λ k h. inr h) tracks))
 
-  same_transfer : (old new : Transfer) → new ≡ old → HasReceivedInOrder queued history first read old.tracker old.reassembly → HasReceivedInOrder queued history first read new.tracker new.reassembly
-  same_transfer old new same r = subst (λ (t : Transfer). HasReceivedInOrder queued history first read t.tracker t.reassembly) (sym same) r
+  same_transfer : (old new : Transfer) → new ≡ old → HasReceivedInOrder queued history quiet first read old.tracker old.reassembly → HasReceivedInOrder queued history quiet first read new.tracker new.reassembly
+  same_transfer old new same r = subst (λ (t : Transfer). HasReceivedInOrder queued history quiet first read t.tracker t.reassembly) (sym same) r
 
-  dropped_in_order : (b : Bool) (old new : Transfer) → new ≡ dropping b old → HasReceivedInOrder queued history first read old.tracker old.reassembly → HasReceivedInOrder queued history first read new.tracker new.reassembly
+  dropped_in_order : (b : Bool) (old new : Transfer) → new ≡ dropping b old → HasReceivedInOrder queued history quiet first read old.tracker old.reassembly → HasReceivedInOrder queued history quiet first read new.tracker new.reassembly
   dropped_in_order true old new same r =
-      same_transfer (dropping true old) new same (tracked_on queued history first read old.tracker (delay_over old.tracker) old.reassembly r (delayed_tracks first (length history.log) r.got old.tracker r.tracks))
+      same_transfer (dropping true old) new same (tracked_on queued history quiet first read old.tracker (delay_over old.tracker) old.reassembly r (delayed_tracks first (length history.log) r.taken old.tracker r.tracks))
   dropped_in_order false old new same r = same_transfer old new same r
 
   pub received_in_order : (offset : ℕ) (arrival : Arrival) (old new : Transfer) → Carries history.log first offset arrival.tsn arrival.chunk → OthersArePast history first old.tracker.cumulative
-      → HasReceivedInOrder queued history first read old.tracker old.reassembly → ReceivesData arrival old new → HasReceivedInOrder queued history first read new.tracker new.reassembly
-  received_in_order offset arrival old new c past r receives = go (has_room arrival.tsn old && is_valid_tsn old.tracker.cumulative arrival.tsn) receives
+      → QuietAreOver history quiet first old.tracker.cumulative → HasReceivedInOrder queued history quiet first read old.tracker old.reassembly → ReceivesData arrival old new → HasReceivedInOrder queued history quiet first read new.tracker new.reassembly
+  received_in_order offset arrival old new c past over r receives = go (has_room arrival.tsn old && is_valid_tsn old.tracker.cumulative arrival.tsn) receives
     where
-      go : (b : Bool) → ReceivesWhere b arrival old new → HasReceivedInOrder queued history first read new.tracker new.reassembly
-      go true takes = taken_in_order offset arrival old new c past r takes
+      go : (b : Bool) → ReceivesWhere b arrival old new → HasReceivedInOrder queued history quiet first read new.tracker new.reassembly
+      go true takes = taken_in_order offset arrival old new c past over r takes
       go false same = dropped_in_order (old.tracker.follows_rfc && is_valid_tsn old.tracker.cumulative arrival.tsn) old new same r
 
   -- ---- a FORWARD-TSN
@@ -187,156 +251,94 @@ module _ (queued : List Message) (history : History) (first : ℕ) (cut : Cut qu
   not_passed : (tsn : ℕ) (tracker : TrackerState) → is_forward tracker.cumulative tsn ≡ false → after_forward tsn tracker ≡ delay_over tracker
   not_passed tsn tracker is = subst (λ (c : Bool). (if c then moved_forward tsn tracker else delay_over tracker) ≡ delay_over tracker) (sym is) refl
 
-  delayed : (tsn : ℕ) (tracker : TrackerState) (old new : ReassemblyState) → is_forward tracker.cumulative tsn ≡ false → new ≡ old → HasReceivedInOrder queued history first read tracker old
-      → HasReceivedInOrder queued history first read (after_forward tsn tracker) new
+  delayed : (tsn : ℕ) (tracker : TrackerState) (old new : ReassemblyState) → is_forward tracker.cumulative tsn ≡ false → new ≡ old → HasReceivedInOrder queued history quiet first read tracker old
+      → HasReceivedInOrder queued history quiet first read (after_forward tsn tracker) new
   delayed tsn tracker old new is same r =
-      subst (λ (s : ReassemblyState). HasReceivedInOrder queued history first read (after_forward tsn tracker) s) (sym same)
-      (tracked_on queued history first read tracker (after_forward tsn tracker) old r
-      (subst (λ (k : TrackerState). Tracks first (length history.log) r.got k) (sym (not_passed tsn tracker is)) (delayed_tracks first (length history.log) r.got tracker r.tracks)))
+      subst (λ (s : ReassemblyState). HasReceivedInOrder queued history quiet first read (after_forward tsn tracker) s) (sym same)
+      (tracked_on queued history quiet first read tracker (after_forward tsn tracker) old r
+      (subst (λ (k : TrackerState). Tracks first (length history.log) r.taken k) (sym (not_passed tsn tracker is)) (delayed_tracks first (length history.log) r.taken tracker r.tracks)))
 
-  gone_in_order : (tsn : ℕ) (entries : List SkippedTo) (old new : Transfer) → (t : IsTsn history.log first tsn) → SkipAll history (t.offset + 1) entries → OthersArePast history first old.tracker.cumulative
-      → HasReceivedInOrder queued history first read old.tracker old.reassembly → GoesForward tsn entries old new → HasReceivedInOrder queued history first read new.tracker new.reassembly
-  gone_in_order tsn entries old new t skip past r goes =
-      subst (λ (k : TrackerState). HasReceivedInOrder queued history first read k new.reassembly) (sym (ap (λ (k : Transfer). k.tracker) goes.rest)) (go (is_forward old.tracker.cumulative tsn) refl goes.reassembly)
+  skipped_in_order : (tsn : ℕ) (entries : List SkippedTo) (tracker now : TrackerState) (old new : ReassemblyState) → SkipsTo history first tsn entries → NoneIsQuiet quiet entries → (r : HasReceivedInOrder queued history quiet first read tracker old)
+      → Tracks first (length history.log) r.taken now → SkipsData tsn entries old new → HasReceivedInOrder queued history quiet first read now new
+  skipped_in_order tsn entries tracker now old new to loud r tracks skips = go (is_forward_deferred tsn old.deferral) refl
+    where
+      named : AreNamed history entries
+      named = each_named history first (to.tsn_is.offset + 1) entries to.names
+
+      left : (holds : ReassemblesInOrder queued history quiet first r.got read new.incoming) → DefersData history first r.later (waiting_of new.deferral) → HasReceivedInOrder queued history quiet first read now new
+      left holds defers =
+          record {
+            taken = r.taken;
+            got = r.got;
+            later = r.later;
+            tracks = tracks;
+            got_taken = r.got_taken;
+            later_taken = r.later_taken;
+            apart = r.apart;
+            distinct = r.distinct;
+            holds = holds;
+            defers = defers;
+          }
+
+      go : (b : Bool) → is_forward_deferred tsn old.deferral ≡ b → HasReceivedInOrder queued history quiet first read now new
+      go true is =
+          let (waits, same, far) = deferred_by tsn old.deferral is in
+          let beside = skips.deferred is waits same in
+          let other : SkippedTo → Bool = λ entry. not (names_stream waits.streams (skipped_stream entry)) in
+          left
+          (forward_in_order queued history first cut told f quiet read r.got tsn (entries_beside waits.streams entries) old.incoming new.incoming to.tsn_is (all_left (IsNamedEntry history) other entries named)
+          (all_left (λ entry. quiet (skipped_stream entry) ≡ false) other entries loud) r.holds beside.incoming)
+          (subst (λ (d : Option DeferralModel). DefersData history first r.later (waiting_of d)) (sym beside.deferral) (subst (λ (d : Option DeferralModel). DefersData history first r.later (waiting_of d)) same r.defers))
+      go false is =
+          let moved = skips.moved is in
+          left (forward_in_order queued history first cut told f quiet read r.got tsn entries old.incoming new.incoming to.tsn_is named loud r.holds moved.incoming)
+          (subst (λ (d : Option DeferralModel). DefersData history first r.later (waiting_of d)) (sym moved.deferral) r.defers)
+
+  gone_in_order : (tsn : ℕ) (entries : List SkippedTo) (old new : Transfer) → (t : IsTsn history.log first tsn) → SkipAll history (t.offset + 1) entries → AreOfKind true history.log → OthersArePast history first old.tracker.cumulative
+      → QuietAreOver history quiet first old.tracker.cumulative → HasReceivedInOrder queued history quiet first read old.tracker old.reassembly → GoesForward tsn entries old new → HasReceivedInOrder queued history quiet first read new.tracker new.reassembly
+  gone_in_order tsn entries old new t skip kinds past over r goes =
+      subst (λ (k : TrackerState). HasReceivedInOrder queued history quiet first read k new.reassembly) (sym (ap (λ (k : Transfer). k.tracker) goes.rest)) (go (is_forward old.tracker.cumulative tsn) refl goes.reassembly)
     where
       by_offset : is_forward old.tracker.cumulative tsn ≡ true → is_forward old.tracker.cumulative ((first + t.offset) % 2 ^ 32) ≡ true
       by_offset is = subst (λ (n : ℕ). is_forward old.tracker.cumulative n ≡ true) t.is is
 
-      passed : is_forward old.tracker.cumulative tsn ≡ true → Tracks first (length history.log) r.got (after_forward tsn old.tracker)
+      passed : is_forward old.tracker.cumulative tsn ≡ true → Tracks first (length history.log) r.taken (after_forward tsn old.tracker)
       passed is =
-          subst (λ (n : ℕ). Tracks first (length history.log) r.got (after_forward n old.tracker)) (sym t.is)
-          (passing_keeps first (length history.log) t.offset r.got old.tracker f.small f.few t.below r.tracks (by_offset is))
+          subst (λ (n : ℕ). Tracks first (length history.log) r.taken (after_forward n old.tracker)) (sym t.is)
+          (passing_keeps first (length history.log) t.offset r.taken old.tracker f.small f.few t.below r.tracks (by_offset is))
 
-      skipped : SkipsTo history first tsn entries → SkipsData tsn entries old.reassembly new.reassembly → (b : Bool) → is_forward_deferred tsn old.reassembly.deferral ≡ b → ReassemblesInOrder queued history first r.got read new.reassembly.incoming
-      skipped to skips true is =
-          let (waits, same, far) = deferred_by tsn old.reassembly.deferral is in
-          forward_in_order queued history first cut told f read r.got tsn (entries_beside waits.streams entries) old.reassembly.incoming new.reassembly.incoming to.tsn_is
-          (all_left (IsNamedEntry history) (λ entry. not (names_stream waits.streams (skipped_stream entry))) entries (each_named history first (to.tsn_is.offset + 1) entries to.names)) r.holds (skips.deferred is waits same).incoming
-      skipped to skips false is =
-          forward_in_order queued history first cut told f read r.got tsn entries old.reassembly.incoming new.reassembly.incoming to.tsn_is (each_named history first (to.tsn_is.offset + 1) entries to.names) r.holds (skips.moved is).incoming
+      -- nothing is skipped of a quiet stream
+      loud : is_forward old.tracker.cumulative tsn ≡ true → NoneIsQuiet quiet entries
+      loud is =
+          loud_entries quiet entries
+          (λ id silent. (let o = over id silent in
+          all_skip_others history (t.offset + 1) id o.mark kinds o.has o.names o.below (forward_behind first (length history.log) t.offset o.mark.bound r.taken old.tracker f.small f.few t.below r.tracks o.passed (by_offset is)) entries skip))
 
-      go : (b : Bool) → is_forward old.tracker.cumulative tsn ≡ b → SkipsWhere b tsn entries old.reassembly new.reassembly → HasReceivedInOrder queued history first read (after_forward tsn old.tracker) new.reassembly
+      go : (b : Bool) → is_forward old.tracker.cumulative tsn ≡ b → SkipsWhere b tsn entries old.reassembly new.reassembly → HasReceivedInOrder queued history quiet first read (after_forward tsn old.tracker) new.reassembly
       go true is skips =
           let to : SkipsTo history first tsn entries =
-          skips_to history first old.tracker.cumulative past tsn entries t (forward_beyond first (length history.log) t.offset r.got old.tracker f.small f.few t.below r.tracks (by_offset is)) skip in
-          record { got = r.got; tracks = passed is; holds = skipped to skips (is_forward_deferred tsn old.reassembly.deferral) refl }
+          skips_to history first old.tracker.cumulative past tsn entries t (forward_beyond first (length history.log) t.offset r.taken old.tracker f.small f.few t.below r.tracks (by_offset is)) skip in
+          skipped_in_order tsn entries old.tracker (after_forward tsn old.tracker) old.reassembly new.reassembly to (loud is) r (passed is) skips
       go false is same = delayed tsn old.tracker old.reassembly new.reassembly is same r
 
-  pub forwarded_in_order : (tsn : ℕ) (entries : List SkippedTo) (old new : Transfer) → (t : IsTsn history.log first tsn) → SkipAll history (t.offset + 1) entries → OthersArePast history first old.tracker.cumulative
-      → HasReceivedInOrder queued history first read old.tracker old.reassembly → MovesForward tsn entries old new → HasReceivedInOrder queued history first read new.tracker new.reassembly
-  forwarded_in_order tsn entries old new t skip past r moves = go (is_valid_tsn old.tracker.cumulative tsn) moves
+  pub forwarded_in_order : (tsn : ℕ) (entries : List SkippedTo) (old new : Transfer) → (t : IsTsn history.log first tsn) → SkipAll history (t.offset + 1) entries → AreOfKind true history.log → OthersArePast history first old.tracker.cumulative
+      → QuietAreOver history quiet first old.tracker.cumulative → HasReceivedInOrder queued history quiet first read old.tracker old.reassembly → MovesForward tsn entries old new → HasReceivedInOrder queued history quiet first read new.tracker new.reassembly
+  forwarded_in_order tsn entries old new t skip kinds past over r moves = go (is_valid_tsn old.tracker.cumulative tsn) moves
     where
-      go : (b : Bool) → MovesWhere b tsn entries old new → HasReceivedInOrder queued history first read new.tracker new.reassembly
-      go true goes = gone_in_order tsn entries old new t skip past r goes
+      go : (b : Bool) → MovesWhere b tsn entries old new → HasReceivedInOrder queued history quiet first read new.tracker new.reassembly
+      go true goes = gone_in_order tsn entries old new t skip kinds past over r goes
       go false same = same_transfer old new same r
 
   -- none is passed
   pub nothing_in_order : (tsn : ℕ) (entries : List SkippedTo) (old new : Transfer) → tsn ≡ (first + 0 + (2 ^ 32 - 1)) % 2 ^ 32
-      → HasReceivedInOrder queued history first read old.tracker old.reassembly → MovesForward tsn entries old new → HasReceivedInOrder queued history first read new.tracker new.reassembly
+      → HasReceivedInOrder queued history quiet first read old.tracker old.reassembly → MovesForward tsn entries old new → HasReceivedInOrder queued history quiet first read new.tracker new.reassembly
   nothing_in_order tsn entries old new is r moves = go (is_valid_tsn old.tracker.cumulative tsn) moves
     where
       none : is_forward old.tracker.cumulative tsn ≡ false
       none = nothing_passed first (length history.log) old.tracker.cumulative tsn f.small f.few r.tracks.reached r.tracks.started is
 
-      go : (b : Bool) → MovesWhere b tsn entries old new → HasReceivedInOrder queued history first read new.tracker new.reassembly
+      go : (b : Bool) → MovesWhere b tsn entries old new → HasReceivedInOrder queued history quiet first read new.tracker new.reassembly
       go false same = same_transfer old new same r
       go true goes =
-          subst (λ (k : TrackerState). HasReceivedInOrder queued history first read k new.reassembly) (sym (ap (λ (k : Transfer). k.tracker) goes.rest))
+          subst (λ (k : TrackerState). HasReceivedInOrder queued history quiet first read k new.reassembly) (sym (ap (λ (k : Transfer). k.tracker) goes.rest))
           (delayed tsn old.tracker old.reassembly new.reassembly none (subst (λ (c : Bool). SkipsWhere c tsn entries old.reassembly new.reassembly) none goes.reassembly) r)
-
--- ---- what the user takes
-
--- The message was queued, and wasn't read before.
-pub record TakesInOrder (queued : List Message) (history : History) (first : ℕ) (read : List ℕ) (tracker : TrackerState) (reassembly : ReassemblyState) (message : MessageContent) (messages : List MessageContent) : Type 0 where
-  pub place : ℕ
-  pub was : WasQueued queued place message
-  pub fresh : HasEntry place read → ⊥
-  pub received : HasReceivedInOrder queued history first (read ++ place ∷ []) tracker (with_ready messages reassembly)
-
-pub takes_in_order : (queued : List Message) (history : History) (first : ℕ) (read : List ℕ) (tracker : TrackerState) (reassembly : ReassemblyState) (message : MessageContent) (messages : List MessageContent)
-    → reassembly.incoming.ready ≡ message ∷ messages → HasReceivedInOrder queued history first read tracker reassembly → TakesInOrder queued history first read tracker reassembly message messages
-takes_in_order queued history first read tracker reassembly message messages is r = go r.holds
-  where
-    go : ReassemblesInOrder queued history first r.got read reassembly.incoming → TakesInOrder queued history first read tracker reassembly message messages
-    go (some_handled base at holds) =
-        let t = taking_in_order false queued history none_quiet r.got base read reassembly.incoming message messages is holds in
-        record { place = t.place; was = t.was; fresh = t.fresh; received = record { got = r.got; tracks = r.tracks; holds = some_handled base at t.ordered } }
-    go (none_handled none last empty) =
-        let t = taking_in_order false queued history none_quiet [] 0 read reassembly.incoming message messages is (empty 0) in
-        let spent = t.ordered.holds.spent t.place (has_left t.place (read ++ t.place ∷ []) t.ordered.holds.places (has_right t.place read (t.place ∷ []) (inl refl))) in
-        absurd (spent.covered spent.offset (omega arith) spent.order)
-
--- ---- the peer goes on
-
-module _ (queued more : List Message) (history later : History) (goes : GoesOn history later) (within : IsWithin history later) (read : List ℕ) (contents : List MessageContent) (were : WereQueued queued read contents) where
-  ordered_more : (got : List ℕ) (base : ℕ) (incoming : IncomingModel) → IncomingOrdered false queued history none_quiet got base read incoming → IncomingOrdered false (more ++ queued) later none_quiet got base read incoming
-  unfolding holds_more
-  ordered_more got base incoming o =
-      record {
-        holds = holds_more queued more history later goes got base read incoming o.holds;
-        order = λ id counts. growing_in_order false queued more history later false id (read ++ o.holds.places) (o.holds.waits id) (contents ++ incoming.ready) (stream_on id incoming.streams) within
-            (both_queued queued read o.holds.places contents incoming.ready were o.holds.were_queued) counts (o.order id);
-      }
-
-  reassembles_more : (first : ℕ) (got : List ℕ) (incoming : IncomingModel) → ReassemblesInOrder queued history first got read incoming → ReassemblesInOrder (more ++ queued) later first got read incoming
-  reassembles_more first got incoming (none_handled none last empty) = none_handled none last (λ base. ordered_more [] base incoming (empty base))
-  reassembles_more first got incoming (some_handled base is holds) = some_handled base is (ordered_more got base incoming holds)
-
-  pub received_later : (first : ℕ) (tracker : TrackerState) (reassembly : ReassemblyState) → HasReceivedInOrder queued history first read tracker reassembly → HasReceivedInOrder (more ++ queued) later first read tracker reassembly
-  received_later first tracker reassembly r =
-      record {
-        got = r.got;
-        tracks = more_given_out first (length history.log) (length later.log) r.got tracker goes.longer r.tracks;
-        holds = reassembles_more first r.got reassembly.incoming r.holds;
-      }
-
--- ---- nothing was sent yet
-
-module _ (queued : List Message) (history : History) (empty : history.log ≡ []) where
-  nowhere : (n : ℕ) (slot : Slot) → at_place n history.log ≡ Some slot → ⊥
-  nowhere n slot at = (let none : at_place n [] ≡ Some slot = subst (λ (l : List Slot). at_place n l ≡ Some slot) empty at in absurd (cc))
-
-  waits_none : (got : List ℕ) (id : ℕ) (waits : List ℕ) (waiting : List WholeModel) → WaitQueued queued history got id waits waiting → (next : ℕ) → AreReadAs history id waits waiting × AscendFrom next waiting
-  waits_none got id [] [] wait next = (tt, tt)
-  waits_none got id [] (w ∷ waiting) wait next = absurd wait
-  waits_none got id (p ∷ waits) [] wait next = absurd wait
-  waits_none got id (p ∷ waits) (w ∷ waiting) wait next = absurd (nowhere wait.0.offset (Some wait.0.head) wait.0.at)
-
-  in_order_none : (id : ℕ) (places : List ℕ) → ((p : ℕ) → HasEntry p places → ⊥) → ComeInOrder queued id places
-  in_order_none id [] none = tt
-  in_order_none id (p ∷ places) none = absurd (none p (inl refl))
-
-  is_first : (next : ℕ) → IsNear (next + 1) next → next ≡ 2 ^ 32
-  is_first next (fresh e) = e
-  is_first next (near base same small low high) = absurd (omega (arith, same, low, high))
-
-  holds_none : (got : List ℕ) (base : ℕ) (read : List ℕ) (incoming : IncomingModel) → HoldsIncoming queued history got base read incoming → IncomingOrdered false queued history none_quiet got base read incoming
-  holds_none got base read incoming holds =
-      record {
-        holds = holds;
-        order = λ id counts. (
-            let here = holds.streams_hold id in
-            let stream : StreamModel = stream_on id incoming.streams in
-            let waits = waits_none got id (holds.waits id) stream.waiting here.wait (stream.next + 1) in
-            let next : stream.next ≡ 2 ^ 32 =
-            is_first stream.next (here.rows.next (stream.next + 1)
-            (record { kinds = λ n f at. absurd (nowhere n (Some f) at); from = λ n f at on kind is. absurd (nowhere n (Some f) at); below = λ n f at on kind is. absurd (nowhere n (Some f) at) })) in
-            record {
-              order = record { in_order = in_order_none id (read ++ holds.places) none; below = λ place has on. absurd (none place has); waiting = waits.0; ahead = waits.1 };
-              reach = record { from = omega (arith, next); up_to = omega (arith, next) };
-              filled = λ is. absurd (cc);
-            }
-            );
-      }
-    where
-      none : (p : ℕ) → HasEntry p (read ++ holds.places) → ⊥
-      none p has = (let spent = holds.spent p has in nowhere spent.offset (Some spent.head) spent.at_head)
-
-  pub received_none : (first : ℕ) (read : List ℕ) (tracker : TrackerState) (reassembly : ReassemblyState) → HasReceived queued history first read tracker reassembly
-      → HasReceivedInOrder queued history first read tracker reassembly
-  received_none first read tracker reassembly r =
-      record { got = r.got; tracks = tracks_fewer first (length history.log) r.taken r.got tracker r.got_taken r.tracks; holds = go r.holds }
-    where
-      go : Reassembles queued history first r.got read reassembly.incoming → ReassemblesInOrder queued history first r.got read reassembly.incoming
-      go (untouched none' last empty') = none_handled none' last (λ base. holds_none [] base read reassembly.incoming (empty' base))
-      go (placed base is holds) = some_handled base is (holds_none r.got base read reassembly.incoming holds)

@@ -1,29 +1,38 @@
--- What an association has received in which no stream was reset: ordered messages of a stream become
--- ready in order (RFC 9260, section 6.6; RFC 8260).
+-- What an association has received, across resets of streams: ordered messages of a stream become
+-- ready in order (RFC 9260, section 6.6; RFC 8260; RFC 6525, section 5.2.2).
 use Rattle.std.specs.Prelude.{◌≡◌, ◌^◌, ℕ, Bool, false, List, [], length}
 use Rattle.dcsctp_spec_lemmas.specs.spec.queues.Incoming.{IncomingModel}
-use Rattle.dcsctp_spec_lemmas.specs.spec.queues.Reassembly.{ReassemblyState}
+use Rattle.dcsctp_spec_lemmas.specs.spec.queues.Reassembly.{ReassemblyState, waiting_of}
 use Rattle.dcsctp_spec_lemmas.specs.spec.queues.Tracker.{TrackerState}
+use Rattle.dcsctp_delivery_sending.specs.Places.{HasEntry}
 use Rattle.dcsctp_delivery_sending.specs.Log.{Message, History}
-use Rattle.dcsctp_delivery_receiving.specs.Received.{Placed}
+use Rattle.dcsctp_delivery_receiving.specs.Ready.{AreDistinct}
+use Rattle.dcsctp_delivery_receiving.specs.Received.{Placed, DefersData}
 use Rattle.dcsctp_delivery_receiving.specs.Tracked.{Tracks}
 use Rattle.dcsctp_delivery_order.specs.Incoming.{IncomingOrdered}
 
--- no stream was reset
+-- no stream is between a reset and new numbers
 abbrev pub none_quiet : ℕ → Bool
 none_quiet id = false
 
 -- No TSN was handled yet; or the number of the first is known, and all that is held is in order. Messages may have been skipped.
-pub data ReassemblesInOrder (queued : List Message) (history : History) (first : ℕ) (got read : List ℕ) (incoming : IncomingModel) : Type 0 where
+pub data ReassemblesInOrder (queued : List Message) (history : History) (quiet : ℕ → Bool) (first : ℕ) (got read : List ℕ) (incoming : IncomingModel) : Type 0 where
   none_handled : got ≡ [] → incoming.last_tsn_number ≡ 2 ^ 32
-      → ((base : ℕ) → IncomingOrdered false queued history none_quiet [] base read incoming) → ReassemblesInOrder queued history first got read incoming
+      → ((base : ℕ) → IncomingOrdered false queued history quiet [] base read incoming) → ReassemblesInOrder queued history quiet first got read incoming
   some_handled : (base : ℕ) → Placed first base incoming.last_tsn_number
-      → IncomingOrdered false queued history none_quiet got base read incoming → ReassemblesInOrder queued history first got read incoming
+      → IncomingOrdered false queued history quiet got base read incoming → ReassemblesInOrder queued history quiet first got read incoming
 
--- All that an association has received in order whose peer has this log. `got` has the offsets that the reassembly queue has
--- handled. What waits for the end of a deferred reset isn't among them.
+-- All that an association has received in order whose peer has this log. `taken` has the offsets that the tracker knows, `got`
+-- those that the reassembly queue has handled, and `later` those that wait for the end of a deferred reset.
 pub record HasReceivedInOrder
-    (queued : List Message) (history : History) (first : ℕ) (read : List ℕ) (tracker : TrackerState) (reassembly : ReassemblyState) : Type 0 where
+    (queued : List Message) (history : History) (quiet : ℕ → Bool) (first : ℕ) (read : List ℕ) (tracker : TrackerState) (reassembly : ReassemblyState) : Type 0 where
+  pub taken : List ℕ
   pub got : List ℕ
-  pub tracks : Tracks first (length history.log) got tracker
-  pub holds : ReassemblesInOrder queued history first got read reassembly.incoming
+  pub later : List ℕ
+  pub tracks : Tracks first (length history.log) taken tracker
+  pub got_taken : (k : ℕ) → HasEntry k got → HasEntry k taken
+  pub later_taken : (k : ℕ) → HasEntry k later → HasEntry k taken
+  pub apart : (k : ℕ) → HasEntry k later → HasEntry k got → ⊥
+  pub distinct : AreDistinct later
+  pub holds : ReassemblesInOrder queued history quiet first got read reassembly.incoming
+  pub defers : DefersData history first later (waiting_of reassembly.deferral)

@@ -95,8 +95,8 @@ pub fn runs_lie_apart()
 {}
 
 /// One direction of an association, over every schedule that loses, repeats, delays and reorders what was sent: the
-/// ordered messages of a stream are read in the order in which they were queued. This is shown with interleaving, where
-/// the numbers of each stream begin at 0 and the receiver resets no stream.
+/// ordered messages of a stream are read in the order in which they were queued, whatever resets of streams the sender
+/// asks for. This is shown with interleaving, where the numbers of each stream begin at 0.
 pub fn directions_deliver_in_order()
     ensures { DirectionsDeliverInOrder }
 {}

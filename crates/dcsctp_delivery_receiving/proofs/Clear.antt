@@ -29,7 +29,7 @@ use Rattle.dcsctp_delivery_receiving.proofs.Tracked.{number_is, up_to}
 -- ---- numbers
 
 -- A TSN before the mark isn't new.
-old_tsn : (first count offset bound : ℕ) (taken : List ℕ) (tracker : TrackerState) → first < 2 ^ 32 → count < 2 ^ 31 → offset < count → Tracks first count taken tracker → offset < bound
+pub old_tsn : (first count offset bound : ℕ) (taken : List ℕ) (tracker : TrackerState) → first < 2 ^ 32 → count < 2 ^ 31 → offset < count → Tracks first count taken tracker → offset < bound
     → tracked first bound ≤ tracker.cumulative + 1 → is_new_tsn ((first + offset) % 2 ^ 32) tracker ≡ true → ⊥
 old_tsn first count offset bound taken tracker small few below tracks before passed new =
     let here = number_is first count offset tracker.cumulative small few below tracks.reached tracks.started in
@@ -39,7 +39,7 @@ old_tsn first count offset bound taken tracker small few below tracks before pas
     absurd (cc)
 
 -- A TSN that is forward lies beyond the mark.
-forward_behind : (first count offset bound : ℕ) (taken : List ℕ) (tracker : TrackerState) → first < 2 ^ 32 → count < 2 ^ 31 → offset < count → Tracks first count taken tracker
+pub forward_behind : (first count offset bound : ℕ) (taken : List ℕ) (tracker : TrackerState) → first < 2 ^ 32 → count < 2 ^ 31 → offset < count → Tracks first count taken tracker
     → tracked first bound ≤ tracker.cumulative + 1 → is_forward tracker.cumulative ((first + offset) % 2 ^ 32) ≡ true → bound < offset + 1
 forward_behind first count offset bound taken tracker small few below tracks passed forward =
     let here = number_is first count offset tracker.cumulative small few below tracks.reached tracks.started in
@@ -63,7 +63,7 @@ skips_others history passed id mark kinds has names below beyond (Mid stream is_
     absurd (omega (arith, few, beyond))
     )
 
-all_skip_others : (history : History) (passed id : ℕ) (mark : Mark) → AreOfKind true history.log → HasEntry mark history.marks → Resets mark id
+pub all_skip_others : (history : History) (passed id : ℕ) (mark : Mark) → AreOfKind true history.log → HasEntry mark history.marks → Resets mark id
     → ((n : ℕ) (f : Piece) → at_place n history.log ≡ Some (Some f) → f.message.stream ≡ id → n < mark.bound) → mark.bound < passed
     → (entries : List SkippedTo) → SkipAll history passed entries → NoneSkips id entries
 all_skip_others history passed id mark kinds has names below beyond [] skips = tt

@@ -47,7 +47,7 @@ module _ (history : History) (first id : ℕ) (mark : Mark) (kinds : AreOfKind t
   none_among last_tsn (offset ∷ offsets) (one ∷ waiting) last beyond defers =
       (none_arrived offset one.tsn last_tsn one.chunk defers.0 last beyond.0, none_among last_tsn offsets waiting last beyond.1 defers.1)
 
-  none_waits : (offsets : List ℕ) (deferral : Option DeferralModel) → mark.begun.reset.last_tsn ≡ (first + mark.bound + (2 ^ 32 - 1)) % 2 ^ 32 → IsOwn mark.begun.reset deferral → WaitBeyond deferral
+  pub none_waits : (offsets : List ℕ) (deferral : Option DeferralModel) → mark.begun.reset.last_tsn ≡ (first + mark.bound + (2 ^ 32 - 1)) % 2 ^ 32 → IsOwn mark.begun.reset deferral → WaitBeyond deferral
       → DefersData history first offsets (waiting_of deferral) → NoneWaits id (waiting_of deferral)
   none_waits offsets None last own beyond defers = tt
   none_waits offsets (Some d) last own beyond defers = none_among d.last_tsn offsets d.waiting (own ∙ last) beyond defers
@@ -62,7 +62,7 @@ module _ (history : History) (first id : ℕ) (mark : Mark) (kinds : AreOfKind t
   all_others last_tsn [] all last = tt
   all_others last_tsn (entry ∷ entries) all last = (one_other last_tsn entry all.0 last, all_others last_tsn entries all.1 last)
 
-  none_kept : (deferral : Option DeferralModel) → mark.begun.reset.last_tsn ≡ (first + mark.bound + (2 ^ 32 - 1)) % 2 ^ 32 → IsOwn mark.begun.reset deferral → ForwardsWait history first deferral
+  pub none_kept : (deferral : Option DeferralModel) → mark.begun.reset.last_tsn ≡ (first + mark.bound + (2 ^ 32 - 1)) % 2 ^ 32 → IsOwn mark.begun.reset deferral → ForwardsWait history first deferral
       → NoneSkips id (kept_entries (skips_of deferral))
   none_kept None last own wait = tt
   none_kept (Some d) last own wait = all_others d.last_tsn (kept_entries d.skips) (kept_later history first d.last_tsn d.skips wait) (own ∙ last)

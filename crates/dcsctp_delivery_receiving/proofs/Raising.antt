@@ -31,7 +31,7 @@ open_current streams history f is current = go (is_handed_out (stream_named f.me
 
 module _ (queued : List Message) (history : History) (streams : List Stream) where
   -- The pieces of the stream that are current stay so.
-  abbrev Keep : ℕ → Type 0
+  abbrev pub Keep : ℕ → Type 0
   Keep id = (n : ℕ) (f : Piece) → at_place n history.log ≡ Some (Some f) → f.message.stream ≡ id → IsCurrent history f → IsCurrent (floors_raised streams history) f
 
   numbered_keeps : (id n : ℕ) (f : Piece) (is_unordered : Bool) (number : ℕ) → Keep id → at_place n history.log ≡ Some (Some f) → f.message.stream ≡ id → IsNumberedAs history is_unordered f number
@@ -103,7 +103,7 @@ module _ (queued : List Message) (history : History) (streams : List Stream) whe
 
   -- ---- a stream
 
-  kept_holds : (got : List ℕ) (base id : ℕ) (places : List ℕ) (stream : StreamModel) → Keep id → StreamHolds queued history got base id places stream → StreamHolds queued (floors_raised streams history) got base id places stream
+  pub kept_holds : (got : List ℕ) (base id : ℕ) (places : List ℕ) (stream : StreamModel) → Keep id → StreamHolds queued history got base id places stream → StreamHolds queued (floors_raised streams history) got base id places stream
   kept_holds got base id places stream keep s =
       record {
         rows = record {
@@ -124,7 +124,7 @@ module _ (queued : List Message) (history : History) (streams : List Stream) whe
   none_wait got id [] wait = tt
   none_wait got id (place ∷ places) wait = absurd wait
 
-  clear_holds : (got : List ℕ) (base id : ℕ) (places : List ℕ) (stream : StreamModel) → stream ≡ new_stream id → StreamHolds queued history got base id places stream
+  pub clear_holds : (got : List ℕ) (base id : ℕ) (places : List ℕ) (stream : StreamModel) → stream ≡ new_stream id → StreamHolds queued history got base id places stream
       → StreamHolds queued (floors_raised streams history) got base id places stream
   clear_holds got base id places stream is s =
       subst (λ (t : StreamModel). StreamHolds queued (floors_raised streams history) got base id places t) (sym is)
@@ -134,10 +134,10 @@ module _ (queued : List Message) (history : History) (streams : List Stream) whe
       })
 
   -- A stream is kept: its pieces stay current, or this holds of it.
-  abbrev KeptOr : (ℕ → Type 0) → Type 0
+  abbrev pub KeptOr : (ℕ → Type 0) → Type 0
   KeptOr P = (id : ℕ) → Keep id ⊎ P id
 
-  holds_keeps : (got : List ℕ) (base : ℕ) (read : List ℕ) (incoming : IncomingModel) → KeptOr (λ id. stream_on id incoming.streams ≡ new_stream id) → HoldsIncoming queued history got base read incoming
+  unfoldable pub holds_keeps : (got : List ℕ) (base : ℕ) (read : List ℕ) (incoming : IncomingModel) → KeptOr (λ id. stream_on id incoming.streams ≡ new_stream id) → HoldsIncoming queued history got base read incoming
       → HoldsIncoming queued (floors_raised streams history) got base read incoming
   holds_keeps got base read incoming kept holds =
       record {
@@ -197,7 +197,7 @@ module _ (queued : List Message) (history : History) (streams : List Stream) whe
   forwards_keep first None kept wait = tt
   forwards_keep first (Some d) kept wait = skips_keep first d.last_tsn d.skips kept wait
 
-  defers_keeps : (first : ℕ) (offsets : List ℕ) (waiting : List WaitingModel) → KeptOr (λ id. NoneWaits id waiting) → DefersData history first offsets waiting → DefersData (floors_raised streams history) first offsets waiting
+  pub defers_keeps : (first : ℕ) (offsets : List ℕ) (waiting : List WaitingModel) → KeptOr (λ id. NoneWaits id waiting) → DefersData history first offsets waiting → DefersData (floors_raised streams history) first offsets waiting
   defers_keeps first [] [] kept defers = tt
   defers_keeps first (offset ∷ offsets) [] kept defers = absurd defers
   defers_keeps first [] (one ∷ waiting) kept defers = absurd defers
@@ -207,6 +207,16 @@ module _ (queued : List Message) (history : History) (streams : List Stream) whe
   )
 
 -- ---- all of it
+
+-- A stream is kept, or it was handed out and is clear.
+pub kept_or_clear : (queued : List Message) (history : History) (streams : List Stream) (first cumulative : ℕ) (reassembly : ReassemblyState)
+    → ((id : ℕ) → is_handed_out (stream_named id streams).pause ≡ true → Unsent history.log id ⊎ (IsOver history first cumulative id × IsClear id reassembly))
+    → KeptOr queued history streams (λ id. IsOver history first cumulative id × IsClear id reassembly)
+kept_or_clear queued history streams first cumulative reassembly out id = go (is_handed_out (stream_named id streams).pause) refl
+  where
+    go : (b : Bool) → is_handed_out (stream_named id streams).pause ≡ b → Keep queued history streams id ⊎ (IsOver history first cumulative id × IsClear id reassembly)
+    go true is = elim (out id is) [ inl none ↦ inl (λ n f at on current. absurd (none n f at on)) | inr c ↦ inr c ]
+    go false is = inl (λ n f at on current. open_current streams history f (ap (λ (s : ℕ). is_handed_out (stream_named s streams).pause) on ∙ is) current)
 
 pub raising_keeps : (queued : List Message) (history : History) (streams : List Stream) (first : ℕ) (read : List ℕ) (tracker : TrackerState) (reassembly : ReassemblyState)
     → ((id : ℕ) → is_handed_out (stream_named id streams).pause ≡ true → Unsent history.log id ⊎ (IsOver history first tracker.cumulative id × IsClear id reassembly))
@@ -229,11 +239,7 @@ raising_keeps queued history streams first read tracker reassembly out r =
     }
   where
     kept : (id : ℕ) → Keep queued history streams id ⊎ (IsOver history first tracker.cumulative id × IsClear id reassembly)
-    kept id = go (is_handed_out (stream_named id streams).pause) refl
-      where
-        go : (b : Bool) → is_handed_out (stream_named id streams).pause ≡ b → Keep queued history streams id ⊎ (IsOver history first tracker.cumulative id × IsClear id reassembly)
-        go true is = elim (out id is) [ inl none ↦ inl (λ n f at on current. absurd (none n f at on)) | inr c ↦ inr c ]
-        go false is = inl (λ n f at on current. open_current streams history f (ap (λ (s : ℕ). is_handed_out (stream_named s streams).pause) on ∙ is) current)
+    kept = kept_or_clear queued history streams first tracker.cumulative reassembly out
 
     past : (n : ℕ) (f : Piece) → at_place n history.log ≡ Some (Some f) → f.is_interleaved ≡ true → (IsCurrent (floors_raised streams history) f → ⊥) → IsPast (floors_raised streams history) first tracker.cumulative f.message.stream n
     past n f at kind gone = elim (leb_tells (history.floors f.message.stream f.message.is_unordered) f.mid) [

@@ -91,7 +91,7 @@ module _ (queued : List Message) (history : History) (first : ℕ) (cut : Cut qu
       placed base (record { same = first_base first t.offset f.small few; near = first_near first t.offset f.small few; worked = t.offset; few = few; is = moves.last ∙ number })
       (skips_on queued history got base read tsn entries old new names (subst (λ (l : List ℕ). HoldsIncoming queued history l base read old) (sym none) (empty base)) moves)
 
-  kept_last : (streams : List ℕ) (old new : IncomingModel) → ResetsStreams streams old new → new.last_tsn_number ≡ old.last_tsn_number
+  pub kept_last : (streams : List ℕ) (old new : IncomingModel) → ResetsStreams streams old new → new.last_tsn_number ≡ old.last_tsn_number
   kept_last [] old new resets = resets.kept.last
   kept_last (reset ∷ others) old new resets = resets.kept.last
 

@@ -56,7 +56,7 @@ begins queued history max place queue message under_way room queue_holds kinds c
       ascends = λ n f at starts of. beyond_front f.place (stream_at queue.streams place).messages message (queue_holds.beyond place n f at (of ∙ sym w.is.stream)) front;
       climbs = λ n f at starts interleaved same same'. climbs_so queue.is_interleaved counts piece w refl refl refl n f at interleaved same same';
       says = it_says queued history.log max place queue message under_way piece queue_holds.wait queue_holds.ascend queue_holds.distinct front (sym stream_is) old_here old_there refl w.is w.at w.fresh sent_is mid_is refl first refl room roomy unfinished;
-      queue_holds = it_hold queued history.log max place queue message under_way piece queue_holds.wait queue_holds.ascend queue_holds.distinct front (sym stream_is) old_here old_there refl w.is w.at w.fresh sent_is mid_is refl first refl room roomy unfinished;
+      queue_holds = it_hold queued history.log max place queue message under_way piece queue_holds.wait queue_holds.ascend queue_holds.distinct front (sym stream_is) old_here old_there refl w.is w.at w.fresh sent_is mid_is refl first refl room roomy unfinished queue_holds.small;
       numbers = record {
         kinds = kinds_more queue.is_interleaved (produced place max message under_way queue).is_interleaved history.log piece (produced_kind place max message under_way queue) kinds refl;
         counts = subst (λ (b : Bool). CountsWhere b (with_slot (Some piece) history) (produced place max message under_way queue).streams (produced place max message under_way queue).under_way) (sym (produced_kind place max message under_way queue))

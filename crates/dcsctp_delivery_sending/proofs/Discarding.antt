@@ -14,7 +14,7 @@ use Rattle.dcsctp_delivery_sending.specs.Numbers.{Numbered}
 use Rattle.dcsctp_delivery_sending.specs.Weights.{HasRoomForLog}
 use Rattle.dcsctp_delivery_sending.proofs.Places.{decide, at_cases}
 use Rattle.dcsctp_delivery_sending.proofs.Weights.{weight_same, weight_front}
-use Rattle.dcsctp_delivery_sending.proofs.Streams.{rest_shorter, distinct_on, wait_on, shorter_beyond, ascend_on, Shorter, reduced_alike, front_queued}
+use Rattle.dcsctp_delivery_sending.proofs.Streams.{rest_shorter, distinct_on, small_on, wait_on, shorter_beyond, ascend_on, Shorter, reduced_alike, front_queued}
 use Rattle.dcsctp_delivery_sending.proofs.Produced.{none_beyond, there_or_empty}
 use Rattle.dcsctp_delivery_sending.proofs.Numbers.{kind_dropped, numbers_then, numbers_reduced, numbers_without, numbered_ended}
 use Rattle.dcsctp_delivery_sending.proofs.ProducedNumbers.{produced_kind}
@@ -90,6 +90,7 @@ module _ (queued : List Message) (log : List Slot) (old : SendQueueState) (strea
         ascend = ascend_on old.streams left left_shorter queue_holds.ascend;
         beyond = beyond_left;
         distinct = distinct_on old.streams left left_shorter queue_holds.distinct;
+        small = small_on old.streams left left_shorter queue_holds.small;
         going = tt;
         room = left_room;
       }

@@ -17,6 +17,7 @@ use Rattle.dcsctp_delivery_sending.proofs.PausedFlushes.{later_begun, later_paus
 use Rattle.std.proofs.lemmas.List.{length-append}
 use Rattle.dcsctp_delivery_sending.proofs.Packets.{packets_both, packets_more}
 use Rattle.dcsctp_delivery_sending.proofs.OnePacket.{asked_sends}
+use Rattle.dcsctp_delivery_sending.proofs.StayHanded.{handed_for_later}
 
 next_empty : (history : History) (first : ℕ) (core : Core) (draft : Emission) → SayAll history first (next_draft core draft).packet.contents
 next_empty history first closed_core draft = tt
@@ -38,6 +39,8 @@ still_sends queued history first acknowledged e stands =
       current = λ n f at. absurd (cc);
       kept = λ n f at. absurd (cc);
       handed = λ id handed. inl handed;
+      stay = λ id handed. handed;
+      named = tt;
     }
 
 -- what begins no reset goes after what may
@@ -59,6 +62,8 @@ sends_then queued history first acknowledged old begun between after events othe
       current = current_both history two.more one.more (current_before begun one.ids one.bound one.more history two.more two.current) one.current;
       kept = kept_both after.queue.streams two.more one.more two.kept (kept_later between.queue.streams after.queue.streams one.more paused one.kept);
       handed = λ id handed. elim (two.handed id handed) [ inl before ↦ one.handed id before | inr none ↦ absurd none ];
+      stay = λ id handed. two.stay id (one.stay id handed);
+      named = handed_for_later begun one.ids between.queue.streams after.queue.streams two.stay one.named;
     }
 
 answers_send : (queued : List Message) (history : History) (first acknowledged : ℕ) (ask : Ask) (n : ℕ) (e : Endpoint) (draft : Emission) (answers : List Answer) → QueuesFollowLog queued history first acknowledged e.queues

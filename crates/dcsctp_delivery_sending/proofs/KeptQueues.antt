@@ -40,6 +40,7 @@ kept_queued queued log streams u queue_holds =
       ascend = queue_holds.ascend;
       beyond = λ q n f at of. absurd (cc);
       distinct = queue_holds.distinct;
+      small = queue_holds.small;
       going = fresh_going queued log streams u queue_holds.going;
       room = (let room = queue_holds.room in record { whole = room.whole; count = omega (arith, room.whole) });
     }
@@ -80,6 +81,7 @@ idle_hold queued streams u queue_holds =
       ascend = queue_holds.ascend;
       beyond = λ q n f at of. absurd (cc);
       distinct = queue_holds.distinct;
+      small = queue_holds.small;
       going = tt;
       room = (let room = queue_holds.room in record { whole = room.whole; count = omega (arith, room.whole) });
     }

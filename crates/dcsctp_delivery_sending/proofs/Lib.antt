@@ -39,3 +39,4 @@ pub mod Marking
 pub mod MarkingAll
 pub mod ChunkCounts
 pub mod Handed
+pub mod StayHanded

@@ -112,6 +112,7 @@ marking_hold queued place queue others waits =
           ascend = queues.queue_holds.ascend;
           beyond = λ q n f at of. absurd (cc);
           distinct = queues.queue_holds.distinct;
+          small = queues.queue_holds.small;
           going = going_marked queued place queue.streams queue.under_way others queues.queue_holds.going;
           room = (let room = queues.queue_holds.room in let same = marked_total place queued in record { whole = omega (arith, room.whole, same); count = omega (arith, room.count, same) });
         };

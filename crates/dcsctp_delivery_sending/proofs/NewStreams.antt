@@ -1,5 +1,5 @@
 -- A stream that is used for the first time.
-use Rattle.std.proofs.Common.{◌≡◌, ◌≢◌, ◌==◌, ℕ, zero, suc, Bool, true, false, ◌<◌, ◌+◌, ◌≤◌, List, [], ◌∷◌, length, drop, refl, sym, ◌∙◌, ap, arith, subst, inl, inr}
+use Rattle.std.proofs.Common.{◌≡◌, ◌≢◌, ◌==◌, ℕ, zero, suc, Bool, true, false, ◌<◌, ◌+◌, ◌≤◌, ◌^◌, List, [], ◌∷◌, length, drop, refl, sym, ◌∙◌, ap, arith, subst, inl, inr}
 use Rattle.std.specs.Prelude.{◌⊎◌, ◌||◌, Option, None, Some, nat_lt, if◌then◌else◌}
 use Rattle.std.proofs.lemmas.Bool.Decides.{eqb_tells, leb_tells}
 use Rattle.dcsctp_spec.specs.types.declared.sending.UnderWay.{UnderWay}
@@ -130,13 +130,14 @@ module _ (queued : List Message) (log : List Slot) (s : Stream) (old new : List 
             | old_one k e at ↦ g.front k w (ap (λ (t : Stream). t.id) (sym e) ∙ id) (ap (λ (t : Stream). front_of t.messages) (sym e) ∙ is)
           ]
 
-  inserted_hold : (u : Option UnderWay) → weight new ≡ weight old → HoldsQueued queued log old u → HoldsQueued queued log new u
-  inserted_hold u same_weight queue_holds =
+  inserted_hold : (u : Option UnderWay) → s.id < 2 ^ 16 → weight new ≡ weight old → HoldsQueued queued log old u → HoldsQueued queued log new u
+  inserted_hold u fits same_weight queue_holds =
       record {
         wait = wait;
         ascend = ascend;
         beyond = beyond;
         distinct = distinct;
+        small = small;
         going = inserted_going u queue_holds.going;
         room = (let room = queue_holds.room in record { whole = omega (arith, room.whole, same_weight); count = omega (arith, room.count, same_weight) });
       }
@@ -160,6 +161,13 @@ module _ (queued : List Message) (log : List Slot) (s : Stream) (old new : List 
           elim (stands_at s old new i q) [
             | new_one here e ↦ empty_unbegun u f.place (stream_at new q) (ap (λ (t : Stream). t.messages) e ∙ none)
             | old_one k e here ↦ subst (λ (t : Stream). AllBeyond f.place (unbegun u t)) (sym e) (queue_holds.beyond k n f at (of ∙ ap (λ (t : Stream). t.id) e))
+          ]
+
+      small : (q : ℕ) → (stream_at new q).id < 2 ^ 16
+      small q =
+          elim (stands_at s old new i q) [
+            | new_one at e ↦ subst (λ (t : Stream). t.id < 2 ^ 16) (sym e) fits
+            | old_one k e at ↦ subst (λ (t : Stream). t.id < 2 ^ 16) (sym e) (queue_holds.small k)
           ]
 
       distinct : (p q : ℕ) → p < length new → q < length new → (stream_at new p).id ≡ (stream_at new q).id → p ≡ q
@@ -190,12 +198,12 @@ module _ (queued : List Message) (log : List Slot) (s : Stream) (old new : List 
                 | inr e ↦ elim at' [ inl e' ↦ absurd (omega (arith, e.0, e.1, e'.0, e'.1, both)) | inr e' ↦ omega (arith, e.1, e'.1, both) ]
               ]
 
-pub used_hold : (queued : List Message) (log : List Slot) (queue : SendQueueState) (id : ℕ) → HoldsQueued queued log queue.streams queue.under_way → HoldsQueued queued log (used queue id) queue.under_way
-used_hold queued log queue id queue_holds = go (is_used id queue.streams) refl
+pub used_hold : (queued : List Message) (log : List Slot) (queue : SendQueueState) (id : ℕ) → id < 2 ^ 16 → HoldsQueued queued log queue.streams queue.under_way → HoldsQueued queued log (used queue id) queue.under_way
+used_hold queued log queue id fits queue_holds = go (is_used id queue.streams) refl
   where
     s : Stream
     s = unused id queue.default_priority queue.default_threshold
 
     go : (b : Bool) → is_used id queue.streams ≡ b → HoldsQueued queued log (if b then queue.streams else with_stream s queue.streams) queue.under_way
     go true is = queue_holds
-    go false is = inserted_hold queued log s queue.streams (with_stream s queue.streams) (inserted s queue.streams) refl (not_there id queue.streams is) queue.under_way (weight_inserted s queue.streams refl) queue_holds
+    go false is = inserted_hold queued log s queue.streams (with_stream s queue.streams) (inserted s queue.streams) refl (not_there id queue.streams is) queue.under_way fits (weight_inserted s queue.streams refl) queue_holds

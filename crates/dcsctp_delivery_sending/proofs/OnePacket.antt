@@ -12,7 +12,7 @@ use Rattle.dcsctp_spec.specs.endpoint.BegunResets.{streams_within, request_conte
 use Rattle.dcsctp_spec.specs.endpoint.FlushOutcomes.{filling_event, Answer, answer_contents, filled, asked, Ask, room_in, GivesUpWhere, may_forward, FillsWhere, Gives, GivesWhere, IsAnswerOfQueues, IsFlushAnswer, stage_of, nothing_waits}
 use Rattle.dcsctp_delivery_sending.specs.Log.{Message, Slot, History, log_extended, with_mark}
 use Rattle.dcsctp_delivery_sending.specs.Stages.{Bears, Stands, Stays}
-use Rattle.dcsctp_delivery_sending.specs.Flushes.{NamedBy, SayAll, InFlight, PendsWhere, QueuesFollowLog, SendsLogged}
+use Rattle.dcsctp_delivery_sending.specs.Flushes.{NamedBy, AreHandedFor, SayAll, InFlight, PendsWhere, QueuesFollowLog, SendsLogged}
 use Rattle.dcsctp_delivery_sending.proofs.BegunMarks.{bears_marked, pends_marked, marks_marked}
 use Rattle.dcsctp_delivery_sending.proofs.Filling.{stay, fills_stay}
 use Rattle.dcsctp_delivery_sending.proofs.GivingUp.{Ends, end, give_up_all_ends}
@@ -20,6 +20,7 @@ use Rattle.dcsctp_delivery_sending.proofs.Noted.{marked_twice, stands_marked, cu
 use Rattle.dcsctp_delivery_sending.proofs.Extended.{extends_grown, extends_marked, extends_noted, extends_then, all_later}
 use Rattle.dcsctp_delivery_sending.proofs.Pauses.{kept_both, current_both}
 use Rattle.dcsctp_delivery_sending.proofs.PausedFlushes.{gave_up_paused, sent_paused}
+use Rattle.dcsctp_delivery_sending.proofs.StayHanded.{StayHanded, requesting_stays, begun_handed, handed_for_later}
 use Rattle.std.proofs.lemmas.List.{length-append}
 use Rattle.dcsctp_delivery_sending.proofs.Handing.{requesting_handed, requesting_hold, requesting_kind, begun_kind, requesting_numbered}
 use Rattle.dcsctp_delivery_sending.proofs.Chunks.{kinds_of, chunks_of_log}
@@ -56,6 +57,8 @@ record Answers' (queued : List Message) (history : History) (first acknowledged 
   pub current : AreCurrent history more
   pub kept : AreKept answer.after.queues.queue.streams more
   pub handed : (id : ℕ) → is_handed_out (stream_named id answer.after.queues.queue.streams).pause ≡ true → (is_handed_out (stream_named id old.streams).pause ≡ true) ⊎ NamedBy answer.begun ids id
+  pub stay : StayHanded old.streams answer.after.queues.queue.streams
+  pub named : AreHandedFor answer.begun ids answer.after.queues.queue.streams
 
 plain_both : (chunks others : List Plain) → plain_contents (chunks ++ others) ≡ plain_contents chunks ++ plain_contents others
 plain_both [] others = refl
@@ -145,6 +148,18 @@ module _ (queued : List Message) (history : History) (first acknowledged : ℕ) 
         | inr named ↦ inr named
       ]
 
+  all_stay : StayHanded e.queues.queue.streams gives.sent.waiting.streams
+  unfolding room
+  all_stay id handed =
+      sent_paused ask e draft transfer answer gives id
+      ∙ requesting_stays (streams_within room) answer.begun gives.gave_up.waiting id (gave_up_paused ask e draft transfer answer gives id ∙ handed)
+
+  all_named : AreHandedFor answer.begun ids gives.sent.waiting.streams
+  unfolding room ids
+  all_named =
+      handed_for_later answer.begun ids (queue_requesting (streams_within room) answer.begun gives.gave_up.waiting).streams gives.sent.waiting.streams (λ id handed. sent_paused ask e draft transfer answer gives id ∙ handed)
+      (begun_handed ask _ room _ gives.gave_up.waiting answer.begun gives.begins gave.stands.queue_holds.small)
+
   gives_stays : Answers' queued history first acknowledged e.queues.queue answer
   unfolding bound added all noted
   gives_stays =
@@ -160,6 +175,8 @@ module _ (queued : List Message) (history : History) (first acknowledged : ℕ) 
         current = current_both history full.more gave.more (current_before answer.begun ids bound gave.more history full.more full.current) (λ n f at. absurd (gave.none n f at));
         kept = subst (λ (b : EndpointQueues). AreKept b.queue.streams added) (sym gives.below) (kept_both gives.sent.waiting.streams full.more gave.more full.kept (λ n f at. absurd (gave.none n f at)));
         handed = λ id handed. all_handed id (ap (λ (b : EndpointQueues). is_handed_out (stream_named id b.queue.streams).pause) (sym gives.below) ∙ handed);
+        stay = subst (λ (b : EndpointQueues). StayHanded e.queues.queue.streams b.queue.streams) (sym gives.below) all_stay;
+        named = subst (λ (b : EndpointQueues). AreHandedFor answer.begun ids b.queue.streams) (sym gives.below) all_named;
       }
 
 nothing_stays : (queued : List Message) (history : History) (first acknowledged : ℕ) (e : Endpoint) (answer : Answer) → QueuesFollowLog queued history first acknowledged e.queues → answer ≡ nothing_waits e
@@ -177,6 +194,8 @@ nothing_stays queued history first acknowledged e answer stands is =
       current = λ n f at. absurd (cc);
       kept = λ n f at. absurd (cc);
       handed = λ id handed. inl handed;
+      stay = λ id handed. handed;
+      named = tt;
     })
 
 gives_where : (queued : List Message) (history : History) (first acknowledged : ℕ) (ask : Ask) (b : Bool) (e : Endpoint) (draft : Emission) (transfer : Transfer) (answer : Answer) → e.queues.transfer ≡ Some transfer
@@ -220,4 +239,6 @@ asked_sends queued history first acknowledged ask e draft answer stands say answ
       current = left.current;
       kept = subst (λ (b : EndpointQueues). AreKept b.queue.streams left.more) (sym below) left.kept;
       handed = λ id handed. left.handed id (ap (λ (b : EndpointQueues). is_handed_out (stream_named id b.queue.streams).pause) (sym below) ∙ handed);
+      stay = subst (λ (b : EndpointQueues). StayHanded e.queues.queue.streams b.queue.streams) (sym below) left.stay;
+      named = subst (λ (b : EndpointQueues). AreHandedFor answer.begun left.ids b.queue.streams) (sym below) left.named;
     }

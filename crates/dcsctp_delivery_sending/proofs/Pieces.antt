@@ -119,7 +119,7 @@ module _ (queued : List Message) (history : History) (max place : ℕ) (queue : 
         ascends = λ n f at starts of. (let clash : under_way.sent ≡ 0 = starts in absurd (omega (arith, going.begun)));
         climbs = λ n f at starts interleaved of of'. (let clash : under_way.sent ≡ 0 = starts in absurd (omega (arith, going.begun)));
         says = it_says queued history.log max place queue message under_way (next_piece mid) queue_holds.wait queue_holds.ascend queue_holds.distinct front id old_here old_there refl waited.is waited.at waited.fresh refl mid_is refl first refl room queue_holds.room unfinished;
-        queue_holds = it_hold queued history.log max place queue message under_way (next_piece mid) queue_holds.wait queue_holds.ascend queue_holds.distinct front id old_here old_there refl waited.is waited.at waited.fresh refl mid_is refl first refl room queue_holds.room unfinished;
+        queue_holds = it_hold queued history.log max place queue message under_way (next_piece mid) queue_holds.wait queue_holds.ascend queue_holds.distinct front id old_here old_there refl waited.is waited.at waited.fresh refl mid_is refl first refl room queue_holds.room unfinished queue_holds.small;
         numbers = record {
           kinds = kinds_more queue.is_interleaved (produced place max message under_way queue).is_interleaved history.log (next_piece mid) (produced_kind place max message under_way queue) kinds refl;
           counts = subst (λ (b : Bool). CountsWhere b (with_slot (Some (next_piece mid)) history) (produced place max message under_way queue).streams (produced place max message under_way queue).under_way)

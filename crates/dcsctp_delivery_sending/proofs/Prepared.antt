@@ -1,6 +1,7 @@
 -- Streams that are prepared to be reset keep what is under way.
-use Rattle.std.proofs.Common.{◌≡◌, ◌≢◌, ◌==◌, ℕ, zero, suc, Bool, true, false, ◌≤◌, List, [], ◌∷◌, length, take, drop, refl, sym, ◌∙◌, ap, arith, subst, inl, inr}
+use Rattle.std.proofs.Common.{◌≡◌, ◌≢◌, ◌==◌, ℕ, zero, suc, Bool, true, false, ◌<◌, ◌≤◌, ◌^◌, List, [], ◌∷◌, length, take, drop, refl, sym, ◌∙◌, ap, arith, subst, inl, inr}
 use Rattle.std.specs.Prelude.{Option, None, Some, if◌then◌else◌}
+use Rattle.std.specs.List.{AllByRecursion}
 use Rattle.std.proofs.lemmas.Bool.Decides.{eqb_tells}
 use Rattle.dcsctp_spec.specs.types.declared.sending.UnderWay.{UnderWay}
 use Rattle.dcsctp_spec.specs.types.queues.SendStreams.{Waiting, Stream, front_of, stream_at}
@@ -155,12 +156,13 @@ module _ (queued : List Message) (log : List Slot) (id : ℕ) (u : Option UnderW
             let sizes : length new ≡ length old = short.sizes in
             queue_holds.distinct p q (omega (arith, below)) (omega (arith, below')) (sym (short.ids p) ∙ same ∙ short.ids q)
             );
+        small = λ q. subst (λ (k : ℕ). k < 2 ^ 16) (sym (short.ids q)) (queue_holds.small q);
         going = short_going;
         room = (let room = queue_holds.room in record { whole = omega (arith, room.whole, lighter); count = omega (arith, room.count, lighter) });
       }
 
-prepared_one : (queued : List Message) (history : History) (id : ℕ) (queue : SendQueueState) → QueueHolds queued history queue → QueueHolds queued history (prepared id queue)
-prepared_one queued history id queue queues = go (is_open_pause (queue_stream start id).pause)
+prepared_one : (queued : List Message) (history : History) (id : ℕ) (queue : SendQueueState) → id < 2 ^ 16 → QueueHolds queued history queue → QueueHolds queued history (prepared id queue)
+prepared_one queued history id queue fits queues = go (is_open_pause (queue_stream start id).pause)
   where
     start : SendQueueState
     start = with_used id queue
@@ -168,7 +170,7 @@ prepared_one queued history id queue queues = go (is_open_pause (queue_stream st
     began : QueueHolds queued history start
     began =
         record {
-          queue_holds = used_hold queued history.log queue id queues.queue_holds;
+          queue_holds = used_hold queued history.log queue id fits queues.queue_holds;
           next = queues.next;
           numbers = numbered_stay history queue start refl refl (numbers_used queue.under_way queue id) queues.numbers;
         }
@@ -219,6 +221,6 @@ preparing_kind (id ∷ ids) queue = preparing_kind ids (prepared id queue) ∙ g
     go true = refl
     go false = refl
 
-pub preparing_hold : (queued : List Message) (history : History) (ids : List ℕ) (queue : SendQueueState) → QueueHolds queued history queue → QueueHolds queued history (prepared_all ids queue)
-preparing_hold queued history [] queue queues = queues
-preparing_hold queued history (id ∷ ids) queue queues = preparing_hold queued history ids (prepared id queue) (prepared_one queued history id queue queues)
+pub preparing_hold : (queued : List Message) (history : History) (ids : List ℕ) (queue : SendQueueState) → AllByRecursion (λ id. id < 2 ^ 16) ids → QueueHolds queued history queue → QueueHolds queued history (prepared_all ids queue)
+preparing_hold queued history [] queue fit queues = queues
+preparing_hold queued history (id ∷ ids) queue fit queues = preparing_hold queued history ids (prepared id queue) fit.1 (prepared_one queued history id queue fit.0 queues)

@@ -13,7 +13,7 @@ use Rattle.dcsctp_delivery_sending.specs.Pieces.{IsWaitingMessage, AllQueued, Al
 use Rattle.dcsctp_delivery_sending.specs.Weights.{HasRoomForLog}
 use Rattle.dcsctp_delivery_sending.proofs.Places.{decide, at_cases}
 use Rattle.dcsctp_delivery_sending.proofs.Weights.{weight_same, weight_front}
-use Rattle.dcsctp_delivery_sending.proofs.Streams.{alike_is_shorter, distinct_on, wait_on, Alike, shorter_beyond, last_shorter, ascend_on, numbered_reduced, Shorter, rest_of, beyond_drop}
+use Rattle.dcsctp_delivery_sending.proofs.Streams.{alike_is_shorter, distinct_on, small_on, wait_on, Alike, shorter_beyond, last_shorter, ascend_on, numbered_reduced, Shorter, rest_of, beyond_drop}
 
 -- ---- what is handed out
 
@@ -213,9 +213,9 @@ module _ (queued : List Message) (log : List Slot) (max place : ℕ) (queue : Se
   next_going : UnderWay
   next_going = record under_way { next_fsn = (under_way.next_fsn + 1) % 2 ^ 32; sent = under_way.sent + max }
 
-  pub it_hold : HoldsQueued queued (Some piece ∷ log) (produced place max message under_way queue).streams (produced place max message under_way queue).under_way
+  pub it_hold : ((q : ℕ) → (stream_at queue.streams q).id < 2 ^ 16) → HoldsQueued queued (Some piece ∷ log) (produced place max message under_way queue).streams (produced place max message under_way queue).under_way
   unfolding next_going
-  it_hold = go (is_last max message under_way) refl
+  it_hold small = go (is_last max message under_way) refl
     where
       go : (b : Bool) → is_last max message under_way ≡ b
           → HoldsQueued queued (Some piece ∷ log) (if b then after_last place message under_way queue else after_part place max message under_way queue).streams
@@ -226,6 +226,7 @@ module _ (queued : List Message) (log : List Slot) (max place : ℕ) (queue : Se
             ascend = ascend_on queue.streams (after_last place message under_way queue).streams shorter ascend;
             beyond = last_beyond;
             distinct = distinct_on queue.streams (after_last place message under_way queue).streams shorter distinct;
+            small = small_on queue.streams (after_last place message under_way queue).streams shorter small;
             going = tt;
             room = last_room;
           }
@@ -235,6 +236,7 @@ module _ (queued : List Message) (log : List Slot) (max place : ℕ) (queue : Se
             ascend = ascend_on queue.streams (after_part place max message under_way queue).streams (alike_is_shorter queue.streams (after_part place max message under_way queue).streams alike) ascend;
             beyond = part_beyond next_going refl;
             distinct = distinct_on queue.streams (after_part place max message under_way queue).streams (alike_is_shorter queue.streams (after_part place max message under_way queue).streams alike) distinct;
+            small = small_on queue.streams (after_part place max message under_way queue).streams (alike_is_shorter queue.streams (after_part place max message under_way queue).streams alike) small;
             going = part_going next_going refl refl refl refl e;
             room = part_room next_going refl;
           }

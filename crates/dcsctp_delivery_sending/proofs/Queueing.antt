@@ -153,6 +153,7 @@ module _ (queued : List Message) (message : Message) (log : List Slot) (id : ℕ
         ascend = added_ascend;
         beyond = added_beyond;
         distinct = added_distinct;
+        small = λ q. subst (λ (k : ℕ). k < 2 ^ 16) (sym (more.ids q)) (queue_holds.small q);
         going = going u queue_holds.going queue_holds.distinct;
         room = (let room = queue_holds.room in record { whole = omega (arith, room.whole, grows); count = omega (arith, room.count, grows) });
       }
@@ -197,9 +198,9 @@ exactly id m [] q below is = absurd (omega arith)
 exactly id m (s ∷ l) zero below is = elim (eqb_tells s.id id) [ inl e ↦ rw e.0 refl | inr e ↦ absurd (e.1 is) ]
 exactly id m (s ∷ l) (suc q) below is = exactly id m l q (omega arith) is
 
-pub queueing_hold : (queued : List Message) (history : History) (now : ℕ) (sending : Sending) (queue : SendQueueState) → length queued + 1 < 2 ^ 64 → 0 < length sending.message.payload
+pub queueing_hold : (queued : List Message) (history : History) (now : ℕ) (sending : Sending) (queue : SendQueueState) → sending.message.stream < 2 ^ 16 → length queued + 1 < 2 ^ 64 → 0 < length sending.message.payload
     → Cut queued history.log → QueueHolds queued history queue → QueueHolds (message_of sending ∷ queued) history (sending_queued now sending queue)
-queueing_hold queued history now sending queue few some cut queues =
+queueing_hold queued history now sending queue fits few some cut queues =
     record {
       queue_holds = added_hold queued (message_of sending) history.log sending.message.stream m streams (stream_changed sending.message.stream (with_message m) streams) queue.under_way (one_more sending.message.stream m streams)
           (record {
@@ -208,8 +209,8 @@ queueing_hold queued history now sending queue few some cut queues =
             is = record { stream = refl; ppid = refl; unordered = refl; payload = refl };
             fresh = refl;
             some = some;
-          }) queues.next (λ n f at. at_below f.place f.message queued (cut.pieces n f at).at) (used_hold queued history.log queue sending.message.stream queues.queue_holds)
-          (λ q below is. exactly sending.message.stream m streams q below is) (weight_added sending.message.stream m streams (used_hold queued history.log queue sending.message.stream queues.queue_holds).distinct);
+          }) queues.next (λ n f at. at_below f.place f.message queued (cut.pieces n f at).at) (used_hold queued history.log queue sending.message.stream fits queues.queue_holds)
+          (λ q below is. exactly sending.message.stream m streams q below is) (weight_added sending.message.stream m streams (used_hold queued history.log queue sending.message.stream fits queues.queue_holds).distinct);
       next = (let next = queues.next in omega (arith, next, few));
       numbers = numbered_stay history queue (sending_queued now sending queue) refl refl
           (numbers_then queue.under_way queue.streams streams (stream_changed sending.message.stream (with_message m) streams) (numbers_used queue.under_way queue sending.message.stream)

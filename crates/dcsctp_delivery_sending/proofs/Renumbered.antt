@@ -23,6 +23,7 @@ numbered_again queued u ssn mid streams queue_holds =
       ascend = queue_holds.ascend;
       beyond = λ q n f at of. absurd (cc);
       distinct = queue_holds.distinct;
+      small = queue_holds.small;
       going = record { place = g.place; message = g.message; at = g.at; unfinished = g.unfinished; begun = g.begun; there = record { q = g.there.q; within = g.there.within; is = g.there.is; waiting = g.there.waiting; front = g.there.front }; came = inl refl; front = g.front };
       room = (let room = queue_holds.room in record { whole = room.whole; count = room.count });
     }

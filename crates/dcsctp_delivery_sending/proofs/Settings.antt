@@ -10,7 +10,7 @@ use Rattle.dcsctp_spec.specs.queues.SendQueue.{with_priority, with_threshold, Se
 use Rattle.dcsctp_spec.specs.types.Setting.{Setting, stream_priority, stream_low_threshold, longest_message}
 use Rattle.dcsctp_spec.specs.endpoint.SettingOutcomes.{set_in_queue}
 use Rattle.dcsctp_delivery_sending.specs.Log.{Message, History}
-use Rattle.dcsctp_delivery_sending.specs.Queueing.{floors_raised, QueueHolds}
+use Rattle.dcsctp_delivery_sending.specs.Queueing.{SettingFits, floors_raised, QueueHolds}
 use Rattle.dcsctp_delivery_sending.specs.Numbers.{stream_named, next_mid, is_handed_out, KeptWhere, LastIs, CountsMessages, CountsWhere, Numbered}
 use Rattle.dcsctp_delivery_sending.proofs.Numbers.{SameMids, front_kept, numbers_then, numbers_used, numbers_changed, numbers_mapped, numbered_stay}
 use Rattle.dcsctp_delivery_sending.proofs.Streams.{alike_hold}
@@ -30,20 +30,20 @@ setting_kind (stream_priority id priority) queue = refl
 setting_kind (stream_low_threshold id bytes) queue = refl
 setting_kind (longest_message bytes) queue = refl
 
-pub setting_hold : (queued : List Message) (history : History) (setting : Setting) (queue : SendQueueState) → QueueHolds queued history queue → QueueHolds queued history (set_in_queue setting queue)
-setting_hold queued history (stream_priority id priority) queue queues =
+pub setting_hold : (queued : List Message) (history : History) (setting : Setting) (queue : SendQueueState) → SettingFits setting → QueueHolds queued history queue → QueueHolds queued history (set_in_queue setting queue)
+setting_hold queued history (stream_priority id priority) queue fits queues =
     record {
-      queue_holds = alike_hold queued history.log queue.under_way (used queue id) (stream_changed id (with_priority priority) (used queue id)) (one_set (with_priority priority) (λ s. refl) (λ s. refl) id (used queue id)) (used_hold queued history.log queue id queues.queue_holds);
+      queue_holds = alike_hold queued history.log queue.under_way (used queue id) (stream_changed id (with_priority priority) (used queue id)) (one_set (with_priority priority) (λ s. refl) (λ s. refl) id (used queue id)) (used_hold queued history.log queue id fits queues.queue_holds);
       next = queues.next;
       numbers = set_numbered history id queue (with_priority priority) (λ s. refl) (λ s. record { ordered = refl; unordered = refl }) (λ s. refl) (λ s. refl) queues.numbers;
     }
-setting_hold queued history (stream_low_threshold id bytes) queue queues =
+setting_hold queued history (stream_low_threshold id bytes) queue fits queues =
     record {
-      queue_holds = alike_hold queued history.log queue.under_way (used queue id) (stream_changed id (with_threshold bytes) (used queue id)) (one_set (with_threshold bytes) (λ s. refl) (λ s. refl) id (used queue id)) (used_hold queued history.log queue id queues.queue_holds);
+      queue_holds = alike_hold queued history.log queue.under_way (used queue id) (stream_changed id (with_threshold bytes) (used queue id)) (one_set (with_threshold bytes) (λ s. refl) (λ s. refl) id (used queue id)) (used_hold queued history.log queue id fits queues.queue_holds);
       next = queues.next;
       numbers = set_numbered history id queue (with_threshold bytes) (λ s. refl) (λ s. record { ordered = refl; unordered = refl }) (λ s. refl) (λ s. refl) queues.numbers;
     }
-setting_hold queued history (longest_message bytes) queue queues = queues
+setting_hold queued history (longest_message bytes) queue fits queues = queues
 
 -- ---- the end of a reset
 

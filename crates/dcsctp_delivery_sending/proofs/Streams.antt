@@ -1,5 +1,5 @@
 -- Send queues that hold the same messages, or fewer, still hold what was queued.
-use Rattle.std.proofs.Common.{◌≡◌, ◌==◌, ℕ, suc, Bool, true, false, ◌<◌, ◌+◌, ◌-◌, ◌≤◌, List, [], ◌∷◌, length, drop, refl, sym, ◌∙◌, ap, arith, subst, inl, inr}
+use Rattle.std.proofs.Common.{◌≡◌, ◌==◌, ℕ, suc, Bool, true, false, ◌<◌, ◌+◌, ◌-◌, ◌≤◌, ◌^◌, List, [], ◌∷◌, length, drop, refl, sym, ◌∙◌, ap, arith, subst, inl, inr}
 use Rattle.std.specs.Prelude.{◌⊎◌, Option, None, Some, slice_set, if◌then◌else◌}
 use Rattle.std.proofs.lemmas.Bool.Decides.{eqb_tells, leb_tells}
 use Rattle.std.proofs.lemmas.List.{length-set, get_or-set_same, get_or-set_other, get_or_past}
@@ -143,6 +143,9 @@ distinct_on old new shorter distinct p q below below' same =
     let size : length new ≡ length old = shorter.sizes in
     distinct p q (omega arith) (omega arith) (sym (shorter.ids p) ∙ same ∙ shorter.ids q)
 
+pub small_on : (old new : List Stream) → Shorter old new → ((q : ℕ) → (stream_at old q).id < 2 ^ 16) → (q : ℕ) → (stream_at new q).id < 2 ^ 16
+small_on old new shorter small q = subst (λ (k : ℕ). k < 2 ^ 16) (sym (shorter.ids q)) (small q)
+
 shorter_room : (queued : List Message) (log : List Slot) (old new : List Stream) → Shorter old new → HasRoomForLog queued log old None → HasRoomForLog queued log new None
 shorter_room queued log old new shorter room =
     let less = weight_less old new shorter.sizes shorter.messages in
@@ -160,6 +163,7 @@ shows_idle queued log old new shorter queue_holds =
       ascend = ascend_on old new shorter queue_holds.ascend;
       beyond = λ q n f at of. shorter_beyond f.place q old new shorter (queue_holds.beyond q n f at (of ∙ shorter.ids q));
       distinct = distinct_on old new shorter queue_holds.distinct;
+      small = small_on old new shorter queue_holds.small;
       going = tt;
       room = shorter_room queued log old new shorter queue_holds.room;
     }
@@ -199,6 +203,7 @@ alike_hold queued log u old new alike queue_holds =
       ascend = ascend_on old new shorter queue_holds.ascend;
       beyond = λ q n f at of. alike_beyond u f.place (stream_at old q) (stream_at new q) (alike.ids q) (alike.messages q) (queue_holds.beyond q n f at (of ∙ alike.ids q));
       distinct = distinct_on old new shorter queue_holds.distinct;
+      small = small_on old new shorter queue_holds.small;
       going = alike_going queued log u old new alike queue_holds.going;
       room = alike_room queued log u old new alike queue_holds.room;
     }

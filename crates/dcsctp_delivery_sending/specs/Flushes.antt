@@ -6,7 +6,9 @@ use Rattle.dcsctp_spec.specs.endpoint.Event.{Event, packets_in}
 use Rattle.dcsctp_spec.specs.Packet.{Plain, unworked, plain, re_config, Content, Emission}
 use Rattle.dcsctp_spec.specs.Reconfiguration.{RequestedReset, ResetParameter, outgoing_reset_request, incoming_reset_request}
 use Rattle.dcsctp_spec.specs.queues.Incoming.{is_named}
+use Rattle.dcsctp_spec.specs.queues.Reassembly.{names_stream}
 use Rattle.dcsctp_spec.specs.queues.SendQueue.{SendQueueState}
+use Rattle.dcsctp_spec.specs.types.queues.SendStreams.{Stream}
 use Rattle.dcsctp_spec.specs.endpoint.BegunResets.{BegunReset}
 use Rattle.dcsctp_spec.specs.endpoint.Endpoint.{Endpoint}
 use Rattle.dcsctp_spec.specs.queues.Chunks.{data_said, i_data_said}
@@ -167,9 +169,15 @@ abbrev pub NamedBy : Option BegunReset → List ℕ → ℕ → Type 0
 NamedBy None ids id = ⊥
 NamedBy (Some begun) ids id = is_named ids id ≡ true
 
+-- Each stream that the request names was handed out for it, and still is.
+abbrev pub AreHandedFor : Option BegunReset → List ℕ → List Stream → Type 0
+AreHandedFor None ids streams = Unit {0}
+AreHandedFor (Some begun) ids streams = (id : ℕ) → names_stream begun.reset.streams id ≡ true → (is_named ids id ≡ true) × (is_handed_out (stream_named id streams).pause ≡ true)
+
 -- More TSNs may have been assigned, and all data that was sent is in the log. It is sent after the last reset of its stream,
 -- which isn't handed out to be reset again. The reset that was begun, if one was, is in the history, with the TSNs that were
--- assigned before it. The streams that are handed out now were before, or were handed out for it.
+-- assigned before it. The streams that are handed out now were before, or were handed out for it. All that were before still are,
+-- and so are all that it names.
 pub record SendsLogged (queued : List Message) (history : History) (first acknowledged : ℕ) (old : SendQueueState) (begun : Option BegunReset) (after : EndpointQueues) (events : List (Event Emission)) : Type 0 where
   pub more : List Slot
   pub ids : List ℕ
@@ -181,6 +189,8 @@ pub record SendsLogged (queued : List Message) (history : History) (first acknow
   pub current : AreCurrent history more
   pub kept : AreKept after.queue.streams more
   pub handed : (id : ℕ) → is_handed_out (stream_named id after.queue.streams).pause ≡ true → (is_handed_out (stream_named id old.streams).pause ≡ true) ⊎ NamedBy begun ids id
+  pub stay : (id : ℕ) → is_handed_out (stream_named id old.streams).pause ≡ true → is_handed_out (stream_named id after.queue.streams).pause ≡ true
+  pub named : AreHandedFor begun ids after.queue.streams
 
 -- This holds for a flush whose first packet has no other data.
 abbrev pub FlushesSendPieces : Type 0

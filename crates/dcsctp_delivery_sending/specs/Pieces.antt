@@ -82,13 +82,14 @@ Going queued log streams None = Unit {0}
 Going queued log streams (Some under_way) = IsGoing queued log streams under_way
 
 -- The queue holds messages that were queued, each once and in order. What is not begun was queued after all pieces of its
--- stream. No two streams have one number.
+-- stream. No two streams have one number, and numbers have 16 bits (RFC 9260, section 3.3.1).
 pub record HoldsQueued (queued : List Message) (log : List Slot) (streams : List Stream) (under_way : Option UnderWay) : Type 0 where
   pub wait : (q : ℕ) → AllQueued queued (stream_at streams q).id (stream_at streams q).messages
   pub ascend : (q : ℕ) → Ascend (stream_at streams q).messages
   pub beyond : (q n : ℕ) (f : Piece) → at_place n log ≡ Some (Some f) → f.message.stream ≡ (stream_at streams q).id
       → AllBeyond f.place (unbegun under_way (stream_at streams q))
   pub distinct : (p q : ℕ) → p < length streams → q < length streams → (stream_at streams p).id ≡ (stream_at streams q).id → p ≡ q
+  pub small : (q : ℕ) → (stream_at streams q).id < 2 ^ 16
   pub going : Going queued log streams under_way
   pub room : HasRoomForLog queued log streams under_way
 

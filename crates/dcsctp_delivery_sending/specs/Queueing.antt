@@ -1,10 +1,11 @@
 -- What a user queues waits after the rest, under the next identifier; it outlasts settings, resets
 -- and associations.
 use Rattle.std.specs.Prelude.{◌≡◌, ◌<◌, ◌+◌, ◌*◌, ◌^◌, ℕ, Bool, false, List, if◌then◌else◌, ◌∷◌, length}
+use Rattle.std.specs.List.{AllByRecursion}
 use Rattle.dcsctp_spec.specs.types.queues.SendStreams.{Stream}
 use Rattle.dcsctp_spec.specs.queues.SendQueue.{SendQueueState, queue_restarted}
 use Rattle.dcsctp_spec.specs.queues.OwnResets.{prepared_all, queue_committed, queue_rolled_back}
-use Rattle.dcsctp_spec.specs.types.Setting.{Setting}
+use Rattle.dcsctp_spec.specs.types.Setting.{Setting, stream_priority, stream_low_threshold, longest_message}
 use Rattle.dcsctp_spec.specs.endpoint.SettingOutcomes.{set_in_queue}
 use Rattle.dcsctp_spec.specs.endpoint.MessageOutcomes.{Sending, sending_queued}
 use Rattle.dcsctp_delivery_sending.specs.Log.{Message, Cut, History, new_history}
@@ -30,7 +31,7 @@ pub record QueueWaits (queued : List Message) (queue : SendQueueState) : Type 0 
 -- A message that is queued is one more.
 abbrev pub QueueingKeeps : Type 0
 QueueingKeeps =
-    (queued : List Message) (history : History) (now : ℕ) (sending : Sending) (queue : SendQueueState) → length queued + 1 < 2 ^ 64 → 0 < length sending.message.payload
+    (queued : List Message) (history : History) (now : ℕ) (sending : Sending) (queue : SendQueueState) → sending.message.stream < 2 ^ 16 → length queued + 1 < 2 ^ 64 → 0 < length sending.message.payload
     → Cut queued history.log → QueueHolds queued history queue → QueueHolds (message_of sending ∷ queued) history (sending_queued now sending queue)
 
 -- In another association no TSN was assigned yet. What was under way is the rest of a message,
@@ -41,13 +42,19 @@ KeptQueuesHold = (queued : List Message) (history : History) (queue : SendQueueS
 abbrev pub RestartedQueuesHold : Type 0
 RestartedQueuesHold = (queued : List Message) (history : History) (queue : SendQueueState) → QueueHolds queued history queue → QueueWaits queued (queue_restarted queue)
 
+-- A setting of a stream names it by 16 bits.
+abbrev pub SettingFits : Setting → Type 0
+SettingFits (stream_priority id priority) = id < 2 ^ 16
+SettingFits (stream_low_threshold id bytes) = id < 2 ^ 16
+SettingFits (longest_message bytes) = Unit {0}
+
 -- What a user sets leaves it so,
 abbrev pub SettingKeeps : Type 0
-SettingKeeps = (queued : List Message) (history : History) (setting : Setting) (queue : SendQueueState) → QueueHolds queued history queue → QueueHolds queued history (set_in_queue setting queue)
+SettingKeeps = (queued : List Message) (history : History) (setting : Setting) (queue : SendQueueState) → SettingFits setting → QueueHolds queued history queue → QueueHolds queued history (set_in_queue setting queue)
 
 -- so do streams that are prepared to be reset,
 abbrev pub PreparingKeeps : Type 0
-PreparingKeeps = (queued : List Message) (history : History) (ids : List ℕ) (queue : SendQueueState) → QueueHolds queued history queue → QueueHolds queued history (prepared_all ids queue)
+PreparingKeeps = (queued : List Message) (history : History) (ids : List ℕ) (queue : SendQueueState) → AllByRecursion (λ id. id < 2 ^ 16) ids → QueueHolds queued history queue → QueueHolds queued history (prepared_all ids queue)
 
 -- the floors once the streams that are handed out were reset: each a multiple of 2^32 that is above all numbers so far
 abbrev pub floors_raised : List Stream → History → History

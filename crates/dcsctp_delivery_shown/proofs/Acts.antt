@@ -15,7 +15,7 @@ use Rattle.dcsctp_spec_lemmas.specs.types.Offer.{Offer, offer_of}
 use Rattle.dcsctp_spec_lemmas.specs.spec.endpoint.Outcome.{Outcome}
 use Rattle.dcsctp_spec_lemmas.specs.spec.Packet.{Content, init_ack, cookie_echo, shutdown_ack, Packet, packet_in}
 use Rattle.dcsctp_spec_runs.specs.Past.{HasEffect}
-use Rattle.dcsctp_spec_lemmas.specs.types.Schedule.{CallContent, send_call, send_many_call}
+use Rattle.dcsctp_spec_lemmas.specs.types.Schedule.{CallContent, set_call, reset_call, send_call, send_many_call}
 use Rattle.dcsctp_spec_lemmas.specs.types.Settings.{SameOptions, wire_options}
 use Rattle.dcsctp_spec_lemmas.specs.spec.endpoint.UserTurns.{UserTurns}
 use Rattle.dcsctp_spec_lemmas.specs.spec.endpoint.Turn.{Input, arrival, refusal, chunk_input, packet_ends, has_data_chunk, unreadable_text}
@@ -49,8 +49,6 @@ calls_calm =
       repeats = tt;
       expires = λ again. tt;
       flushed = tt;
-      sets = λ setting. tt;
-      resets = λ ids. tt;
       takes = tt;
       hands_over = tt;
       own_expires = λ timer. tt;
@@ -60,6 +58,8 @@ calls_calm =
 sends_calm : (call : CallContent) → MaySend IsCalm call
 sends_calm (send_call message options) = tt
 sends_calm (send_many_call messages options) = tt
+sends_calm (set_call setting) = tt
+sends_calm (reset_call ids) = tt
 sends_calm call = tt
 
 -- ---- the inputs of a packet

@@ -3,9 +3,9 @@ use Rattle.std.proofs.Common.{◌≡◌, ℕ, ◌<◌, ◌^◌, Bool, true, fals
 use Rattle.dcsctp_spec_lemmas.specs.types.declared.capabilities.Capabilities.{Capabilities}
 use Rattle.dcsctp_spec_lemmas.specs.spec.endpoint.Endpoint.{Endpoint}
 use Rattle.dcsctp_spec_lemmas.specs.spec.endpoint.Event.{packets_in}
-use Rattle.dcsctp_spec_lemmas.specs.spec.endpoint.Outcome.{Outcome, then_outcome}
+use Rattle.dcsctp_spec_lemmas.specs.spec.endpoint.Outcome.{behind, Outcome, then_outcome}
 use Rattle.dcsctp_spec_lemmas.specs.spec.Packet.{Content, init_ack, cookie_echo, Emission}
-use Rattle.dcsctp_spec_lemmas.specs.spec.endpoint.Turn.{Input, chunk_input, act_input, user_sends, restores, Turn}
+use Rattle.dcsctp_spec_lemmas.specs.spec.endpoint.Turn.{Input, chunk_input, act_input, user_sets, user_sends, user_resets, restores, Turn}
 use Rattle.dcsctp_spec_lemmas.specs.spec.association.Acts.{flushes, request_again, request_renewed}
 use Rattle.dcsctp_spec_lemmas.specs.spec.association.Effect.{Effect, AssociationIdentity, identity_of, identity_in}
 use Rattle.dcsctp_spec_lemmas.specs.types.queues.Messages.{MessageContent}
@@ -17,10 +17,13 @@ use Rattle.dcsctp_delivery_sending.specs.Log.{Message}
 use Rattle.dcsctp_delivery_directions.specs.Directions.{nothing_asked}
 use Rattle.dcsctp_delivery_turns.specs.Asking.{own_of, SomeFit}
 use Rattle.dcsctp_delivery_turns.specs.Actions.{ledger_of, came_by, Begun, opening_queues, IsOpening, Inside, inside, Made, MakesAlso, OwnEnds, unended, committed, rolled_back, PeerResets, unreset, absent, deferred, reset_now, Becomes, goes_on, works_resets, renews, ends, begins, IsCall, peer_tag, queued_after, read_after}
-use Rattle.dcsctp_delivery_turns.proofs.Fixed.{queue_all_core, refusal_none}
+use Rattle.dcsctp_delivery_turns.proofs.Fixed.{queue_all_core, refusal_none, prepared_none}
 use Rattle.dcsctp_delivery_turns.proofs.Fronts.{renewed_fit, own_ends_fit}
 use Rattle.dcsctp_delivery_turns.proofs.Beginnings.{nothing_fits, unlinked_fits}
-use Rattle.dcsctp_delivery_turns.proofs.Turns.{turns_are_actions}
+use Rattle.dcsctp_delivery_turns.proofs.Turns.{own_peer, none_calm, turns_are_actions}
+use Rattle.dcsctp_delivery_turns.proofs.Data.{turn_link, flush_makes}
+use Rattle.dcsctp_spec_lemmas.specs.spec.endpoint.PreparedResets.{ResetRefusal, endpoint_with_queue, reset_refusal, OwnResetsWhere}
+use Rattle.dcsctp_spec_lemmas.specs.spec.queues.OwnResets.{prepared_all, prepare_all_events}
 use Rattle.dcsctp_delivery_shown.proofs.Allowed.{AllAllowed, AreAllowed}
 use Rattle.dcsctp_delivery_shown.proofs.Actions.{TransferIs, events_both, LedgerIs, of_known, actions_are}
 
@@ -79,12 +82,21 @@ pub data MovesLink (came : Option Content) (e : Endpoint) (o : Outcome) : Type 0
   link_ends : identity_in o.after.core ≡ None → MovesLink came e o
   link_begins : (begun : Begun e o) → IsOpening came → identity_in o.after.core ≡ Some (identity_of begun.my begun.held) → MovesLink came e o
 
-is_call : (input : Input) → IsStep input → ((sendings : List Sending) → input ≡ user_sends sendings → ⊥) → IsCall input
-is_call (user_sends sendings) step other = absurd (other sendings refl)
-is_call (act_input (request_again reset)) step other = absurd step
-is_call (act_input (request_renewed reset)) step other = absurd step
-is_call (restores state) step other = absurd step
-is_call input step other = tt
+-- Streams and messages that a user names are of no concern here: they may be of any size.
+abbrev pub NamesNothing : Input → Type 0
+NamesNothing (user_sends sendings) = ⊥
+NamesNothing (user_sets setting) = ⊥
+NamesNothing (user_resets ids) = ⊥
+NamesNothing input = Unit {0}
+
+is_call : (input : Input) → IsStep input → NamesNothing input → IsCall input
+is_call (user_sends sendings) step none = absurd none
+is_call (user_sets setting) step none = absurd none
+is_call (user_resets ids) step none = absurd none
+is_call (act_input (request_again reset)) step none = absurd step
+is_call (act_input (request_renewed reset)) step none = absurd step
+is_call (restores state) step none = absurd step
+is_call input step none = tt
 
 module _ (kinds : Capabilities) where
   queue_all_silent : (e : Endpoint) (sendings : List Sending) → packets_in (queue_all e sendings).events ≡ []
@@ -224,6 +236,25 @@ module _ (kinds : Capabilities) where
         says = events_both kinds all.events last.events (subst (AreAllowed kinds) (sym (queue_all_silent e sendings)) tt) is.says;
       })
 
+  -- ---- a call that resets streams
+
+  resets_is : (why : Option ResetRefusal) (e : Endpoint) (ids : List ℕ) (o : Outcome) → EndpointIs kinds e → OwnResetsWhere why e ids o → TurnIs e None o
+  resets_is (Some why) e ids o h turn = subst (TurnIs e None) (sym turn) (record { moves = link_stays refl; after = h; says = tt })
+  resets_is None e ids o h turn =
+      let base : Endpoint = endpoint_with_queue e (prepared_all ids e.queues.queue) in
+      let made : MadeIs (inside turn.flushed.after) (packets_in turn.flushed.events) =
+      makes_is None (peer_tag base.core) (λ queued. queued) (λ read. read) (inside base) (inside turn.flushed.after) (packets_in turn.flushed.events) (record { left = h.left; asks = h.asks })
+      (flush_makes None none_calm (peer_tag base.core) base turn.flushed (own_peer base.core) turn.flushes) in
+      let is : TurnIs e None turn.flushed = stays_is None e turn.flushed h (turn_link base turn.flushed turn.flushes) made in
+      subst (TurnIs e None) (sym turn.is)
+      (record {
+        moves = later_moves e e turn.flushed (behind [] (prepare_all_events ids e.queues.queue) turn.flushed) refl refl is.moves;
+        after = is.after;
+        says = events_both kinds (prepare_all_events ids e.queues.queue) turn.flushed.events (subst (AreAllowed kinds) (sym (prepared_none ids e.queues.queue)) tt) is.says;
+      })
+
   pub turn_is : (e : Endpoint) (input : Input) (o : Outcome) → EndpointIs kinds e → IsStep input → BeginsSo e (came_by input) o → Turn e input o → TurnIs e (came_by input) o
   turn_is e (user_sends sendings) o h step so turn = send_is e sendings o h turn
-  turn_is e input o h step so turn = becomes_is (came_by input) (peer_tag e.core) (queued_after e input) (read_after e input) e o h so (turns_are_actions e input o (is_call input step (λ sendings is. absurd (cc))) turn)
+  turn_is e (user_sets setting) o h step so turn = subst (TurnIs e None) (sym turn) (record { moves = link_stays refl; after = record { linked = h.linked; left = h.left; asks = h.asks }; says = tt })
+  turn_is e (user_resets ids) o h step so turn = resets_is (reset_refusal e) e ids o h turn
+  turn_is e input o h step so turn = becomes_is (came_by input) (peer_tag e.core) (queued_after e input) (read_after e input) e o h so (turns_are_actions e input o (is_call input step tt) turn)

@@ -25,10 +25,10 @@ use Rattle.dcsctp_delivery_directions.proofs.RequestCounts.{requests_more_to}
 use Rattle.dcsctp_delivery_turns.specs.Actions.{came_by, queued_after, IsCall}
 use Rattle.dcsctp_delivery_turns.specs.Sides.{WasSent}
 use Rattle.dcsctp_delivery_associations.specs.Laws.{AsksLittle, AreEnds}
-use Rattle.dcsctp_delivery_associations.specs.Reads.{reads_after}
+use Rattle.dcsctp_delivery_associations.specs.Reads.{Reading, reading_after}
 use Rattle.dcsctp_delivery_sockets.specs.Acts.{queued_through, AreTurns, AreNewPeers}
 use Rattle.dcsctp_delivery_sockets.specs.Echoes.{GoesToMaker}
-use Rattle.dcsctp_delivery_sockets.specs.Packets.{reads_through, AreNewTags}
+use Rattle.dcsctp_delivery_sockets.specs.Packets.{reading_through, AreNewTags}
 use Rattle.dcsctp_delivery_associations.proofs.Growing.{input_adds}
 use Rattle.dcsctp_delivery_associations.proofs.SenderTurns.{sender_turns}
 use Rattle.dcsctp_delivery_associations.proofs.ReceiverTurns.{receiver_turns}
@@ -52,22 +52,21 @@ packets_apart packets t turns = append_assoc packets (packets_in t.outcome.event
 asks_little : (packets more : List Emission) → AsksLittle (packets ++ more) → AsksLittle packets
 asks_little packets more little tag = (let both = requests_more_to tag packets more in let few = little tag in omega (arith, both, few))
 
-module _ (options : Options) (d : Endpoint) (their_past : List Effect) (reads : List MessageContent) where
-  pub senders_act : (turns : List Transition) (e : Endpoint) (queued : List Message) (past : List Effect) (packets : List Emission) → AreEnds options e queued past packets d their_past reads → AreTurns e turns
+module _ (options : Options) (d : Endpoint) (their_past : List Effect) (reading : Reading) where
+  pub senders_act : (turns : List Transition) (e : Endpoint) (queued : List Message) (past : List Effect) (packets : List Emission) → AreEnds options e queued past packets d their_past reading → AreTurns e turns
       → AreNewPeers past their_past e turns → length (queued_through e turns queued) < 2 ^ 64 → AsksLittle (packets ++ packets_in (events_of turns))
-      → AreEnds options (after_all e turns) (queued_through e turns queued) (after_effects (effects_of turns) past) (packets ++ packets_in (events_of turns)) d their_past reads
-  senders_act [] e queued past packets h taken new few little = subst (λ (l : List Emission). AreEnds options e queued past l d their_past reads) (sym (append-nil packets)) h
+      → AreEnds options (after_all e turns) (queued_through e turns queued) (after_effects (effects_of turns) past) (packets ++ packets_in (events_of turns)) d their_past reading
+  senders_act [] e queued past packets h taken new few little = subst (λ (l : List Emission). AreEnds options e queued past l d their_past reading) (sym (append-nil packets)) h
   senders_act (t ∷ turns) e queued past packets h taken new few little =
       let grows = queued_grows t.outcome.after turns (queued_after e t.input queued) in
       let all : AsksLittle ((packets ++ packets_in t.outcome.events) ++ packets_in (events_of turns)) = subst AsksLittle (sym (packets_apart packets t turns)) little in
-      let first : AreEnds options t.outcome.after (queued_after e t.input queued) (after_effects t.outcome.effects past) (packets ++ packets_in t.outcome.events) d their_past reads =
-      subst (λ (l : List MessageContent). AreEnds options t.outcome.after (queued_after e t.input queued) (after_effects t.outcome.effects past) (packets ++ packets_in t.outcome.events) d their_past l) h.are_all
-      (sender_turns options h.ends e queued past packets d their_past h.tagged h.between t.input t.outcome new.1 h.answered
-      (asks_little (packets ++ packets_in t.outcome.events) (packets_in (events_of turns)) all) (omega (arith, few, grows)) new.2 new.3 new.0 taken.0) in
-      let rest = senders_act turns t.outcome.after (queued_after e t.input queued) (after_effects t.outcome.effects past) (packets ++ packets_in t.outcome.events) first taken.1 new.4 few all in
-      subst (λ (l : List Effect). AreEnds options (after_all t.outcome.after turns) (queued_through t.outcome.after turns (queued_after e t.input queued)) l (packets ++ packets_in (t.outcome.events ++ events_of turns)) d their_past reads)
+      let first : AreEnds options t.outcome.after (queued_after e t.input queued) (after_effects t.outcome.effects past) (packets ++ packets_in t.outcome.events) d their_past reading =
+      (sender_turns options h.ends e queued past packets d their_past reading h.between t.input t.outcome new.1 h.answered
+      (asks_little (packets ++ packets_in t.outcome.events) (packets_in (events_of turns)) all) (omega (arith, few, grows)) new.2 new.3 new.4 new.0 taken.0) in
+      let rest = senders_act turns t.outcome.after (queued_after e t.input queued) (after_effects t.outcome.effects past) (packets ++ packets_in t.outcome.events) first taken.1 new.5 few all in
+      subst (λ (l : List Effect). AreEnds options (after_all t.outcome.after turns) (queued_through t.outcome.after turns (queued_after e t.input queued)) l (packets ++ packets_in (t.outcome.events ++ events_of turns)) d their_past reading)
       (sym (after_effects-append t.outcome.effects (effects_of turns) past))
-      (subst (λ (l : List Emission). AreEnds options (after_all t.outcome.after turns) (queued_through t.outcome.after turns (queued_after e t.input queued)) (after_effects (effects_of turns) (after_effects t.outcome.effects past)) l d their_past reads)
+      (subst (λ (l : List Emission). AreEnds options (after_all t.outcome.after turns) (queued_through t.outcome.after turns (queued_after e t.input queued)) (after_effects (effects_of turns) (after_effects t.outcome.effects past)) l d their_past reading)
       (packets_apart packets t turns) rest)
 
 -- ---- the receiver
@@ -89,47 +88,46 @@ none_sent sent (inputs.time_passes moment) none = tt
 none_sent sent (inputs.restores state) none = tt
 
 module _ (options : Options) (e : Endpoint) (queued : List Message) (past : List Effect) (packets : List Emission) (few : length queued < 2 ^ 64) (little : AsksLittle packets) where
-  pub receivers_act : (turns : List Transition) (d : Endpoint) (their_past : List Effect) (reads : List MessageContent) → AreEnds options e queued past packets d their_past reads → NoChunks turns → AreTurns d turns
+  pub receivers_act : (turns : List Transition) (d : Endpoint) (their_past : List Effect) (reading : Reading) → AreEnds options e queued past packets d their_past reading → NoChunks turns → AreTurns d turns
       → AllByRecursion (λ turn. IsCall turn.input) turns → AreNewTags options their_past past d turns
-      → AreEnds options e queued past packets (after_all d turns) (after_effects (effects_of turns) their_past) (reads_through d turns reads)
-  receivers_act [] d their_past reads h none taken may new = h
-  receivers_act (t ∷ turns) d their_past reads h none taken may new =
-      let first : AreEnds options e queued past packets t.outcome.after (after_effects t.outcome.effects their_past) (reads_after d t.input reads) =
-      subst (λ (l : List MessageContent). AreEnds options e queued past packets t.outcome.after (after_effects t.outcome.effects their_past) (reads_after d t.input l)) h.are_all
-      (receiver_turns options h.ends e queued past packets d their_past h.tagged h.between few new.0 t.input t.outcome new.1 h.answered little new.3 may.0 taken.0 new.2
+      → AreEnds options e queued past packets (after_all d turns) (after_effects (effects_of turns) their_past) (reading_through d turns reading)
+  receivers_act [] d their_past reading h none taken may new = h
+  receivers_act (t ∷ turns) d their_past reading h none taken may new =
+      let first : AreEnds options e queued past packets t.outcome.after (after_effects t.outcome.effects their_past) (reading_after d t.input t.outcome.after reading) =
+      (receiver_turns options h.ends e queued past packets d their_past reading h.between few new.0 t.input t.outcome new.1 h.answered little new.3 may.0 taken.0 new.2
       (λ transfer link there linked. none_sent (h.ends.sends link.my.tag).sent t.input none.0)) in
-      let rest = receivers_act turns t.outcome.after (after_effects t.outcome.effects their_past) (reads_after d t.input reads) first none.1 taken.1 may.1 new.4 in
-      subst (λ (l : List Effect). AreEnds options e queued past packets (after_all t.outcome.after turns) l (reads_through t.outcome.after turns (reads_after d t.input reads)))
+      let rest = receivers_act turns t.outcome.after (after_effects t.outcome.effects their_past) (reading_after d t.input t.outcome.after reading) first none.1 taken.1 may.1 new.4 in
+      subst (λ (l : List Effect). AreEnds options e queued past packets (after_all t.outcome.after turns) l (reading_through t.outcome.after turns (reading_after d t.input t.outcome.after reading)))
       (sym (after_effects-append t.outcome.effects (effects_of turns) their_past)) rest
 
-  one_turn : (d : Endpoint) (their_past : List Effect) (reads : List MessageContent) (input : Input) (t : Transition) → NoChunk input → IsCall input → IsTurn d input t → NoChunk t.input × IsCall t.input × Turn d t.input t.outcome
-  one_turn d their_past reads input t none may turn =
+  one_turn : (d : Endpoint) (their_past : List Effect) (reading : Reading) (input : Input) (t : Transition) → NoChunk input → IsCall input → IsTurn d input t → NoChunk t.input × IsCall t.input × Turn d t.input t.outcome
+  one_turn d their_past reading input t none may turn =
       (subst NoChunk (sym turn.is) none, subst IsCall (sym turn.is) may, subst (λ (i : Input). Turn d i t.outcome) (sym turn.is) turn.comes)
 
-  pub receivers_handle : (d : Endpoint) (their_past : List Effect) (reads : List MessageContent) (emission : Emission) (bytes : List ℕ) (turns : List Transition) → AreEnds options e queued past packets d their_past reads → places.HasEntry emission packets
+  pub receivers_handle : (d : Endpoint) (their_past : List Effect) (reading : Reading) (emission : Emission) (bytes : List ℕ) (turns : List Transition) → AreEnds options e queued past packets d their_past reading → places.HasEntry emission packets
       → GoesToMaker emission → ((packet : PacketContent) → IsPacket (wire_options d.options) packet bytes → packet_in packet ≡ emission.packet)
       → AreNewTags options their_past past d turns → HandleInput d bytes turns
-      → AreEnds options e queued past packets (after_all d turns) (after_effects (effects_of turns) their_past) (reads_through d turns reads)
-  receivers_handle d their_past reads emission bytes turns h has go is new (unreadable ts unread taken) = two ts new taken
+      → AreEnds options e queued past packets (after_all d turns) (after_effects (effects_of turns) their_past) (reading_through d turns reading)
+  receivers_handle d their_past reading emission bytes turns h has go is new (unreadable ts unread taken) = two ts new taken
     where
       two : (turns : List Transition) → AreNewTags options their_past past d turns → Turns d (arrival ∷ refusal unreadable_text ∷ []) turns
-          → AreEnds options e queued past packets (after_all d turns) (after_effects (effects_of turns) their_past) (reads_through d turns reads)
+          → AreEnds options e queued past packets (after_all d turns) (after_effects (effects_of turns) their_past) (reading_through d turns reading)
       two [] new taken = absurd taken
       two (t ∷ []) new taken = absurd taken.1
       two (t ∷ u ∷ []) new taken =
-          let a = one_turn d their_past reads arrival t tt tt taken.0 in
-          let b = one_turn t.outcome.after their_past reads (refusal unreadable_text) u tt tt taken.1.0 in
-          receivers_act (t ∷ u ∷ []) d their_past reads h (a.0, (b.0, tt)) (a.2, (b.2, tt)) (a.1, (b.1, tt)) new
+          let a = one_turn d their_past reading arrival t tt tt taken.0 in
+          let b = one_turn t.outcome.after their_past reading (refusal unreadable_text) u tt tt taken.1.0 in
+          receivers_act (t ∷ u ∷ []) d their_past reading h (a.0, (b.0, tt)) (a.2, (b.2, tt)) (a.1, (b.1, tt)) new
       two (t ∷ u ∷ v ∷ turns) new taken = absurd taken.1.1
-  receivers_handle d their_past reads emission bytes turns h has go is new (readable packet counted ts is_packet counting admitted) =
-      let a = one_turn d their_past reads arrival counted tt tt counting in
-      let first = receivers_act (counted ∷ []) d their_past reads h (a.0, tt) (a.2, tt) (a.1, tt) (new.0, new.1, new.2, new.3, tt) in
+  receivers_handle d their_past reading emission bytes turns h has go is new (readable packet counted ts is_packet counting admitted) =
+      let a = one_turn d their_past reading arrival counted tt tt counting in
+      let first = receivers_act (counted ∷ []) d their_past reading h (a.0, tt) (a.2, tt) (a.1, tt) (new.0, new.1, new.2, new.3, tt) in
       let core : counted.outcome.after.core ≡ d.core = ap (λ (x : Outcome). x.after.core) counting.comes in
       let same : AdmittedTurns counted.outcome.after emission.packet (admits counted.outcome.after.core emission.packet) ts =
       subst (λ (c : Core). AdmittedTurns counted.outcome.after emission.packet (admits c emission.packet) ts) (sym core)
       (subst (λ (p : Packet). AdmittedTurns counted.outcome.after p (admits d.core p) ts) (is packet is_packet) admitted) in
-      subst (λ (l : List Effect). AreEnds options e queued past packets (after_all counted.outcome.after ts) l (reads_through counted.outcome.after ts (reads_after d counted.input reads)))
+      subst (λ (l : List Effect). AreEnds options e queued past packets (after_all counted.outcome.after ts) l (reading_through counted.outcome.after ts (reading_after d counted.input counted.outcome.after reading)))
       (sym (after_effects-append counted.outcome.effects (effects_of ts) their_past))
-      (packet_goes options e queued past packets few little emission has counted.outcome.after (after_effects counted.outcome.effects their_past) (reads_after d counted.input reads) ts
-      (subst (λ (l : List Effect). AreEnds options e queued past packets counted.outcome.after (after_effects l their_past) (reads_after d counted.input reads)) (append-nil counted.outcome.effects) first) new.4 go
+      (packet_goes options e queued past packets few little emission has counted.outcome.after (after_effects counted.outcome.effects their_past) (reading_after d counted.input counted.outcome.after reading) ts
+      (subst (λ (l : List Effect). AreEnds options e queued past packets counted.outcome.after (after_effects l their_past) (reading_after d counted.input counted.outcome.after reading)) (append-nil counted.outcome.effects) first) new.4 go
       (admits counted.outcome.after.core emission.packet) refl same)

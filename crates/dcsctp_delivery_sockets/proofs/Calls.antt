@@ -51,7 +51,7 @@ module _ (May : Input → Type 0) where
 
 -- ---- calls
 
--- What holds of the inputs of calls and timers. What a user sends is said apart.
+-- What holds of the inputs of calls and timers. What a user sends, sets and resets is said apart.
 pub record MayCall (May : Input → Type 0) : Type 0 where
   pub connects : May (act_input connect)
   pub aborts : (reason : AbortReason) → May (act_input (abort_with reason))
@@ -59,8 +59,6 @@ pub record MayCall (May : Input → Type 0) : Type 0 where
   pub repeats : May (act_input shutdown_repeats)
   pub expires : (again : Bool) → May (act_input (t1_expires again))
   pub flushed : May (act_input flushes)
-  pub sets : (setting : Setting) → May (user_sets setting)
-  pub resets : (ids : List ℕ) → May (user_resets ids)
   pub takes : May user_takes
   pub hands_over : May (act_input acts.hands_over)
   pub own_expires : (timer : OwnTimer) → May (timer_expires timer)
@@ -69,6 +67,8 @@ pub record MayCall (May : Input → Type 0) : Type 0 where
 abbrev pub MaySend : (Input → Type 0) → CallContent → Type 0
 MaySend May (send_call message options) = May (user_sends (sending_of options message ∷ []))
 MaySend May (send_many_call messages options) = May (user_sends (map (sending_of options) messages))
+MaySend May (set_call setting) = May (user_sets setting)
+MaySend May (reset_call ids) = May (user_resets ids)
 MaySend May call = Unit {0}
 
 module _ (May : Input → Type 0) (may : MayCall May) where
@@ -127,10 +127,10 @@ module _ (May : Input → Type 0) (may : MayCall May) where
   of_call e close_call turns sends taken = of_turns May e (act_input (abort_with CloseCalled) ∷ []) turns (may.aborts CloseCalled, tt) taken
   of_call e shutdown_call turns sends taken = of_turns May e (act_input shut_down ∷ []) turns (may.shuts_down, tt) taken
   of_call e (advance_call moment) turns sends taken = of_time (nat_le e.moment moment) e moment turns taken
-  of_call e (set_call setting) turns sends taken = of_turns May e (user_sets setting ∷ []) turns (may.sets setting, tt) taken
+  of_call e (set_call setting) turns sends taken = of_turns May e (user_sets setting ∷ []) turns (sends, tt) taken
   of_call e (send_call message options) turns sends taken = of_turns May e (user_sends (sending_of options message ∷ []) ∷ []) turns (sends, tt) taken
   of_call e (send_many_call messages options) turns sends taken = of_turns May e (user_sends (map (sending_of options) messages) ∷ []) turns (sends, tt) taken
-  of_call e (reset_call ids) turns sends taken = of_turns May e (user_resets ids ∷ []) turns (may.resets ids, tt) taken
+  of_call e (reset_call ids) turns sends taken = of_turns May e (user_resets ids ∷ []) turns (sends, tt) taken
   of_call e take_call turns sends taken = of_turns May e (user_takes ∷ []) turns (may.takes, tt) taken
   of_call e hand_over_call turns sends taken = of_turns May e (inputs_of_handover (readiness_of e)) turns (of_handover (readiness_of e)) taken
 
@@ -152,8 +152,6 @@ calls_without =
       repeats = tt;
       expires = λ again. tt;
       flushed = tt;
-      sets = λ setting. tt;
-      resets = λ ids. tt;
       takes = tt;
       hands_over = tt;
       own_expires = λ timer. tt;
@@ -187,8 +185,6 @@ calls_are =
       repeats = tt;
       expires = λ again. tt;
       flushed = tt;
-      sets = λ setting. tt;
-      resets = λ ids. tt;
       takes = tt;
       hands_over = tt;
       own_expires = λ timer. tt;
@@ -207,17 +203,17 @@ sends_are connect_call fits = tt
 sends_are close_call fits = tt
 sends_are shutdown_call fits = tt
 sends_are (advance_call moment) fits = tt
-sends_are (set_call setting) fits = tt
+sends_are (set_call setting) fits = fits
 sends_are (send_call message options) fits = (sending_fits message options fits, tt)
 sends_are (send_many_call messages options) fits = sendings_fit messages options fits
-sends_are (reset_call ids) fits = tt
+sends_are (reset_call ids) fits = fits
 sends_are take_call fits = tt
 sends_are hand_over_call fits = tt
 
 abbrev pub AreCalls : List Transition → Type 0
 AreCalls turns = AllByRecursion (λ turn. IsCall turn.input) turns
 
--- Those of a call are, if its messages fit,
+-- Those of a call are, if its messages and streams fit,
 pub call_is : (e : Endpoint) (call : CallContent) (turns : List Transition) → FitsCall call → UserTurns e call turns → AreCalls turns
 call_is e call turns fits taken = of_call IsCall calls_are e call turns (sends_are call fits) taken
 

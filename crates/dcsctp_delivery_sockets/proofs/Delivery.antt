@@ -27,18 +27,21 @@ use Rattle.dcsctp_theorem_sockets.proofs.SocketsAgree.{Joined, joined}
 use Rattle.dcsctp_theorem_sockets.proofs.SocketsAlone.{MoveLaws, of_moves}
 use Rattle.dcsctp_delivery_sending.specs.Places as places
 use Rattle.dcsctp_delivery_directions.specs.Directions.{Delivered}
+use Rattle.dcsctp_delivery_associations.specs.Reads.{nothing_read, messages_of}
 use Rattle.dcsctp_delivery_sockets.specs.Echoes.{GoesToMaker}
-use Rattle.dcsctp_delivery_sockets.specs.UserMessages.{messages_sent_in, read_of, IsDelivered}
+use Rattle.dcsctp_delivery_sockets.specs.Ordered.{AllowsOrder, IsDeliveredInOrder, read_under}
+use Rattle.dcsctp_delivery_sockets.specs.UserMessages.{messages_sent_in, sendings_in, read_of, IsDelivered}
 use Rattle.dcsctp_delivery_sockets.specs.Delivery.{FitsStep, AreInMemory, MatchByTags, SendsLittle, TurnsAllowDelivery, Delivers, SocketsDeliver}
 use Rattle.dcsctp_delivery_associations.proofs.Delivers.{ends_begin, ends_deliver}
+use Rattle.dcsctp_delivery_associations.proofs.InOrder.{ends_deliver_in_order}
 use Rattle.dcsctp_delivery_sockets.proofs.Calls.{AreCalls, call_without, call_is, input_is}
 use Rattle.dcsctp_delivery_sockets.proofs.Echoes.{echoes_go_to_makers}
 use Rattle.dcsctp_delivery_sockets.proofs.KnownPeers.{IsMove}
 use Rattle.dcsctp_delivery_sockets.proofs.NewLinks.{AllOpenFitting, none_open, matched_swapped, AllPerformed, packet_opens}
 use Rattle.dcsctp_delivery_sockets.proofs.Performed.{BothPerformed, both_performed, fresh_front}
-use Rattle.dcsctp_delivery_sockets.proofs.Known.{own_turn, IsOwn, GoodPacket, SideKnown, BothKnown, both_front}
-use Rattle.dcsctp_delivery_sockets.proofs.Stands.{Stand, queued_of, packets_of, reads_of, queued_same, sender_more, receiver_calls, receiver_handles, few_queued}
-use Rattle.dcsctp_delivery_sockets.proofs.UserMessages.{turns_read, is_delivered}
+use Rattle.dcsctp_delivery_sockets.proofs.Known.{same_rules_after, own_turn, IsOwn, GoodPacket, SideKnown, BothKnown, both_front}
+use Rattle.dcsctp_delivery_sockets.proofs.Stands.{Stand, queued_of, packets_of, reading_of, queued_same, sender_more, receiver_calls, receiver_handles, few_queued}
+use Rattle.dcsctp_delivery_sockets.proofs.UserMessages.{nothing_same, turns_same, turns_read, is_delivered, is_in_order}
 
 -- ---- a packet that is delivered
 
@@ -176,20 +179,37 @@ both_known law options run are runs honest fresh allows =
 
 -- ---- what was read
 
-one_way : (mine theirs : Options) (turns others : List Transition) → SendsLittle mine turns → Stand mine theirs turns others → IsDelivered (messages_sent_in (fresh_endpoint mine) turns) (read_of (fresh_endpoint theirs) others)
-one_way mine theirs turns others little h =
-    let same = queued_same mine turns in
-    let all : Delivered (queued_of mine turns) (reads_of theirs others) =
-    subst (Delivered (queued_of mine turns)) h.are_all
-    (ends_deliver theirs h.ends (endpoint_after mine turns) (queued_of mine turns) (noted_past turns) (packets_of turns) (endpoint_after theirs others) (noted_past others) h.tagged h.between
-    (few_queued mine turns little) little.chunks) in
-    subst (IsDelivered (messages_sent_in (fresh_endpoint mine) turns)) (turns_read (fresh_endpoint theirs) others [])
-    (is_delivered (queued_of mine turns) (messages_sent_in (fresh_endpoint mine) turns) (reads_of theirs others) same all)
+module _ (mine theirs : Options) (turns others : List Transition) (little : SendsLittle mine turns) (h : Stand mine theirs turns others) where
+  one_way : IsDelivered (messages_sent_in (fresh_endpoint mine) turns) (read_of (fresh_endpoint theirs) others)
+  one_way =
+      let same = queued_same mine turns in
+      let all : Delivered (queued_of mine turns) (messages_of (reading_of theirs others).reads) =
+      ends_deliver theirs h.ends (endpoint_after mine turns) (queued_of mine turns) (noted_past turns) (packets_of turns) (endpoint_after theirs others) (noted_past others) (reading_of theirs others) h.between
+      (few_queued mine turns little) little.chunks in
+      subst (IsDelivered (messages_sent_in (fresh_endpoint mine) turns)) (turns_read (fresh_endpoint theirs) others nothing_read)
+      (is_delivered (queued_of mine turns) (messages_sent_in (fresh_endpoint mine) turns) (messages_of (reading_of theirs others).reads) same all)
+
+  one_in_order : (endpoint_after mine turns).options.follow_rfc ≡ mine.follow_rfc → (tag : ℕ) → AllowsOrder mine turns tag → IsDeliveredInOrder (sendings_in (fresh_endpoint mine) turns) (read_under tag theirs others)
+  one_in_order rules tag allows =
+      is_in_order (queued_of mine turns) (sendings_in (fresh_endpoint mine) turns) (read_under tag theirs others) (turns_same (λ sending. sending) (fresh_endpoint mine) turns [] [] (nothing_same (λ sending. sending)))
+      (ends_deliver_in_order theirs h.ends (endpoint_after mine turns) (queued_of mine turns) (noted_past turns) (packets_of turns) (endpoint_after theirs others) (noted_past others) (reading_of theirs others) h.between
+      (few_queued mine turns little) little.chunks tag (elim allows.anew [ inl follows ↦ inl (rules ∙ follows) | inr only ↦ inr only ]) allows.interleaves)
 
 pub sockets_deliver : DeliveryLaws → SocketsDeliver
 sockets_deliver law options run are in_memory runs honest fresh allows side =
     both_deliver (both_stand law.below law.answers options run are runs honest fresh in_memory (both_known law options run are runs honest fresh allows)) side
   where
+    known : BothKnown options (turns_after run)
+    known = both_known law options run are runs honest fresh allows
+
     both_deliver : BothStand options (turns_after run) → (s : Side) → Delivers options (turns_after run) s
-    both_deliver h sides.A = one_way options.b options.a (turns_after run).b (turns_after run).a (allows.little sides.B) h.to_a
-    both_deliver h sides.B = one_way options.a options.b (turns_after run).a (turns_after run).b (allows.little sides.A) h.to_b
+    both_deliver h sides.A =
+        record {
+          once = one_way options.b options.a (turns_after run).b (turns_after run).a (allows.little sides.B) h.to_a;
+          in_order = one_in_order options.b options.a (turns_after run).b (turns_after run).a (allows.little sides.B) h.to_a (same_rules_after options.b (turns_after run).b known.b);
+        }
+    both_deliver h sides.B =
+        record {
+          once = one_way options.a options.b (turns_after run).a (turns_after run).b (allows.little sides.A) h.to_b;
+          in_order = one_in_order options.a options.b (turns_after run).a (turns_after run).b (allows.little sides.A) h.to_b (same_rules_after options.a (turns_after run).a known.a);
+        }

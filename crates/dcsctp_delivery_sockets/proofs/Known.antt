@@ -120,6 +120,10 @@ rest_refused options turns more h = along_rest IsUnrefused (fresh_endpoint optio
 pub ran_front : (options : Options) (turns more : List Transition) → SideKnown options (turns ++ more) → RanTo options (endpoint_after options turns) (noted_past turns)
 ran_front options turns more h = run_through options turns (fresh_endpoint options) [] (run_starts options) (along_front IsMove (fresh_endpoint options) turns more h.moves)
 
+-- It follows the RFC at the end if it did when it was made.
+pub same_rules_after : (options : Options) (turns : List Transition) → SideKnown options turns → (endpoint_after options turns).options.follow_rfc ≡ options.follow_rfc
+same_rules_after options turns h = ap (λ (p : Options). p.follow_rfc) (run_through options turns (fresh_endpoint options) [] (run_starts options) h.moves).same
+
 -- ---- both sides
 
 pub record BothKnown (options : Both Options) (turns : Both (List Transition)) : Type 0 where

@@ -13,6 +13,7 @@ use Rattle.dcsctp_spec_lemmas.specs.spec.endpoint.Endpoint.{Endpoint, Core, clos
 use Rattle.dcsctp_spec_runs.specs.Fitting.{FitsCore, FitsEndpoint, SendablePacket, IsSendable}
 use Rattle.dcsctp_spec_lemmas.specs.spec.CookieFits.{FitsPair}
 use Rattle.dcsctp_spec_runs.specs.Laws.{OfferReadsBack}
+use Rattle.dcsctp_theorem_sockets.proofs.SocketsAlone.{Moves, it_rests, it_moves}
 use Rattle.dcsctp_spec_lemmas.specs.spec.endpoint.Outcome.{Outcome}
 use Rattle.dcsctp_spec_lemmas.specs.spec.Packet.{Packet, packet_in, Emission}
 use Rattle.dcsctp_spec_runs.specs.Past.{HasEffect, Each}
@@ -196,17 +197,23 @@ after_first first rest past = after_effects-append first rest past
 abbrev pub AllPerformed : List Effect → List Effect → Type 0
 AllPerformed past their_past = (my : Pair) (number : ℕ) → HasEffect (completes my number) past → HasEffect (performs my number) their_past ⊎ (number ≡ request_number_at my.first_tsn (2 ^ 32 - 1))
 
-pub new_peers : (their_past : List Effect) (turns : List Transition) (past : List Effect) (e : Endpoint) → AreCalls turns → AlongTurns IsUnrefused e turns → AllOpenFitting turns → Each IsOfNewTags (after_effects (effects_of turns) past)
+-- No turn changes `follow_rfc`.
+same_rules : (e : Endpoint) (o : Outcome) → Moves e o → o.after.options.follow_rfc ≡ e.options.follow_rfc
+same_rules e o (it_rests core options effects told) = ap (λ (p : Options). p.follow_rfc) options
+same_rules e o (it_moves change turn is) = ap (λ (p : Options). p.follow_rfc) is.options
+
+pub new_peers : (their_past : List Effect) (turns : List Transition) (past : List Effect) (e : Endpoint) → AreCalls turns → AlongTurns IsUnrefused e turns → AlongTurns IsMove e turns → AllOpenFitting turns → Each IsOfNewTags (after_effects (effects_of turns) past)
     → MatchByTags (after_effects (effects_of turns) past) their_past → AllPerformed (after_effects (effects_of turns) past) their_past → AreNewPeers past their_past e turns
-new_peers their_past [] past e calls unrefused opens each matched performed = tt
-new_peers their_past (t ∷ turns) past e calls unrefused opens each matched performed =
+new_peers their_past [] past e calls unrefused along opens each matched performed = tt
+new_peers their_past (t ∷ turns) past e calls unrefused along opens each matched performed =
     let split = after_first t.outcome.effects (effects_of turns) past in
     let later : AllPerformed (after_effects (effects_of turns) (after_effects t.outcome.effects past)) their_past = subst (λ (p : List Effect). AllPerformed p their_past) split performed in (
       calls.0,
       (λ begun opening linked. new_peer e t.outcome begun (effects_of turns) past their_past (opens.0 opening) linked each matched),
       unrefused.0,
       (λ my number has. later my number (after_within (effects_of turns) (after_effects t.outcome.effects past) (completes my number) (among_after (completes my number) t.outcome.effects past has))),
-      new_peers their_past turns (after_effects t.outcome.effects past) t.outcome.after calls.1 unrefused.1 opens.1 (subst (Each IsOfNewTags) split each)
+      same_rules e t.outcome along.0,
+      new_peers their_past turns (after_effects t.outcome.effects past) t.outcome.after calls.1 unrefused.1 along.1 opens.1 (subst (Each IsOfNewTags) split each)
           (subst (λ (p : List Effect). MatchByTags p their_past) split matched) later,
     )
 

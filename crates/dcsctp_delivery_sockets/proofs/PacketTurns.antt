@@ -21,9 +21,9 @@ use Rattle.dcsctp_delivery_turns.specs.Actions.{IsOpening, came_by, IsCall}
 use Rattle.dcsctp_delivery_turns.specs.Sides.{WasSent}
 use Rattle.dcsctp_delivery_associations.specs.Ends.{Ends, IsOfEnds}
 use Rattle.dcsctp_delivery_associations.specs.Laws.{AsksLittle, AreEnds}
-use Rattle.dcsctp_delivery_associations.specs.Reads.{reads_after}
+use Rattle.dcsctp_delivery_associations.specs.Reads.{Reading, reading_after}
 use Rattle.dcsctp_delivery_sockets.specs.Echoes.{AllMayFollow, ContentsGo, GoesToMaker}
-use Rattle.dcsctp_delivery_sockets.specs.Packets.{reads_through, AreNewTags}
+use Rattle.dcsctp_delivery_sockets.specs.Packets.{reading_through, AreNewTags}
 use Rattle.dcsctp_delivery_turns.proofs.Tags.{echoes_own}
 use Rattle.dcsctp_delivery_turns.proofs.Addressed.{addressed_tags_are_own}
 use Rattle.dcsctp_delivery_associations.proofs.ReceiverTurns.{receiver_turns}
@@ -55,34 +55,33 @@ acks_none (shutdown_complete r ∷ contents) = acks_none contents
 acks_none (plain c ∷ contents) = acks_none contents
 
 module _ (options : Options) (e : Endpoint) (queued : List Message) (past : List Effect) (packets : List Emission) (few : length queued < 2 ^ 64) (little : AsksLittle packets) (emission : Emission) (has : places.HasEntry emission packets) where
-  abbrev Have : Endpoint → List Effect → List MessageContent → Type 0
-  Have d their_past reads = AreEnds options e queued past packets d their_past reads
+  abbrev Have : Endpoint → List Effect → Reading → Type 0
+  Have d their_past reading = AreEnds options e queued past packets d their_past reading
 
   -- what is to be shown of turns
-  abbrev Leave : Endpoint → List Effect → List MessageContent → List Transition → Type 0
-  Leave d their_past reads turns = Have (after_all d turns) (after_effects (effects_of turns) their_past) (reads_through d turns reads)
+  abbrev Leave : Endpoint → List Effect → Reading → List Transition → Type 0
+  Leave d their_past reading turns = Have (after_all d turns) (after_effects (effects_of turns) their_past) (reading_through d turns reading)
 
   -- one turn, and the others
-  then_others : (d : Endpoint) (their_past : List Effect) (reads : List MessageContent) (t : Transition) (turns : List Transition)
-      → Leave t.outcome.after (after_effects t.outcome.effects their_past) (reads_after d t.input reads) turns → Leave d their_past reads (t ∷ turns)
-  then_others d their_past reads t turns rest =
-      subst (λ (l : List Effect). Have (after_all t.outcome.after turns) l (reads_through t.outcome.after turns (reads_after d t.input reads))) (sym (after_effects-append t.outcome.effects (effects_of turns) their_past)) rest
+  then_others : (d : Endpoint) (their_past : List Effect) (reading : Reading) (t : Transition) (turns : List Transition)
+      → Leave t.outcome.after (after_effects t.outcome.effects their_past) (reading_after d t.input t.outcome.after reading) turns → Leave d their_past reading (t ∷ turns)
+  then_others d their_past reading t turns rest =
+      subst (λ (l : List Effect). Have (after_all t.outcome.after turns) l (reading_through t.outcome.after turns (reading_after d t.input t.outcome.after reading))) (sym (after_effects-append t.outcome.effects (effects_of turns) their_past)) rest
 
-  one_turn : (d : Endpoint) (their_past : List Effect) (reads : List MessageContent) (input : Input) (t : Transition) → (h : Have d their_past reads) → IsTurn d input t
+  one_turn : (d : Endpoint) (their_past : List Effect) (reading : Reading) (input : Input) (t : Transition) → (h : Have d their_past reading) → IsTurn d input t
       → AreNewTags options their_past past d (t ∷ [])
       → ((transfer : Transfer) (link : AssociationIdentity) → d.queues.transfer ≡ Some transfer → identity_in d.core ≡ Some link → WasSent (h.ends.sends link.my.tag).sent (came_by input)) → IsCall input
-      → Have t.outcome.after (after_effects t.outcome.effects their_past) (reads_after d t.input reads)
-  one_turn d their_past reads input t h turn new sent may =
-      subst (λ (i : Input). Have t.outcome.after (after_effects t.outcome.effects their_past) (reads_after d i reads)) (sym turn.is)
-      (subst (λ (l : List MessageContent). Have t.outcome.after (after_effects t.outcome.effects their_past) (reads_after d input l)) h.are_all
-      (receiver_turns options h.ends e queued past packets d their_past h.tagged h.between few new.0 input t.outcome (λ begun opening linked. new.1 begun (subst (λ (i : Input). IsOpening (came_by i)) (sym turn.is) opening) linked)
+      → Have t.outcome.after (after_effects t.outcome.effects their_past) (reading_after d t.input t.outcome.after reading)
+  one_turn d their_past reading input t h turn new sent may =
+      subst (λ (i : Input). Have t.outcome.after (after_effects t.outcome.effects their_past) (reading_after d i t.outcome.after reading)) (sym turn.is)
+      ((receiver_turns options h.ends e queued past packets d their_past reading h.between few new.0 input t.outcome (λ begun opening linked. new.1 begun (subst (λ (i : Input). IsOpening (came_by i)) (sym turn.is) opening) linked)
       h.answered little new.3 may turn.comes new.2 sent))
 
-  chunk_turn : (d : Endpoint) (their_past : List Effect) (reads : List MessageContent) (tag : ℕ) (content : Content) (t : Transition) → Have d their_past reads → IsTurn d (chunk_input tag content) t
+  chunk_turn : (d : Endpoint) (their_past : List Effect) (reading : Reading) (tag : ℕ) (content : Content) (t : Transition) → Have d their_past reading → IsTurn d (chunk_input tag content) t
       → AreNewTags options their_past past d (t ∷ []) → MayHandle emission d content
-      → Have t.outcome.after (after_effects t.outcome.effects their_past) (reads_after d t.input reads)
-  chunk_turn d their_past reads tag content t h turn new may =
-      one_turn d their_past reads (chunk_input tag content) t h turn new
+      → Have t.outcome.after (after_effects t.outcome.effects their_past) (reading_after d t.input t.outcome.after reading)
+  chunk_turn d their_past reading tag content t h turn new may =
+      one_turn d their_past reading (chunk_input tag content) t h turn new
       (λ transfer link there linked.
       (let c = h.between.receiver.current transfer there in
       was_sent h.ends emission (of_ends h.ends emission packets h.between.sender.all_sent has) d link linked (λ zero. c.had.some (own_link c.link link c.linked linked ∙ zero)) content may)) tt
@@ -94,21 +93,21 @@ module _ (options : Options) (e : Endpoint) (queued : List Message) (past : List
   IsTail : List Input → Type 0
   IsTail tail = (tail ≡ []) ⊎ (tail ≡ packet_ends ∷ [])
 
-  ends_go : (d : Endpoint) (their_past : List Effect) (reads : List MessageContent) (turns : List Transition) → Have d their_past reads → AreNewTags options their_past past d turns → Turns d (packet_ends ∷ []) turns → Leave d their_past reads turns
-  ends_go d their_past reads [] h new taken = absurd taken
-  ends_go d their_past reads (t ∷ []) h new taken =
-      then_others d their_past reads t [] (one_turn d their_past reads packet_ends t h taken.0 (new.0, new.1, new.2, new.3, tt) (λ transfer link there linked. tt) tt)
-  ends_go d their_past reads (t ∷ other ∷ turns) h new taken = absurd taken.1
+  ends_go : (d : Endpoint) (their_past : List Effect) (reading : Reading) (turns : List Transition) → Have d their_past reading → AreNewTags options their_past past d turns → Turns d (packet_ends ∷ []) turns → Leave d their_past reading turns
+  ends_go d their_past reading [] h new taken = absurd taken
+  ends_go d their_past reading (t ∷ []) h new taken =
+      then_others d their_past reading t [] (one_turn d their_past reading packet_ends t h taken.0 (new.0, new.1, new.2, new.3, tt) (λ transfer link there linked. tt) tt)
+  ends_go d their_past reading (t ∷ other ∷ turns) h new taken = absurd taken.1
 
-  tail_goes : (d : Endpoint) (their_past : List Effect) (reads : List MessageContent) (tail : List Input) (turns : List Transition) → Have d their_past reads → AreNewTags options their_past past d turns → IsTail tail → Turns d tail turns
-      → Leave d their_past reads turns
+  tail_goes : (d : Endpoint) (their_past : List Effect) (reading : Reading) (tail : List Input) (turns : List Transition) → Have d their_past reading → AreNewTags options their_past past d turns → IsTail tail → Turns d tail turns
+      → Leave d their_past reading turns
   unfolding IsTail
-  tail_goes d their_past reads tail turns h new (inl none) taken = nothing turns new (subst (λ (l : List Input). Turns d l turns) none taken)
+  tail_goes d their_past reading tail turns h new (inl none) taken = nothing turns new (subst (λ (l : List Input). Turns d l turns) none taken)
     where
-      nothing : (turns : List Transition) → AreNewTags options their_past past d turns → Turns d [] turns → Leave d their_past reads turns
+      nothing : (turns : List Transition) → AreNewTags options their_past past d turns → Turns d [] turns → Leave d their_past reading turns
       nothing [] new taken = h
       nothing (t ∷ turns) new taken = absurd taken
-  tail_goes d their_past reads tail turns h new (inr is) taken = ends_go d their_past reads turns h new (subst (λ (l : List Input). Turns d l turns) is taken)
+  tail_goes d their_past reading tail turns h new (inr is) taken = ends_go d their_past reading turns h new (subst (λ (l : List Input). Turns d l turns) is taken)
 
   -- What is left of the packet has no data; or it begins no association, and the one that is there has the packet's tag.
   abbrev MayGo : Endpoint → List Content → Type 0
@@ -123,21 +122,21 @@ module _ (options : Options) (e : Endpoint) (queued : List Message) (past : List
   rest_may d content contents tag t turn (inr (follow, all, is)) =
       inr (follow.1, (λ c h. all c (inr h)), tag_stays emission.packet.tag d (chunk_input tag content) t.outcome (not_opening content follow.0) tt is turn.comes)
 
-  after_chunk : (following : Following) (d : Endpoint) (their_past : List Effect) (reads : List MessageContent) (tail : List Input) (turns : List Transition) (More : Type 0) → Have d their_past reads → AreNewTags options their_past past d turns
-      → IsTail tail → (More → Leave d their_past reads turns) → AfterChunk following More (Turns d tail turns) (turns ≡ []) → Leave d their_past reads turns
-  after_chunk next_chunk d their_past reads tail turns More h new is more taken = more taken
-  after_chunk packet_end d their_past reads tail turns More h new is more taken = tail_goes d their_past reads tail turns h new is taken
-  after_chunk dropped_rest d their_past reads tail turns More h new is more none = subst (λ (ts : List Transition). Leave d their_past reads ts) (sym none) h
+  after_chunk : (following : Following) (d : Endpoint) (their_past : List Effect) (reading : Reading) (tail : List Input) (turns : List Transition) (More : Type 0) → Have d their_past reading → AreNewTags options their_past past d turns
+      → IsTail tail → (More → Leave d their_past reading turns) → AfterChunk following More (Turns d tail turns) (turns ≡ []) → Leave d their_past reading turns
+  after_chunk next_chunk d their_past reading tail turns More h new is more taken = more taken
+  after_chunk packet_end d their_past reading tail turns More h new is more taken = tail_goes d their_past reading tail turns h new is taken
+  after_chunk dropped_rest d their_past reading tail turns More h new is more none = subst (λ (ts : List Transition). Leave d their_past reading ts) (sym none) h
 
-  chunks_go : (contents : List Content) (d : Endpoint) (their_past : List Effect) (reads : List MessageContent) (tag : ℕ) (tail : List Input) (turns : List Transition) → Have d their_past reads → AreNewTags options their_past past d turns
-      → IsTail tail → MayGo d contents → ChunkTurns d tag contents tail turns → Leave d their_past reads turns
-  chunks_go [] d their_past reads tag tail turns h new is may taken = tail_goes d their_past reads tail turns h new is taken
-  chunks_go (content ∷ contents) d their_past reads tag tail [] h new is may taken = absurd taken
-  chunks_go (content ∷ contents) d their_past reads tag tail (t ∷ turns) h new is may taken =
-      let first = chunk_turn d their_past reads tag content t h taken.0 (new.0, new.1, new.2, new.3, tt) (first_may d content contents may) in
-      then_others d their_past reads t turns
-      (after_chunk t.outcome.following t.outcome.after (after_effects t.outcome.effects their_past) (reads_after d t.input reads) tail turns (ChunkTurns t.outcome.after tag contents tail turns) first new.4 is
-      (λ more. chunks_go contents t.outcome.after (after_effects t.outcome.effects their_past) (reads_after d t.input reads) tag tail turns first new.4 is (rest_may d content contents tag t taken.0 may) more) taken.1)
+  chunks_go : (contents : List Content) (d : Endpoint) (their_past : List Effect) (reading : Reading) (tag : ℕ) (tail : List Input) (turns : List Transition) → Have d their_past reading → AreNewTags options their_past past d turns
+      → IsTail tail → MayGo d contents → ChunkTurns d tag contents tail turns → Leave d their_past reading turns
+  chunks_go [] d their_past reading tag tail turns h new is may taken = tail_goes d their_past reading tail turns h new is taken
+  chunks_go (content ∷ contents) d their_past reading tag tail [] h new is may taken = absurd taken
+  chunks_go (content ∷ contents) d their_past reading tag tail (t ∷ turns) h new is may taken =
+      let first = chunk_turn d their_past reading tag content t h taken.0 (new.0, new.1, new.2, new.3, tt) (first_may d content contents may) in
+      then_others d their_past reading t turns
+      (after_chunk t.outcome.following t.outcome.after (after_effects t.outcome.effects their_past) (reading_after d t.input t.outcome.after reading) tail turns (ChunkTurns t.outcome.after tag contents tail turns) first new.4 is
+      (λ more. chunks_go contents t.outcome.after (after_effects t.outcome.effects their_past) (reading_after d t.input t.outcome.after reading) tag tail turns first new.4 is (rest_may d content contents tag t taken.0 may) more) taken.1)
 
   -- ---- the first chunk
 
@@ -169,55 +168,55 @@ module _ (options : Options) (e : Endpoint) (queued : List Message) (past : List
   front_may d (plain chunk) contents is own = inr (subst (λ (l : List Content). places.HasEntry (plain chunk) l) (sym is) (inl refl), own_is d.core emission.packet.tag (own refl))
 
   -- with the tag that the packet has
-  tagged_go : (contents : List Content) → emission.packet.contents ≡ contents → (d : Endpoint) (their_past : List Effect) (reads : List MessageContent) (turns : List Transition) → Have d their_past reads → AreNewTags options their_past past d turns
+  tagged_go : (contents : List Content) → emission.packet.contents ≡ contents → (d : Endpoint) (their_past : List Effect) (reading : Reading) (turns : List Transition) → Have d their_past reading → AreNewTags options their_past past d turns
       → ContentsGo emission.packet.tag contents → (is_echo_in_front contents ≡ false → own_tag d.core ≡ emission.packet.tag)
-      → ChunkTurns d emission.packet.tag contents (packet_ends ∷ []) turns → Leave d their_past reads turns
+      → ChunkTurns d emission.packet.tag contents (packet_ends ∷ []) turns → Leave d their_past reading turns
   unfolding IsTail
-  tagged_go [] is d their_past reads turns h new go own taken = ends_go d their_past reads turns h new taken
-  tagged_go (content ∷ contents) is d their_past reads [] h new go own taken = absurd taken
-  tagged_go (content ∷ contents) is d their_past reads (t ∷ turns) h new go own taken =
-      let first = chunk_turn d their_past reads emission.packet.tag content t h taken.0 (new.0, new.1, new.2, new.3, tt) (front_may d content contents is own) in
-      then_others d their_past reads t turns (more t.outcome.following refl first taken.1)
+  tagged_go [] is d their_past reading turns h new go own taken = ends_go d their_past reading turns h new taken
+  tagged_go (content ∷ contents) is d their_past reading [] h new go own taken = absurd taken
+  tagged_go (content ∷ contents) is d their_past reading (t ∷ turns) h new go own taken =
+      let first = chunk_turn d their_past reading emission.packet.tag content t h taken.0 (new.0, new.1, new.2, new.3, tt) (front_may d content contents is own) in
+      then_others d their_past reading t turns (more t.outcome.following refl first taken.1)
     where
-      more : (following : Following) → t.outcome.following ≡ following → Have t.outcome.after (after_effects t.outcome.effects their_past) (reads_after d t.input reads)
+      more : (following : Following) → t.outcome.following ≡ following → Have t.outcome.after (after_effects t.outcome.effects their_past) (reading_after d t.input t.outcome.after reading)
           → AfterChunk following (ChunkTurns t.outcome.after emission.packet.tag contents (packet_ends ∷ []) turns) (Turns t.outcome.after (packet_ends ∷ []) turns) (turns ≡ [])
-          → Leave t.outcome.after (after_effects t.outcome.effects their_past) (reads_after d t.input reads) turns
+          → Leave t.outcome.after (after_effects t.outcome.effects their_past) (reading_after d t.input t.outcome.after reading) turns
       more next_chunk next first rest =
-          chunks_go contents t.outcome.after (after_effects t.outcome.effects their_past) (reads_after d t.input reads) emission.packet.tag (packet_ends ∷ []) turns first new.4 (inr refl)
+          chunks_go contents t.outcome.after (after_effects t.outcome.effects their_past) (reading_after d t.input t.outcome.after reading) emission.packet.tag (packet_ends ∷ []) turns first new.4 (inr refl)
           (inr (go.1, (λ c has'. subst (λ (l : List Content). places.HasEntry c l) (sym is) (inr has')), front_tag d content contents t taken.0 go own next)) rest
-      more packet_end next first rest = ends_go t.outcome.after (after_effects t.outcome.effects their_past) (reads_after d t.input reads) turns first new.4 rest
+      more packet_end next first rest = ends_go t.outcome.after (after_effects t.outcome.effects their_past) (reading_after d t.input t.outcome.after reading) turns first new.4 rest
       more dropped_rest next first none =
-          subst (λ (ts : List Transition). Leave t.outcome.after (after_effects t.outcome.effects their_past) (reads_after d t.input reads) ts) (sym none) first
+          subst (λ (ts : List Transition). Leave t.outcome.after (after_effects t.outcome.effects their_past) (reading_after d t.input t.outcome.after reading) ts) (sym none) first
 
   -- ---- the whole packet
 
-  whole_goes : (d : Endpoint) (their_past : List Effect) (reads : List MessageContent) (turns : List Transition) → Have d their_past reads → AreNewTags options their_past past d turns
-      → GoesToMaker emission → admits d.core emission.packet ≡ all_chunks → WholeTurns d emission.packet turns → Leave d their_past reads turns
+  whole_goes : (d : Endpoint) (their_past : List Effect) (reading : Reading) (turns : List Transition) → Have d their_past reading → AreNewTags options their_past past d turns
+      → GoesToMaker emission → admits d.core emission.packet ≡ all_chunks → WholeTurns d emission.packet turns → Leave d their_past reading turns
   unfolding IsTail
-  whole_goes d their_past reads [] h new go admitted taken = absurd taken
-  whole_goes d their_past reads (begun ∷ turns) h new go admitted taken =
-      let first = one_turn d their_past reads (packet_begins emission.packet.contents) begun h taken.0 (new.0, new.1, new.2, new.3, tt) (λ transfer link there linked. tt) tt in
-      then_others d their_past reads begun turns (by_data first first.ends (of_ends first.ends emission packets first.between.sender.all_sent has))
+  whole_goes d their_past reading [] h new go admitted taken = absurd taken
+  whole_goes d their_past reading (begun ∷ turns) h new go admitted taken =
+      let first = one_turn d their_past reading (packet_begins emission.packet.contents) begun h taken.0 (new.0, new.1, new.2, new.3, tt) (λ transfer link there linked. tt) tt in
+      then_others d their_past reading begun turns (by_data first first.ends (of_ends first.ends emission packets first.between.sender.all_sent has))
     where
-      by_data : Have begun.outcome.after (after_effects begun.outcome.effects their_past) (reads_after d begun.input reads) → (table : Ends) → IsOfEnds table emission
-          → Leave begun.outcome.after (after_effects begun.outcome.effects their_past) (reads_after d begun.input reads) turns
+      by_data : Have begun.outcome.after (after_effects begun.outcome.effects their_past) (reading_after d begun.input begun.outcome.after reading) → (table : Ends) → IsOfEnds table emission
+          → Leave begun.outcome.after (after_effects begun.outcome.effects their_past) (reading_after d begun.input begun.outcome.after reading) turns
       by_data first table (inl none) =
-          chunks_go emission.packet.contents begun.outcome.after (after_effects begun.outcome.effects their_past) (reads_after d begun.input reads) emission.packet.tag (packet_ends ∷ []) turns first new.4 (inr refl) (inl none) taken.1
+          chunks_go emission.packet.contents begun.outcome.after (after_effects begun.outcome.effects their_past) (reading_after d begun.input begun.outcome.after reading) emission.packet.tag (packet_ends ∷ []) turns first new.4 (inr refl) (inl none) taken.1
       by_data first table (inr (free, was)) =
-          tagged_go emission.packet.contents refl begun.outcome.after (after_effects begun.outcome.effects their_past) (reads_after d begun.input reads) turns first new.4 go
+          tagged_go emission.packet.contents refl begun.outcome.after (after_effects begun.outcome.effects their_past) (reading_after d begun.input begun.outcome.after reading) turns first new.4 go
           (λ front. ap own_tag (begin_core d d.core (has_data_chunk emission.packet.contents) begun.outcome taken.0.comes) ∙ sym (addressed_tags_are_own d.core emission.packet free front admitted)) taken.1
 
-  refused_go : (d : Endpoint) (their_past : List Effect) (reads : List MessageContent) (text : List ℕ) (turns : List Transition) → Have d their_past reads → AreNewTags options their_past past d turns → Turns d (refusal text ∷ []) turns
-      → Leave d their_past reads turns
-  refused_go d their_past reads text [] h new taken = absurd taken
-  refused_go d their_past reads text (t ∷ []) h new taken =
-      then_others d their_past reads t [] (one_turn d their_past reads (refusal text) t h taken.0 (new.0, new.1, new.2, new.3, tt) (λ transfer link there linked. tt) tt)
-  refused_go d their_past reads text (t ∷ other ∷ turns) h new taken = absurd taken.1
+  refused_go : (d : Endpoint) (their_past : List Effect) (reading : Reading) (text : List ℕ) (turns : List Transition) → Have d their_past reading → AreNewTags options their_past past d turns → Turns d (refusal text ∷ []) turns
+      → Leave d their_past reading turns
+  refused_go d their_past reading text [] h new taken = absurd taken
+  refused_go d their_past reading text (t ∷ []) h new taken =
+      then_others d their_past reading t [] (one_turn d their_past reading (refusal text) t h taken.0 (new.0, new.1, new.2, new.3, tt) (λ transfer link there linked. tt) tt)
+  refused_go d their_past reading text (t ∷ other ∷ turns) h new taken = absurd taken.1
 
-  pub packet_goes : (d : Endpoint) (their_past : List Effect) (reads : List MessageContent) (turns : List Transition) → Have d their_past reads → AreNewTags options their_past past d turns
-      → GoesToMaker emission → (admission : Admission) → admits d.core emission.packet ≡ admission → AdmittedTurns d emission.packet admission turns → Leave d their_past reads turns
+  pub packet_goes : (d : Endpoint) (their_past : List Effect) (reading : Reading) (turns : List Transition) → Have d their_past reading → AreNewTags options their_past past d turns
+      → GoesToMaker emission → (admission : Admission) → admits d.core emission.packet ≡ admission → AdmittedTurns d emission.packet admission turns → Leave d their_past reading turns
   unfolding IsTail
-  packet_goes d their_past reads turns h new go all_chunks admitted taken = whole_goes d their_past reads turns h new go admitted taken
-  packet_goes d their_past reads turns h new go shutdown_acks_alone admitted taken =
-      chunks_go (shutdown_acks_in emission.packet.contents) d their_past reads emission.packet.tag [] turns h new (inl refl) (inl (acks_none emission.packet.contents)) taken
-  packet_goes d their_past reads turns h new go (refused text) admitted taken = refused_go d their_past reads text turns h new taken
+  packet_goes d their_past reading turns h new go all_chunks admitted taken = whole_goes d their_past reading turns h new go admitted taken
+  packet_goes d their_past reading turns h new go shutdown_acks_alone admitted taken =
+      chunks_go (shutdown_acks_in emission.packet.contents) d their_past reading emission.packet.tag [] turns h new (inl refl) (inl (acks_none emission.packet.contents)) taken
+  packet_goes d their_past reading turns h new go (refused text) admitted taken = refused_go d their_past reading text turns h new taken

@@ -22,10 +22,10 @@ use Rattle.dcsctp_delivery_sending.specs.Log.{Message}
 use Rattle.dcsctp_delivery_sending.specs.Places as places
 use Rattle.dcsctp_delivery_turns.specs.Actions.{queued_after}
 use Rattle.dcsctp_delivery_associations.specs.Laws.{AsksLittle, AreEnds}
-use Rattle.dcsctp_delivery_associations.specs.Reads.{reads_after}
+use Rattle.dcsctp_delivery_associations.specs.Reads.{Reading, nothing_read, reading_after}
 use Rattle.dcsctp_delivery_sockets.specs.Acts.{queued_through, AreNewPeers}
-use Rattle.dcsctp_delivery_sockets.specs.Packets.{reads_through, AreNewTags}
-use Rattle.dcsctp_delivery_sockets.specs.UserMessages.{messages_sent_in}
+use Rattle.dcsctp_delivery_sockets.specs.Packets.{reading_through, AreNewTags}
+use Rattle.dcsctp_delivery_sockets.specs.UserMessages.{message_sent, messages_sent_in}
 use Rattle.dcsctp_delivery_sockets.specs.Delivery.{IsOfNewTags, MatchByTags, SendsLittle}
 use Rattle.dcsctp_delivery_sockets.proofs.Acts.{senders_act, receivers_act, receivers_handle}
 use Rattle.dcsctp_delivery_sockets.proofs.Calls.{NoChunks, AreCalls, call_without}
@@ -41,43 +41,43 @@ queued_of options turns = queued_through (fresh_endpoint options) turns []
 abbrev pub packets_of : List Transition → List Emission
 packets_of turns = packets_in (events_of turns)
 
-abbrev pub reads_of : Options → List Transition → List MessageContent
-reads_of options turns = reads_through (fresh_endpoint options) turns []
+abbrev pub reading_of : Options → List Transition → Reading
+reading_of options turns = reading_through (fresh_endpoint options) turns nothing_read
 
 -- the direction from the one to the other
 abbrev pub Stand : Options → Options → List Transition → List Transition → Type 0
 Stand mine theirs turns others =
-    AreEnds theirs (endpoint_after mine turns) (queued_of mine turns) (noted_past turns) (packets_of turns) (endpoint_after theirs others) (noted_past others) (reads_of theirs others)
+    AreEnds theirs (endpoint_after mine turns) (queued_of mine turns) (noted_past turns) (packets_of turns) (endpoint_after theirs others) (noted_past others) (reading_of theirs others)
 
 queued_more : (e : Endpoint) (turns more : List Transition) (queued : List Message) → queued_through e (turns ++ more) queued ≡ queued_through (after_all e turns) more (queued_through e turns queued)
 queued_more e [] more queued = refl
 queued_more e (t ∷ turns) more queued = queued_more t.outcome.after turns more (queued_after e t.input queued)
 
-reads_more : (e : Endpoint) (turns more : List Transition) (reads : List MessageContent) → reads_through e (turns ++ more) reads ≡ reads_through (after_all e turns) more (reads_through e turns reads)
-reads_more e [] more reads = refl
-reads_more e (t ∷ turns) more reads = reads_more t.outcome.after turns more (reads_after e t.input reads)
+reading_more : (e : Endpoint) (turns more : List Transition) (reading : Reading) → reading_through e (turns ++ more) reading ≡ reading_through (after_all e turns) more (reading_through e turns reading)
+reading_more e [] more reading = refl
+reading_more e (t ∷ turns) more reading = reading_more t.outcome.after turns more (reading_after e t.input t.outcome.after reading)
 
 packets_more : (turns more : List Transition) → packets_of (turns ++ more) ≡ packets_of turns ++ packets_of more
 packets_more turns more = ap packets_in (events_of-append turns more) ∙ packets_in-append (events_of turns) (events_of more)
 
 -- ---- little is sent
 
-pub queued_same : (options : Options) (turns : List Transition) → SaysSame (queued_of options turns) (messages_sent_in (fresh_endpoint options) turns)
-queued_same options turns = turns_same (fresh_endpoint options) turns [] [] nothing_same
+pub queued_same : (options : Options) (turns : List Transition) → SaysSame message_sent (queued_of options turns) (messages_sent_in (fresh_endpoint options) turns)
+queued_same options turns = turns_same message_sent (fresh_endpoint options) turns [] [] (nothing_same message_sent)
 
 pub few_queued : (options : Options) (turns : List Transition) → SendsLittle options turns → length (queued_of options turns) < 2 ^ 64
 few_queued options turns little = (let same = queued_same options turns in let few = little.messages in omega (arith, same.size, few))
 
 -- ---- the sender acts
 
-module _ (theirs : Options) (d : Endpoint) (their_past : List Effect) (reads : List MessageContent) where
+module _ (theirs : Options) (d : Endpoint) (their_past : List Effect) (reading : Reading) where
   same_sender : (e e' : Endpoint) (queued queued' : List Message) (past past' : List Effect) (packets packets' : List Emission) → e ≡ e' → queued ≡ queued' → past ≡ past' → packets ≡ packets'
-      → AreEnds theirs e queued past packets d their_past reads → AreEnds theirs e' queued' past' packets' d their_past reads
+      → AreEnds theirs e queued past packets d their_past reading → AreEnds theirs e' queued' past' packets' d their_past reading
   same_sender e e' queued queued' past past' packets packets' same_e same_queued same_past same_packets h =
-      subst (λ (x : Endpoint). AreEnds theirs x queued' past' packets' d their_past reads) same_e
-      (subst (λ (x : List Message). AreEnds theirs e x past' packets' d their_past reads) same_queued
-      (subst (λ (x : List Effect). AreEnds theirs e queued x packets' d their_past reads) same_past
-      (subst (λ (x : List Emission). AreEnds theirs e queued past x d their_past reads) same_packets h)))
+      subst (λ (x : Endpoint). AreEnds theirs x queued' past' packets' d their_past reading) same_e
+      (subst (λ (x : List Message). AreEnds theirs e x past' packets' d their_past reading) same_queued
+      (subst (λ (x : List Effect). AreEnds theirs e queued x packets' d their_past reading) same_past
+      (subst (λ (x : List Emission). AreEnds theirs e queued past x d their_past reading) same_packets h)))
 
 pub sender_more : (mine theirs : Options) (turns others more : List Transition) → Stand mine theirs turns others → SideKnown mine (turns ++ more) → MatchByTags (noted_past (turns ++ more)) (noted_past others)
     → AllPerformed (noted_past (turns ++ more)) (noted_past others) → AreCalls more → AllOpenFitting more → Stand mine theirs (turns ++ more) others
@@ -85,26 +85,26 @@ sender_more mine theirs turns others more h known matched performed calls opens 
     let e : Endpoint = endpoint_after mine turns in
     let past : List Effect = noted_past turns in
     let new : AreNewPeers past (noted_past others) e more =
-    new_peers (noted_past others) more past e calls (rest_refused mine turns more known) opens (subst (Each IsOfNewTags) (past_more turns more) known.tags)
+    new_peers (noted_past others) more past e calls (rest_refused mine turns more known) (rest_moves mine turns more known) opens (subst (Each IsOfNewTags) (past_more turns more) known.tags)
     (subst (λ (p : List Effect). MatchByTags p (noted_past others)) (past_more turns more) matched)
     (subst (λ (p : List Effect). AllPerformed p (noted_past others)) (past_more turns more) performed) in
     let few : length (queued_through e more (queued_of mine turns)) < 2 ^ 64 =
     subst (λ (q : List Message). length q < 2 ^ 64) (queued_more (fresh_endpoint mine) turns more []) (few_queued mine (turns ++ more) known.little) in
-    same_sender theirs (endpoint_after theirs others) (noted_past others) (reads_of theirs others) (after_all e more) (endpoint_after mine (turns ++ more)) (queued_through e more (queued_of mine turns)) (queued_of mine (turns ++ more))
+    same_sender theirs (endpoint_after theirs others) (noted_past others) (reading_of theirs others) (after_all e more) (endpoint_after mine (turns ++ more)) (queued_through e more (queued_of mine turns)) (queued_of mine (turns ++ more))
     (after_effects (effects_of more) past) (noted_past (turns ++ more)) (packets_of turns ++ packets_of more) (packets_of (turns ++ more)) (sym (after_all-append (fresh_endpoint mine) turns more))
     (sym (queued_more (fresh_endpoint mine) turns more [])) (sym (past_more turns more)) (sym (packets_more turns more))
-    (senders_act theirs (endpoint_after theirs others) (noted_past others) (reads_of theirs others) more e (queued_of mine turns) past (packets_of turns) h (rest_turns mine turns more known) new few
+    (senders_act theirs (endpoint_after theirs others) (noted_past others) (reading_of theirs others) more e (queued_of mine turns) past (packets_of turns) h (rest_turns mine turns more known) new few
     (subst AsksLittle (packets_more turns more) known.little.requests))
 
 -- ---- the receiver acts
 
 module _ (theirs : Options) (e : Endpoint) (queued : List Message) (past : List Effect) (packets : List Emission) where
-  same_receiver : (d d' : Endpoint) (their_past their_past' : List Effect) (reads reads' : List MessageContent) → d ≡ d' → their_past ≡ their_past' → reads ≡ reads'
-      → AreEnds theirs e queued past packets d their_past reads → AreEnds theirs e queued past packets d' their_past' reads'
-  same_receiver d d' their_past their_past' reads reads' same_d same_past same_reads h =
-      subst (λ (x : Endpoint). AreEnds theirs e queued past packets x their_past' reads') same_d
-      (subst (λ (x : List Effect). AreEnds theirs e queued past packets d x reads') same_past
-      (subst (λ (x : List MessageContent). AreEnds theirs e queued past packets d their_past x) same_reads h))
+  same_receiver : (d d' : Endpoint) (their_past their_past' : List Effect) (reading reading' : Reading) → d ≡ d' → their_past ≡ their_past' → reading ≡ reading'
+      → AreEnds theirs e queued past packets d their_past reading → AreEnds theirs e queued past packets d' their_past' reading'
+  same_receiver d d' their_past their_past' reading reading' same_d same_past same_reading h =
+      subst (λ (x : Endpoint). AreEnds theirs e queued past packets x their_past' reading') same_d
+      (subst (λ (x : List Effect). AreEnds theirs e queued past packets d x reading') same_past
+      (subst (λ (x : Reading). AreEnds theirs e queued past packets d their_past x) same_reading h))
 
 module _ (mine theirs : Options) (turns others more : List Transition) (h : Stand mine theirs turns others) (known : SideKnown theirs (others ++ more)) (matched : MatchByTags (noted_past turns) (noted_past (others ++ more)))
     (little : SendsLittle mine turns) where
@@ -114,21 +114,21 @@ module _ (mine theirs : Options) (turns others more : List Transition) (h : Stan
       (subst (λ (p : List Effect). MatchByTags p (noted_past turns)) (past_more others more) (matched_swapped (noted_past turns) (noted_past (others ++ more)) matched))
 
   now_stands : AreEnds theirs (endpoint_after mine turns) (queued_of mine turns) (noted_past turns) (packets_of turns) (after_all (endpoint_after theirs others) more) (after_effects (effects_of more) (noted_past others))
-      (reads_through (endpoint_after theirs others) more (reads_of theirs others)) → Stand mine theirs turns (others ++ more)
+      (reading_through (endpoint_after theirs others) more (reading_of theirs others)) → Stand mine theirs turns (others ++ more)
   now_stands after =
       same_receiver theirs (endpoint_after mine turns) (queued_of mine turns) (noted_past turns) (packets_of turns) (after_all (endpoint_after theirs others) more) (endpoint_after theirs (others ++ more))
-      (after_effects (effects_of more) (noted_past others)) (noted_past (others ++ more)) (reads_through (endpoint_after theirs others) more (reads_of theirs others)) (reads_of theirs (others ++ more))
-      (sym (after_all-append (fresh_endpoint theirs) others more)) (sym (past_more others more)) (sym (reads_more (fresh_endpoint theirs) others more [])) after
+      (after_effects (effects_of more) (noted_past others)) (noted_past (others ++ more)) (reading_through (endpoint_after theirs others) more (reading_of theirs others)) (reading_of theirs (others ++ more))
+      (sym (after_all-append (fresh_endpoint theirs) others more)) (sym (past_more others more)) (sym (reading_more (fresh_endpoint theirs) others more nothing_read)) after
 
   pub receiver_calls : (call : CallContent) → UserTurns (endpoint_after theirs others) call more → AreCalls more → Stand mine theirs turns (others ++ more)
   receiver_calls call taken calls =
       let none : NoChunks more = call_without (endpoint_after theirs others) call more taken in
       now_stands (receivers_act theirs (endpoint_after mine turns) (queued_of mine turns) (noted_past turns) (packets_of turns) (few_queued mine turns little) little.requests more (endpoint_after theirs others) (noted_past others)
-      (reads_of theirs others) h none (rest_turns theirs others more known) calls (their_tags (none_open more none)))
+      (reading_of theirs others) h none (rest_turns theirs others more known) calls (their_tags (none_open more none)))
 
   pub receiver_handles : (bytes : List ℕ) (emission : Emission) → places.HasEntry emission (packets_of turns) → GoodPacket emission
       → ((packet : PacketContent) → IsPacket (wire_options (endpoint_after theirs others).options) packet bytes → packet_in packet ≡ emission.packet) → HandleInput (endpoint_after theirs others) bytes more → AllOpenFitting more
       → Stand mine theirs turns (others ++ more)
   receiver_handles bytes emission has good is taken opens =
       now_stands (receivers_handle theirs (endpoint_after mine turns) (queued_of mine turns) (noted_past turns) (packets_of turns) (few_queued mine turns little) little.requests (endpoint_after theirs others) (noted_past others)
-      (reads_of theirs others) emission bytes more h has good.goes is (their_tags opens) taken)
+      (reading_of theirs others) emission bytes more h has good.goes is (their_tags opens) taken)

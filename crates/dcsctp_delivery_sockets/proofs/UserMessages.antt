@@ -1,6 +1,6 @@
 -- What was queued and what was read, as the messages of a user.
 use Rattle.std.proofs.Common.{◌≡◌, ℕ, zero, suc, List, [], ◌∷◌, ◌++◌, length, refl, sym, ◌∙◌, ap, arith, subst, inl, inr, append_assoc}
-use Rattle.std.specs.Prelude.{Option, None, Some, slice_get}
+use Rattle.std.specs.Prelude.{Option, None, Some, map, slice_get}
 use Rattle.std.proofs.lemmas.List.{append-nil, length-append}
 use Rattle.dcsctp_spec_lemmas.specs.spec.endpoint.CallTurns.{Transition}
 use Rattle.dcsctp_spec_lemmas.specs.spec.endpoint.DataOutcomes.{ready_where}
@@ -15,10 +15,14 @@ use Rattle.dcsctp_delivery_sending.proofs.Places.{at_cases}
 use Rattle.dcsctp_delivery_receiving.specs.Ready.{WereQueued}
 use Rattle.dcsctp_delivery_directions.specs.Directions.{Delivered}
 use Rattle.dcsctp_delivery_turns.specs.Actions.{queued_where, queued_together, queued_after, with_first}
-use Rattle.dcsctp_delivery_associations.specs.Reads.{reads_after}
+use Rattle.dcsctp_delivery_associations.specs.Reads.{Read, Reading, messages_of, and_first, tagged_after, reading_after}
 use Rattle.dcsctp_delivery_sockets.specs.Acts.{queued_through}
-use Rattle.dcsctp_delivery_sockets.specs.Packets.{reads_through}
-use Rattle.dcsctp_delivery_sockets.specs.UserMessages.{accepted_where, accepted_messages, sent_in, messages_sent_in, first_readable, read_in, read_of, WereSent, IsDelivered}
+use Rattle.dcsctp_delivery_sockets.specs.Packets.{reading_through}
+use Rattle.dcsctp_delivery_order.specs.Delivered.{DeliveredInOrder}
+use Rattle.dcsctp_delivery_order.specs.Queue.{IsOrderedOn, ComeInOrder}
+use Rattle.dcsctp_delivery_sending.specs.Places.{HasEntry}
+use Rattle.dcsctp_delivery_sockets.specs.Ordered.{IsOrderedAt, RiseOn, IsDeliveredInOrder}
+use Rattle.dcsctp_delivery_sockets.specs.UserMessages.{accepted_where, accepted_as, sent_as, all_sent_as, message_sent, first_readable, read_in, read_of, WereSent, IsDelivered}
 
 -- ---- lists
 
@@ -36,94 +40,108 @@ found_last (y ∷ xs) x = found_last xs x
 abbrev content_of : Message → MessageContent
 content_of message = record { stream = message.stream; ppid = message.ppid; payload = message.payload }
 
+-- What was sent at a place is the message that was queued there.
+pub record SaysOne {A : Type 0} (said : Sending → A) (sent : List A) (place : ℕ) (message : Message) : Type 0 where
+  pub sending : Sending
+  pub is : message_of sending ≡ message
+  pub at : slice_get sent place ≡ Some (said sending)
+
 -- The one list has the messages of the other, newest first.
-pub record SaysSame (queued : List Message) (sent : List MessageContent) : Type 0 where
+pub record SaysSame {A : Type 0} (said : Sending → A) (queued : List Message) (sent : List A) : Type 0 where
   pub size : length queued ≡ length sent
-  pub at : (place : ℕ) (message : Message) → at_place place queued ≡ Some message → slice_get sent place ≡ Some (content_of message)
+  pub at : (place : ℕ) (message : Message) → at_place place queued ≡ Some message → SaysOne said sent place message
 
-pub nothing_same : SaysSame [] []
-nothing_same = record { size = refl; at = λ place message at. absurd (cc) }
+pub nothing_same : {A : Type 0} (said : Sending → A) → SaysSame said [] []
+nothing_same said = record { size = refl; at = λ place message at. absurd (cc) }
 
-one_more : (sending : Sending) (queued : List Message) (sent : List MessageContent) → SaysSame queued sent → SaysSame (message_of sending ∷ queued) (sent ++ sending.message ∷ [])
-one_more sending queued sent h =
+one_more : {A : Type 0} (said : Sending → A) (sending : Sending) (queued : List Message) (sent : List A) → SaysSame said queued sent → SaysSame said (message_of sending ∷ queued) (sent ++ said sending ∷ [])
+one_more said sending queued sent h =
     record {
-      size = (let long = length-append sent (sending.message ∷ []) in omega (arith, h.size, long));
+      size = (let long = length-append sent (said sending ∷ []) in omega (arith, h.size, long));
       at = λ place message found. elim (at_cases place (message_of sending) message queued found) [
-        | inl e ↦ subst (λ (k : ℕ). slice_get (sent ++ sending.message ∷ []) k ≡ Some (content_of message)) (sym (e.0 ∙ h.size))
-            (found_last sent sending.message ∙ ap (λ (m : Message). Some (content_of m)) e.1)
-        | inr older ↦ found_more sent (sending.message ∷ []) place (content_of message) (h.at place message older)
+        | inl e ↦ record {
+          sending = sending;
+          is = e.1;
+          at = subst (λ (k : ℕ). slice_get (sent ++ said sending ∷ []) k ≡ Some (said sending)) (sym (e.0 ∙ h.size)) (found_last sent (said sending));
+        }
+        | inr older ↦ (let one = h.at place message older in record { sending = one.sending; is = one.is; at = found_more sent (said sending ∷ []) place (said one.sending) one.at })
       ];
     }
 
-where_same : (why : Option MessageRefusal) (sending : Sending) (queued : List Message) (sent : List MessageContent) → SaysSame queued sent → SaysSame (queued_where why sending queued) (sent ++ accepted_where why sending.message [])
-where_same None sending queued sent h = one_more sending queued sent h
-where_same (Some why) sending queued sent h = subst (SaysSame queued) (sym (append-nil sent)) h
+where_same : {A : Type 0} (said : Sending → A) (why : Option MessageRefusal) (sending : Sending) (queued : List Message) (sent : List A) → SaysSame said queued sent → SaysSame said (queued_where why sending queued) (sent ++ accepted_where why (said sending) [])
+where_same said None sending queued sent h = one_more said sending queued sent h
+where_same said (Some why) sending queued sent h = subst (SaysSame said queued) (sym (append-nil sent)) h
 
-where_then : (why : Option MessageRefusal) (message : MessageContent) (rest : List MessageContent) → accepted_where why message [] ++ rest ≡ accepted_where why message rest
-where_then None message rest = refl
-where_then (Some why) message rest = refl
+where_then : {A : Type 0} (why : Option MessageRefusal) (one : A) (rest : List A) → accepted_where why one [] ++ rest ≡ accepted_where why one rest
+where_then None one rest = refl
+where_then (Some why) one rest = refl
 
-together_same : (e : Endpoint) (sendings : List Sending) (queued : List Message) (sent : List MessageContent) → SaysSame queued sent → SaysSame (queued_together e sendings queued) (sent ++ accepted_messages e sendings)
-together_same e [] queued sent h = subst (SaysSame queued) (sym (append-nil sent)) h
-together_same e (sending ∷ sendings) queued sent h =
+together_same : {A : Type 0} (said : Sending → A) (e : Endpoint) (sendings : List Sending) (queued : List Message) (sent : List A) → SaysSame said queued sent → SaysSame said (queued_together e sendings queued) (sent ++ accepted_as said e sendings)
+together_same said e [] queued sent h = subst (SaysSame said queued) (sym (append-nil sent)) h
+together_same said e (sending ∷ sendings) queued sent h =
     let why : Option MessageRefusal = sending_refusal e sending in
     let next : Endpoint = (queue_one e sending).after in
-    let one : List MessageContent = accepted_where why sending.message [] in
-    let first : SaysSame (queued_where why sending queued) (sent ++ one) = where_same why sending queued sent h in
-    subst (SaysSame (queued_together next sendings (queued_where why sending queued)))
-    (append_assoc sent one (accepted_messages next sendings) ∙ ap (λ (l : List MessageContent). sent ++ l) (where_then why sending.message (accepted_messages next sendings)))
-    (together_same next sendings (queued_where why sending queued) (sent ++ one) first)
+    let one : List _ = accepted_where why (said sending) [] in
+    let first : SaysSame said (queued_where why sending queued) (sent ++ one) = where_same said why sending queued sent h in
+    subst (SaysSame said (queued_together next sendings (queued_where why sending queued)))
+    (append_assoc sent one (accepted_as said next sendings) ∙ ap (λ (l : List _). sent ++ l) (where_then why (said sending) (accepted_as said next sendings)))
+    (together_same said next sendings (queued_where why sending queued) (sent ++ one) first)
 
-none_same : (queued : List Message) (sent : List MessageContent) → SaysSame queued sent → SaysSame queued (sent ++ [])
-none_same queued sent h = subst (SaysSame queued) (sym (append-nil sent)) h
+none_same : {A : Type 0} (said : Sending → A) (queued : List Message) (sent : List A) → SaysSame said queued sent → SaysSame said queued (sent ++ [])
+none_same said queued sent h = subst (SaysSame said queued) (sym (append-nil sent)) h
 
-input_same : (e : Endpoint) (input : Input) (queued : List Message) (sent : List MessageContent) → SaysSame queued sent → SaysSame (queued_after e input queued) (sent ++ sent_in e input)
-input_same e (user_sends sendings) queued sent h = together_same e sendings queued sent h
-input_same e arrival queued sent h = none_same queued sent h
-input_same e (refusal text) queued sent h = none_same queued sent h
-input_same e (packet_begins contents) queued sent h = none_same queued sent h
-input_same e (chunk_input tag content) queued sent h = none_same queued sent h
-input_same e packet_ends queued sent h = none_same queued sent h
-input_same e (act_input act) queued sent h = none_same queued sent h
-input_same e (user_sets setting) queued sent h = none_same queued sent h
-input_same e (user_resets ids) queued sent h = none_same queued sent h
-input_same e user_takes queued sent h = none_same queued sent h
-input_same e (timer_expires timer) queued sent h = none_same queued sent h
-input_same e (time_passes moment) queued sent h = none_same queued sent h
-input_same e (restores state) queued sent h = none_same queued sent h
+input_same : {A : Type 0} (said : Sending → A) (e : Endpoint) (input : Input) (queued : List Message) (sent : List A) → SaysSame said queued sent → SaysSame said (queued_after e input queued) (sent ++ sent_as said e input)
+input_same said e (user_sends sendings) queued sent h = together_same said e sendings queued sent h
+input_same said e arrival queued sent h = none_same said queued sent h
+input_same said e (refusal text) queued sent h = none_same said queued sent h
+input_same said e (packet_begins contents) queued sent h = none_same said queued sent h
+input_same said e (chunk_input tag content) queued sent h = none_same said queued sent h
+input_same said e packet_ends queued sent h = none_same said queued sent h
+input_same said e (act_input act) queued sent h = none_same said queued sent h
+input_same said e (user_sets setting) queued sent h = none_same said queued sent h
+input_same said e (user_resets ids) queued sent h = none_same said queued sent h
+input_same said e user_takes queued sent h = none_same said queued sent h
+input_same said e (timer_expires timer) queued sent h = none_same said queued sent h
+input_same said e (time_passes moment) queued sent h = none_same said queued sent h
+input_same said e (restores state) queued sent h = none_same said queued sent h
 
-pub turns_same : (e : Endpoint) (turns : List Transition) (queued : List Message) (sent : List MessageContent) → SaysSame queued sent → SaysSame (queued_through e turns queued) (sent ++ messages_sent_in e turns)
-turns_same e [] queued sent h = none_same queued sent h
-turns_same e (turn ∷ turns) queued sent h =
-    subst (SaysSame (queued_through turn.outcome.after turns (queued_after e turn.input queued))) (append_assoc sent (sent_in e turn.input) (messages_sent_in turn.outcome.after turns))
-    (turns_same turn.outcome.after turns (queued_after e turn.input queued) (sent ++ sent_in e turn.input) (input_same e turn.input queued sent h))
+pub turns_same : {A : Type 0} (said : Sending → A) (e : Endpoint) (turns : List Transition) (queued : List Message) (sent : List A) → SaysSame said queued sent → SaysSame said (queued_through e turns queued) (sent ++ all_sent_as said e turns)
+turns_same said e [] queued sent h = none_same said queued sent h
+turns_same said e (turn ∷ turns) queued sent h =
+    subst (SaysSame said (queued_through turn.outcome.after turns (queued_after e turn.input queued))) (append_assoc sent (sent_as said e turn.input) (all_sent_as said turn.outcome.after turns))
+    (turns_same said turn.outcome.after turns (queued_after e turn.input queued) (sent ++ sent_as said e turn.input) (input_same said e turn.input queued sent h))
 
 -- ---- read
 
-first_read : (ready reads : List MessageContent) → with_first ready reads ≡ reads ++ first_readable ready
-first_read [] reads = sym (append-nil reads)
-first_read (message ∷ ready) reads = refl
+messages_more : (reads : List Read) (read : Read) → messages_of (reads ++ read ∷ []) ≡ messages_of reads ++ read.message ∷ []
+messages_more [] read = refl
+messages_more (r ∷ reads) read = ap (λ (l : List MessageContent). r.message ∷ l) (messages_more reads read)
 
-input_read : (e : Endpoint) (input : Input) (reads : List MessageContent) → reads_after e input reads ≡ reads ++ read_in e input
-input_read e user_takes reads = first_read (ready_where e.left e.queues.transfer) reads
-input_read e (user_sends sendings) reads = sym (append-nil reads)
-input_read e arrival reads = sym (append-nil reads)
-input_read e (refusal text) reads = sym (append-nil reads)
-input_read e (packet_begins contents) reads = sym (append-nil reads)
-input_read e (chunk_input tag content) reads = sym (append-nil reads)
-input_read e packet_ends reads = sym (append-nil reads)
-input_read e (act_input act) reads = sym (append-nil reads)
-input_read e (user_sets setting) reads = sym (append-nil reads)
-input_read e (user_resets ids) reads = sym (append-nil reads)
-input_read e (timer_expires timer) reads = sym (append-nil reads)
-input_read e (time_passes moment) reads = sym (append-nil reads)
-input_read e (restores state) reads = sym (append-nil reads)
+first_messages : (tag : ℕ) (ready : List MessageContent) (reads : List Read) → messages_of (and_first tag ready reads) ≡ messages_of reads ++ first_readable ready
+first_messages tag [] reads = sym (append-nil (messages_of reads))
+first_messages tag (message ∷ ready) reads = messages_more reads (record { tag = tag; message = message })
 
-pub turns_read : (e : Endpoint) (turns : List Transition) (reads : List MessageContent) → reads_through e turns reads ≡ reads ++ read_of e turns
-turns_read e [] reads = sym (append-nil reads)
-turns_read e (turn ∷ turns) reads =
-    turns_read turn.outcome.after turns (reads_after e turn.input reads) ∙ ap (λ (l : List MessageContent). l ++ read_of turn.outcome.after turns) (input_read e turn.input reads)
-    ∙ append_assoc reads (read_in e turn.input) (read_of turn.outcome.after turns)
+input_read : (tag : ℕ) (e : Endpoint) (input : Input) (reads : List Read) → messages_of (tagged_after tag e input reads) ≡ messages_of reads ++ read_in e input
+input_read tag e user_takes reads = first_messages tag (ready_where e.left e.queues.transfer) reads
+input_read tag e (user_sends sendings) reads = sym (append-nil (messages_of reads))
+input_read tag e arrival reads = sym (append-nil (messages_of reads))
+input_read tag e (refusal text) reads = sym (append-nil (messages_of reads))
+input_read tag e (packet_begins contents) reads = sym (append-nil (messages_of reads))
+input_read tag e (chunk_input header content) reads = sym (append-nil (messages_of reads))
+input_read tag e packet_ends reads = sym (append-nil (messages_of reads))
+input_read tag e (act_input act) reads = sym (append-nil (messages_of reads))
+input_read tag e (user_sets setting) reads = sym (append-nil (messages_of reads))
+input_read tag e (user_resets ids) reads = sym (append-nil (messages_of reads))
+input_read tag e (timer_expires timer) reads = sym (append-nil (messages_of reads))
+input_read tag e (time_passes moment) reads = sym (append-nil (messages_of reads))
+input_read tag e (restores state) reads = sym (append-nil (messages_of reads))
+
+pub turns_read : (e : Endpoint) (turns : List Transition) (reading : Reading) → messages_of (reading_through e turns reading).reads ≡ messages_of reading.reads ++ read_of e turns
+turns_read e [] reading = sym (append-nil (messages_of reading.reads))
+turns_read e (turn ∷ turns) reading =
+    turns_read turn.outcome.after turns (reading_after e turn.input turn.outcome.after reading)
+    ∙ ap (λ (l : List MessageContent). l ++ read_of turn.outcome.after turns) (input_read reading.last e turn.input reading.reads)
+    ∙ append_assoc (messages_of reading.reads) (read_in e turn.input) (read_of turn.outcome.after turns)
 
 -- ---- both
 
@@ -133,14 +151,69 @@ same_content content message stream ppid payload =
     ∙ ap (λ (n : ℕ). record { stream = content.stream; ppid = n; payload = message.payload }) (sym ppid)
     ∙ ap (λ (bytes : List ℕ). record { stream = content.stream; ppid = content.ppid; payload = bytes }) (sym payload)
 
-were_sent : (queued : List Message) (sent : List MessageContent) → SaysSame queued sent → (places : List ℕ) (read : List MessageContent) → WereQueued queued places read → WereSent sent places read
+were_sent : (queued : List Message) (sent : List MessageContent) → SaysSame message_sent queued sent → (places : List ℕ) (read : List MessageContent) → WereQueued queued places read → WereSent sent places read
 were_sent queued sent h [] [] were = tt
 were_sent queued sent h [] (content ∷ read) were = absurd were
 were_sent queued sent h (place ∷ places) [] were = absurd were
 were_sent queued sent h (place ∷ places) (content ∷ read) were = (
-  h.at place were.0.message were.0.at ∙ ap (λ (c : MessageContent). Some c) (same_content content were.0.message were.0.stream were.0.ppid were.0.payload),
+  (let one = h.at place were.0.message were.0.at in
+      one.at ∙ ap (λ (c : MessageContent). Some c) (ap content_of one.is ∙ same_content content were.0.message were.0.stream were.0.ppid were.0.payload)),
   were_sent queued sent h places read were.1,
 )
 
-pub is_delivered : (queued : List Message) (sent read : List MessageContent) → SaysSame queued sent → Delivered queued read → IsDelivered sent read
+pub is_delivered : (queued : List Message) (sent read : List MessageContent) → SaysSame message_sent queued sent → Delivered queued read → IsDelivered sent read
 is_delivered queued sent read h d = record { places = d.places; were_sent = were_sent queued sent h d.places read d.were_queued; once = d.once }
+
+-- ---- in order
+
+rise_on : (queued : List Message) (sent : List Sending) → SaysSame (λ sending. sending) queued sent → (stream : ℕ) (places : List ℕ) (read : List MessageContent) → WereQueued queued places read → ComeInOrder queued stream places → RiseOn sent stream places
+rise_on queued sent h stream [] read were come = tt
+rise_on queued sent h stream (place ∷ places) [] were come = absurd were
+rise_on queued sent h stream (place ∷ places) (content ∷ read) were come = (
+  λ later has on on'. come.0 later has (ordered place were.0.message were.0.at on) (ordered_later later places read were.1 has on'),
+  rise_on queued sent h stream places read were.1 come.1,
+)
+  where
+    same_sending : {one two : Sending} → Some one ≡ Some two → one ≡ two
+    same_sending is = cc
+
+    ordered : (p : ℕ) (message : Message) → at_place p queued ≡ Some message → IsOrderedAt sent stream p → IsOrderedOn queued stream p
+    ordered p message at on =
+        let one = h.at p message at in
+        let same : one.sending ≡ on.sending = same_sending (sym one.at ∙ on.at) in
+        record {
+          message = message;
+          at = at;
+          stream = sym (ap (λ (m : Message). m.stream) one.is) ∙ ap (λ (s : Sending). s.message.stream) same ∙ on.on;
+          ordered = sym (ap (λ (m : Message). m.is_unordered) one.is) ∙ ap (λ (s : Sending). s.options.unordered) same ∙ on.ordered;
+        }
+
+    ordered_later : (p : ℕ) (ps : List ℕ) (contents : List MessageContent) → WereQueued queued ps contents → HasEntry p ps → IsOrderedAt sent stream p → IsOrderedOn queued stream p
+    ordered_later p [] contents were' has on = absurd has
+    ordered_later p (q ∷ ps) [] were' has on = absurd were'
+    ordered_later p (q ∷ ps) (c ∷ contents) were' (inl is) on = ordered p were'.0.message (subst (λ (k : ℕ). at_place k queued ≡ Some were'.0.message) (sym is) were'.0.at) on
+    ordered_later p (q ∷ ps) (c ∷ contents) were' (inr has) on = ordered_later p ps contents were'.1 has on
+
+were_sent_so : (queued : List Message) (sent : List Sending) → SaysSame (λ sending. sending) queued sent → (places : List ℕ) (read : List MessageContent) → WereQueued queued places read → WereSent (map message_sent sent) places read
+were_sent_so queued sent h [] [] were = tt
+were_sent_so queued sent h [] (content ∷ read) were = absurd were
+were_sent_so queued sent h (place ∷ places) [] were = absurd were
+were_sent_so queued sent h (place ∷ places) (content ∷ read) were = (
+  (let one = h.at place were.0.message were.0.at in
+      found_mapped sent place one.sending one.at ∙ ap (λ (c : MessageContent). Some c) (ap content_of one.is ∙ same_content content were.0.message were.0.stream were.0.ppid were.0.payload)),
+  were_sent_so queued sent h places read were.1,
+)
+  where
+    found_mapped : (all : List Sending) (k : ℕ) (sending : Sending) → slice_get all k ≡ Some sending → slice_get (map message_sent all) k ≡ Some sending.message
+    found_mapped [] k sending at = absurd (cc)
+    found_mapped (s ∷ all) zero sending at = (let same : s ≡ sending = cc in ap (λ (x : Sending). Some x.message) same)
+    found_mapped (s ∷ all) (suc k) sending at = found_mapped all k sending at
+
+pub is_in_order : (queued : List Message) (sent : List Sending) (read : List MessageContent) → SaysSame (λ sending. sending) queued sent → DeliveredInOrder queued read → IsDeliveredInOrder sent read
+is_in_order queued sent read same d =
+    record {
+      places = d.delivered.places;
+      were_sent = were_sent_so queued sent same d.delivered.places read d.delivered.were_queued;
+      once = d.delivered.once;
+      in_order = λ stream. rise_on queued sent same stream d.delivered.places read d.delivered.were_queued (d.in_order stream);
+    }

@@ -19,10 +19,11 @@ use Rattle.dcsctp_delivery_sending.specs.Places as places
 use Rattle.dcsctp_delivery_turns.specs.Actions.{came_by, queued_after, IsOpening, Begun, IsCall}
 use Rattle.dcsctp_delivery_associations.specs.Answered.{AreAnswered}
 use Rattle.dcsctp_delivery_associations.specs.Ends.{Ends, NewPeer, Between}
-use Rattle.dcsctp_delivery_associations.specs.Laws.{RefusesNone, CompletesPerformed, AsksLittle, AreEnds}
-use Rattle.dcsctp_delivery_associations.specs.Reads.{Read, messages_of}
+use Rattle.dcsctp_delivery_turns.specs.Runs.{RefusesNone}
+use Rattle.dcsctp_delivery_associations.specs.Laws.{CompletesPerformed, AsksLittle, AreEnds}
+use Rattle.dcsctp_delivery_associations.specs.Reads.{Reading}
 use Rattle.dcsctp_delivery_sockets.specs.Echoes.{GoesToMaker}
-use Rattle.dcsctp_delivery_sockets.specs.Packets.{reads_through, AreNewTags}
+use Rattle.dcsctp_delivery_sockets.specs.Packets.{reading_through, AreNewTags}
 
 -- the messages that were queued, newest first, with those that these turns queue
 abbrev pub queued_through : Endpoint → List Transition → List Message → List Message
@@ -36,7 +37,7 @@ AreTurns e (turn ∷ turns) = Turn e turn.input turn.outcome × AreTurns turn.ou
 
 -- Each input is a call, a timer or a chunk; and an association that begins has a peer of a new tag, and the matching one at the other side.
 -- With interleaving no own request to reset streams fails. Each that ends as performed was performed at the other side, or it is the
--- 2^32nd of its association.
+-- 2^32nd of its association. `follow_rfc` stays.
 abbrev pub AreNewPeers : List Effect → List Effect → Endpoint → List Transition → Type 0
 AreNewPeers past their_past e [] = Unit {0}
 AreNewPeers past their_past e (turn ∷ turns) =
@@ -44,29 +45,30 @@ AreNewPeers past their_past e (turn ∷ turns) =
     × ((begun : Begun e turn.outcome) → IsOpening (came_by turn.input) → identity_in turn.outcome.after.core ≡ Some (identity_of begun.my begun.held) → NewPeer past their_past (identity_of begun.my begun.held))
     × RefusesNone e turn.outcome
     × CompletesPerformed their_past turn.outcome
+    × (turn.outcome.after.options.follow_rfc ≡ e.options.follow_rfc)
     × AreNewPeers (after_effects turn.outcome.effects past) their_past turn.outcome.after turns
 
 -- Turns of the sender leave what is known of all associations.
 abbrev pub SendersAct : Type 0
 SendersAct =
-    (options : Options) (ends : Ends) (e : Endpoint) (queued : List Message) (past : List Effect) (packets : List Emission) (other : Endpoint) (their_past : List Effect) (reads : List Read) (turns : List Transition)
-    → Between options ends e queued past packets other their_past reads → AreAnswered ends e past other their_past → AreTurns e turns → AreNewPeers past their_past e turns → length (queued_through e turns queued) < 2 ^ 64
+    (options : Options) (ends : Ends) (e : Endpoint) (queued : List Message) (past : List Effect) (packets : List Emission) (other : Endpoint) (their_past : List Effect) (reading : Reading) (turns : List Transition)
+    → Between options ends e queued past packets other their_past reading → AreAnswered ends e past other their_past → AreTurns e turns → AreNewPeers past their_past e turns → length (queued_through e turns queued) < 2 ^ 64
     → AsksLittle (packets ++ packets_in (events_of turns))
-    → AreEnds options (after_all e turns) (queued_through e turns queued) (after_effects (effects_of turns) past) (packets ++ packets_in (events_of turns)) other their_past (messages_of reads)
+    → AreEnds options (after_all e turns) (queued_through e turns queued) (after_effects (effects_of turns) past) (packets ++ packets_in (events_of turns)) other their_past reading
 
 -- So does a call at the receiver,
 abbrev pub ReceiversCall : Type 0
 ReceiversCall =
-    (options : Options) (ends : Ends) (e : Endpoint) (queued : List Message) (past : List Effect) (packets : List Emission) (other : Endpoint) (their_past : List Effect) (reads : List Read) (call : CallContent) (turns : List Transition)
-    → Between options ends e queued past packets other their_past reads → AreAnswered ends e past other their_past → length queued < 2 ^ 64 → AsksLittle packets → UserTurns other call turns → AreTurns other turns
+    (options : Options) (ends : Ends) (e : Endpoint) (queued : List Message) (past : List Effect) (packets : List Emission) (other : Endpoint) (their_past : List Effect) (reading : Reading) (call : CallContent) (turns : List Transition)
+    → Between options ends e queued past packets other their_past reading → AreAnswered ends e past other their_past → length queued < 2 ^ 64 → AsksLittle packets → UserTurns other call turns → AreTurns other turns
     → AllByRecursion (λ turn. IsCall turn.input) turns → AreNewTags options their_past past other turns
-    → AreEnds options e queued past packets (after_all other turns) (after_effects (effects_of turns) their_past) (reads_through other turns (messages_of reads))
+    → AreEnds options e queued past packets (after_all other turns) (after_effects (effects_of turns) their_past) (reading_through other turns reading)
 
 -- and so do bytes that are handed to it, if they are those of a packet that was sent.
 abbrev pub ReceiversHandle : Type 0
 ReceiversHandle =
-    (options : Options) (ends : Ends) (e : Endpoint) (queued : List Message) (past : List Effect) (packets : List Emission) (other : Endpoint) (their_past : List Effect) (reads : List Read) (emission : Emission)
-    (bytes : List ℕ) (turns : List Transition) → Between options ends e queued past packets other their_past reads → AreAnswered ends e past other their_past → length queued < 2 ^ 64 → AsksLittle packets
+    (options : Options) (ends : Ends) (e : Endpoint) (queued : List Message) (past : List Effect) (packets : List Emission) (other : Endpoint) (their_past : List Effect) (reading : Reading) (emission : Emission)
+    (bytes : List ℕ) (turns : List Transition) → Between options ends e queued past packets other their_past reading → AreAnswered ends e past other their_past → length queued < 2 ^ 64 → AsksLittle packets
     → places.HasEntry emission packets → GoesToMaker emission → ((packet : PacketContent) → IsPacket (wire_options other.options) packet bytes → packet_in packet ≡ emission.packet)
     → AreNewTags options their_past past other turns → HandleInput other bytes turns
-    → AreEnds options e queued past packets (after_all other turns) (after_effects (effects_of turns) their_past) (reads_through other turns (messages_of reads))
+    → AreEnds options e queued past packets (after_all other turns) (after_effects (effects_of turns) their_past) (reading_through other turns reading)

@@ -4,7 +4,7 @@ use Rattle.std.specs.Prelude.{◌≡◌, ◌≢◌, ◌⊎◌, ◌<◌, ◌-◌,
 use Rattle.std.specs.List.{AllByRecursion}
 use Rattle.dcsctp_spec_lemmas.specs.types.declared.options.Options.{Options}
 use Rattle.dcsctp_spec_lemmas.specs.types.declared.schedule.Side.{Side}
-use Rattle.dcsctp_spec_lemmas.specs.types.Schedule.{CallContent, send_call, send_many_call, StepContent, call_step, ActContent, step_act, AreHonest}
+use Rattle.dcsctp_spec_lemmas.specs.types.Schedule.{CallContent, set_call, send_call, send_many_call, reset_call, StepContent, call_step, ActContent, step_act, AreHonest}
 use Rattle.dcsctp_spec_lemmas.specs.spec.endpoint.CallTurns.{Transition, AlongTurns, events_of}
 use Rattle.dcsctp_spec_lemmas.specs.spec.endpoint.Endpoint.{Endpoint, fresh_endpoint}
 use Rattle.dcsctp_spec_lemmas.specs.spec.endpoint.Event.{packets_in}
@@ -14,11 +14,13 @@ use Rattle.dcsctp_spec_lemmas.specs.spec.association.Effect.{AssociationIdentity
 use Rattle.dcsctp_spec_lemmas.specs.types.queues.Messages.{MessageContent}
 use Rattle.dcsctp_theorem_sockets.specs.Agreement.{AreUsable, AreFresh, noted_past}
 use Rattle.dcsctp_delivery_sending.specs.ChunkCounts.{chunks_to}
+use Rattle.dcsctp_delivery_sending.specs.Queueing.{SettingFits}
 use Rattle.dcsctp_delivery_directions.specs.Requests.{requests_to}
-use Rattle.dcsctp_delivery_associations.specs.Laws.{RefusesNone}
-use Rattle.dcsctp_delivery_sockets.specs.UserMessages.{messages_sent_in, read_of, IsDelivered}
+use Rattle.dcsctp_delivery_turns.specs.Runs.{RefusesNone}
+use Rattle.dcsctp_delivery_sockets.specs.Ordered.{AllowsOrder, IsDeliveredInOrder, read_under}
+use Rattle.dcsctp_delivery_sockets.specs.UserMessages.{messages_sent_in, sendings_in, read_of, IsDelivered}
 
--- ---- messages in memory
+-- ---- messages and streams in memory
 
 -- The message fits the fields of a chunk, as one in memory does.
 pub record FitsMessage (message : MessageContent) : Type 0 where
@@ -29,6 +31,8 @@ pub record FitsMessage (message : MessageContent) : Type 0 where
 abbrev pub FitsCall : CallContent → Type 0
 FitsCall (send_call message options) = FitsMessage message
 FitsCall (send_many_call messages options) = AllByRecursion FitsMessage messages
+FitsCall (set_call setting) = SettingFits setting
+FitsCall (reset_call ids) = AllByRecursion (λ id. id < 2 ^ 16) ids
 FitsCall call = Unit {0}
 
 abbrev pub FitsStep : StepContent → Type 0
@@ -89,10 +93,12 @@ pub record TurnsAllowDelivery (options : Both Options) (turns : Both (List Trans
   pub refused : NoneRefused options turns
 
 -- What this side's user read is what the other's user sent, and no message was read twice, in any association or after it has
--- ended.
-abbrev pub Delivers : Both Options → Both (List Transition) → Side → Type 0
-Delivers options turns side =
-    IsDelivered (messages_sent_in (fresh_endpoint (of_other side options)) (of_other side turns)) (read_of (fresh_endpoint (of_side side options)) (of_side side turns))
+-- ended. What it read in one association came in the order in which it was sent, stream by stream, where the other side allows
+-- it.
+pub record Delivers (options : Both Options) (turns : Both (List Transition)) (side : Side) : Type 0 where
+  pub once : IsDelivered (messages_sent_in (fresh_endpoint (of_other side options)) (of_other side turns)) (read_of (fresh_endpoint (of_side side options)) (of_side side turns))
+  pub in_order : (tag : ℕ) → AllowsOrder (of_other side options) (of_other side turns) tag
+      → IsDeliveredInOrder (sendings_in (fresh_endpoint (of_other side options)) (of_other side turns)) (read_under tag (of_side side options) (of_side side turns))
 
 -- So it is at the end of a run that is honest, in which no tag was drawn twice, each served one association, little was sent,
 -- and with interleaving no request to reset streams failed.

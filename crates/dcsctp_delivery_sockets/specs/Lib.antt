@@ -2,4 +2,5 @@ pub mod Echoes
 pub mod Packets
 pub mod Acts
 pub mod UserMessages
+pub mod Ordered
 pub mod Delivery

@@ -18,13 +18,13 @@ use Rattle.dcsctp_delivery_turns.specs.PeerRequests.{KnowsPeerIn}
 use Rattle.dcsctp_delivery_associations.specs.Answered.{AreAnswered}
 use Rattle.dcsctp_delivery_associations.specs.Ends.{Ends, NewTag, Between}
 use Rattle.dcsctp_delivery_associations.specs.Laws.{AsksLittle, AreEnds}
-use Rattle.dcsctp_delivery_associations.specs.Reads.{Read, reads_after, messages_of}
+use Rattle.dcsctp_delivery_associations.specs.Reads.{Reading, reading_after}
 use Rattle.dcsctp_delivery_sockets.specs.Echoes.{GoesToMaker}
 
--- the messages that were read, with those that these turns read
-abbrev pub reads_through : Endpoint → List Transition → List MessageContent → List MessageContent
-reads_through e [] reads = reads
-reads_through e (turn ∷ turns) reads = reads_through turn.outcome.after turns (reads_after e turn.input reads)
+-- what was read, with what these turns read
+abbrev pub reading_through : Endpoint → List Transition → Reading → Reading
+reading_through e [] reading = reading
+reading_through e (turn ∷ turns) reading = reading_through turn.outcome.after turns (reading_after e turn.input turn.outcome.after reading)
 
 -- Each turn starts with these options, and an association that begins in it has new tags, and the matching ones at the other
 -- side. The past knows the peer's requests, and each association that is recorded has a new own tag.
@@ -38,7 +38,7 @@ AreNewTags options their_past past e (turn ∷ turns) =
 -- The chunks of a packet that the sender sent leave what is known of all associations.
 abbrev pub PacketsKeepEnds : Type 0
 PacketsKeepEnds =
-    (options : Options) (ends : Ends) (e : Endpoint) (queued : List Message) (past : List Effect) (packets : List Emission) (other : Endpoint) (their_past : List Effect) (reads : List Read) (emission : Emission)
-    (turns : List Transition) → Between options ends e queued past packets other their_past reads → AreAnswered ends e past other their_past → length queued < 2 ^ 64 → AsksLittle packets → places.HasEntry emission packets
+    (options : Options) (ends : Ends) (e : Endpoint) (queued : List Message) (past : List Effect) (packets : List Emission) (other : Endpoint) (their_past : List Effect) (reading : Reading) (emission : Emission)
+    (turns : List Transition) → Between options ends e queued past packets other their_past reading → AreAnswered ends e past other their_past → length queued < 2 ^ 64 → AsksLittle packets → places.HasEntry emission packets
     → GoesToMaker emission → AreNewTags options their_past past other turns → AdmittedTurns other emission.packet (admits other.core emission.packet) turns
-    → AreEnds options e queued past packets (after_all other turns) (after_effects (effects_of turns) their_past) (reads_through other turns (messages_of reads))
+    → AreEnds options e queued past packets (after_all other turns) (after_effects (effects_of turns) their_past) (reading_through other turns reading)

@@ -11,23 +11,40 @@ use Rattle.dcsctp_delivery_receiving.specs.Ready.{AreDistinct}
 
 -- ---- sent
 
--- the messages of a call that aren't refused, in order
-abbrev pub accepted_where : Option MessageRefusal → MessageContent → List MessageContent → List MessageContent
-accepted_where None message others = message ∷ others
-accepted_where (Some refusal) message others = others
+-- those of a call that aren't refused, in order, each as `said` says it
+abbrev pub accepted_where : {A : Type 0} → Option MessageRefusal → A → List A → List A
+accepted_where None one others = one ∷ others
+accepted_where (Some refusal) one others = others
+
+abbrev pub accepted_as : {A : Type 0} → (Sending → A) → Endpoint → List Sending → List A
+accepted_as said e [] = []
+accepted_as said e (sending ∷ sendings) = accepted_where (sending_refusal e sending) (said sending) (accepted_as said (queue_one e sending).after sendings)
+
+abbrev pub sent_as : {A : Type 0} → (Sending → A) → Endpoint → Input → List A
+sent_as said e (user_sends sendings) = accepted_as said e sendings
+sent_as said e input = []
+
+-- all that the user of this socket sent in these turns, in order: what `send` and `send_many` accepted
+abbrev pub all_sent_as : {A : Type 0} → (Sending → A) → Endpoint → List Transition → List A
+all_sent_as said e [] = []
+all_sent_as said e (turn ∷ turns) = sent_as said e turn.input ++ all_sent_as said turn.outcome.after turns
+
+-- the messages alone
+abbrev pub message_sent : Sending → MessageContent
+message_sent sending = sending.message
 
 abbrev pub accepted_messages : Endpoint → List Sending → List MessageContent
-accepted_messages e [] = []
-accepted_messages e (sending ∷ sendings) = accepted_where (sending_refusal e sending) sending.message (accepted_messages (queue_one e sending).after sendings)
+accepted_messages e sendings = accepted_as message_sent e sendings
 
 abbrev pub sent_in : Endpoint → Input → List MessageContent
-sent_in e (user_sends sendings) = accepted_messages e sendings
-sent_in e input = []
+sent_in e input = sent_as message_sent e input
 
--- all messages that the user of this socket sent in these turns, in order: those that `send` and `send_many` accepted
 abbrev pub messages_sent_in : Endpoint → List Transition → List MessageContent
-messages_sent_in e [] = []
-messages_sent_in e (turn ∷ turns) = sent_in e turn.input ++ messages_sent_in turn.outcome.after turns
+messages_sent_in e turns = all_sent_as message_sent e turns
+
+-- each message with its options
+abbrev pub sendings_in : Endpoint → List Transition → List Sending
+sendings_in e turns = all_sent_as (λ sending. sending) e turns
 
 -- ---- read
 

@@ -46,7 +46,9 @@ pub fn acts_keep_ends()
 /// ended. So it is over every schedule that loses, repeats, delays and reorders packets, as long as no act comes from
 /// outside, no tag is drawn twice, each verification tag serves one association, fewer than 2^30 chunks of data and
 /// fewer than 2^32 - 1 requests to reset streams go to each, each counted as often as it is sent, a side sends fewer
-/// than 2^64 messages, and none of these requests fails in an association with interleaving (RFC 8260).
+/// than 2^64 messages, and none of these requests fails in an association with interleaving (RFC 8260). The ordered
+/// messages of a stream that are read in one association come in the order in which they were sent, across resets of
+/// the stream, where messages interleave, and the sender follows the RFC or has no other association.
 pub fn sockets_deliver()
     ensures { SocketsDeliver }
 {

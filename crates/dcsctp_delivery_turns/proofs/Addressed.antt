@@ -92,8 +92,8 @@ flushed_addressed to (emission ∷ emissions) there free = (inr (there.0, free.0
 
 action_addressed : (came : Option Content) (to : ℕ) (old new : Ledger) → AreAddressed to old.sent → Action came to old new → AreAddressed to new.sent
 action_addressed came to old _ addressed (queues now sending fits some) = addressed
-action_addressed came to old _ addressed (sets setting) = addressed
-action_addressed came to old _ addressed (prepares ids) = addressed
+action_addressed came to old _ addressed (sets setting small) = addressed
+action_addressed came to old _ addressed (prepares ids small) = addressed
 action_addressed came to old _ addressed (flushes e draft answers same at tag no_data no_end allowed) =
     both_addressed to old.sent (packets_in (flush_of e draft answers).events) addressed
     (flushed_addressed to (packets_in (flush_of e draft answers).events)

@@ -1,6 +1,7 @@
 -- How directions begin: with what waits in the queue, and with no request to reset streams.
 use Rattle.dcsctp_delivery_directions.specs.Directions as directions
-use Rattle.std.proofs.Common.{◌≡◌, ◌<◌, ◌≤◌, ◌^◌, ℕ, zero, suc, Option, None, Some, List, [], ◌∷◌, length, refl, sym, ◌∙◌, ap, subst, inl, inr, arith}
+use Rattle.std.proofs.Common.{◌≡◌, ◌<◌, ◌≤◌, ◌^◌, ℕ, zero, suc, Option, None, Some, List, [], ◌∷◌, Bool, true, false, ◌%◌, length, refl, sym, ◌∙◌, ap, subst, inl, inr, arith}
+use Rattle.std.specs.Prelude.{◌==◌, if◌then◌else◌, map}
 use Rattle.std.specs.List.{AllByRecursion}
 use Rattle.dcsctp_spec_lemmas.specs.types.declared.options.Options.{Options}
 use Rattle.dcsctp_spec_lemmas.specs.spec.endpoint.Endpoint.{Endpoint, Core, closed, cookie_wait, cookie_echoed, open_in, OutstandingRequest}
@@ -8,12 +9,15 @@ use Rattle.dcsctp_spec_lemmas.specs.spec.endpoint.Outcome.{Outcome}
 use Rattle.dcsctp_spec_lemmas.specs.spec.association.Effect.{identity_in}
 use Rattle.dcsctp_spec_lemmas.specs.spec.Packet.{Content}
 use Rattle.dcsctp_spec_lemmas.specs.spec.endpoint.Turn.{Input, arrival, refusal, packet_begins, chunk_input, packet_ends, act_input, user_sets, user_sends, user_resets, user_takes, timer_expires, time_passes, restores}
-use Rattle.dcsctp_spec_lemmas.specs.spec.queues.SendQueue.{SendQueueState, queue_restarted, empty_queue}
+use Rattle.dcsctp_spec_lemmas.specs.spec.queues.SendQueue.{SendQueueState, queue_restarted, put_back, numbered_for, numbered_where, is_other, empty_queue}
 use Rattle.dcsctp_spec_lemmas.specs.spec.queues.Transfer.{EndpointQueues}
 use Rattle.dcsctp_spec_lemmas.specs.spec.endpoint.MessageOutcomes.{MessageRefusal, Sending, sending_refusal, queue_one}
 use Rattle.dcsctp_delivery_sending.specs.Log.{Fits, Message, new_history}
 use Rattle.dcsctp_delivery_turns.specs.Actions.{Inside, OwnEnds, PeerResets, queued_where, queued_together, queued_after, Begun}
-use Rattle.dcsctp_spec_lemmas.specs.types.queues.SendStreams.{stream_at}
+use Rattle.dcsctp_spec_lemmas.specs.types.queues.SendStreams.{Stream, begun_anew, stream_at}
+use Rattle.dcsctp_spec_lemmas.specs.types.declared.sending.UnderWay.{UnderWay}
+use Rattle.dcsctp_delivery_directions.specs.Directions.{BeginsAtZero}
+use Rattle.dcsctp_delivery_sending.specs.Numbers.{stream_named, next_mid}
 use Rattle.dcsctp_delivery_sending.specs.Pieces.{AllQueued, Ascend}
 use Rattle.dcsctp_delivery_sending.specs.Queueing.{QueueWaits}
 use Rattle.dcsctp_delivery_sending.proofs.KeptQueues.{restarted_hold}
@@ -74,11 +78,11 @@ worked_fits came o old between worked own peer fits =
 
 -- ---- directions that begin
 
-pub anew_runs : (options : Options) (first size : ℕ) (queued : List Message) (below : EndpointQueues) → AllByRecursion Fits queued → QueueWaits queued below.queue → directions.NoneInFlight first below.queue.is_interleaved below.transfer
-    → DirectionRun options first size (new_direction options first size queued below 0 [])
-anew_runs options first size queued below fit queues none =
-    directions.begins (new_direction options first size queued below 0 [])
-    (record { fit = fit; queues = queues; flight = none; acknowledged = refl; sent = refl; tracker = refl; reassembly = refl; read = refl; asking = refl })
+pub anew_runs : (options : Options) (first size : ℕ) (queued : List Message) (below : EndpointQueues) (from_zero : Bool) → AllByRecursion Fits queued → QueueWaits queued below.queue → directions.NoneInFlight first below.queue.is_interleaved below.transfer
+    → (from_zero ≡ true → BeginsAtZero below.queue) → DirectionRun options first size (new_direction options first size queued below 0 [] from_zero)
+anew_runs options first size queued below from_zero fit queues none numbered =
+    directions.begins (new_direction options first size queued below 0 [] from_zero)
+    (record { fit = fit; queues = queues; flight = none; acknowledged = refl; sent = refl; tracker = refl; reassembly = refl; read = refl; asking = refl; zero = numbered })
 
 -- Nothing waits in a socket that was just made.
 pub fresh_waits : (mine : Options) → QueueWaits [] (empty_queue mine)
@@ -93,6 +97,7 @@ fresh_waits mine =
           distinct = λ p q below below' same. absurd (omega arith);
           going = tt;
           room = record { whole = omega arith; count = omega arith };
+          small = none_small;
         };
         next = refl;
         numbers = record { kinds = λ n f at. absurd (cc); counts = tt; kept = tt };
@@ -103,6 +108,10 @@ fresh_waits mine =
     none_waits zero = tt
     none_waits (suc q) = tt
 
+    none_small : (q : ℕ) → (stream_at [] q).id < 2 ^ 16
+    none_small zero = omega arith
+    none_small (suc q) = omega arith
+
     none_ascend : (q : ℕ) → Ascend (stream_at [] q).messages
     none_ascend zero = tt
     none_ascend (suc q) = tt
@@ -111,7 +120,7 @@ fresh_waits mine =
 pub begun_queues : (e : Endpoint) (o : Outcome) (begun : Begun e o) (queued : List Message) → QueueWaits queued e.queues.queue → QueueWaits queued begun.queue
 begun_queues e o begun queued queues =
     elim begun.keeps [
-      | inl is ↦ subst (λ (q : SendQueueState). QueueWaits queued q) (sym is) (numbered_hold queued begun.held.capabilities.message_interleaving e.queues.queue queues)
+      | inl is ↦ subst (λ (q : SendQueueState). QueueWaits queued q) (sym is.0) (numbered_hold queued begun.held.capabilities.message_interleaving e.queues.queue queues)
       | inr is ↦
           subst (λ (q : SendQueueState). QueueWaits queued q) (sym is)
           (numbered_hold queued begun.held.capabilities.message_interleaving (queue_restarted e.queues.queue) (restarted_hold queued (new_history queues.floors) e.queues.queue queues.holds))
@@ -121,6 +130,45 @@ begun_queues e o begun queued queues =
 pub begun_kind : (e : Endpoint) (o : Outcome) (begun : Begun e o) → begun.queue.is_interleaved ≡ begun.held.capabilities.message_interleaving
 begun_kind e o begun =
     elim begun.keeps [
-      | inl is ↦ ap (λ (q : SendQueueState). q.is_interleaved) is ∙ numbered_kind begun.held.capabilities.message_interleaving e.queues.queue
+      | inl is ↦ ap (λ (q : SendQueueState). q.is_interleaved) is.0 ∙ numbered_kind begun.held.capabilities.message_interleaving e.queues.queue
       | inr is ↦ ap (λ (q : SendQueueState). q.is_interleaved) is ∙ numbered_kind begun.held.capabilities.message_interleaving (queue_restarted e.queues.queue)
+    ]
+
+-- ---- with number 0 on each stream
+
+-- A socket that was just made has numbered nothing.
+pub fresh_at_zero : (mine : Options) → BeginsAtZero (empty_queue mine)
+fresh_at_zero mine = record { rest = λ u waiting is. absurd (cc); zero = λ id. refl }
+
+renamed_zero : (id : ℕ) (streams : List Stream) → next_mid false (stream_named id (map begun_anew streams)) ≡ 0
+renamed_zero id [] = refl
+renamed_zero id (stream ∷ streams) = go (stream.id == id) (renamed_zero id streams)
+  where
+    go : (b : Bool) → next_mid false (stream_named id (map begun_anew streams)) ≡ 0 → next_mid false (if b then begun_anew stream else stream_named id (map begun_anew streams)) ≡ 0
+    go true rest = refl
+    go false rest = rest
+
+put_back_idle : (under_way : Option UnderWay) (queue : SendQueueState) → queue.under_way ≡ under_way → (put_back under_way queue).under_way ≡ None
+put_back_idle None queue is = is
+put_back_idle (Some under_way) queue is = refl
+
+numbered_idle : (enabled : Bool) (queue : SendQueueState) → queue.under_way ≡ None → numbered_for enabled queue ≡ record queue { is_interleaved = enabled }
+numbered_idle enabled queue idle = ap (λ (u : Option UnderWay). numbered_where u (is_other queue.is_interleaved enabled) (record queue { is_interleaved = enabled })) idle
+
+-- A queue whose numbers start again begins so.
+restarted_at_zero : (enabled : Bool) (queue : SendQueueState) → BeginsAtZero (numbered_for enabled (queue_restarted queue))
+restarted_at_zero enabled queue =
+    let idle : (queue_restarted queue).under_way ≡ None = put_back_idle queue.under_way queue refl in
+    subst BeginsAtZero (sym (numbered_idle enabled (queue_restarted queue) idle))
+    (record {
+      rest = λ u waiting is front. absurd (let clash : None ≡ Some u = sym idle ∙ is in cc);
+      zero = λ id. ap (λ (n : ℕ). n % 2 ^ 32) (renamed_zero id (put_back queue.under_way queue).streams);
+    })
+
+-- With `follow_rfc` each association begins so (RFC 9260, section 6.5).
+pub begun_at_zero : (e : Endpoint) (o : Outcome) (begun : Begun e o) → e.options.follow_rfc ≡ true → BeginsAtZero begun.queue
+begun_at_zero e o begun follows =
+    elim begun.keeps [
+      | inl is ↦ absurd (let clash : true ≡ false = sym follows ∙ is.1 in cc)
+      | inr is ↦ subst BeginsAtZero (sym is) (restarted_at_zero begun.held.capabilities.message_interleaving e.queues.queue)
     ]

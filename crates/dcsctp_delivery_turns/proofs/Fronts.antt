@@ -1,20 +1,20 @@
 -- What a RE-CONFIG does before all else, as steps of both sides: our request ends, and streams of the
 -- peer are reset.
 use Rattle.dcsctp_delivery_directions.specs.Directions as directions
-use Rattle.std.proofs.Common.{◌≡◌, ◌≤◌, ◌+◌, ◌%◌, ◌^◌, ℕ, suc, Bool, true, false, Option, None, Some, List, ◌∷◌, length, refl, sym, ◌∙◌, ap, subst, arith}
-use Rattle.dcsctp_spec_lemmas.specs.spec.Packet.{Content}
-use Rattle.dcsctp_spec_lemmas.specs.spec.Reconfiguration.{RequestedReset}
+use Rattle.std.proofs.Common.{◌≡◌, ◌≢◌, ◌≤◌, ◌+◌, ◌%◌, ◌^◌, ℕ, suc, Bool, true, false, Option, None, Some, List, [], ◌∷◌, length, refl, sym, ◌∙◌, ap, subst, arith, inl, inr}
+use Rattle.dcsctp_spec_lemmas.specs.spec.Packet.{Content, re_config}
+use Rattle.dcsctp_spec_lemmas.specs.spec.Reconfiguration.{RequestedReset, ResetParameter}
 use Rattle.dcsctp_spec_lemmas.specs.spec.association.Effect.{Effect}
 use Rattle.dcsctp_spec_lemmas.specs.spec.association.FlushChanges.{next_number}
 use Rattle.dcsctp_spec_lemmas.specs.spec.endpoint.BegunResets.{BegunReset}
 use Rattle.dcsctp_spec_lemmas.specs.spec.queues.Reassembly.{ReassemblyState, EndsDeferral}
 use Rattle.dcsctp_spec_lemmas.specs.spec.queues.Transfer.{Transfer}
-use Rattle.dcsctp_spec_lemmas.specs.spec.endpoint.ResetOutcomes.{has_completed, has_reset}
+use Rattle.dcsctp_spec_lemmas.specs.spec.endpoint.ResetOutcomes.{requested_in, has_completed, has_reset}
 use Rattle.dcsctp_delivery_receiving.specs.Clear.{IsOwn}
 use Rattle.dcsctp_delivery_directions.specs.Directions.{Asking, asking_renewed, all_ended, is_reset_reached, Direction}
 use Rattle.dcsctp_delivery_turns.specs.Asking.{Own, renewed_own, AreNumbered, IsOut, OutIs, IsAsking, AsksFit, SomeFit}
-use Rattle.dcsctp_delivery_turns.specs.Actions.{Inside, ended_own, OwnEnds, unended, committed, rolled_back, PeerResets, unreset, absent, deferred, reset_now}
-use Rattle.dcsctp_delivery_turns.specs.Runs.{IsBetween, as_it_was, once_performed, once_refused, IsNewest, PerformsNewest, performed_where}
+use Rattle.dcsctp_delivery_turns.specs.Actions.{has_refused, Inside, ended_own, OwnEnds, unended, committed, rolled_back, PeerResets, unreset, absent, deferred, reset_now}
+use Rattle.dcsctp_delivery_turns.specs.Runs.{IsBetween, as_it_was, once_performed, once_refused, KnowsRequest, PerformsNewest, performed_where}
 use Rattle.dcsctp_delivery_turns.specs.Sides.{DirectionSteps, stays, receiving}
 use Rattle.dcsctp_delivery_turns.proofs.Begun.{next_again}
 use Rattle.dcsctp_delivery_turns.proofs.Sides.{one_step, all_steps}
@@ -104,9 +104,9 @@ pub record SendingFront (first : ℕ) (direction : Direction) (happened : List E
   pub steps : DirectionSteps (sending_by direction old direction.asking) (sending_by direction new asking)
 
 own_ends_send : (first : ℕ) (direction : Direction) (happened : List Effect) (old new : Inside) → OwnEnds happened old new → AsksFit first old.own direction.asking
-    → (has_completed happened ≡ true → old.queues.queue.is_interleaved ≡ true → direction.asking.is_performed ≡ true) → SendingFront first direction happened old new
-own_ends_send first direction happened old _ unended fits performed = record { asking = direction.asking; between = as_it_was; kind = refl; fits = fits; steps = stays }
-own_ends_send first direction happened old _ (committed completed own is) fits performed =
+    → (has_completed happened ≡ true → old.queues.queue.is_interleaved ≡ true → direction.asking.is_performed ≡ true) → (old.queues.queue.is_interleaved ≡ true → has_refused happened ≡ false) → SendingFront first direction happened old new
+own_ends_send first direction happened old _ unended fits performed refuses = record { asking = direction.asking; between = as_it_was; kind = refl; fits = fits; steps = stays }
+own_ends_send first direction happened old _ (committed completed own is) fits performed refuses =
     let asks = is_asking first old.own own direction.asking is fits in
     record {
       asking = all_ended direction.asking;
@@ -116,14 +116,18 @@ own_ends_send first direction happened old _ (committed completed own is) fits p
       steps = one_step (sending_by direction old direction.asking) _
           (directions.commits (λ interleaved. (out_small own.number own.again direction.asking asks.out, performed completed interleaved)));
     }
-own_ends_send first direction happened old _ (rolled_back refused own is) fits performed =
+own_ends_send first direction happened old _ (rolled_back refused own is) fits performed refuses =
     record {
       asking = all_ended direction.asking;
       between = once_refused refused;
       kind = refl;
       fits = ended_fits first own direction.asking (is_asking first old.own own direction.asking is fits);
-      steps = one_step (sending_by direction old direction.asking) _ directions.rolls_back;
+      steps = one_step (sending_by direction old direction.asking) _ (directions.rolls_back (unmixed old.queues.queue.is_interleaved refl));
     }
+  where
+    unmixed : (b : Bool) → old.queues.queue.is_interleaved ≡ b → old.queues.queue.is_interleaved ≡ false
+    unmixed true is = absurd (let clash : true ≡ false = sym refused ∙ refuses is in cc)
+    unmixed false is = is
 
 peer_resets_send : (came : Option Content) (direction : Direction) (happened : List Effect) (old new : Inside) (asking : Asking) → PeerResets came happened old new
     → DirectionSteps (sending_by direction old asking) (sending_by direction new asking)
@@ -134,9 +138,9 @@ peer_resets_send came direction happened old _ asking (reset_now some parameters
     one_step (sending_by direction old asking) _ (directions.turns_aside transfer _ known refl)
 
 pub front_sends : (came : Option Content) (first : ℕ) (direction : Direction) (happened : List Effect) (old between new : Inside) → OwnEnds happened old between → PeerResets came happened between new
-    → AsksFit first old.own direction.asking → (has_completed happened ≡ true → old.queues.queue.is_interleaved ≡ true → direction.asking.is_performed ≡ true) → SendingFront first direction happened old new
-front_sends came first direction happened old between new own peer fits performed =
-    let ended = own_ends_send first direction happened old between own fits performed in
+    → AsksFit first old.own direction.asking → (has_completed happened ≡ true → old.queues.queue.is_interleaved ≡ true → direction.asking.is_performed ≡ true) → (old.queues.queue.is_interleaved ≡ true → has_refused happened ≡ false) → SendingFront first direction happened old new
+front_sends came first direction happened old between new own peer fits performed refuses =
+    let ended = own_ends_send first direction happened old between own fits performed refuses in
     record {
       asking = ended.asking;
       between = ended.between;
@@ -191,28 +195,39 @@ front_by is_known direction transfer left happened new is none steps =
           (sym (unperformed is_known direction.asking)) steps;
     }
 
--- where one is performed: it may be known to be the newest
-performs_by : (direction : Direction) (transfer : Transfer) (reset : RequestedReset) (reassembly : ReassemblyState) (is_known : Bool) → (is_known ≡ true → IsNewest direction transfer reset)
-    → is_reset_reached reset transfer.tracker ≡ true → EndsDeferral reset.streams transfer.reassembly reassembly
+-- Where a request is handled, one was begun.
+abbrev pub AsksSome : Direction → Option Content → Type 0
+AsksSome direction came = (parameters : List ResetParameter) (reset : RequestedReset) → came ≡ Some (re_config parameters) → requested_in parameters ≡ Some reset → direction.asking.requests ≢ []
+
+-- where one is performed: it may be known to be the newest, or to want what that wants
+performs_by : (is_known : Bool) (came : Option Content) (happened : List Effect) (direction : Direction) (transfer : Transfer) (parameters : List ResetParameter) (reset : RequestedReset) (reassembly : ReassemblyState) → KnowsRequest is_known direction transfer came happened
+    → has_reset happened ≡ true → came ≡ Some (re_config parameters) → requested_in parameters ≡ Some reset → direction.asking.requests ≢ [] → is_reset_reached reset transfer.tracker ≡ true → EndsDeferral reset.streams transfer.reassembly reassembly
     → DirectionSteps (receiving direction transfer direction.read)
     (record (receiving direction (record transfer { reassembly = reassembly }) direction.read) { asking = performed_where is_known true direction.asking })
-performs_by direction transfer reset reassembly true newest reached leaves =
-    let found = newest refl in
+performs_by true came happened direction transfer parameters reset reassembly newest done came_is wants some reached leaves =
+    let found = newest done parameters reset came_is wants in
     one_step (receiving direction transfer direction.read) _
-    (directions.performs found.newest found.earlier reassembly found.is (subst (λ (r : RequestedReset). is_reset_reached r transfer.tracker ≡ true) (sym found.asks) reached)
+    (directions.performs found.newest found.earlier reassembly found.is (λ interleaved. found.unknown) (subst (λ (r : RequestedReset). is_reset_reached r transfer.tracker ≡ true) (sym found.asks) reached)
     (subst (λ (r : RequestedReset). IsOwn r transfer.reassembly.deferral) (sym found.asks) found.own)
     (subst (λ (r : RequestedReset). EndsDeferral r.streams transfer.reassembly reassembly) (sym found.asks) leaves))
-performs_by direction transfer reset reassembly false newest reached leaves = one_step (receiving direction transfer direction.read) _ (directions.resets reset.streams reassembly leaves)
+performs_by false came happened direction transfer parameters reset reassembly (inl unmixed) done came_is wants some reached leaves =
+    one_step (receiving direction transfer direction.read) _ (directions.resets reset.streams reassembly unmixed some leaves)
+performs_by false came happened direction transfer parameters reset reassembly (inr newest) done came_is wants some reached leaves =
+    let found = newest done parameters reset came_is wants in
+    one_step (receiving direction transfer direction.read) _
+    (directions.performs_earlier found.newest found.earlier reassembly found.is (λ interleaved. found.unknown) (subst (λ (r : RequestedReset). is_reset_reached r transfer.tracker ≡ true) (sym found.asks) reached)
+    (subst (λ (r : RequestedReset). IsOwn r transfer.reassembly.deferral) (sym found.asks) found.own)
+    (subst (λ (r : RequestedReset). EndsDeferral r.streams transfer.reassembly reassembly) (sym found.asks) leaves))
 
-peer_resets_receive : (is_known : Bool) (came : Option Content) (happened : List Effect) (direction : Direction) (transfer : Transfer) (old new : Inside) → (is_known ≡ true → PerformsNewest direction transfer came happened)
-    → old.queues.transfer ≡ Some transfer → PeerResets came happened old new → ReceivingFront is_known direction transfer happened new
-peer_resets_receive is_known came happened direction transfer old _ newest is (unreset none) = front_by is_known direction transfer transfer happened old is none stays
-peer_resets_receive is_known came happened direction transfer old _ newest is (absent gone) = absurd (cc)
-peer_resets_receive is_known came happened direction transfer old new newest is (deferred none found last_tsn streams known) =
+peer_resets_receive : (is_known : Bool) (came : Option Content) (happened : List Effect) (direction : Direction) (transfer : Transfer) (old new : Inside) → KnowsRequest is_known direction transfer came happened
+    → AsksSome direction came → old.queues.transfer ≡ Some transfer → PeerResets came happened old new → ReceivingFront is_known direction transfer happened new
+peer_resets_receive is_known came happened direction transfer old _ newest asked is (unreset none) = front_by is_known direction transfer transfer happened old is none stays
+peer_resets_receive is_known came happened direction transfer old _ newest asked is (absent gone) = absurd (cc)
+peer_resets_receive is_known came happened direction transfer old new newest asked is (deferred none found last_tsn streams known) =
     let same : found ≡ transfer = cc in
     subst (λ (t : Transfer). ReceivingFront is_known direction t happened new) same
     (front_by is_known direction found _ happened new refl none (one_step (receiving direction found direction.read) _ (directions.defers last_tsn streams)))
-peer_resets_receive is_known came happened direction transfer old new newest is (reset_now some parameters reset came_is wants found reassembly known reached leaves) =
+peer_resets_receive is_known came happened direction transfer old new newest asked is (reset_now some parameters reset came_is wants found reassembly known reached leaves) =
     let same : transfer ≡ found = cc in
     record {
       left = record found { reassembly = reassembly };
@@ -221,11 +236,10 @@ peer_resets_receive is_known came happened direction transfer old new newest is 
       none = λ no. absurd (cc);
       some = λ is. some;
       steps = subst (λ (t : Transfer). DirectionSteps (receiving direction t direction.read) (resetting is_known direction (record found { reassembly = reassembly }) true)) (sym same)
-          (performs_by direction found reset reassembly is_known
-          (λ known_so. subst (λ (t : Transfer). IsNewest direction t reset) same (newest known_so some parameters reset came_is wants)) reached leaves);
+          (performs_by is_known came happened direction found parameters reset reassembly (subst (λ (t : Transfer). KnowsRequest is_known direction t came happened) same newest) some came_is wants (asked parameters reset came_is wants) reached leaves);
     }
 
-pub front_receives : (is_known : Bool) (came : Option Content) (happened : List Effect) (direction : Direction) (transfer : Transfer) (old between new : Inside) → (is_known ≡ true → PerformsNewest direction transfer came happened)
-    → old.queues.transfer ≡ Some transfer → OwnEnds happened old between → PeerResets came happened between new → ReceivingFront is_known direction transfer happened new
-front_receives is_known came happened direction transfer old between new newest is own peer =
-    peer_resets_receive is_known came happened direction transfer between new newest (own_ends_received happened old between own ∙ is) peer
+pub front_receives : (is_known : Bool) (came : Option Content) (happened : List Effect) (direction : Direction) (transfer : Transfer) (old between new : Inside) → KnowsRequest is_known direction transfer came happened
+    → AsksSome direction came → old.queues.transfer ≡ Some transfer → OwnEnds happened old between → PeerResets came happened between new → ReceivingFront is_known direction transfer happened new
+front_receives is_known came happened direction transfer old between new newest asked is own peer =
+    peer_resets_receive is_known came happened direction transfer between new newest asked (own_ends_received happened old between own ∙ is) peer

@@ -42,9 +42,9 @@ is_the_peer false false false zero e = absurd (cc)
 
 -- What waits to be sent is kept, or starts again.
 pub kept_or_anew : (b : Bool) (e : Endpoint) (cookie : Cookie)
-    → (queue_where b e cookie ≡ numbered_for (interleaves e cookie) e.queues.queue) ⊎ (queue_where b e cookie ≡ numbered_for (interleaves e cookie) (queue_restarted e.queues.queue))
+    → ((queue_where b e cookie ≡ numbered_for (interleaves e cookie) e.queues.queue) × (b ≡ false)) ⊎ (queue_where b e cookie ≡ numbered_for (interleaves e cookie) (queue_restarted e.queues.queue))
 kept_or_anew true e cookie = inr refl
-kept_or_anew false e cookie = inl refl
+kept_or_anew false e cookie = inl (refl, refl)
 
 module _ (came : Option Content) (calm : IsCalm came) (to : ℕ) where
   -- ---- the handshake

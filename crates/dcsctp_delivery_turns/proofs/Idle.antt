@@ -29,8 +29,8 @@ flush_none _ _ _ _ _ none (after_packet ask more e draft answer answers does som
 -- Nothing is received where there is no association.
 action_none : (came : Option Content) (to : ℕ) (old new : Ledger) → Action came to old new → old.queues.transfer ≡ None → new.queues.transfer ≡ None
 action_none came to old _ (queues now sending fit some) none = none
-action_none came to old _ (sets setting) none = none
-action_none came to old _ (prepares ids) none = none
+action_none came to old _ (sets setting small) none = none
+action_none came to old _ (prepares ids small) none = none
 action_none came to old _ (flushes e draft answers same at tag no_data no_end allowed) none = flush_none first_ask (packets_allowed e.options.max_burst e.core) e draft answers (ap (λ (b : EndpointQueues). b.transfer) same ∙ none) allowed
 action_none came to old _ (resends now room transfer left tsns chunks emission tag known does are contents) none = absurd (cc)
 action_none came to old _ (resends_nothing now room transfer left tsns known does) none = absurd (cc)

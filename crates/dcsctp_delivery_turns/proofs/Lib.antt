@@ -31,3 +31,4 @@ pub mod UnaskedTurns
 pub mod PeerRequests
 pub mod AskedResets
 pub mod PeersTurns
+pub mod Unbegun

@@ -1,6 +1,6 @@
 -- The turns in which a user resets streams, reads a message or sends some, as actions.
 use Rattle.dcsctp_delivery_turns.specs.Actions as actions
-use Rattle.std.proofs.Common.{◌≡◌, ◌<◌, ◌==◌, ℕ, Bool, true, false, Option, None, Some, List, [], ◌∷◌, ◌++◌, length, refl, sym, ◌∙◌, subst, ap, arith}
+use Rattle.std.proofs.Common.{◌^◌, ◌≡◌, ◌<◌, ◌==◌, ℕ, Bool, true, false, Option, None, Some, List, [], ◌∷◌, ◌++◌, length, refl, sym, ◌∙◌, subst, ap, arith}
 use Rattle.std.specs.Prelude.{if◌then◌else◌}
 use Rattle.std.specs.List.{AllByRecursion}
 use Rattle.dcsctp_spec_lemmas.specs.spec.endpoint.Event.{packets_in}
@@ -30,17 +30,17 @@ use Rattle.dcsctp_delivery_turns.proofs.Data.{to_link, turn_link, flush_makes, t
 module _ (came : Option Content) (calm : IsCalm came) (to : ℕ) where
   -- ---- our streams that the user resets
 
-  resets_where_goes : (refusal : Option ResetRefusal) (e : Endpoint) (ids : List ℕ) (o : Outcome) → IsPeerTag e.core to → OwnResetsWhere refusal e ids o → Goes came to e o
-  resets_where_goes None e ids o at turn =
+  resets_where_goes : (refusal : Option ResetRefusal) (e : Endpoint) (ids : List ℕ) (o : Outcome) → AllByRecursion (λ id. id < 2 ^ 16) ids → IsPeerTag e.core to → OwnResetsWhere refusal e ids o → Goes came to e o
+  resets_where_goes None e ids o small at turn =
       let base : Endpoint = endpoint_with_queue e (prepared_all ids e.queues.queue) in
       subst (Goes came to e) (sym turn.is)
       (goes_on calm (turn_link base turn.flushed turn.flushes) (makes_behind came to (inside e) [] (prepare_all_events ids e.queues.queue) turn.flushed (prepared_none ids e.queues.queue)
       (both came to (inside e) (inside base) (inside turn.flushed.after) [] (packets_in turn.flushed.events)
-      (action_of came to (inside e) base.queues (λ queued sent read asking. actions.prepares ids)) (flush_makes came calm to base turn.flushed at turn.flushes))))
-  resets_where_goes (Some refusal) e ids o at turn = subst (Goes came to e) (sym turn) (goes_on calm refl (rests came to (inside e)))
+      (action_of came to (inside e) base.queues (λ queued sent read asking. actions.prepares ids small)) (flush_makes came calm to base turn.flushed at turn.flushes))))
+  resets_where_goes (Some refusal) e ids o small at turn = subst (Goes came to e) (sym turn) (goes_on calm refl (rests came to (inside e)))
 
-  pub own_resets_go : (e : Endpoint) (ids : List ℕ) (o : Outcome) → IsPeerTag e.core to → OwnResetsTurn e ids o → Goes came to e o
-  own_resets_go e ids o at turn = resets_where_goes (reset_refusal e) e ids o at turn
+  pub own_resets_go : (e : Endpoint) (ids : List ℕ) (o : Outcome) → AllByRecursion (λ id. id < 2 ^ 16) ids → IsPeerTag e.core to → OwnResetsTurn e ids o → Goes came to e o
+  own_resets_go e ids o small at turn = resets_where_goes (reset_refusal e) e ids o small at turn
 
   -- ---- what the user takes and sends
 

@@ -10,8 +10,8 @@ use Rattle.dcsctp_delivery_turns.specs.Actions.{Ledger, Action, queues, sets, pr
 
 action_kind : (came : Option Content) (to : ℕ) (old new : Ledger) → Action came to old new → new.queues.queue.is_interleaved ≡ old.queues.queue.is_interleaved
 action_kind came to old _ (queues now sending fit some) = refl
-action_kind came to old _ (sets setting) = setting_kind setting old.queues.queue
-action_kind came to old _ (prepares ids) = preparing_kind ids old.queues.queue
+action_kind came to old _ (sets setting small) = setting_kind setting old.queues.queue
+action_kind came to old _ (prepares ids small) = preparing_kind ids old.queues.queue
 action_kind came to old _ (flushes e draft answers same at tag no_data no_end allowed) =
     flush_kind first_ask (packets_allowed e.options.max_burst e.core) e draft answers allowed ∙ ap (λ (b : EndpointQueues). b.queue.is_interleaved) same
 action_kind came to old _ (resends now room transfer left tsns chunks emission tag known does are contents) = refl

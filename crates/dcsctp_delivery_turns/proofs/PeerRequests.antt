@@ -92,7 +92,7 @@ chunk_unasked : (my : Pair) (reached : Bool) (held : Held) (parameters : List Re
 chunk_unasked my reached held [] none = tt
 chunk_unasked my reached held (parameter ∷ parameters) none = parameters_unasked my reached false held (parameter ∷ parameters) none
 
-none_requested : (parameters : List ResetParameter) → NoRequests parameters → requested_in parameters ≡ None
+pub none_requested : (parameters : List ResetParameter) → NoRequests parameters → requested_in parameters ≡ None
 none_requested [] none = refl
 none_requested (outgoing_reset_request number answered reset ∷ parameters) none = absurd none
 none_requested (incoming_reset_request number streams ∷ parameters) none = absurd none

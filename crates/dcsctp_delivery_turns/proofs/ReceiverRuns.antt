@@ -8,21 +8,27 @@ use Rattle.dcsctp_spec_lemmas.specs.spec.endpoint.Turn.{Input}
 use Rattle.dcsctp_spec_lemmas.specs.spec.queues.SendQueue.{empty_queue}
 use Rattle.dcsctp_spec_lemmas.specs.spec.queues.Transfer.{Transfer, EndpointQueues}
 use Rattle.dcsctp_delivery_turns.specs.Actions.{ledger_of, Inside, inside, Made, MakesPackets, MakesAlso, IsOpening, begun_transfer, came_by, queued_after, read_after, peer_tag, Begun, opening_queues, Becomes, goes_on, works_resets, renews, ends, begins, IsCalm}
-use Rattle.dcsctp_delivery_turns.specs.Sides.{WasSent, receiving, ReceivingSteps}
+use Rattle.dcsctp_delivery_turns.specs.Sides.{WasAsked, WasSent, receiving, ReceivingSteps}
 use Rattle.dcsctp_spec_lemmas.specs.spec.association.Effect.{identity_of, identity_in}
 use Rattle.dcsctp_spec_lemmas.specs.types.queues.Messages.{MessageContent}
-use Rattle.dcsctp_delivery_turns.specs.Runs.{new_direction, OpensSmall, PerformsNewest, performed_where, ReceiverTurns, receiver_goes_on, receiver_ends, receiver_begins, OpensAssociation, IdleTurns, idle_stays, idle_begins}
+use Rattle.dcsctp_delivery_turns.specs.Runs.{new_direction, OpensSmall, KnowsRequest, performed_where, ReceiverTurns, receiver_goes_on, receiver_ends, receiver_begins, OpensAssociation, IdleTurns, idle_stays, idle_begins}
 use Rattle.dcsctp_delivery_directions.specs.Directions.{Asking, nothing_asked, Direction, DirectionRun}
 use Rattle.dcsctp_delivery_turns.proofs.Sides.{steps_go_on, actions_receive}
 use Rattle.dcsctp_delivery_turns.proofs.Idle.{actions_none, read_none, opening_sent}
 use Rattle.dcsctp_spec_lemmas.specs.spec.Reconfiguration.{RequestedReset}
 use Rattle.dcsctp_spec_lemmas.specs.spec.endpoint.ResetOutcomes.{has_reset}
 use Rattle.dcsctp_delivery_turns.specs.Asking.{own_of, SomeFit}
-use Rattle.dcsctp_delivery_turns.proofs.Fronts.{renewed_fit, front_none, resetting, unperformed, front_receives}
+use Rattle.dcsctp_delivery_turns.proofs.Fronts.{AsksSome, renewed_fit, front_none, resetting, unperformed, front_receives}
+use Rattle.dcsctp_spec_lemmas.specs.spec.Packet.{re_config}
+use Rattle.dcsctp_delivery_sending.specs.Flushes.{NoRequests}
+use Rattle.dcsctp_delivery_sending.specs.Places.{HasEntry}
+use Rattle.dcsctp_delivery_directions.specs.Requests.{IsOfBegun}
+use Rattle.dcsctp_delivery_directions.proofs.Requests.{requests_were_begun}
+use Rattle.dcsctp_delivery_turns.proofs.PeerRequests.{none_requested}
 use Rattle.dcsctp_delivery_turns.proofs.Beginnings.{nothing_fits, unlinked_fits, worked_fits}
 
 abbrev empty_direction : Options → Direction
-empty_direction options = new_direction options 0 0 [] (record { queue = empty_queue options; transfer = None }) 0 []
+empty_direction options = new_direction options 0 0 [] (record { queue = empty_queue options; transfer = None }) 0 [] false
 
 module _ (e : Endpoint) (input : Input) (o : Outcome) (small : OpensSmall e input o) where
   -- An association that begins, with nothing begun to be reset.
@@ -78,10 +84,25 @@ module _ (e : Endpoint) (input : Input) (o : Outcome) (small : OpensSmall e inpu
   idle_becomes none fits (begins begun opening linked alike unread again makes) = idle_begins (opens begun opening linked unread again makes)
 
 module _ (is_known : Bool) (options : Options) (first size : ℕ) (direction : Direction) (transfer : Transfer) (e : Endpoint) (input : Input) (o : Outcome) (run : DirectionRun options first size (receiving direction transfer direction.read))
-    (known : e.queues.transfer ≡ Some transfer) (was : WasSent direction.sent (came_by input)) (newest : is_known ≡ true → PerformsNewest direction transfer (came_by input) o.effects) (fits : SomeFit (own_of e)) (small : OpensSmall e input o) where
+    (known : e.queues.transfer ≡ Some transfer) (was : WasSent direction.sent (came_by input)) (newest : KnowsRequest is_known direction transfer (came_by input) o.effects) (fits : SomeFit (own_of e)) (small : OpensSmall e input o) where
   -- the direction, once a request was performed in this turn or not
   abbrev worked_direction : Bool → Direction
   worked_direction is_reset = record direction { asking = performed_where is_known is_reset direction.asking }
+
+  -- A request that is handled was sent, so it was begun.
+  asks_some : AsksSome direction (came_by input)
+  asks_some parameters reset is wants none = go (subst (WasSent direction.sent) is was)
+    where
+      not_wanted : NoRequests parameters → ⊥
+      not_wanted unasked = (let clash : None ≡ Some reset = sym (none_requested parameters unasked) ∙ wants in cc)
+
+      of_begun : IsOfBegun direction.asking.requests (re_config parameters) → ⊥
+      of_begun (inl unasked) = not_wanted unasked
+      of_begun (inr (begun, has, same)) = subst (HasEntry begun) none has
+
+      go : NoRequests parameters ⊎ WasAsked direction.sent parameters → ⊥
+      go (inl unasked) = not_wanted unasked
+      go (inr asked) = of_begun (requests_were_begun options first size (receiving direction transfer direction.read) run asked.emission parameters asked.was asked.holds)
 
   goes_further : identity_in o.after.core ≡ identity_in e.core → (is_reset : Bool) → (is_reset ≡ false → (has_reset o.effects ≡ false) ⊎ IsCalm (came_by input)) → (is_reset ≡ true → has_reset o.effects ≡ true) → (worked : Inside) (between : Transfer)
       → worked.queues.transfer ≡ Some between → (asked : SomeFit worked.own) → DirectionRun options first size (resetting is_known direction between is_reset)
@@ -98,7 +119,7 @@ module _ (is_known : Bool) (options : Options) (first size : ℕ) (direction : D
       goes_further linked false (λ no. inr calm) (λ is. absurd (cc)) (inside e) transfer known fits
       (subst (λ (a : Asking). DirectionRun options first size (record (receiving direction transfer direction.read) { asking = a })) (sym (unperformed is_known direction.asking)) run) makes
   receiver_becomes (works_resets linked between worked own peer makes) =
-      let front = front_receives is_known (came_by input) o.effects direction transfer (inside e) between worked newest known own peer in
+      let front = front_receives is_known (came_by input) o.effects direction transfer (inside e) between worked newest asks_some known own peer in
       goes_further linked front.is_reset (λ no. inl (front.none no)) front.some worked front.left front.is (worked_fits (came_by input) o (inside e) between worked own peer fits)
       (steps_go_on options first size (receiving direction transfer direction.read) (resetting is_known direction front.left front.is_reset) run front.steps) makes
   receiver_becomes (renews calm linked alike unread own number emission kept out is packets tag contents) =

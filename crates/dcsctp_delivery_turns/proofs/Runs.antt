@@ -1,22 +1,22 @@
 -- The laws of turns, as what they do to runs of two directions.
 use Rattle.dcsctp_delivery_directions.specs.Directions as directions
-use Rattle.std.proofs.Common.{None, [], sym, subst}
+use Rattle.std.proofs.Common.{Bool, true, false, None, [], sym, subst}
 use Rattle.dcsctp_spec_lemmas.specs.spec.queues.SendQueue.{empty_queue}
 use Rattle.dcsctp_delivery_turns.specs.Runs.{SendersGoOn, SendersBegin, SendersBeginAnew, ReceiversGoOn, ReceiversBegin}
 use Rattle.dcsctp_delivery_turns.proofs.Turns.{turns_are_actions}
-use Rattle.dcsctp_delivery_turns.proofs.Beginnings.{fresh_waits, anew_runs}
+use Rattle.dcsctp_delivery_turns.proofs.Beginnings.{fresh_waits, anew_runs, fresh_at_zero}
 use Rattle.dcsctp_delivery_turns.proofs.SenderRuns.{sender_becomes}
 use Rattle.dcsctp_delivery_turns.proofs.ReceiverRuns.{idle_becomes, receiver_becomes}
 
 pub senders_begin : SendersBegin
-senders_begin mine options first size = anew_runs options first size [] (record { queue = empty_queue mine; transfer = None }) tt (fresh_waits mine) tt
+senders_begin mine options first size = anew_runs options first size [] (record { queue = empty_queue mine; transfer = None }) true tt (fresh_waits mine) tt (λ is. fresh_at_zero mine)
 
 pub begins_anew : SendersBeginAnew
-begins_anew options first size queued below fit queues none = anew_runs options first size queued below fit queues (subst (directions.NoneInFlight first below.queue.is_interleaved) (sym none) tt)
+begins_anew options first size queued below fit queues none = anew_runs options first size queued below false fit queues (subst (directions.NoneInFlight first below.queue.is_interleaved) (sym none) tt) (λ is. absurd (cc))
 
 pub senders_go_on : SendersGoOn
-senders_go_on options first size direction e input o run small same fits performed opens few may turn =
-    sender_becomes options first size direction e input o run small same fits performed opens few (turns_are_actions e input o may turn)
+senders_go_on options first size direction e input o run small same fits performed refuses opens few may turn =
+    sender_becomes options first size direction e input o run small same fits performed refuses opens few (turns_are_actions e input o may turn)
 
 pub receivers_go_on : ReceiversGoOn
 receivers_go_on is_known options first size direction transfer e input o run known was newest fits small may turn =

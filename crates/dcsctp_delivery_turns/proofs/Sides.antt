@@ -1,6 +1,6 @@
 -- The actions of a socket, as steps of its two directions.
 use Rattle.dcsctp_delivery_directions.specs.Directions as directions
-use Rattle.std.proofs.Common.{◌≡◌, ℕ, ◌+◌, Option, Some, List, refl, sym, ◌∙◌, ap, subst}
+use Rattle.std.proofs.Common.{◌≡◌, ℕ, Bool, ◌+◌, Option, Some, List, refl, sym, ◌∙◌, ap, subst}
 use Rattle.dcsctp_spec_lemmas.specs.wire.Content.{data_chunk, i_data_chunk, forward_tsn_chunk, i_forward_tsn_chunk}
 use Rattle.dcsctp_spec_lemmas.specs.types.declared.options.Options.{Options}
 use Rattle.dcsctp_spec_lemmas.specs.spec.Packet.{Content}
@@ -32,14 +32,14 @@ one_step old new step = moves old new stays step
 
 -- ---- the direction on which it sends
 
-module _ (came : Option Content) (to : ℕ) (tracker : TrackerState) (reassembly : ReassemblyState) (read : List MessageContent) where
-  by : (old new : Ledger) (acknowledged later : ℕ) → DirectionStep (sending old acknowledged tracker reassembly read) (sending new later tracker reassembly read) → SendingSteps old new acknowledged tracker reassembly read
-  by old new acknowledged later step = record { later = later; steps = one_step (sending old acknowledged tracker reassembly read) (sending new later tracker reassembly read) step }
+module _ (came : Option Content) (to : ℕ) (tracker : TrackerState) (reassembly : ReassemblyState) (read : List MessageContent) (from_zero : Bool) where
+  by : (old new : Ledger) (acknowledged later : ℕ) → DirectionStep (sending old acknowledged tracker reassembly read from_zero) (sending new later tracker reassembly read from_zero) → SendingSteps old new acknowledged tracker reassembly read from_zero
+  by old new acknowledged later step = record { later = later; steps = one_step (sending old acknowledged tracker reassembly read from_zero) (sending new later tracker reassembly read from_zero) step }
 
-  action_sends : (old new : Ledger) (acknowledged : ℕ) → Action came to old new → SendingSteps old new acknowledged tracker reassembly read
+  action_sends : (old new : Ledger) (acknowledged : ℕ) → Action came to old new → SendingSteps old new acknowledged tracker reassembly read from_zero
   action_sends old _ acknowledged (queues now message fits some) = by old _ acknowledged acknowledged (directions.queues now message fits some)
-  action_sends old _ acknowledged (sets setting) = by old _ acknowledged acknowledged (directions.sets setting)
-  action_sends old _ acknowledged (prepares ids) = by old _ acknowledged acknowledged (directions.prepares ids)
+  action_sends old _ acknowledged (sets setting small) = by old _ acknowledged acknowledged (directions.sets setting small)
+  action_sends old _ acknowledged (prepares ids small) = by old _ acknowledged acknowledged (directions.prepares ids small)
   action_sends old _ acknowledged (flushes e draft answers same at tag no_data no_end allowed) = by old _ acknowledged acknowledged (directions.flushes e draft answers same no_data allowed)
   action_sends old _ acknowledged (resends now room transfer left tsns chunks emission tag known sends are contents) =
       by old _ acknowledged acknowledged (directions.resends now room transfer left tsns chunks emission known sends are contents)
@@ -56,19 +56,19 @@ module _ (came : Option Content) (to : ℕ) (tracker : TrackerState) (reassembly
   action_sends old _ acknowledged (tracks transfer tracked known cumulative ranges) = by old _ acknowledged acknowledged (directions.turns_aside transfer _ known refl)
   action_sends old _ acknowledged (takes transfer message messages known ready) = by old _ acknowledged acknowledged (directions.turns_aside transfer _ known refl)
 
-  all_send : (old new : Ledger) (acknowledged : ℕ) → Actions came to old new → SendingSteps old new acknowledged tracker reassembly read
+  all_send : (old new : Ledger) (acknowledged : ℕ) → Actions came to old new → SendingSteps old new acknowledged tracker reassembly read from_zero
   all_send old _ acknowledged nothing = record { later = acknowledged; steps = stays }
   all_send old _ acknowledged (further between new first last) =
       let before = all_send old between acknowledged first in
       let after = action_sends between new before.later last in
       record {
         later = after.later;
-        steps = all_steps (sending old acknowledged tracker reassembly read) (sending between before.later tracker reassembly read) (sending new after.later tracker reassembly read) before.steps after.steps;
+        steps = all_steps (sending old acknowledged tracker reassembly read from_zero) (sending between before.later tracker reassembly read from_zero) (sending new after.later tracker reassembly read from_zero) before.steps after.steps;
       }
 
-pub actions_send : (came : Option Content) (to : ℕ) (old new : Ledger) (acknowledged : ℕ) (tracker : TrackerState) (reassembly : ReassemblyState) (read : List MessageContent) → Actions came to old new
-    → SendingSteps old new acknowledged tracker reassembly read
-actions_send came to old new acknowledged tracker reassembly read actions = all_send came to tracker reassembly read old new acknowledged actions
+pub actions_send : (came : Option Content) (to : ℕ) (old new : Ledger) (acknowledged : ℕ) (tracker : TrackerState) (reassembly : ReassemblyState) (read : List MessageContent) (from_zero : Bool) → Actions came to old new
+    → SendingSteps old new acknowledged tracker reassembly read from_zero
+actions_send came to old new acknowledged tracker reassembly read from_zero actions = all_send came to tracker reassembly read from_zero old new acknowledged actions
 
 -- ---- the direction on which it receives
 
@@ -94,8 +94,8 @@ module _ (came : Option Content) (to : ℕ) (direction : Direction) (was : WasSe
 
   action_receives : (old new : Ledger) (transfer : Transfer) → old.queues.transfer ≡ Some transfer → Action came to old new → ReceivingSteps direction transfer old new
   action_receives old _ transfer is (queues now message fits some) = alike_receives old _ transfer transfer is refl (alike transfer)
-  action_receives old _ transfer is (sets setting) = alike_receives old _ transfer transfer is refl (alike transfer)
-  action_receives old _ transfer is (prepares ids) = alike_receives old _ transfer transfer is refl (alike transfer)
+  action_receives old _ transfer is (sets setting small) = alike_receives old _ transfer transfer is refl (alike transfer)
+  action_receives old _ transfer is (prepares ids small) = alike_receives old _ transfer transfer is refl (alike transfer)
   action_receives old _ transfer is (speaks emission no_data) = alike_receives old _ transfer transfer is refl (alike transfer)
   action_receives old _ transfer is (asks_again emission begun tag has contents) = alike_receives old _ transfer transfer is refl (alike transfer)
   action_receives old _ transfer is (flushes e draft answers same at tag no_data no_end allowed) =

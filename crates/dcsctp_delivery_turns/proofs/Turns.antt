@@ -19,14 +19,14 @@ use Rattle.dcsctp_delivery_turns.proofs.Messages.{take_goes, send_goes, own_rese
 use Rattle.dcsctp_delivery_turns.proofs.Resets.{reset_goes}
 use Rattle.dcsctp_delivery_turns.proofs.Others.{plain_goes, timer_goes}
 
-own_peer : (core : Core) → IsPeerTag core (peer_tag core)
+pub own_peer : (core : Core) → IsPeerTag core (peer_tag core)
 own_peer closed = tt
 own_peer (cookie_wait my) = tt
 own_peer (cookie_echoed my held cookie) = refl
 own_peer (open_in phase my held) = refl
 
 -- no chunk is handled
-none_calm : IsCalm None
+pub none_calm : IsCalm None
 none_calm = λ parameters is. absurd (cc)
 
 content_goes : (e : Endpoint) (tag : ℕ) (content : Content) (o : Outcome) → ContentTurn e tag content o → Goes (Some content) (peer_tag e.core) e o
@@ -61,9 +61,9 @@ turns_are_actions e (packet_begins contents) o may turn = begin_goes None none_c
 turns_are_actions e (chunk_input tag content) o may turn = content_goes e tag content o turn
 turns_are_actions e packet_ends o may turn = end_goes None none_calm (peer_tag e.core) e e.queues.transfer o (own_peer e.core) refl turn
 turns_are_actions e (act_input act) o may turn = act_goes e act o may turn
-turns_are_actions e (user_sets setting) o may turn = subst (Goes None (peer_tag e.core) e) (sym turn) (goes_on none_calm refl (action_of None (peer_tag e.core) (inside e) _ (λ queued sent read asking. actions.sets setting)))
+turns_are_actions e (user_sets setting) o may turn = subst (Goes None (peer_tag e.core) e) (sym turn) (goes_on none_calm refl (action_of None (peer_tag e.core) (inside e) _ (λ queued sent read asking. actions.sets setting may)))
 turns_are_actions e (user_sends messages) o may turn = send_goes None none_calm (peer_tag e.core) e messages o (own_peer e.core) may turn
-turns_are_actions e (user_resets ids) o may turn = own_resets_go None none_calm (peer_tag e.core) e ids o (own_peer e.core) turn
+turns_are_actions e (user_resets ids) o may turn = own_resets_go None none_calm (peer_tag e.core) e ids o may (own_peer e.core) turn
 turns_are_actions e user_takes o may turn = take_goes None none_calm (peer_tag e.core) e e.queues.transfer o refl turn
 turns_are_actions e (timer_expires timer) o may turn = timer_goes None none_calm (peer_tag e.core) e timer o (own_peer e.core) turn
 turns_are_actions e (time_passes moment) o may turn = subst (Goes None (peer_tag e.core) e) (sym turn) (goes_on none_calm refl (rests None (peer_tag e.core) (inside e)))

@@ -99,7 +99,7 @@ module _ (came : Option Content) (opening : IsOpening came) (e : Endpoint) where
   -- ---- COOKIE ECHO
 
   established_calm : (cookie : Cookie) (queue : SendQueueState) (tie : ℕ) (told : List (Event Emission)) (answers : List Answer)
-      → (queue ≡ numbered_for (interleaves e cookie) e.queues.queue) ⊎ (queue ≡ numbered_for (interleaves e cookie) (queue_restarted e.queues.queue)) → EstablishAnswers e cookie queue tie answers
+      → ((queue ≡ numbered_for (interleaves e cookie) e.queues.queue) × (e.options.follow_rfc ≡ false)) ⊎ (queue ≡ numbered_for (interleaves e cookie) (queue_restarted e.queues.queue)) → EstablishAnswers e cookie queue tie answers
       → CalmTurns came e (establish_by (flush_answered answers) e cookie queue tie told)
   established_calm cookie queue tie told answers keeps allowed =
       let base : Endpoint = established_by e cookie queue tie in

@@ -1,6 +1,6 @@
 -- What a turn of a socket does to its queues, action by action. Each action is a step of the
 -- direction on which the socket sends, and of the one on which it receives (specs/Sides).
-use Rattle.std.specs.Prelude.{◌≡◌, ◌≢◌, ◌<◌, ◌⊎◌, ℕ, Bool, true, false, Option, None, Some, List, [], ◌∷◌, ◌++◌, length}
+use Rattle.std.specs.Prelude.{◌≡◌, ◌≢◌, ◌<◌, ◌⊎◌, ◌^◌, ℕ, Bool, true, false, Option, None, Some, List, [], ◌∷◌, ◌++◌, length}
 use Rattle.std.specs.List.{AllByRecursion}
 use Rattle.dcsctp_spec_lemmas.specs.wire.Content.{DataContent, IDataContent, SackContent, data_chunk, i_data_chunk, forward_tsn_chunk, i_forward_tsn_chunk}
 use Rattle.dcsctp_spec_lemmas.specs.types.declared.association.Held.{Held}
@@ -9,7 +9,7 @@ use Rattle.dcsctp_spec_lemmas.specs.spec.endpoint.Endpoint.{Endpoint, Core, clos
 use Rattle.dcsctp_spec_lemmas.specs.spec.endpoint.Event.{packets_in}
 use Rattle.dcsctp_spec_lemmas.specs.spec.endpoint.Outcome.{Outcome}
 use Rattle.dcsctp_spec_lemmas.specs.spec.Packet.{Content, re_config, init, init_ack, cookie_echo, abort, shutdown_complete, Plain, unworked, plain, Emission}
-use Rattle.dcsctp_spec_lemmas.specs.spec.endpoint.Turn.{Input, chunk_input, act_input, user_sends, user_takes, restores, Turn}
+use Rattle.dcsctp_spec_lemmas.specs.spec.endpoint.Turn.{Input, chunk_input, act_input, user_sets, user_sends, user_resets, user_takes, restores, Turn}
 use Rattle.dcsctp_spec_lemmas.specs.spec.association.Acts.{request_again, request_renewed}
 use Rattle.dcsctp_spec_lemmas.specs.spec.association.Choices.{plain_contents}
 use Rattle.dcsctp_spec_lemmas.specs.spec.association.Effect.{Effect, holds, fails, identity_of, identity_in}
@@ -32,7 +32,7 @@ use Rattle.dcsctp_spec_lemmas.specs.spec.endpoint.SettingOutcomes.{set_in_queue}
 use Rattle.dcsctp_spec_lemmas.specs.spec.endpoint.TransferMoves.{ReceivesData, MovesForward, TakesSack, lost_all}
 use Rattle.dcsctp_delivery_sending.specs.Log.{Fits, Message}
 use Rattle.dcsctp_delivery_sending.specs.Flushes.{NoData, reset_begun_by}
-use Rattle.dcsctp_delivery_sending.specs.Queueing.{message_of}
+use Rattle.dcsctp_delivery_sending.specs.Queueing.{message_of, SettingFits}
 use Rattle.dcsctp_spec_lemmas.specs.spec.Reconfiguration.{RequestedReset, ResetParameter}
 use Rattle.dcsctp_spec_lemmas.specs.spec.association.FlushChanges.{reset_request}
 use Rattle.dcsctp_spec_lemmas.specs.spec.endpoint.BegunResets.{BegunReset}
@@ -70,8 +70,8 @@ NoEnd (content ∷ contents) = NoEnd contents
 pub data Action (came : Option Content) (to : ℕ) (old : Ledger) : Ledger → Type 0 where
   queues : (now : ℕ) (sending : Sending) → Fits (message_of sending) → 0 < length sending.message.payload
       → Action came to old (record old { queued = message_of sending ∷ old.queued; queues = record old.queues { queue = sending_queued now sending old.queues.queue } })
-  sets : (setting : Setting) → Action came to old (record old { queues = record old.queues { queue = set_in_queue setting old.queues.queue } })
-  prepares : (ids : List ℕ) → Action came to old (record old { queues = record old.queues { queue = prepared_all ids old.queues.queue } })
+  sets : (setting : Setting) → SettingFits setting → Action came to old (record old { queues = record old.queues { queue = set_in_queue setting old.queues.queue } })
+  prepares : (ids : List ℕ) → AllByRecursion (λ id. id < 2 ^ 16) ids → Action came to old (record old { queues = record old.queues { queue = prepared_all ids old.queues.queue } })
   flushes : (e : Endpoint) (draft : Emission) (answers : List Answer) → e.queues ≡ old.queues → IsPeerTag e.core to → draft.packet.tag ≡ to → NoData draft.packet.contents → NoEnd draft.packet.contents → FlushAnswers e draft answers
       → Action came to old (record old { queues = (flush_of e draft answers).after.queues; sent = old.sent ++ packets_in (flush_of e draft answers).events; asking = asking_with (reset_begun_by answers) old.asking })
   resends : (now room : ℕ) (transfer : Transfer) (left : RetransmissionState) (tsns : List ℕ) (chunks : List Plain) (emission : Emission) → emission.packet.tag ≡ to → old.queues.transfer ≡ Some transfer
@@ -206,7 +206,7 @@ IsCalm came = (parameters : List ResetParameter) → came ≡ Some (re_config pa
 
 -- ---- all
 
--- An association begins: what waits to be sent is kept, or what is under way is put back for it.
+-- An association begins: what waits to be sent is kept, without `follow_rfc`, or what is under way is put back for it.
 pub record Begun (e : Endpoint) (o : Outcome) : Type 0 where
   pub my : Pair
   pub held : Held
@@ -214,7 +214,7 @@ pub record Begun (e : Endpoint) (o : Outcome) : Type 0 where
   pub later : List Effect
   pub noted : o.effects ≡ holds (identity_of my held) ∷ later
   pub queue : SendQueueState
-  pub keeps : (queue ≡ numbered_for held.capabilities.message_interleaving e.queues.queue) ⊎ (queue ≡ numbered_for held.capabilities.message_interleaving (queue_restarted e.queues.queue))
+  pub keeps : ((queue ≡ numbered_for held.capabilities.message_interleaving e.queues.queue) × (e.options.follow_rfc ≡ false)) ⊎ (queue ≡ numbered_for held.capabilities.message_interleaving (queue_restarted e.queues.queue))
 
 -- with nothing in flight and nothing received
 abbrev pub begun_transfer : (e : Endpoint) (o : Outcome) → Begun e o → Transfer
@@ -245,10 +245,12 @@ pub data Becomes (came : Option Content) (to : ℕ) (adds : List Message → Lis
       → (again : RequestedReset) → MakesPackets came begun.held.peer.tag (record { queues = opening_queues e o begun; own = Some (record { number = None; next = begun.my.first_tsn; again = again }) }) (packets_in o.events) (inside o.after)
       → Becomes came to adds taken e o
 
--- The messages of a call fit their fields, as those in memory do; no snapshot is restored; and a request to reset streams is
+-- The messages of a call and the streams that it names fit their fields, as those in memory do; no snapshot is restored; and a request to reset streams is
 -- sent again by its timer alone, under its number or the next one.
 abbrev pub IsCall : Input → Type 0
 IsCall (user_sends sendings) = AllByRecursion (λ sending. Fits (message_of sending)) sendings
+IsCall (user_sets setting) = SettingFits setting
+IsCall (user_resets ids) = AllByRecursion (λ id. id < 2 ^ 16) ids
 IsCall (act_input (request_again reset)) = ⊥
 IsCall (act_input (request_renewed reset)) = ⊥
 IsCall (restores state) = ⊥

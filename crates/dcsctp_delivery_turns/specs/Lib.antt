@@ -7,3 +7,4 @@ pub mod Runs
 pub mod Completing
 pub mod PeerRequests
 pub mod Holding
+pub mod Unbegun

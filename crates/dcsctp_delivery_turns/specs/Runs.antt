@@ -26,15 +26,15 @@ use Rattle.dcsctp_delivery_turns.specs.Asking.{own_of, AsksFit, SomeFit, AskingG
 use Rattle.dcsctp_delivery_turns.specs.Addressed.{AreAddressed}
 use Rattle.dcsctp_delivery_sending.specs.Queueing.{QueueWaits}
 use Rattle.dcsctp_delivery_turns.specs.Sides.{WasSent, receiving}
-use Rattle.dcsctp_delivery_directions.specs.Directions.{Direction, Asking, nothing_asked, asking_renewed, all_ended, DirectionRun, IsAwaited}
+use Rattle.dcsctp_delivery_directions.specs.Directions.{Direction, Asking, nothing_asked, asking_renewed, all_ended, DirectionRun, IsAwaited, BeginsAtZero}
 
 -- the direction, with this at its sender
 abbrev pub sender_at : Direction → List Message → EndpointQueues → ℕ → List Emission → Asking → Direction
 sender_at direction queued sender_queues acknowledged sent asking = record direction { queued = queued; queues = sender_queues; acknowledged = acknowledged; sent = sent; asking = asking }
 
 -- a direction on which nothing was received yet
-abbrev pub new_direction : Options → ℕ → ℕ → List Message → EndpointQueues → ℕ → List Emission → Direction
-new_direction options first size queued sender_queues acknowledged sent =
+abbrev pub new_direction : Options → ℕ → ℕ → List Message → EndpointQueues → ℕ → List Emission → Bool → Direction
+new_direction options first size queued sender_queues acknowledged sent from_zero =
     record {
       queued = queued;
       queues = sender_queues;
@@ -44,6 +44,7 @@ new_direction options first size queued sender_queues acknowledged sent =
       reassembly = new_reassembly size;
       read = [];
       asking = nothing_asked;
+      from_zero = from_zero;
     }
 
 -- What was begun: as it was, or once our request has ended or continues under the next number.
@@ -65,16 +66,21 @@ pub data SenderTurns (options : Options) (first size : ℕ) (direction : Directi
       → DirectionRun options first size (sender_at direction (queued_after e input direction.queued) last acknowledged (direction.sent ++ packets_in o.events) asking)
       → o.after.queues ≡ record last { transfer = None } → QueueWaits (queued_after e input direction.queued) last.queue → AllByRecursion Fits (queued_after e input direction.queued)
       → SenderTurns options first size direction e input o
-  run_begins : (begun : Begun e o) → IsOpening (came_by input) → identity_in o.after.core ≡ Some (identity_of begun.my begun.held) → AreAddressed begun.held.peer.tag (packets_in o.events) → queued_after e input direction.queued ≡ direction.queued
+  run_begins : (begun : Begun e o) → IsOpening (came_by input) → identity_in o.after.core ≡ Some (identity_of begun.my begun.held) → AreAddressed begun.held.peer.tag (packets_in o.events) → o.after.queues.queue.is_interleaved ≡ begun.held.capabilities.message_interleaving
+      → queued_after e input direction.queued ≡ direction.queued
       → QueueWaits direction.queued e.queues.queue → AllByRecursion Fits direction.queued
-      → ((other : Options) (room : ℕ) (awaiting : Direction) (queued : List Message) → QueueWaits queued e.queues.queue → AllByRecursion Fits queued → DirectionRun other begun.my.first_tsn room awaiting → IsAwaited awaiting
-      → (acknowledged : ℕ) × (asking : Asking) × AskingGrows nothing_asked asking × AsksFit begun.my.first_tsn (own_of o.after) asking
-      × DirectionRun other begun.my.first_tsn room (sender_at awaiting queued o.after.queues acknowledged (packets_in o.events) asking))
+      → ((other : Options) (room : ℕ) (awaiting : Direction) (queued : List Message) (from_zero : Bool) → QueueWaits queued e.queues.queue → AllByRecursion Fits queued → DirectionRun other begun.my.first_tsn room awaiting → IsAwaited awaiting
+      → (from_zero ≡ true → BeginsAtZero begun.queue) → (acknowledged : ℕ) × (asking : Asking) × AskingGrows nothing_asked asking × AsksFit begun.my.first_tsn (own_of o.after) asking
+      × DirectionRun other begun.my.first_tsn room (record (sender_at awaiting queued o.after.queues acknowledged (packets_in o.events) asking) { from_zero = from_zero }))
       → SenderTurns options first size direction e input o
 
 -- Where the turn ends a request as performed, the receiver has performed the newest one, with interleaving.
 abbrev pub EndsPerformed : Endpoint → Outcome → Asking → Type 0
 EndsPerformed e o asking = has_completed o.effects ≡ true → e.queues.queue.is_interleaved ≡ true → asking.is_performed ≡ true
+
+-- In an association with interleaving no request of ours to reset streams fails.
+abbrev pub RefusesNone : Endpoint → Outcome → Type 0
+RefusesNone e o = e.queues.queue.is_interleaved ≡ true → has_refused o.effects ≡ false
 
 -- If an association begins in this turn, its own first TSN has 32 bits.
 abbrev pub OpensSmall : Endpoint → Input → Outcome → Type 0
@@ -84,19 +90,19 @@ OpensSmall e input o = (begun : Begun e o) → IsOpening (came_by input) → ide
 abbrev pub SendersGoOn : Type 0
 SendersGoOn =
     (options : Options) (first size : ℕ) (direction : Direction) (e : Endpoint) (input : Input) (o : Outcome) → DirectionRun options first size direction → first < 2 ^ 32 → direction.queues ≡ e.queues
-    → AsksFit first (own_of e) direction.asking → EndsPerformed e o direction.asking → OpensSmall e input o
+    → AsksFit first (own_of e) direction.asking → EndsPerformed e o direction.asking → RefusesNone e o → OpensSmall e input o
     → length (queued_after e input direction.queued) < 2 ^ 64 → IsCall input → Turn e input o → SenderTurns options first size direction e input o
 
--- A run begins where the socket was just made,
+-- A run begins where the socket was just made, with number 0 on each stream,
 abbrev pub SendersBegin : Type 0
 SendersBegin =
-    (mine options : Options) (first size : ℕ) → DirectionRun options first size (new_direction options first size [] (record { queue = empty_queue mine; transfer = None }) 0 [])
+    (mine options : Options) (first size : ℕ) → DirectionRun options first size (new_direction options first size [] (record { queue = empty_queue mine; transfer = None }) 0 [] true)
 
 -- and where its association has ended.
 abbrev pub SendersBeginAnew : Type 0
 SendersBeginAnew =
     (options : Options) (first size : ℕ) (queued : List Message) (sender_queues : EndpointQueues) → AllByRecursion Fits queued → QueueWaits queued sender_queues.queue → sender_queues.transfer ≡ None
-    → DirectionRun options first size (new_direction options first size queued sender_queues 0 [])
+    → DirectionRun options first size (new_direction options first size queued sender_queues 0 [] false)
 
 -- An association begins, and what its receiver does in the same turn are steps of a run. It waits for no reset.
 pub record OpensAssociation (e : Endpoint) (input : Input) (o : Outcome) : Type 0 where
@@ -111,19 +117,26 @@ pub record OpensAssociation (e : Endpoint) (input : Input) (o : Outcome) : Type 
   pub fits : SomeFit (own_of o.after)
   pub empty : left.reassembly.deferral ≡ None
 
--- The request that is handled is the newest that the sender has begun, and what waits, waits for it.
+-- The request that is handled wants what the newest one wants that the sender has begun, which isn't known to be performed, and
+-- what waits, waits for it.
 pub record IsNewest (direction : Direction) (transfer : Transfer) (reset : RequestedReset) : Type 0 where
   pub newest : BegunReset
   pub earlier : List BegunReset
   pub is : direction.asking.requests ≡ newest ∷ earlier
   pub asks : newest.reset ≡ reset
   pub own : IsOwn reset transfer.reassembly.deferral
+  pub unknown : direction.asking.is_performed ≡ false
 
 -- This holds for a request that is performed in this turn.
 abbrev pub PerformsNewest : Direction → Transfer → Option Content → List Effect → Type 0
 PerformsNewest direction transfer came happened =
     has_reset happened ≡ true → (parameters : List ResetParameter) (reset : RequestedReset) → came ≡ Some (re_config parameters) → requested_in parameters ≡ Some reset
     → IsNewest direction transfer reset
+
+-- So it is; or it wants what the newest wants, or messages don't interleave.
+abbrev pub KnowsRequest : Bool → Direction → Transfer → Option Content → List Effect → Type 0
+KnowsRequest true direction transfer came happened = PerformsNewest direction transfer came happened
+KnowsRequest false direction transfer came happened = (direction.queues.queue.is_interleaved ≡ false) ⊎ PerformsNewest direction transfer came happened
 
 -- once a request was performed, if it is known to be the newest
 abbrev pub performed_where : Bool → Bool → Asking → Asking
@@ -149,7 +162,7 @@ pub data ReceiverTurns (is_known : Bool) (options : Options) (first size : ℕ) 
 abbrev pub ReceiversGoOn : Type 0
 ReceiversGoOn =
     (is_known : Bool) (options : Options) (first size : ℕ) (direction : Direction) (transfer : Transfer) (e : Endpoint) (input : Input) (o : Outcome) → DirectionRun options first size (receiving direction transfer direction.read)
-    → e.queues.transfer ≡ Some transfer → WasSent direction.sent (came_by input) → (is_known ≡ true → PerformsNewest direction transfer (came_by input) o.effects) → SomeFit (own_of e) → OpensSmall e input o → IsCall input → Turn e input o → ReceiverTurns is_known options first size direction transfer e input o
+    → e.queues.transfer ≡ Some transfer → WasSent direction.sent (came_by input) → KnowsRequest is_known direction transfer (came_by input) o.effects → SomeFit (own_of e) → OpensSmall e input o → IsCall input → Turn e input o → ReceiverTurns is_known options first size direction transfer e input o
 
 -- Where there is no association, none is there after the turn, and nothing is read in one; or one begins.
 pub data IdleTurns (e : Endpoint) (input : Input) (o : Outcome) : Type 0 where

@@ -60,7 +60,8 @@ pub record Promises {R : Type 0} (world : WorldView (Recording R)) : Type 0 wher
   -- If it makes an association, that is at most the cookie's lifetime later.
   pub ages : AgeThroughout (options_of world) run.steps
   -- What a user reads is what the other user sent, and no message is read twice. This also needs that each tag serves one
-  -- association, and that not too much goes to it. With interleaving no request to reset streams may fail.
+  -- association, and that not too much goes to it. With interleaving no request to reset streams may fail. Ordered messages of a
+  -- stream come in order where messages interleave and their numbers begin at 0.
   pub delivered : DeliverThroughout (options_of world) run.steps
   -- Wherever the first five acts are a handshake, they connect sockets that fit each other, whatever comes later.
   pub connect : AreFitting (options_of world) → (side : Side) → ConnectThroughout (options_of world) side run.steps

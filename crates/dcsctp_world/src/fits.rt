@@ -1,13 +1,14 @@
-//! The messages that an act hands over fit the fields of a chunk, by their types.
+//! The messages that an act hands over, and the streams that it names, fit the fields of a chunk, by their types.
 
 ghost use Rattle.std.specs.Prelude.{◌<◌, ◌^◌, map};
 ghost use Rattle.std.specs.List.{AllByRecursion};
 ghost use Rattle.dcsctp_core.specs.types.Schedule.{act_content, call_content};
+ghost use Rattle.dcsctp_core.specs.types.Ids.{stream_numbers};
 ghost use Rattle.dcsctp_core.specs.types.queues.Messages.{message_content};
 ghost use Rattle.dcsctp_delivery_sockets.specs.Delivery.{FitsMessage, FitsCall, FitsAct};
 
 use dcsctp_core::types::{Act, Call, Step};
-use dcsctp_socket::Message;
+use dcsctp_socket::{Message, StreamId};
 
 // Each of these bytes is one: what is read has its type.
 fn bytes_fit(bytes: &[u8])
@@ -44,12 +45,23 @@ fn messages_fit(messages: &[Message])
     }
 }
 
+fn streams_fit(stream_ids: &[StreamId])
+    ensures { AllByRecursion (λ id. id < 2 ^ 16) (stream_numbers stream_ids.now) }
+{
+    for stream_id in stream_ids {
+        stream_fits(stream_id.0);
+    }
+}
+
 fn call_fits(call: &Call)
     ensures { FitsCall (call_content call.now) }
 {
     match call {
         Call::Send(message, _) => message_fits(message),
         Call::SendMany(messages, _) => messages_fit(messages),
+        Call::SetStreamPriority(stream_id, _) => stream_fits(stream_id.0),
+        Call::SetBufferedAmountLowThreshold(stream_id, _) => stream_fits(stream_id.0),
+        Call::ResetStreams(stream_ids) => streams_fit(stream_ids),
         _ => {}
     }
 }

@@ -241,6 +241,10 @@ impl<R: Rng + Drop> World<R> {
     /// or be made of parts of two: a COOKIE ECHO that is delivered again once its association has ended makes another
     /// one under the same tags, for as long as its cookie lives.
     ///
+    /// The ordered messages of a stream that are read in one association, or after it has ended, were sent in the order
+    /// of reading, across resets of the stream (RFC 9260, section 6.6). For that messages interleave, and the sender has
+    /// `follow_rfc` or no other association.
+    ///
     /// The rest holds whatever comes from outside. In one lifetime an association connects at most once, and
     /// the numbers of requests to reset streams go up by one. Each request that was accepted is performed at
     /// most once (RFC 6525, section 4.1). A request ends by an answer with its number (section 5.2.7). Events

@@ -1,9 +1,8 @@
 use Rattle.std.proofs.Common.{refl}
-use Rattle.dcsctp_delivery_associations.specs.Reads.{messages_of}
 use Rattle.dcsctp_spec_lemmas.specs.spec.Admission.{admits}
 use Rattle.dcsctp_delivery_sockets.proofs.PacketTurns.{packet_goes}
 use Rattle.dcsctp_delivery_sockets.proofs.laws.packets_keep_ends.Goals as goal
 
 pub returns : goal.returns
-returns c = λ options ends e queued past packets other their_past reads emission turns between answered few little has go new taken.
-    packet_goes options e queued past packets few little emission has other their_past (messages_of reads) turns (record { ends = ends; tagged = reads; are_all = refl; between = between; answered = answered }) new go (admits other.core emission.packet) refl taken
+returns c = λ options ends e queued past packets other their_past reading emission turns between answered few little has go new taken.
+    packet_goes options e queued past packets few little emission has other their_past reading turns (record { ends = ends; between = between; answered = answered }) new go (admits other.core emission.packet) refl taken

@@ -1,0 +1,130 @@
+-- A reset ends: the messages of the streams that were handed out are numbered from 0 again, and these
+-- streams are in order, as before they were quiet.
+use Rattle.std.proofs.Common.{◌≡◌, ℕ, Bool, true, false, ◌<◌, ◌+◌, ◌*◌, ◌^◌, List, [], ◌∷◌, ◌++◌, length, refl, sym, ◌∙◌, arith, subst, inl, inr}
+use Rattle.std.specs.Prelude.{◌⊎◌, if◌then◌else◌, Some}
+use Rattle.dcsctp_spec_lemmas.specs.spec.queues.Runs.{WholeModel}
+use Rattle.dcsctp_spec_lemmas.specs.spec.queues.IncomingStreams.{StreamModel, new_stream}
+use Rattle.dcsctp_spec_lemmas.specs.spec.queues.Incoming.{stream_on}
+use Rattle.dcsctp_spec_lemmas.specs.spec.queues.Reassembly.{ReassemblyState, waiting_of}
+use Rattle.dcsctp_spec_lemmas.specs.types.queues.SendStreams.{Stream}
+use Rattle.dcsctp_spec_lemmas.specs.spec.queues.Tracker.{TrackerState}
+use Rattle.dcsctp_delivery_sending.specs.Places.{at_place}
+use Rattle.dcsctp_delivery_sending.specs.Log.{Message, Piece, History, Cut}
+use Rattle.dcsctp_delivery_sending.specs.Numbers.{AreOfKind, is_handed_out, stream_named}
+use Rattle.dcsctp_delivery_sending.specs.Queueing.{floors_raised}
+use Rattle.dcsctp_delivery_receiving.specs.Clear.{IsClear, IsOver, Unsent}
+use Rattle.dcsctp_delivery_receiving.specs.Ready.{WaitQueued, HoldsIncoming}
+use Rattle.dcsctp_delivery_receiving.proofs.Raising.{KeptOr, kept_or_clear, holds_keeps, defers_keeps}
+use Rattle.dcsctp_delivery_order.specs.Order.{IsSentAs, AreReadAs}
+use Rattle.dcsctp_delivery_order.specs.Reading.{CountsFromZero, OrderedStream}
+use Rattle.dcsctp_delivery_order.specs.Incoming.{OrderWhere, IncomingOrdered}
+use Rattle.dcsctp_delivery_order.specs.Received.{none_quiet, ReassemblesInOrder, none_handled, some_handled, HasReceivedInOrder}
+use Rattle.dcsctp_delivery_order.proofs.Incoming.{quiet_where}
+use Rattle.dcsctp_delivery_order.proofs.Order.{resets_stay}
+use Rattle.dcsctp_delivery_order.proofs.Received.{loud_by}
+use Rattle.dcsctp_delivery_order.proofs.Unsent.{unsent_ordered}
+
+-- ---- a stream whose floor stays
+
+module _ (queued : List Message) (history : History) (floors : ℕ → Bool → ℕ) (id : ℕ) (same : floors id false ≡ history.floors id false) where
+  abbrev now : History
+  now = record history { floors = floors }
+
+  sent_now : (place mid : ℕ) → IsSentAs history id place mid → IsSentAs now id place mid
+  sent_now place mid sent = record { offset = sent.offset; piece = sent.piece; at = sent.at; is = sent.is; stream = sent.stream; ordered = sent.ordered; under = sent.under }
+
+  read_now : (places : List ℕ) (wholes : List WholeModel) → AreReadAs history id places wholes → AreReadAs now id places wholes
+  read_now [] [] are = tt
+  read_now [] (w ∷ wholes) are = absurd are
+  read_now (p ∷ places) [] are = absurd are
+  read_now (p ∷ places) (w ∷ wholes) are = (record { mid = are.0.mid; sent = sent_now p are.0.mid are.0.sent; counted = (let counted = are.0.counted in omega (arith, counted, same)) }, read_now places wholes are.1)
+
+  ordered_now : (all waits : List ℕ) (stream : StreamModel) → OrderedStream false queued history id all waits stream → OrderedStream false queued now id all waits stream
+  ordered_now all waits stream o =
+      record {
+        order = record {
+          in_order = o.order.in_order;
+          below = λ place has on. (let is = o.order.below place has on in record { mid = is.mid; sent = sent_now place is.mid is.sent; below = (let below = is.below in omega (arith, below, same)) });
+          waiting = read_now waits stream.waiting o.order.waiting;
+          ahead = o.order.ahead;
+        };
+        reach = o.reach;
+        filled = λ none. absurd (cc);
+      }
+
+-- ---- all streams
+
+module _ (queued : List Message) (history : History) (streams : List Stream) (cut : Cut queued history.log) (kinds : AreOfKind true history.log) (counts : (id : ℕ) → CountsFromZero history id) (quiet : ℕ → Bool)
+    (silent : (id : ℕ) → quiet id ≡ true → is_handed_out (stream_named id streams).pause ≡ true) (first cumulative : ℕ) (reassembly : ReassemblyState)
+    (out : (id : ℕ) → is_handed_out (stream_named id streams).pause ≡ true → Unsent history.log id ⊎ (IsOver history first cumulative id × IsClear id reassembly)) where
+  abbrev raised : History
+  raised = floors_raised streams history
+
+  kept : KeptOr queued history streams (λ id. IsOver history first cumulative id × IsClear id reassembly)
+  kept = kept_or_clear queued history streams first cumulative reassembly out
+
+  kept_new : KeptOr queued history streams (λ id. stream_on id reassembly.incoming.streams ≡ new_stream id)
+  kept_new id = elim (kept id) [ inl keep ↦ inl keep | inr c ↦ inr c.1.stream ]
+
+  holds_raised : (got : List ℕ) (base : ℕ) (read : List ℕ) → HoldsIncoming queued history got base read reassembly.incoming → HoldsIncoming queued raised got base read reassembly.incoming
+  holds_raised got base read holds = holds_keeps queued history streams got base read reassembly.incoming kept_new holds
+
+  no_waits : (got : List ℕ) (id : ℕ) (waits : List ℕ) → WaitQueued queued history got id waits [] → waits ≡ []
+  no_waits got id [] wait = refl
+  no_waits got id (p ∷ waits) wait = absurd wait
+
+  above : (id : ℕ) → is_handed_out (stream_named id streams).pause ≡ true → (n : ℕ) (f : Piece) → at_place n history.log ≡ Some (Some f) → f.message.stream ≡ id → f.message.is_unordered ≡ false → f.mid < raised.floors id false
+  above id handed n f at on ordered =
+      let few = (counts id).few n f at on ordered in
+      subst (λ (b : Bool). f.mid < (if b then 2 ^ 32 * (history.floors id false + length history.log + 1) else history.floors id false)) (sym handed) (omega (arith, few))
+
+  ordered_raised : (got : List ℕ) (base : ℕ) (read : List ℕ) → IncomingOrdered false queued history quiet got base read reassembly.incoming → IncomingOrdered false queued raised none_quiet got base read reassembly.incoming
+  unfolding holds_raised holds_keeps
+  ordered_raised got base read o =
+      record {
+        holds = holds_raised got base read o.holds;
+        order = λ id anew. by_pause id (is_handed_out (stream_named id streams).pause) refl;
+      }
+    where
+      renewed : (id : ℕ) → is_handed_out (stream_named id streams).pause ≡ true → IsClear id reassembly → OrderedStream false queued raised id (read ++ o.holds.places) (o.holds.waits id) (stream_on id reassembly.incoming.streams)
+      renewed id handed clear =
+          let none : o.holds.waits id ≡ [] = no_waits got id (o.holds.waits id) (subst (λ (s : StreamModel). WaitQueued queued history got id (o.holds.waits id) s.waiting) clear.stream (o.holds.streams_hold id).wait) in
+          let between = quiet_where false queued history (quiet id) id (read ++ o.holds.places) (o.holds.waits id) (stream_on id reassembly.incoming.streams) (o.order id (counts id)) in
+          subst (λ (l : List ℕ). OrderedStream false queued raised id (read ++ o.holds.places) l (stream_on id reassembly.incoming.streams)) (sym none)
+          (subst (λ (s : StreamModel). OrderedStream false queued raised id (read ++ o.holds.places) [] s) (sym clear.stream)
+          (record {
+            order = resets_stay queued history id (read ++ o.holds.places) raised.floors (above id handed) between;
+            reach = record { from = omega arith; up_to = omega arith };
+            filled = λ none. absurd (cc);
+          }))
+
+      by_pause : (id : ℕ) (b : Bool) → is_handed_out (stream_named id streams).pause ≡ b → OrderedStream false queued raised id (read ++ o.holds.places) (o.holds.waits id) (stream_on id reassembly.incoming.streams)
+      by_pause id true handed = elim (out id handed) [
+        | inl none ↦ unsent_ordered queued raised id cut kinds none got base read reassembly.incoming (holds_raised got base read o.holds)
+        | inr c ↦ renewed id handed c.1
+      ]
+      by_pause id false shut =
+          let loud : quiet id ≡ false = loud_by quiet id (λ is. (let clash : true ≡ false = sym (silent id is) ∙ shut in cc)) in
+          let same : raised.floors id false ≡ history.floors id false =
+          subst (λ (b : Bool). (if b then 2 ^ 32 * (history.floors id false + length history.log + 1) else history.floors id false) ≡ history.floors id false) (sym shut) refl in
+          ordered_now queued history raised.floors id same (read ++ o.holds.places) (o.holds.waits id) (stream_on id reassembly.incoming.streams)
+          (subst (λ (b : Bool). OrderWhere false b queued history id (read ++ o.holds.places) (o.holds.waits id) (stream_on id reassembly.incoming.streams)) loud (o.order id (counts id)))
+
+  pub raised_in_order : (read : List ℕ) (tracker : TrackerState) → HasReceivedInOrder queued history quiet first read tracker reassembly → HasReceivedInOrder queued raised none_quiet first read tracker reassembly
+  raised_in_order read tracker r =
+      record {
+        taken = r.taken;
+        got = r.got;
+        later = r.later;
+        tracks = r.tracks;
+        got_taken = r.got_taken;
+        later_taken = r.later_taken;
+        apart = r.apart;
+        distinct = r.distinct;
+        holds = go r.holds;
+        defers = defers_keeps queued history streams first r.later (waiting_of reassembly.deferral) (λ id. elim (kept id) [ inl keep ↦ inl keep | inr c ↦ inr c.1.none ]) r.defers;
+      }
+    where
+      go : ReassemblesInOrder queued history quiet first r.got read reassembly.incoming → ReassemblesInOrder queued raised none_quiet first r.got read reassembly.incoming
+      go (none_handled none last empty) = none_handled none last (λ base. ordered_raised [] base read (empty base))
+      go (some_handled base is holds) = some_handled base is (ordered_raised r.got base read holds)

@@ -1,0 +1,86 @@
+-- What the user takes of what was received, and more that the peer queues and sends.
+use Rattle.std.proofs.Common.{◌≡◌, ℕ, Bool, false, ◌+◌, List, [], ◌∷◌, ◌++◌, length, refl, arith, inl}
+use Rattle.dcsctp_spec_lemmas.specs.types.queues.Messages.{MessageContent}
+use Rattle.dcsctp_spec_lemmas.specs.spec.queues.Incoming.{IncomingModel, stream_on}
+use Rattle.dcsctp_spec_lemmas.specs.spec.queues.Reassembly.{ReassemblyState, waiting_of, with_ready}
+use Rattle.dcsctp_spec_lemmas.specs.spec.queues.Tracker.{TrackerState}
+use Rattle.dcsctp_delivery_sending.specs.Places.{HasEntry}
+use Rattle.dcsctp_delivery_sending.specs.Log.{Message, History}
+use Rattle.dcsctp_delivery_receiving.specs.Ready.{WasQueued, WereQueued}
+use Rattle.dcsctp_delivery_receiving.proofs.Continuing.{GoesOn, defers_more}
+use Rattle.dcsctp_delivery_receiving.proofs.Distinct.{has_left, has_right}
+use Rattle.dcsctp_delivery_receiving.proofs.Growing.{holds_more}
+use Rattle.dcsctp_delivery_receiving.proofs.Tracked.{more_given_out}
+use Rattle.dcsctp_delivery_receiving.proofs.Waiting.{both_queued}
+use Rattle.dcsctp_delivery_order.specs.Incoming.{IncomingOrdered, IsWithin}
+use Rattle.dcsctp_delivery_order.specs.Received.{ReassemblesInOrder, none_handled, some_handled, HasReceivedInOrder}
+use Rattle.dcsctp_delivery_order.proofs.Incoming.{growing_in_order, taking_in_order}
+
+-- ---- what the user takes
+
+-- The message was queued, and wasn't read before.
+pub record TakesInOrder (queued : List Message) (history : History) (quiet : ℕ → Bool) (first : ℕ) (read : List ℕ) (tracker : TrackerState) (reassembly : ReassemblyState) (message : MessageContent) (messages : List MessageContent) : Type 0 where
+  pub place : ℕ
+  pub was : WasQueued queued place message
+  pub fresh : HasEntry place read → ⊥
+  pub received : HasReceivedInOrder queued history quiet first (read ++ place ∷ []) tracker (with_ready messages reassembly)
+
+pub takes_in_order : (queued : List Message) (history : History) (quiet : ℕ → Bool) (first : ℕ) (read : List ℕ) (tracker : TrackerState) (reassembly : ReassemblyState) (message : MessageContent) (messages : List MessageContent)
+    → reassembly.incoming.ready ≡ message ∷ messages → HasReceivedInOrder queued history quiet first read tracker reassembly → TakesInOrder queued history quiet first read tracker reassembly message messages
+takes_in_order queued history quiet first read tracker reassembly message messages is r = go r.holds
+  where
+    go : ReassemblesInOrder queued history quiet first r.got read reassembly.incoming → TakesInOrder queued history quiet first read tracker reassembly message messages
+    go (some_handled base at holds) =
+        let t = taking_in_order false queued history quiet r.got base read reassembly.incoming message messages is holds in
+        record {
+          place = t.place;
+          was = t.was;
+          fresh = t.fresh;
+          received = record {
+            taken = r.taken;
+            got = r.got;
+            later = r.later;
+            tracks = r.tracks;
+            got_taken = r.got_taken;
+            later_taken = r.later_taken;
+            apart = r.apart;
+            distinct = r.distinct;
+            holds = some_handled base at t.ordered;
+            defers = r.defers;
+          };
+        }
+    go (none_handled none last empty) =
+        let t = taking_in_order false queued history quiet [] 0 read reassembly.incoming message messages is (empty 0) in
+        let spent = t.ordered.holds.spent t.place (has_left t.place (read ++ t.place ∷ []) t.ordered.holds.places (has_right t.place read (t.place ∷ []) (inl refl))) in
+        absurd (spent.covered spent.offset (omega arith) spent.order)
+
+-- ---- the peer goes on
+
+module _ (queued more : List Message) (history later : History) (goes : GoesOn history later) (within : IsWithin history later) (quiet : ℕ → Bool) (read : List ℕ) (contents : List MessageContent) (were : WereQueued queued read contents) where
+  ordered_more : (got : List ℕ) (base : ℕ) (incoming : IncomingModel) → IncomingOrdered false queued history quiet got base read incoming → IncomingOrdered false (more ++ queued) later quiet got base read incoming
+  unfolding holds_more
+  ordered_more got base incoming o =
+      record {
+        holds = holds_more queued more history later goes got base read incoming o.holds;
+        order = λ id counts. growing_in_order false queued more history later (quiet id) id (read ++ o.holds.places) (o.holds.waits id) (contents ++ incoming.ready) (stream_on id incoming.streams) within
+            (both_queued queued read o.holds.places contents incoming.ready were o.holds.were_queued) counts (o.order id);
+      }
+
+  reassembles_more : (first : ℕ) (got : List ℕ) (incoming : IncomingModel) → ReassemblesInOrder queued history quiet first got read incoming → ReassemblesInOrder (more ++ queued) later quiet first got read incoming
+  reassembles_more first got incoming (none_handled none last empty) = none_handled none last (λ base. ordered_more [] base incoming (empty base))
+  reassembles_more first got incoming (some_handled base is holds) = some_handled base is (ordered_more got base incoming holds)
+
+  pub received_later : (first : ℕ) (tracker : TrackerState) (reassembly : ReassemblyState) → HasReceivedInOrder queued history quiet first read tracker reassembly → HasReceivedInOrder (more ++ queued) later quiet first read tracker reassembly
+  received_later first tracker reassembly r =
+      record {
+        taken = r.taken;
+        got = r.got;
+        later = r.later;
+        tracks = more_given_out first (length history.log) (length later.log) r.taken tracker goes.longer r.tracks;
+        got_taken = r.got_taken;
+        later_taken = r.later_taken;
+        apart = r.apart;
+        distinct = r.distinct;
+        holds = reassembles_more first r.got reassembly.incoming r.holds;
+        defers = defers_more history later goes first r.later (waiting_of reassembly.deferral) r.defers;
+      }

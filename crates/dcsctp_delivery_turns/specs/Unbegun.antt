@@ -1,0 +1,39 @@
+-- A socket that has had no association has begun no message, so its queue is at number 0 when the
+-- first one begins, with `follow_rfc` or without (RFC 9260, section 6.5).
+use Rattle.std.specs.Prelude.{◌≡◌, ℕ, true, false, None, Some}
+use Rattle.dcsctp_spec_lemmas.specs.types.declared.options.Options.{Options}
+use Rattle.dcsctp_spec_lemmas.specs.types.queues.SendStreams.{next_numbers}
+use Rattle.dcsctp_spec_lemmas.specs.spec.association.Effect.{identity_of, identity_in}
+use Rattle.dcsctp_spec_lemmas.specs.spec.endpoint.Endpoint.{Endpoint}
+use Rattle.dcsctp_spec_lemmas.specs.spec.endpoint.Outcome.{Outcome}
+use Rattle.dcsctp_spec_lemmas.specs.spec.endpoint.Turn.{Input, Turn}
+use Rattle.dcsctp_spec_lemmas.specs.spec.queues.SendQueue.{SendQueueState, empty_queue}
+use Rattle.dcsctp_delivery_sending.specs.Numbers.{stream_named}
+use Rattle.dcsctp_delivery_directions.specs.Directions.{BeginsAtZero}
+use Rattle.dcsctp_delivery_turns.specs.Actions.{came_by, Begun, IsOpening, IsCall}
+
+-- No message is under way, and the next one of each stream, ordered or not, has SSN 0 and MID 0.
+pub record IsAtZero (queue : SendQueueState) : Type 0 where
+  pub idle : queue.under_way ≡ None
+  pub ordered : (id : ℕ) → next_numbers false (stream_named id queue.streams) ≡ (0, 0)
+  pub unordered : (id : ℕ) → next_numbers true (stream_named id queue.streams) ≡ (0, 0)
+
+-- There is still no association, and the queue is still at 0; or an association begins in this turn.
+pub data UnbegunTurns (e : Endpoint) (input : Input) (o : Outcome) : Type 0 where
+  stays_unbegun : identity_in o.after.core ≡ None → o.after.queues.transfer ≡ None → IsAtZero o.after.queues.queue → UnbegunTurns e input o
+  begins_first : (begun : Begun e o) → IsOpening (came_by input) → identity_in o.after.core ≡ Some (identity_of begun.my begun.held) → UnbegunTurns e input o
+
+-- This holds for each turn of a socket without an association.
+abbrev pub StaysAtZero : Type 0
+StaysAtZero =
+    (e : Endpoint) (input : Input) (o : Outcome) → identity_in e.core ≡ None → e.queues.transfer ≡ None → IsAtZero e.queues.queue → IsCall input → Turn e input o → UnbegunTurns e input o
+
+-- An association that begins with such a queue begins with number 0 on each stream, and with SSN 0.
+abbrev pub UnbegunBeginsAtZero : Type 0
+UnbegunBeginsAtZero =
+    (e : Endpoint) (o : Outcome) (begun : Begun e o) → IsAtZero e.queues.queue
+    → BeginsAtZero begun.queue × ((id : ℕ) → (stream_named id begun.queue.streams).next_ssn ≡ 0)
+
+-- A socket that was just made has such a queue.
+abbrev pub FreshIsAtZero : Type 0
+FreshIsAtZero = (options : Options) → IsAtZero (empty_queue options)
