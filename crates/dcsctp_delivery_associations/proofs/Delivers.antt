@@ -139,12 +139,13 @@ module _ (options : Options) (ends : Ends) (e : Endpoint) (queued : List Message
 
 -- ---- two sockets that were just made
 
-pub ends_begin : (mine options : Options) → AreEnds options (fresh_endpoint mine) [] [] [] (fresh_endpoint options) [] nothing_read
-ends_begin mine options =
+pub ends_begin : (never_resets : Bool) (mine options : Options) → AreEnds never_resets options (fresh_endpoint mine) [] [] [] (fresh_endpoint options) [] nothing_read
+ends_begin never_resets mine options =
     record {
-      ends = record { sends = λ tag. nothing; gets = λ tag. new_end options 0; firsts = λ tag. 0 };
+      ends = record { sends = λ tag. nothing; gets = λ tag. new_end options 0; firsts = λ tag. 0; never_resets = never_resets };
+      is = refl;
       between = record {
-        runs = λ tag. senders_begin mine options 0 options.max_receiver_window_buffer_size;
+        runs = λ tag. senders_begin mine options 0 options.max_receiver_window_buffer_size never_resets;
         small = λ tag. omega arith;
         sender = record {
           queues_are = refl;
@@ -163,7 +164,9 @@ ends_begin mine options =
         };
         asks = tt;
         numbered = λ tag some anew. refl;
-        unbegun = λ never. record { unlinked = refl; idle = refl; zero = fresh_is_at_zero mine };
+        kept = λ tag some never only. never;
+        dropping = λ resets tag. resets;
+        unbegun = λ never. record { unlinked = refl; idle = refl; zero = fresh_is_at_zero mine; all = λ never. record { waits = λ place below. absurd (omega (arith, below)); unpaused = tt } };
         receiver = record { fits = record { first = 0; asking = nothing_asked; fits = tt }; current = λ transfer there. absurd (cc); left = inl refl; last = λ link is. absurd (cc); were_read = λ tag. refl; begun = λ tag. inl refl };
       };
       answered = record {
@@ -185,7 +188,7 @@ ends_begin mine options =
     }
   where
     nothing : SendingEnd
-    nothing = record { queued = []; queues = record { queue = empty_queue mine; transfer = None }; acknowledged = 0; sent = []; asking = nothing_asked; from_zero = true }
+    nothing = record { queued = []; queues = record { queue = empty_queue mine; transfer = None }; acknowledged = 0; sent = []; asking = nothing_asked; beginning = record { from_zero = true; keeps_all = never_resets } }
 
     awaits : Awaits nothing
-    awaits = record { queued = refl; sent = refl; acknowledged = refl; transfer = refl; asking = refl; zero = λ is. fresh_at_zero mine }
+    awaits = record { queued = refl; sent = refl; acknowledged = refl; transfer = refl; asking = refl; begun = record { zero = λ is. fresh_at_zero mine; all = λ is. record { waits = λ place below. absurd (omega (arith, below)); unpaused = tt } } }

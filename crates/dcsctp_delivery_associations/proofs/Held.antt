@@ -1,6 +1,5 @@
 -- Whether a side had an association.
-use Rattle.std.proofs.Common.{◌≡◌, Bool, true, false, List, [], ◌∷◌, refl, ap, inl, inr}
-use Rattle.dcsctp_spec_lemmas.specs.types.declared.association.Pair.{Pair}
+use Rattle.std.proofs.Common.{◌≡◌, Bool, true, false, List, [], ◌∷◌, refl, inl, inr}
 use Rattle.dcsctp_spec_lemmas.specs.spec.association.Effect.{AssociationIdentity, Effect, draws, sends, holds, connects, ends, begins, gives_up, completes, fails, accepts, performs, resumes}
 use Rattle.dcsctp_spec_runs.specs.Past.{HasEffect}
 use Rattle.dcsctp_delivery_associations.specs.Ends.{NeverHeld}

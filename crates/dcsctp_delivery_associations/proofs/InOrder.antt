@@ -1,6 +1,6 @@
 -- What was read in one association, in the order in which it was queued.
-use Rattle.std.proofs.Common.{◌≡◌, ◌≢◌, ℕ, ◌<◌, ◌^◌, ◌+◌, Some, List, [], ◌∷◌, length, true, false, refl, sym, ◌∙◌, ap, arith, subst, inl, inr}
-use Rattle.std.specs.Prelude.{◌⊎◌, Bool, Option}
+use Rattle.std.proofs.Common.{◌≡◌, ◌≢◌, ℕ, ◌<◌, ◌≤◌, ◌^◌, ◌+◌, Some, List, [], ◌∷◌, length, true, false, refl, sym, ◌∙◌, ap, arith, subst, inl, inr}
+use Rattle.std.specs.Prelude.{Bool}
 use Rattle.dcsctp_spec_lemmas.specs.types.declared.options.Options.{Options}
 use Rattle.dcsctp_spec_lemmas.specs.types.queues.Messages.{MessageContent}
 use Rattle.dcsctp_spec_lemmas.specs.spec.endpoint.Endpoint.{Endpoint}
@@ -9,15 +9,23 @@ use Rattle.dcsctp_spec_lemmas.specs.spec.association.Effect.{Effect}
 use Rattle.dcsctp_delivery_sending.specs.Places.{HasEntry, at_place}
 use Rattle.dcsctp_delivery_sending.specs.Log.{Message}
 use Rattle.dcsctp_delivery_sending.specs.ChunkCounts.{chunks_to}
-use Rattle.dcsctp_delivery_sending.proofs.Places.{decide}
+use Rattle.dcsctp_delivery_sending.proofs.Places.{decide, at_new, at_stays, at_cases, at_below}
 use Rattle.dcsctp_delivery_receiving.specs.Ready.{WereQueued}
 use Rattle.dcsctp_delivery_directions.proofs.ChunkCounts.{few_for_chunks}
 use Rattle.dcsctp_delivery_directions.proofs.Directions.{directions_deliver}
-use Rattle.dcsctp_delivery_directions.specs.Directions.{assigned}
-use Rattle.dcsctp_delivery_order.specs.Delivered.{DeliveredInOrder}
+use Rattle.dcsctp_delivery_directions.specs.Directions.{Direction, assigned}
+use Rattle.dcsctp_delivery_directions.specs.Requests.{requests_to}
+use Rattle.dcsctp_delivery_directions.proofs.RequestCounts.{requests_are_sent}
+use Rattle.dcsctp_delivery_directions.proofs.Forwards.{unlimited_forward_nothing}
+use Rattle.dcsctp_delivery_sending.specs.Losing.{AreUnlimited}
+use Rattle.dcsctp_spec_lemmas.proofs.MarkedItemLemmas.{le_or_lt}
+use Rattle.dcsctp_delivery_order.specs.Delivered.{DeliveredInOrder, DeliveredWithoutGaps}
 use Rattle.dcsctp_delivery_order.specs.Queue.{IsOrderedOn, ComeInOrder}
 use Rattle.dcsctp_delivery_order.proofs.Directions.{directions_deliver_in_order}
-use Rattle.dcsctp_delivery_associations.specs.Ends.{ReceivingEnd, joined, Ends, HadKind, BeginsAnew, Awaits, Between}
+use Rattle.dcsctp_delivery_order.proofs.PlainDirections.{plain_directions_deliver_in_order}
+use Rattle.dcsctp_delivery_order.proofs.Front.{directions_deliver_without_gaps}
+use Rattle.dcsctp_delivery_order.proofs.PlainFront.{plain_directions_deliver_without_gaps}
+use Rattle.dcsctp_delivery_associations.specs.Ends.{ReceivingEnd, joined, Ends, HadKind, IsOnlyTag, BeginsAnew, Awaits, Between}
 use Rattle.dcsctp_delivery_associations.specs.InOrder.{Interleaves}
 use Rattle.dcsctp_delivery_associations.specs.Reads.{Reading, with_tag}
 use Rattle.dcsctp_delivery_associations.proofs.Delivers.{were_unmarked}
@@ -26,9 +34,9 @@ use Rattle.dcsctp_delivery_associations.proofs.Growing.{AllFound}
 -- ---- what is marked comes in the same order
 
 -- A message that was queued is marked at its place.
-record MarkAt (marks : List Message) (place : ℕ) : Type 0 where
-  mark : Message
-  at : at_place place marks ≡ Some mark
+pub record MarkAt (marks : List Message) (place : ℕ) : Type 0 where
+  pub mark : Message
+  pub at : at_place place marks ≡ Some mark
 
 mark_at : (marks : List Message) (place : ℕ) (places : List ℕ) (contents : List MessageContent) → WereQueued marks places contents → HasEntry place places → MarkAt marks place
 mark_at marks place [] contents were has = absurd has
@@ -59,17 +67,69 @@ order_unmarked marks queued id (place ∷ places) (content ∷ contents) found w
   order_unmarked marks queued id places contents found were.1 come.1,
 )
 
-in_order_unmarked : (marks queued : List Message) (contents : List MessageContent) → AllFound marks queued → DeliveredInOrder marks contents → DeliveredInOrder queued contents
+abbrev in_order_unmarked : (marks queued : List Message) (contents : List MessageContent) → AllFound marks queued → DeliveredInOrder marks contents → DeliveredInOrder queued contents
 in_order_unmarked marks queued contents found d =
     record {
       delivered = record { places = d.delivered.places; were_queued = were_unmarked marks queued d.delivered.places contents found d.delivered.were_queued; once = d.delivered.once };
       in_order = λ id. order_unmarked marks queued id d.delivered.places contents found d.delivered.were_queued (d.in_order id);
     }
 
+below_other : (place size : ℕ) → place < size + 1 → place ≢ size → place < size
+below_other place size below ne = elim (le_or_lt size place) [ inl after ↦ absurd (ne (omega (arith, below, after))) | inr before ↦ before ]
+
+is_empty : {A : Type 0} (l : List A) → length l ≤ 0 → l ≡ []
+is_empty [] none = refl
+is_empty (x ∷ l) none = absurd (omega (arith, none))
+
+-- Each place below the length of a list has an item.
+pub below_at : (place : ℕ) (marks : List Message) → place < length marks → MarkAt marks place
+below_at place [] below = absurd (omega (arith, below))
+below_at place (mark ∷ marks) below =
+    elim (decide place (length marks)) [
+      | inl last ↦ record { mark = mark; at = subst (λ (k : ℕ). at_place k (mark ∷ marks) ≡ Some mark) (sym last) (at_new mark marks) }
+      | inr ne ↦
+          let m = below_at place marks (below_other place (length marks) (omega (arith, below)) ne) in
+          record { mark = m.mark; at = at_stays place mark m.mark marks m.at }
+    ]
+
+-- What is read leaves no gap, marked or not.
+front_unmarked : (marks queued : List Message) (contents : List MessageContent) → AllFound marks queued → DeliveredWithoutGaps marks contents → DeliveredWithoutGaps queued contents
+front_unmarked marks queued contents found d =
+    record {
+      ordered = in_order_unmarked marks queued contents found d.ordered;
+      no_gap = λ id earlier later has on on' before. (
+          let m = mark_at marks later d.ordered.delivered.places contents d.ordered.delivered.were_queued has in
+          let first = below_at earlier marks (let below = at_below later m.mark marks m.at in omega (arith, before, below)) in
+          d.no_gap id earlier later has (is_ordered marks queued id later found m on) (is_ordered marks queued id earlier found first on') before
+          );
+    }
+
+-- Messages that were marked have no limits either.
+unlimited_at : (queued : List Message) (place : ℕ) (message : Message) → AreUnlimited queued → at_place place queued ≡ Some message → message.is_limited ≡ false
+unlimited_at [] place message are at = absurd (cc)
+unlimited_at (m ∷ queued) place message are at =
+    elim (at_cases place m message queued at) [
+      | inl e ↦ subst (λ (x : Message). x.is_limited ≡ false) e.1 are.0
+      | inr before ↦ unlimited_at queued place message are.1 before
+    ]
+
+pub unlimited_of : (marks : List Message) → ((place : ℕ) (mark : Message) → at_place place marks ≡ Some mark → mark.is_limited ≡ false) → AreUnlimited marks
+unlimited_of [] each = tt
+unlimited_of (mark ∷ marks) each = (each (length marks) mark (at_new mark marks), unlimited_of marks (λ place m at. each place m (at_stays place mark m marks at)))
+
+unlimited_marks : (marks queued : List Message) → AllFound marks queued → AreUnlimited queued → AreUnlimited marks
+unlimited_marks marks queued found are =
+    unlimited_of marks (λ place mark at. (let f = found place mark at in f.is.limited ∙ unlimited_at queued place f.message are f.at))
+
 -- ---- one association
 
 nothing_in_order : (queued : List Message) (contents : List MessageContent) → contents ≡ [] → DeliveredInOrder queued contents
 nothing_in_order queued contents none = subst (DeliveredInOrder queued) (sym none) (record { delivered = record { places = []; were_queued = tt; once = tt }; in_order = λ id. tt })
+
+nothing_before : (queued : List Message) (contents : List MessageContent) → contents ≡ [] → DeliveredWithoutGaps queued contents
+nothing_before queued contents none =
+    subst (DeliveredWithoutGaps queued) (sym none)
+    (record { ordered = record { delivered = record { places = []; were_queued = tt; once = tt }; in_order = λ id. tt }; no_gap = λ id earlier later has on on' before. absurd has })
 
 -- Nothing is read where nothing was queued.
 read_none : (queued : List Message) → queued ≡ [] → (contents : List MessageContent) (places : List ℕ) → WereQueued queued places contents → contents ≡ []
@@ -91,25 +151,71 @@ module _ (options : Options) (ends : Ends) (e : Endpoint) (queued : List Message
         let all = few_for_chunks options (ends.firsts tag) options.max_receiver_window_buffer_size (joined (ends.sends tag) (ends.gets tag)) (h.runs tag) (h.small tag) short in
         omega (arith, sent, went, all)
 
-  own_in_order : (tag : ℕ) → tag ≢ 0 → BeginsAnew e past tag → (ends.sends tag).queues.queue.is_interleaved ≡ true → DeliveredInOrder queued (with_tag tag reading.reads)
-  own_in_order tag some anew kind =
-      let all : DeliveredInOrder (ends.sends tag).queued (ends.gets tag).read =
-      directions_deliver_in_order options (ends.firsts tag) options.max_receiver_window_buffer_size (joined (ends.sends tag) (ends.gets tag)) (h.runs tag) (h.small tag) (little tag) (short tag) kind (h.numbered tag some anew) in
-      in_order_unmarked (ends.sends tag).queued queued (with_tag tag reading.reads) (h.sender.marks tag) (subst (DeliveredInOrder (ends.sends tag).queued) (sym (h.receiver.were_read tag)) all)
+  -- what the ends of this tag have
+  module _ (tag : ℕ) where
+    abbrev own : Direction
+    own = joined (ends.sends tag) (ends.gets tag)
 
-  pub ends_deliver_in_order : (tag : ℕ) → BeginsAnew e past tag → Interleaves past tag → DeliveredInOrder queued (with_tag tag reading.reads)
-  ends_deliver_in_order tag anew interleaves = elim (decide tag 0) [ inl zero ↦ at_zero zero | inr some ↦ elim (h.sender.kinds tag some) [ inl waits ↦ awaited waits | inr had ↦ began some had ] ]
-    where
-      -- Nothing is read under the tag 0.
-      at_zero : tag ≡ 0 → DeliveredInOrder queued (with_tag tag reading.reads)
-      at_zero zero =
-          nothing_in_order queued (with_tag tag reading.reads)
-          (elim (h.receiver.begun tag) [ inl new ↦ h.receiver.were_read tag ∙ ap (λ (g : ReceivingEnd). g.read) new | inr had ↦ absurd (had.some zero) ])
+    -- Nothing is read under the tag 0.
+    none_at_zero : tag ≡ 0 → with_tag tag reading.reads ≡ []
+    none_at_zero zero = elim (h.receiver.begun tag) [ inl new ↦ h.receiver.were_read tag ∙ ap (λ (g : ReceivingEnd). g.read) new | inr had ↦ absurd (had.some zero) ]
 
-      awaited : Awaits (ends.sends tag) → DeliveredInOrder queued (with_tag tag reading.reads)
-      awaited waits =
-          let d = directions_deliver options (ends.firsts tag) options.max_receiver_window_buffer_size (joined (ends.sends tag) (ends.gets tag)) (h.runs tag) (h.small tag) (little tag) (short tag) in
-          nothing_in_order queued (with_tag tag reading.reads) (h.receiver.were_read tag ∙ read_none (ends.sends tag).queued waits.queued (ends.gets tag).read d.places d.were_queued)
+    -- Nothing is read where the sender hasn't begun.
+    none_awaited : Awaits (ends.sends tag) → with_tag tag reading.reads ≡ []
+    none_awaited waits =
+        let d = directions_deliver options (ends.firsts tag) options.max_receiver_window_buffer_size own (h.runs tag) (h.small tag) (little tag) (short tag) in
+        h.receiver.were_read tag ∙ read_none (ends.sends tag).queued waits.queued (ends.gets tag).read d.places d.were_queued
 
-      began : tag ≢ 0 → HadKind past tag (ends.sends tag).queues.queue.is_interleaved → DeliveredInOrder queued (with_tag tag reading.reads)
-      began some had = own_in_order tag some anew (sym had.kind_is ∙ interleaves had.link had.held had.tag_is)
+    -- No request was begun where none was sent.
+    unasked : requests_to tag packets ≡ 0 → (ends.sends tag).asking.requests ≡ []
+    unasked none =
+        let sent = requests_are_sent options (ends.firsts tag) options.max_receiver_window_buffer_size own (h.runs tag) in
+        let few' = h.sender.few_requests tag in
+        is_empty (ends.sends tag).asking.requests (omega (arith, sent, few', none))
+
+    in_order_so : DeliveredInOrder (ends.sends tag).queued (ends.gets tag).read → DeliveredInOrder queued (with_tag tag reading.reads)
+    in_order_so all = in_order_unmarked (ends.sends tag).queued queued (with_tag tag reading.reads) (h.sender.marks tag) (subst (DeliveredInOrder (ends.sends tag).queued) (sym (h.receiver.were_read tag)) all)
+
+    front_so : DeliveredWithoutGaps (ends.sends tag).queued (ends.gets tag).read → DeliveredWithoutGaps queued (with_tag tag reading.reads)
+    front_so all = front_unmarked (ends.sends tag).queued queued (with_tag tag reading.reads) (h.sender.marks tag) (subst (DeliveredWithoutGaps (ends.sends tag).queued) (sym (h.receiver.were_read tag)) all)
+
+    -- Either nothing was read under the tag, or the sender had an association of it.
+    by_begun : {P : Type 0} → (with_tag tag reading.reads ≡ [] → P) → (tag ≢ 0 → HadKind past tag (ends.sends tag).queues.queue.is_interleaved → P) → P
+    by_begun none had = elim (decide tag 0) [ inl zero ↦ none (none_at_zero zero) | inr some ↦ elim (h.sender.kinds tag some) [ inl waits ↦ none (none_awaited waits) | inr kind ↦ had some kind ] ]
+
+  pub ends_deliver_in_order : (tag : ℕ) → BeginsAnew e past tag → Interleaves true past tag → DeliveredInOrder queued (with_tag tag reading.reads)
+  ends_deliver_in_order tag anew interleaves =
+      by_begun tag (nothing_in_order queued (with_tag tag reading.reads))
+      (λ some had. in_order_so tag
+      (directions_deliver_in_order options (ends.firsts tag) options.max_receiver_window_buffer_size (own tag) (h.runs tag) (h.small tag) (little tag) (short tag)
+      (sym had.kind_is ∙ interleaves had.link had.held had.tag_is) (h.numbered tag some anew)))
+
+  module _ (window : options.max_receiver_window_buffer_size < 2 ^ 32) (are : AreUnlimited queued) where
+    room : options.max_receiver_window_buffer_size ≤ 2 ^ 63
+    room = omega (arith, window)
+
+    unlimited : (tag : ℕ) → AreUnlimited (ends.sends tag).queued
+    unlimited tag = unlimited_marks (ends.sends tag).queued queued (h.sender.marks tag) are
+
+    pub ends_deliver_data_in_order : (tag : ℕ) → BeginsAnew e past tag → Interleaves false past tag → requests_to tag packets ≡ 0 → DeliveredInOrder queued (with_tag tag reading.reads)
+    ends_deliver_data_in_order tag anew kind none =
+        by_begun tag (nothing_in_order queued (with_tag tag reading.reads))
+        (λ some had. in_order_so tag
+        (plain_directions_deliver_in_order options (ends.firsts tag) options.max_receiver_window_buffer_size (own tag) (h.runs tag) (h.small tag) (little tag) (short tag) room
+        (sym had.kind_is ∙ kind had.link had.held had.tag_is) (h.numbered tag some anew) (unasked tag none)
+        (unlimited_forward_nothing options (ends.firsts tag) options.max_receiver_window_buffer_size (own tag) (h.runs tag) (h.small tag) (short tag) (unlimited tag))))
+
+    -- Either way of numbering leaves no gap.
+    own_front : (tag : ℕ) → tag ≢ 0 → ends.never_resets ≡ true → IsOnlyTag past tag → (kind : Bool) → (ends.sends tag).queues.queue.is_interleaved ≡ kind
+        → DeliveredWithoutGaps (ends.sends tag).queued (ends.gets tag).read
+    own_front tag some never only true is =
+        directions_deliver_without_gaps options (ends.firsts tag) options.max_receiver_window_buffer_size (own tag) (h.runs tag) (h.small tag) (little tag) (short tag) is
+        (h.numbered tag some (inr only)) (h.kept tag some never only) (unlimited tag)
+    own_front tag some never only false is =
+        plain_directions_deliver_without_gaps options (ends.firsts tag) options.max_receiver_window_buffer_size (own tag) (h.runs tag) (h.small tag) (little tag) (short tag) room is
+        (h.numbered tag some (inr only)) (h.kept tag some never only) (unlimited tag)
+
+    pub ends_deliver_without_gaps : ends.never_resets ≡ true → (tag : ℕ) → IsOnlyTag past tag → DeliveredWithoutGaps queued (with_tag tag reading.reads)
+    ends_deliver_without_gaps never tag only =
+        by_begun tag (nothing_before queued (with_tag tag reading.reads))
+        (λ some had. front_so tag (own_front tag some never only (ends.sends tag).queues.queue.is_interleaved refl))

@@ -77,7 +77,7 @@ begun_of options first size direction run number reset (inr was) =
 -- the ends once the receiver has this under the tag, and this is known of the requests there
 abbrev pub asked_ends : Ends → ℕ → Asking → ReceivingEnd → Ends
 asked_ends ends tag asking got =
-    record { sends = λ t. record (ends.sends t) { asking = set_at tag asking (λ n. (ends.sends n).asking) t }; gets = set_at tag got ends.gets; firsts = ends.firsts }
+    record ends { sends = λ t. record (ends.sends t) { asking = set_at tag asking (λ n. (ends.sends n).asking) t }; gets = set_at tag got ends.gets; firsts = ends.firsts }
 
 module _ (ends : Ends) (pairs : ℕ → Pair) (tag : ℕ) (got : ReceivingEnd) where
   -- a tag's requests, with this begun

@@ -88,7 +88,7 @@ module _ (options : Options) (ends : Ends) (e : Endpoint) (queued : List Message
         (subst (λ (g : ReceivingEnd). DirectionRun options first options.max_receiver_window_buffer_size (joined (ends.sends tag) g)) (sym (begun_end options d.options first same)) run)
 
     later_receiver : (firsts : ℕ → ℕ) → firsts tag ≡ first → ((t : ℕ) → t ≢ tag → firsts t ≡ ends.firsts t) → ends.gets tag ≡ new_end options (ends.firsts tag)
-        → Receiver options (record { sends = ends.sends; gets = set_at tag got ends.gets; firsts = firsts }) o.after (after_effects o.effects their_past) (record { reads = reading.reads; last = tag })
+        → Receiver options (record ends { sends = ends.sends; gets = set_at tag got ends.gets; firsts = firsts }) o.after (after_effects o.effects their_past) (record { reads = reading.reads; last = tag })
     later_receiver firsts here others fresh =
         record {
           fits = opens.fits;
@@ -125,14 +125,15 @@ module _ (options : Options) (ends : Ends) (e : Endpoint) (queued : List Message
         other t ne (inl new) = inl (set_other tag t got ends.gets ne ∙ new ∙ ap (new_end options) (sym (others t ne)))
         other t ne (inr had) = inr (subst (λ (n : ℕ). HadTag (after_effects o.effects their_past) t n) (sym (others t ne)) (tag_later o.effects their_past t (ends.firsts t) had))
 
-    crossed_opens : ends.firsts tag ≡ first → ends.gets tag ≡ new_end options (ends.firsts tag) → AreEnds options e queued past packets o.after (after_effects o.effects their_past) (record { reads = reading.reads; last = tag })
+    crossed_opens : ends.firsts tag ≡ first → ends.gets tag ≡ new_end options (ends.firsts tag) → AreEnds ends.never_resets options e queued past packets o.after (after_effects o.effects their_past) (record { reads = reading.reads; last = tag })
     crossed_opens here fresh =
         let end : ends.gets tag ≡ new_end options first = fresh ∙ ap (new_end options) here in
         let start : DirectionRun options first options.max_receiver_window_buffer_size (joined (ends.sends tag) (new_end options first)) =
         subst (λ (n : ℕ). DirectionRun options n options.max_receiver_window_buffer_size (joined (ends.sends tag) (new_end options first))) here
         (subst (λ (g : ReceivingEnd). DirectionRun options (ends.firsts tag) options.max_receiver_window_buffer_size (joined (ends.sends tag) g)) end (h.runs tag)) in
         record {
-          ends = record { sends = ends.sends; gets = set_at tag got ends.gets; firsts = ends.firsts };
+          ends = record ends { sends = ends.sends; gets = set_at tag got ends.gets; firsts = ends.firsts };
+          is = refl;
           between = record {
             runs = set_all (λ t g. DirectionRun options (ends.firsts t) options.max_receiver_window_buffer_size (joined (ends.sends t) g)) tag got ends.gets
                 (subst (λ (n : ℕ). DirectionRun options n options.max_receiver_window_buffer_size (joined (ends.sends tag) got)) (sym here) (opened start)) (λ t ne. h.runs t);
@@ -140,13 +141,15 @@ module _ (options : Options) (ends : Ends) (e : Endpoint) (queued : List Message
             sender = sender_same ends (set_at tag got ends.gets) (peer_tag e.core) e.queues queued past packets h.sender;
             asks = h.asks;
             numbered = h.numbered;
+            kept = h.kept;
+            dropping = h.dropping;
             unbegun = h.unbegun;
             receiver = later_receiver ends.firsts here (λ t ne. refl) fresh;
           };
           answered = opens_answered ends e past d their_past w input o may turn opens is (set_at tag got ends.gets) ends.firsts here (λ t ne. refl) (inl here);
         }
 
-    awaited_opens : Awaits (ends.sends tag) → tag ≢ peer_tag e.core → ends.gets tag ≡ new_end options (ends.firsts tag) → AreEnds options e queued past packets o.after (after_effects o.effects their_past) (record { reads = reading.reads; last = tag })
+    awaited_opens : Awaits (ends.sends tag) → tag ≢ peer_tag e.core → ends.gets tag ≡ new_end options (ends.firsts tag) → AreEnds ends.never_resets options e queued past packets o.after (after_effects o.effects their_past) (record { reads = reading.reads; last = tag })
     awaited_opens waits apart fresh =
         let queues = direction_queues options (ends.firsts tag) options.max_receiver_window_buffer_size (joined (ends.sends tag) (ends.gets tag)) (h.runs tag) (h.small tag)
         (let short = h.sender.short tag in omega (arith, few, short)) in
@@ -162,16 +165,19 @@ module _ (options : Options) (ends : Ends) (e : Endpoint) (queued : List Message
           reassembly = refl;
           read = refl;
           asking = waits.asking;
-          zero = waits.zero;
+          begun = waits.begun;
         }) in
         record {
-          ends = record { sends = ends.sends; gets = set_at tag got ends.gets; firsts = set_at tag first ends.firsts };
+          ends = record ends { sends = ends.sends; gets = set_at tag got ends.gets; firsts = set_at tag first ends.firsts };
+          is = refl;
           between = record {
             runs = set_three (λ t f s g. DirectionRun options f options.max_receiver_window_buffer_size (joined (ends.sends t) g)) tag first (ends.sends tag) got ends.firsts ends.sends ends.gets (opened start) (λ t ne. h.runs t);
             small = set_all (λ t f. f < 2 ^ 32) tag first ends.firsts is.small (λ t ne. h.small t);
             sender = sender_first ends (set_at tag got ends.gets) tag first (peer_tag e.core) e.queues queued past packets h.sender apart waits;
             asks = subst (λ (n : ℕ). AsksFit n (own_of e) (ends.sends (peer_tag e.core)).asking) (sym (set_other tag (peer_tag e.core) first ends.firsts (λ is'. apart (sym is')))) h.asks;
             numbered = h.numbered;
+            kept = h.kept;
+            dropping = h.dropping;
             unbegun = h.unbegun;
             receiver = later_receiver (set_at tag first ends.firsts) (set_same tag first ends.firsts) (λ t ne. set_other tag t first ends.firsts ne) fresh;
           };
@@ -179,17 +185,17 @@ module _ (options : Options) (ends : Ends) (e : Endpoint) (queued : List Message
               (inr (waits.asking, apart));
         }
 
-    opens_last : AreEnds options e queued past packets o.after (after_effects o.effects their_past) (record { reads = reading.reads; last = tag })
+    opens_last : AreEnds ends.never_resets options e queued past packets o.after (after_effects o.effects their_past) (record { reads = reading.reads; last = tag })
     opens_last =
         elim (h.receiver.begun tag) [
           | inl fresh ↦ go fresh (known ends (peer_tag e.core) e.queues queued past their_past packets (identity_of opens.begun.my opens.begun.held) h.sender is)
           | inr had ↦ absurd ((is.other had.link had.held).0 had.tag_is)
         ]
       where
-        go : ends.gets tag ≡ new_end options (ends.firsts tag) → Known ends (peer_tag e.core) (identity_of opens.begun.my opens.begun.held) → AreEnds options e queued past packets o.after (after_effects o.effects their_past) (record { reads = reading.reads; last = tag })
+        go : ends.gets tag ≡ new_end options (ends.firsts tag) → Known ends (peer_tag e.core) (identity_of opens.begun.my opens.begun.held) → AreEnds ends.never_resets options e queued past packets o.after (after_effects o.effects their_past) (record { reads = reading.reads; last = tag })
         go fresh (is_crossed here) = crossed_opens here fresh
         go fresh (is_awaited waits apart) = awaited_opens waits apart fresh
 
-    pub opens_goes : AreEnds options e queued past packets o.after (after_effects o.effects their_past) (record { reads = reading.reads; last = tag_or reading.last (identity_in o.after.core) })
+    pub opens_goes : AreEnds ends.never_resets options e queued past packets o.after (after_effects o.effects their_past) (record { reads = reading.reads; last = tag_or reading.last (identity_in o.after.core) })
     opens_goes =
-        subst (λ (n : ℕ). AreEnds options e queued past packets o.after (after_effects o.effects their_past) (record { reads = reading.reads; last = n })) (sym (ap (tag_or reading.last) opens.linked)) opens_last
+        subst (λ (n : ℕ). AreEnds ends.never_resets options e queued past packets o.after (after_effects o.effects their_past) (record { reads = reading.reads; last = n })) (sym (ap (tag_or reading.last) opens.linked)) opens_last

@@ -129,7 +129,7 @@ module _ (ends : Ends) (e : Endpoint) (past : List Effect) (d : Endpoint) (their
     fresh = record { my = new.peer; first = new.peer.first_tsn; asking = (ends.sends t).asking; is_interleaved = (ends.sends t).queues.queue.is_interleaved }
 
     abbrev pub opened : Ends
-    opened = record { sends = ends.sends; gets = gets; firsts = firsts }
+    opened = record ends { sends = ends.sends; gets = gets; firsts = firsts }
 
     same_opened : (tag : ℕ) → requests_of opened (set_at t new.peer w.pairs) tag ≡ set_at t fresh (requests_of ends w.pairs) tag
     same_opened tag =
@@ -145,7 +145,7 @@ module _ (ends : Ends) (e : Endpoint) (past : List Effect) (d : Endpoint) (their
               ∙ sym (set_other t tag fresh (requests_of ends w.pairs) ne)
         ]
 
-    pub opens_answered : AreAnswered (record { sends = ends.sends; gets = gets; firsts = firsts }) e past o.after (after_effects o.effects their_past)
+    pub opens_answered : AreAnswered (record ends { sends = ends.sends; gets = gets; firsts = firsts }) e past o.after (after_effects o.effects their_past)
     opens_answered =
         record {
           pairs = set_at t new.peer w.pairs;

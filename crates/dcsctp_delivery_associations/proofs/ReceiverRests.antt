@@ -25,7 +25,7 @@ use Rattle.dcsctp_delivery_associations.proofs.ReceiverOpens.{rests_answered}
 use Rattle.dcsctp_spec_lemmas.specs.types.declared.association.Pair.{Pair}
 use Rattle.dcsctp_spec_runs.specs.Past.{HasEffect}
 use Rattle.dcsctp_spec_lemmas.specs.spec.association.Effect.{performs}
-use Rattle.dcsctp_delivery_turns.specs.Actions.{peer_tag, with_first, IsCall}
+use Rattle.dcsctp_delivery_turns.specs.Actions.{peer_tag, IsCall}
 use Rattle.dcsctp_delivery_turns.specs.Asking.{own_of, SomeFit}
 use Rattle.dcsctp_delivery_associations.specs.Ends.{ReceivingEnd, joined, new_end, Ends, HadTag, LeavesReady, Between}
 use Rattle.dcsctp_delivery_associations.specs.Reads.{Read, Reading, tag_or, reading_after, tagged_after, and_first, with_tag}
@@ -39,18 +39,18 @@ module _ (options : Options) (ends : Ends) (e : Endpoint) (queued : List Message
     (h : Between options ends e queued past packets d their_past reading) (input : Input) (o : Outcome) (w : AreAnswered ends e past d their_past) (may : IsCall input) (turn : Turn d input o) where
   -- what is to be shown of the turn
   abbrev Turned : Type 0
-  Turned = AreEnds options e queued past packets o.after (after_effects o.effects their_past) (reading_after d input o.after reading)
+  Turned = AreEnds ends.never_resets options e queued past packets o.after (after_effects o.effects their_past) (reading_after d input o.after reading)
 
   -- what is known after the turn, once this was read
   abbrev After : List Read → Type 0
-  After reads = AreEnds options e queued past packets o.after (after_effects o.effects their_past) (record { reads = reads; last = tag_or reading.last (identity_in o.after.core) })
+  After reads = AreEnds ends.never_resets options e queued past packets o.after (after_effects o.effects their_past) (record { reads = reads; last = tag_or reading.last (identity_in o.after.core) })
 
   unread_goes : tagged_after reading.last d input reading.reads ≡ reading.reads → After reading.reads → Turned
   unread_goes unread goes = subst After (sym unread) goes
 
   -- Without an association the last one stays the last.
-  still_last : identity_in o.after.core ≡ None → (reads : List Read) → AreEnds options e queued past packets o.after (after_effects o.effects their_past) (record { reads = reads; last = reading.last }) → After reads
-  still_last unlinked reads = subst (λ (n : ℕ). AreEnds options e queued past packets o.after (after_effects o.effects their_past) (record { reads = reads; last = n })) (sym (ap (tag_or reading.last) unlinked))
+  still_last : identity_in o.after.core ≡ None → (reads : List Read) → AreEnds ends.never_resets options e queued past packets o.after (after_effects o.effects their_past) (record { reads = reads; last = reading.last }) → After reads
+  still_last unlinked reads = subst (λ (n : ℕ). AreEnds ends.never_resets options e queued past packets o.after (after_effects o.effects their_past) (record { reads = reads; last = n })) (sym (ap (tag_or reading.last) unlinked))
 
   -- there is none after the turn
   pub rests : o.after.queues.transfer ≡ None → SomeFit (own_of o.after) → identity_in o.after.core ≡ None → ((my : Pair) (number : ℕ) → HasEffect (performs my number) o.effects → ⊥) → LeavesReady ends.gets reading.last o.after.left o.after.queues.transfer
@@ -58,12 +58,15 @@ module _ (options : Options) (ends : Ends) (e : Endpoint) (queued : List Message
   rests none fits unlinked no_performs left =
       still_last unlinked reading.reads (record {
         ends = ends;
+        is = refl;
         between = record {
           runs = h.runs;
           small = h.small;
           sender = h.sender;
           asks = h.asks;
           numbered = h.numbered;
+          kept = h.kept;
+          dropping = h.dropping;
           unbegun = h.unbegun;
           receiver = record {
             fits = fits;
@@ -97,6 +100,7 @@ module _ (options : Options) (ends : Ends) (e : Endpoint) (queued : List Message
         let rest = rests_answered ends e past d their_past w input o may turn unlinked no_performs in
         still_last unlinked (and_first tag (message ∷ messages) reading.reads) (record {
           ends = record ends { gets = set_at tag got ends.gets };
+          is = refl;
           between = record {
             runs = set_all (λ t g. DirectionRun options (ends.firsts t) options.max_receiver_window_buffer_size (joined (ends.sends t) g)) tag got ends.gets
                 (directions.goes_on (joined (ends.sends tag) (ends.gets tag)) (joined (ends.sends tag) got) (h.runs tag) (directions.takes message messages ready)) (λ t ne. h.runs t);
@@ -104,6 +108,8 @@ module _ (options : Options) (ends : Ends) (e : Endpoint) (queued : List Message
             sender = sender_same ends (set_at tag got ends.gets) (peer_tag e.core) e.queues queued past packets h.sender;
             asks = h.asks;
             numbered = h.numbered;
+            kept = h.kept;
+            dropping = h.dropping;
             unbegun = h.unbegun;
             receiver = record {
               fits = fits;

@@ -9,7 +9,6 @@ use Rattle.dcsctp_spec_lemmas.specs.spec.Packet.{Emission}
 use Rattle.dcsctp_spec_lemmas.specs.spec.endpoint.Turn.{Input, Turn}
 use Rattle.dcsctp_spec_runs.specs.World.{after_effects}
 use Rattle.dcsctp_spec_lemmas.specs.spec.association.Effect.{AssociationIdentity, Effect, identity_of, identity_in}
-use Rattle.dcsctp_spec_lemmas.specs.types.queues.Messages.{MessageContent}
 use Rattle.dcsctp_spec_lemmas.specs.spec.queues.Reassembly.{ReassemblyState}
 use Rattle.dcsctp_spec_lemmas.specs.spec.queues.Tracker.{TrackerState}
 use Rattle.dcsctp_spec_lemmas.specs.spec.queues.Transfer.{Transfer}
@@ -54,12 +53,12 @@ module _ (options : Options) (ends : Ends) (e : Endpoint) (queued : List Message
     (little : AsksLittle packets) (new_tags : (link old : AssociationIdentity) → HasEffect (holds link) o.effects → HasEffect (holds old) their_past → old.my.tag ≢ link.my.tag) (may : IsCall input) (turn : Turn d input o) where
   -- what is to be shown of the turn
   abbrev pub Turned : Type 0
-  Turned = AreEnds options e queued past packets o.after (after_effects o.effects their_past) (reading_after d input o.after reading)
+  Turned = AreEnds ends.never_resets options e queued past packets o.after (after_effects o.effects their_past) (reading_after d input o.after reading)
 
   unread_goes : tagged_after reading.last d input reading.reads ≡ reading.reads
-      → AreEnds options e queued past packets o.after (after_effects o.effects their_past) (record { reads = reading.reads; last = tag_or reading.last (identity_in o.after.core) }) → Turned
+      → AreEnds ends.never_resets options e queued past packets o.after (after_effects o.effects their_past) (record { reads = reading.reads; last = tag_or reading.last (identity_in o.after.core) }) → Turned
   unread_goes unread goes =
-      subst (λ (l : List Read). AreEnds options e queued past packets o.after (after_effects o.effects their_past) (record { reads = l; last = tag_or reading.last (identity_in o.after.core) })) (sym unread) goes
+      subst (λ (l : List Read). AreEnds ends.never_resets options e queued past packets o.after (after_effects o.effects their_past) (record { reads = l; last = tag_or reading.last (identity_in o.after.core) })) (sym unread) goes
 
   -- ---- an association continues
 
@@ -73,10 +72,11 @@ module _ (options : Options) (ends : Ends) (e : Endpoint) (queued : List Message
     receives linked left is fits asking still fit answered run =
         let tag : ℕ = c.link.my.tag in
         let got : ReceivingEnd = record { tracker = left.tracker; reassembly = left.reassembly; read = read_after d input (ends.gets tag).read } in
-        subst (λ (n : ℕ). AreEnds options e queued past packets o.after (after_effects o.effects their_past) (record { reads = tagged_after n d input reading.reads; last = tag_or reading.last (identity_in o.after.core) })) (sym (h.receiver.last c.link c.linked))
-        (subst (λ (n : ℕ). AreEnds options e queued past packets o.after (after_effects o.effects their_past) (record { reads = tagged_after c.link.my.tag d input reading.reads; last = n })) (sym (ap (tag_or reading.last) (linked ∙ c.linked)))
+        subst (λ (n : ℕ). AreEnds ends.never_resets options e queued past packets o.after (after_effects o.effects their_past) (record { reads = tagged_after n d input reading.reads; last = tag_or reading.last (identity_in o.after.core) })) (sym (h.receiver.last c.link c.linked))
+        (subst (λ (n : ℕ). AreEnds ends.never_resets options e queued past packets o.after (after_effects o.effects their_past) (record { reads = tagged_after c.link.my.tag d input reading.reads; last = n })) (sym (ap (tag_or reading.last) (linked ∙ c.linked)))
         (record {
           ends = asked_ends ends tag asking got;
+          is = refl;
           between = record {
             runs = λ t. elim (decide t tag) [
               | inl e' ↦
@@ -96,6 +96,8 @@ module _ (options : Options) (ends : Ends) (e : Endpoint) (queued : List Message
               | inr ne ↦ subst (λ (x : Asking). AsksFit (ends.firsts (peer_tag e.core)) (own_of e) x) (sym (set_other tag (peer_tag e.core) asking (λ n. (ends.sends n).asking) ne)) h.asks
             ];
             numbered = h.numbered;
+            kept = h.kept;
+            dropping = h.dropping;
             unbegun = h.unbegun;
             receiver = record {
               fits = fits;

@@ -147,7 +147,7 @@ of_end first my end = record { my = my; first = first; asking = end.asking; is_i
 -- Where another end takes its place, others are the same.
 pub set_ends : (ends : Ends) (pairs : ℕ → Pair) (key : ℕ) (end : SendingEnd) (gets : ℕ → ReceivingEnd) (firsts : ℕ → ℕ) (others : ℕ → Pair) (new : Requests) → of_end (firsts key) (others key) end ≡ new
     → ((tag : ℕ) → tag ≢ key → (firsts tag ≡ ends.firsts tag) × (others tag ≡ pairs tag)) → (tag : ℕ)
-    → requests_of (record { sends = set_at key end ends.sends; gets = gets; firsts = firsts }) others tag ≡ set_at key new (requests_of ends pairs) tag
+    → requests_of (record ends { sends = set_at key end ends.sends; gets = gets; firsts = firsts }) others tag ≡ set_at key new (requests_of ends pairs) tag
 set_ends ends pairs key end gets firsts others new is same tag =
     elim (decide tag key) [
       | inl e ↦
@@ -221,9 +221,9 @@ pub begins_answers : (ends : Ends) (e : Endpoint) (past : List Effect) (d : Endp
     → (ends.sends new.peer.tag).asking ≡ nothing_asked → (end : SendingEnd) (gets : ℕ → ReceivingEnd) (firsts : ℕ → ℕ) → firsts new.peer.tag ≡ new.my.first_tsn → ((tag : ℕ) → tag ≢ new.peer.tag → firsts tag ≡ ends.firsts tag)
     → MayBegin new.my.first_tsn nothing_asked end.asking → ((other : AssociationIdentity) → identity_in d.core ≡ Some other → other.my.tag ≡ new.peer.tag → ends.firsts new.peer.tag ≡ new.my.first_tsn)
     → (later : List Effect) → ((effect : Effect) → HasEffect effect past → HasEffect effect later) → HasEffect (holds new) later
-    → AnswersRequests (requests_of (record { sends = set_at new.peer.tag end ends.sends; gets = gets; firsts = firsts }) (set_at new.peer.tag new.my w.pairs)) (Some new) later (identity_in d.core) their_past (waiting_deferral d.queues.transfer)
+    → AnswersRequests (requests_of (record ends { sends = set_at new.peer.tag end ends.sends; gets = gets; firsts = firsts }) (set_at new.peer.tag new.my w.pairs)) (Some new) later (identity_in d.core) their_past (waiting_deferral d.queues.transfer)
 begins_answers ends e past d their_past w new is nothing end gets firsts first others begins crossed later grows held =
-    same_requests (requests_of (record { sends = set_at new.peer.tag end ends.sends; gets = gets; firsts = firsts }) (set_at new.peer.tag new.my w.pairs))
+    same_requests (requests_of (record ends { sends = set_at new.peer.tag end ends.sends; gets = gets; firsts = firsts }) (set_at new.peer.tag new.my w.pairs))
     (set_at new.peer.tag (fresh_requests new end.queues.queue.is_interleaved end.asking) (requests_of ends w.pairs)) (Some new) later (identity_in d.core) their_past (waiting_deferral d.queues.transfer)
     (set_ends ends w.pairs new.peer.tag end gets firsts (set_at new.peer.tag new.my w.pairs) (fresh_requests new end.queues.queue.is_interleaved end.asking) here
     (λ tag ne. (others tag ne, set_other new.peer.tag tag new.my w.pairs ne)))

@@ -1,6 +1,6 @@
 -- A turn of the sender in which an association begins.
 use Rattle.std.proofs.Common.{◌≡◌, ◌≢◌, ℕ, Bool, true, false, ◌<◌, ◌^◌, Option, None, Some, List, [], ◌∷◌, ◌++◌, length, arith, refl, sym, ◌∙◌, ap, subst, inl, inr}
-use Rattle.std.specs.Prelude.{◌⊎◌, ◌||◌}
+use Rattle.std.specs.Prelude.{◌⊎◌, ◌||◌, ◌&&◌}
 use Rattle.std.specs.List.{AllByRecursion}
 use Rattle.dcsctp_spec_lemmas.specs.types.declared.options.Options.{Options}
 use Rattle.dcsctp_spec_lemmas.specs.types.declared.association.Pair.{Pair}
@@ -21,16 +21,16 @@ use Rattle.dcsctp_delivery_sending.specs.Queueing.{QueueWaits}
 use Rattle.dcsctp_delivery_sending.specs.Marking.{all_marked}
 use Rattle.dcsctp_delivery_sending.proofs.Places.{decide, set_same, set_other}
 use Rattle.dcsctp_delivery_sending.proofs.MarkingAll.{all_marked_keep, all_marked_fit}
-use Rattle.dcsctp_delivery_directions.specs.Directions.{Direction, Asking, nothing_asked, DirectionRun, IsAwaited, BeginsAtZero}
+use Rattle.dcsctp_delivery_directions.specs.Directions.{Direction, Asking, nothing_asked, DirectionRun, IsAwaited, BeginsAtZero, Beginning, BeginsAs, AllWait}
 use Rattle.dcsctp_delivery_turns.specs.Actions.{peer_tag, Begun}
 use Rattle.dcsctp_delivery_turns.specs.Asking.{own_of, AsksFit, AskingGrows}
 use Rattle.dcsctp_delivery_turns.specs.Addressed.{AreAddressed}
 use Rattle.dcsctp_delivery_turns.specs.Runs.{sender_at, new_direction}
 use Rattle.dcsctp_delivery_turns.proofs.Beginnings.{begun_at_zero}
 use Rattle.dcsctp_delivery_turns.proofs.Runs.{senders_begin}
-use Rattle.dcsctp_delivery_turns.proofs.Unbegun.{unbegun_begins_at_zero}
+use Rattle.dcsctp_delivery_turns.proofs.Unbegun.{unbegun_begins_at_zero, unbegun_begins_waiting}
 use Rattle.dcsctp_delivery_associations.proofs.Held.{never_held, none_held, some_held}
-use Rattle.dcsctp_delivery_associations.specs.Ends.{SendingEnd, ReceivingEnd, joined, new_end, Ends, HadPeer, HadKind, IsUnbegun, NeverHeld, BeginsAnew, Awaits, Sender, NewPeer, HadTag, IsCurrentEnd, Receiver, Between}
+use Rattle.dcsctp_delivery_associations.specs.Ends.{SendingEnd, ReceivingEnd, joined, new_end, Ends, HadPeer, HadKind, IsUnbegun, NeverHeld, BeginsAnew, Awaits, Sender, NewPeer, HadTag, IsCurrentEnd, Receiver, Between, IsOnlyTag}
 use Rattle.dcsctp_delivery_directions.proofs.RequestCounts.{requests_more_to, requests_are_sent}
 use Rattle.dcsctp_delivery_associations.specs.Answered.{AnswersRequests, requests_of, waiting_deferral, AreAnswered}
 use Rattle.dcsctp_delivery_associations.proofs.AskedOn.{MayBegin}
@@ -76,7 +76,7 @@ module _ (options : Options) (ends : Ends) (d : Endpoint) (past their_past : Lis
 -- The receiver's end under this tag is new, and stays so.
 receiver_renewed : (options : Options) (ends : Ends) (sends : ℕ → SendingEnd) (d : Endpoint) (past : List Effect) (reading : Reading) (tag first : ℕ) → Receiver options ends d past reading
     → ends.gets tag ≡ new_end options (ends.firsts tag) → ((transfer : Transfer) (link : AssociationIdentity) → d.queues.transfer ≡ Some transfer → identity_in d.core ≡ Some link → link.my.tag ≢ tag)
-    → Receiver options (record { sends = sends; gets = set_at tag (new_end options first) ends.gets; firsts = set_at tag first ends.firsts }) d past reading
+    → Receiver options (record ends { sends = sends; gets = set_at tag (new_end options first) ends.gets; firsts = set_at tag first ends.firsts }) d past reading
 receiver_renewed options ends sends d past reading tag first r fresh apart =
     record {
       fits = r.fits;
@@ -93,7 +93,7 @@ receiver_renewed options ends sends d past reading tag first r fresh apart =
       ];
     }
   where
-    still : (transfer : Transfer) → d.queues.transfer ≡ Some transfer → IsCurrentEnd ends d past transfer → IsCurrentEnd (record { sends = sends; gets = set_at tag (new_end options first) ends.gets; firsts = set_at tag first ends.firsts }) d past transfer
+    still : (transfer : Transfer) → d.queues.transfer ≡ Some transfer → IsCurrentEnd ends d past transfer → IsCurrentEnd (record ends { sends = sends; gets = set_at tag (new_end options first) ends.gets; firsts = set_at tag first ends.firsts }) d past transfer
     still transfer there c =
         let ne : c.link.my.tag ≢ tag = apart transfer c.link there c.linked in
         let same = set_other tag c.link.my.tag (new_end options first) ends.gets ne in
@@ -111,7 +111,7 @@ receiver_renewed options ends sends d past reading tag first r fresh apart =
     other t ne (inr had) = inr (subst (λ (n : ℕ). HadTag past t n) (sym (set_other tag t first ends.firsts ne)) had)
 
 module _ (options : Options) (ends : Ends) (e : Endpoint) (queued : List Message) (past : List Effect) (packets : List Emission) (d : Endpoint) (their_past : List Effect) (reading : Reading)
-    (h : Between options ends e queued past packets d their_past reading) (input : Input) (o : Outcome) (w : AreAnswered ends e past d their_past) (little : AsksLittle (packets ++ packets_in o.events)) (begun : Begun e o) (follows : o.after.options.follow_rfc ≡ e.options.follow_rfc) (same_kind : o.after.queues.queue.is_interleaved ≡ begun.held.capabilities.message_interleaving) (unbegun : NeverHeld (after_effects o.effects past) → IsUnbegun o.after) where
+    (h : Between options ends e queued past packets d their_past reading) (input : Input) (o : Outcome) (w : AreAnswered ends e past d their_past) (little : AsksLittle (packets ++ packets_in o.events)) (begun : Begun e o) (follows : o.after.options.follow_rfc ≡ e.options.follow_rfc) (same_kind : o.after.queues.queue.is_interleaved ≡ begun.held.capabilities.message_interleaving) (unbegun : NeverHeld (after_effects o.effects past) → IsUnbegun ends.never_resets o.after) where
   abbrev pub new : AssociationIdentity
   new = identity_of begun.my begun.held
 
@@ -119,9 +119,9 @@ module _ (options : Options) (ends : Ends) (e : Endpoint) (queued : List Message
   marks = all_marked (length (ends.sends (peer_tag e.core)).queued) (ends.sends (peer_tag e.core)).queues.queue.streams (ends.sends (peer_tag e.core)).queued
 
   abbrev pub Later : Type 0
-  Later = (other : Options) (room : ℕ) (awaiting : Direction) (queued : List Message) (from_zero : Bool) → QueueWaits queued e.queues.queue → AllByRecursion Fits queued → DirectionRun other begun.my.first_tsn room awaiting → IsAwaited awaiting
-      → (from_zero ≡ true → BeginsAtZero begun.queue) → (acknowledged : ℕ) × (asking : Asking) × AskingGrows nothing_asked asking × AsksFit begun.my.first_tsn (own_of o.after) asking
-      × DirectionRun other begun.my.first_tsn room (record (sender_at awaiting queued o.after.queues acknowledged (packets_in o.events) asking) { from_zero = from_zero })
+  Later = (other : Options) (room : ℕ) (awaiting : Direction) (queued : List Message) (beginning : Beginning) → QueueWaits queued e.queues.queue → AllByRecursion Fits queued → DirectionRun other begun.my.first_tsn room awaiting → IsAwaited awaiting
+      → BeginsAs beginning begun.queue → (acknowledged : ℕ) × (asking : Asking) × AskingGrows nothing_asked asking × AsksFit begun.my.first_tsn (own_of o.after) asking
+      × DirectionRun other begun.my.first_tsn room (record (sender_at awaiting queued o.after.queues acknowledged (packets_in o.events) asking) { beginning = beginning })
 
   new_held : HasEffect (holds new) (after_effects o.effects past)
   new_held = subst (λ (l : List Effect). HasEffect (holds new) (after_effects l past)) (sym begun.noted) (after_within begun.later (holds new ∷ past) (holds new) (inl refl))
@@ -139,37 +139,59 @@ module _ (options : Options) (ends : Ends) (e : Endpoint) (queued : List Message
   kind_new : HadKind (after_effects o.effects past) begun.held.peer.tag o.after.queues.queue.is_interleaved
   kind_new = record { link = new; held = new_held; tag_is = refl; kind_is = sym same_kind }
 
-  -- do the numbers of each stream begin at 0?
-  abbrev begins_anew : Bool
-  begins_anew = e.options.follow_rfc || never_held past
+  -- Do the numbers of each stream begin at 0, and does it begin with all that was queued?
+  abbrev begins_anew : Beginning
+  begins_anew = record { from_zero = e.options.follow_rfc || never_held past; keeps_all = ends.never_resets && never_held past }
 
-  -- Where they are said to, they do.
-  at_zero : begins_anew ≡ true → BeginsAtZero begun.queue
-  at_zero = go e.options.follow_rfc (never_held past) refl refl
+  -- So it does.
+  begins_so : BeginsAs begins_anew begun.queue
+  begins_so = record { zero = go e.options.follow_rfc (never_held past) refl refl; all = all_wait ends.never_resets (never_held past) refl refl }
     where
+      all_wait : (resets never : Bool) → ends.never_resets ≡ resets → never_held past ≡ never → (resets && never) ≡ true → AllWait begun.queue
+      all_wait true true is none is_so = (let before = h.unbegun (none_held past none) in unbegun_begins_waiting e o begun before.zero (before.all is))
+      all_wait true false is none is_so = absurd (cc)
+      all_wait false never is none is_so = absurd (cc)
+
       go : (follows_it never : Bool) → e.options.follow_rfc ≡ follows_it → never_held past ≡ never → (follows_it || never) ≡ true → BeginsAtZero begun.queue
       go true never is none is_so = begun_at_zero e o begun is
-      go false true is none is_so = (unbegun_begins_at_zero e o begun (h.unbegun (none_held past none)).zero).0
+      go false true is none is_so = unbegun_begins_at_zero e o begun (h.unbegun (none_held past none)).zero
       go false false is none is_so = absurd (cc)
 
+  -- It is the first one, if it is the only one.
+  first_of_all : NewPeer past their_past new → IsOnlyTag (after_effects o.effects past) begun.held.peer.tag → never_held past ≡ true
+  first_of_all is only = go (never_held past) refl
+    where
+      go : (b : Bool) → never_held past ≡ b → never_held past ≡ true
+      go true none = none
+      go false some = (let found = some_held past some in absurd (is.other found.0 found.1 (only found.0 (after_within o.effects past (holds found.0) found.1))))
+
+  -- It keeps all then, if the user never resets streams.
+  kept_anew : NewPeer past their_past new → (end : SendingEnd) → end.beginning ≡ begins_anew → (tag : ℕ) → tag ≢ 0 → ends.never_resets ≡ true → IsOnlyTag (after_effects o.effects past) tag
+      → (set_at begun.held.peer.tag end ends.sends tag).beginning.keeps_all ≡ true
+  kept_anew is end here =
+      set_all (λ tag s. tag ≢ 0 → ends.never_resets ≡ true → IsOnlyTag (after_effects o.effects past) tag → s.beginning.keeps_all ≡ true) begun.held.peer.tag end ends.sends
+      (λ some never only. ap (λ (b : Beginning). b.keeps_all) here ∙ ap (λ (b : Bool). b && never_held past) never ∙ first_of_all is only)
+      (λ tag ne some never only. absurd (ne (sym (only new new_held))))
+
+  dropping_anew : (end : SendingEnd) → end.beginning ≡ begins_anew → ends.never_resets ≡ false → (tag : ℕ) → (set_at begun.held.peer.tag end ends.sends tag).beginning.keeps_all ≡ false
+  dropping_anew end here resets =
+      set_all (λ tag s. s.beginning.keeps_all ≡ false) begun.held.peer.tag end ends.sends (ap (λ (b : Beginning). b.keeps_all) here ∙ ap (λ (b : Bool). b && never_held past) resets) (λ tag ne. h.dropping resets tag)
+
   -- So they do in the new association, if it is the only one or the sender follows the RFC, and in each other as before.
-  numbers_anew : NewPeer past their_past new → (end : SendingEnd) → end.from_zero ≡ begins_anew → (tag : ℕ) → tag ≢ 0 → BeginsAnew o.after (after_effects o.effects past) tag → (set_at begun.held.peer.tag end ends.sends tag).from_zero ≡ true
+  numbers_anew : NewPeer past their_past new → (end : SendingEnd) → end.beginning ≡ begins_anew → (tag : ℕ) → tag ≢ 0 → BeginsAnew o.after (after_effects o.effects past) tag
+      → (set_at begun.held.peer.tag end ends.sends tag).beginning.from_zero ≡ true
   numbers_anew is end here =
-      set_all (λ tag s. tag ≢ 0 → BeginsAnew o.after (after_effects o.effects past) tag → s.from_zero ≡ true) begun.held.peer.tag end ends.sends (λ some anew. here ∙ begins_so anew) (λ tag ne some anew. h.numbered tag some (other tag ne anew))
+      set_all (λ tag s. tag ≢ 0 → BeginsAnew o.after (after_effects o.effects past) tag → s.beginning.from_zero ≡ true) begun.held.peer.tag end ends.sends
+      (λ some anew. ap (λ (b : Beginning). b.from_zero) here ∙ zero_so anew) (λ tag ne some anew. h.numbered tag some (other tag ne anew))
     where
       or_true : (b c : Bool) → (b ≡ true) ⊎ (c ≡ true) → (b || c) ≡ true
       or_true true c which = refl
       or_true false c (inl is_so) = absurd (cc)
       or_true false c (inr is_so) = is_so
 
-      never_so : ((link : AssociationIdentity) → HasEffect (holds link) (after_effects o.effects past) → link.peer.tag ≡ begun.held.peer.tag) → (b : Bool) → never_held past ≡ b → never_held past ≡ true
-      never_so only true none = none
-      never_so only false some =
-          (let found = some_held past some in absurd (is.other found.0 found.1 (only found.0 (after_within o.effects past (holds found.0) found.1))))
-
-      begins_so : BeginsAnew o.after (after_effects o.effects past) begun.held.peer.tag → begins_anew ≡ true
-      begins_so (inl anew) = or_true e.options.follow_rfc (never_held past) (inl (sym follows ∙ anew))
-      begins_so (inr only) = or_true e.options.follow_rfc (never_held past) (inr (never_so only (never_held past) refl))
+      zero_so : BeginsAnew o.after (after_effects o.effects past) begun.held.peer.tag → begins_anew.from_zero ≡ true
+      zero_so (inl anew) = or_true e.options.follow_rfc (never_held past) (inl (sym follows ∙ anew))
+      zero_so (inr only) = or_true e.options.follow_rfc (never_held past) (inr (first_of_all is only))
 
       other : (tag : ℕ) → tag ≢ begun.held.peer.tag → BeginsAnew o.after (after_effects o.effects past) tag → BeginsAnew e past tag
       other tag ne (inl anew) = inl (sym follows ∙ anew)
@@ -203,18 +225,19 @@ module _ (options : Options) (ends : Ends) (e : Endpoint) (queued : List Message
 
   crossed_begins : NewPeer past their_past new → Awaits (ends.sends begun.held.peer.tag) → identity_in o.after.core ≡ Some new → AreAddressed begun.held.peer.tag (packets_in o.events)
       → QueueWaits marks e.queues.queue → AllByRecursion Fits marks → Later → ends.firsts begun.held.peer.tag ≡ begun.my.first_tsn
-      → AreEnds options o.after queued (after_effects o.effects past) (packets ++ packets_in o.events) d their_past reading
+      → AreEnds ends.never_resets options o.after queued (after_effects o.effects past) (packets ++ packets_in o.events) d their_past reading
   crossed_begins is waits linked addressed shown fit later same =
       let to : ℕ = begun.held.peer.tag in
       let ps : List Emission = packets_in o.events in
       let start : DirectionRun options begun.my.first_tsn options.max_receiver_window_buffer_size (joined (ends.sends to) (ends.gets to)) =
       subst (λ (n : ℕ). DirectionRun options n options.max_receiver_window_buffer_size (joined (ends.sends to) (ends.gets to))) same (h.runs to) in
       let run = later options options.max_receiver_window_buffer_size (joined (ends.sends to) (ends.gets to)) marks begins_anew shown fit start
-      (record { queued = waits.queued; sent = waits.sent; acknowledged = waits.acknowledged; transfer = waits.transfer; asking = waits.asking }) at_zero in
+      (record { queued = waits.queued; sent = waits.sent; acknowledged = waits.acknowledged; transfer = waits.transfer; asking = waits.asking }) begins_so in
       let end : SendingEnd = renewed_end ends (peer_tag e.core) e.queues queued past packets h.sender o.effects to o.after.queues run.0 ps run.1 begins_anew ends.gets ends.firsts in
       let ends' : Ends = renewed_ends ends (peer_tag e.core) e.queues queued past packets h.sender o.effects to o.after.queues run.0 ps run.1 begins_anew ends.gets ends.firsts in
       record {
         ends = ends';
+        is = refl;
         between = record {
           runs = set_all (λ tag s. DirectionRun options (ends.firsts tag) options.max_receiver_window_buffer_size (joined s (ends.gets tag))) to end ends.sends
               (subst (λ (n : ℕ). DirectionRun options n options.max_receiver_window_buffer_size (joined end (ends.gets to))) (sym same) run.4) (λ tag ne. h.runs tag);
@@ -226,18 +249,20 @@ module _ (options : Options) (ends : Ends) (e : Endpoint) (queued : List Message
               (subst (λ (s : SendingEnd). AsksFit (ends.firsts to) (own_of o.after) s.asking) (sym (set_same to end ends.sends))
               (subst (λ (n : ℕ). AsksFit n (own_of o.after) run.1) (sym same) run.3));
           numbered = numbers_anew is end refl;
+          kept = kept_anew is end refl;
+          dropping = dropping_anew end refl;
           unbegun = unbegun;
           receiver = receiver_same options ends ends'.sends d their_past reading h.receiver;
         };
         answered = answered_by ends' linked (set_at to begun.my w.pairs)
             (begins_answers ends e past d their_past w new is waits.asking end ends.gets ends.firsts same (λ tag ne. refl)
-            (begins_little addressed options options.max_receiver_window_buffer_size run.0 run.1 (record (joined (ends.sends to) (ends.gets to)) { from_zero = begins_anew }) run.2 run.3 linked run.4) (λ other there tag. same) (after_effects o.effects past) (after_within o.effects past) new_held);
+            (begins_little addressed options options.max_receiver_window_buffer_size run.0 run.1 (record (joined (ends.sends to) (ends.gets to)) { beginning = begins_anew }) run.2 run.3 linked run.4) (λ other there tag. same) (after_effects o.effects past) (after_within o.effects past) new_held);
       }
 
   fresh_begins : NewPeer past their_past new → Awaits (ends.sends begun.held.peer.tag) → identity_in o.after.core ≡ Some new → AreAddressed begun.held.peer.tag (packets_in o.events)
       → QueueWaits marks e.queues.queue → AllByRecursion Fits marks → Later → ends.gets begun.held.peer.tag ≡ new_end options (ends.firsts begun.held.peer.tag)
       → ((transfer : Transfer) (link : AssociationIdentity) → d.queues.transfer ≡ Some transfer → identity_in d.core ≡ Some link → link.my.tag ≢ begun.held.peer.tag)
-      → AreEnds options o.after queued (after_effects o.effects past) (packets ++ packets_in o.events) d their_past reading
+      → AreEnds ends.never_resets options o.after queued (after_effects o.effects past) (packets ++ packets_in o.events) d their_past reading
   fresh_begins is waits linked addressed shown fit later fresh apart =
       let to : ℕ = begun.held.peer.tag in
       let first : ℕ = begun.my.first_tsn in
@@ -245,12 +270,13 @@ module _ (options : Options) (ends : Ends) (e : Endpoint) (queued : List Message
       let gets : ℕ → ReceivingEnd = set_at to (new_end options first) ends.gets in
       let firsts : ℕ → ℕ = set_at to first ends.firsts in
       let run = later options options.max_receiver_window_buffer_size
-      (new_direction options first options.max_receiver_window_buffer_size [] (record { queue = empty_queue options; transfer = None }) 0 [] true) marks begins_anew shown fit (senders_begin options options first options.max_receiver_window_buffer_size)
-      (record { queued = refl; sent = refl; acknowledged = refl; transfer = refl; asking = refl }) at_zero in
+      (new_direction options first options.max_receiver_window_buffer_size [] (record { queue = empty_queue options; transfer = None }) 0 [] (record { from_zero = true; keeps_all = false })) marks begins_anew shown fit (senders_begin options options first options.max_receiver_window_buffer_size false)
+      (record { queued = refl; sent = refl; acknowledged = refl; transfer = refl; asking = refl }) begins_so in
       let end : SendingEnd = renewed_end ends (peer_tag e.core) e.queues queued past packets h.sender o.effects to o.after.queues run.0 ps run.1 begins_anew gets firsts in
       let ends' : Ends = renewed_ends ends (peer_tag e.core) e.queues queued past packets h.sender o.effects to o.after.queues run.0 ps run.1 begins_anew gets firsts in
       record {
         ends = ends';
+        is = refl;
         between = record {
           runs = set_three (λ tag f s g. DirectionRun options f options.max_receiver_window_buffer_size (joined s g)) to first end (new_end options first) ends.firsts ends.sends ends.gets run.4 (λ tag ne. h.runs tag);
           small = set_all (λ tag f. f < 2 ^ 32) to first ends.firsts is.small (λ tag ne. h.small tag);
@@ -261,6 +287,8 @@ module _ (options : Options) (ends : Ends) (e : Endpoint) (queued : List Message
               (subst (λ (s : SendingEnd). AsksFit (firsts to) (own_of o.after) s.asking) (sym (set_same to end ends.sends))
               (subst (λ (n : ℕ). AsksFit n (own_of o.after) run.1) (sym (set_same to first ends.firsts)) run.3));
           numbered = numbers_anew is end refl;
+          kept = kept_anew is end refl;
+          dropping = dropping_anew end refl;
           unbegun = unbegun;
           receiver = receiver_renewed options ends ends'.sends d their_past reading to first h.receiver fresh apart;
         };
@@ -276,7 +304,7 @@ module _ (options : Options) (ends : Ends) (e : Endpoint) (queued : List Message
 
   pub begins : NewPeer past their_past new → identity_in o.after.core ≡ Some new → AreAddressed begun.held.peer.tag (packets_in o.events)
       → QueueWaits (ends.sends (peer_tag e.core)).queued e.queues.queue → AllByRecursion Fits (ends.sends (peer_tag e.core)).queued → Later
-      → AreEnds options o.after queued (after_effects o.effects past) (packets ++ packets_in o.events) d their_past reading
+      → AreEnds ends.never_resets options o.after queued (after_effects o.effects past) (packets ++ packets_in o.events) d their_past reading
   begins is linked addressed shown fit later =
       elim (h.sender.begun begun.held.peer.tag is.some) [
         | inl waits ↦ go waits (known options ends d past their_past reading h.receiver new is d.queues.transfer refl)
@@ -291,6 +319,6 @@ module _ (options : Options) (ends : Ends) (e : Endpoint) (queued : List Message
       fit_marks : AllByRecursion Fits marks
       fit_marks = all_marked_fit (length (ends.sends (peer_tag e.core)).queued) (ends.sends (peer_tag e.core)).queues.queue.streams (ends.sends (peer_tag e.core)).queued fit
 
-      go : Awaits (ends.sends begun.held.peer.tag) → Known options ends d new → AreEnds options o.after queued (after_effects o.effects past) (packets ++ packets_in o.events) d their_past reading
+      go : Awaits (ends.sends begun.held.peer.tag) → Known options ends d new → AreEnds ends.never_resets options o.after queued (after_effects o.effects past) (packets ++ packets_in o.events) d their_past reading
       go waits (is_crossed same) = crossed_begins is waits linked addressed holds_marks fit_marks later same
       go waits (is_fresh fresh apart) = fresh_begins is waits linked addressed holds_marks fit_marks later fresh apart

@@ -9,7 +9,7 @@ use Rattle.dcsctp_spec_lemmas.specs.spec.endpoint.Outcome.{Outcome}
 use Rattle.dcsctp_spec_lemmas.specs.spec.Packet.{Emission}
 use Rattle.dcsctp_spec_lemmas.specs.spec.endpoint.Turn.{Input}
 use Rattle.dcsctp_spec_runs.specs.World.{after_effects}
-use Rattle.dcsctp_spec_lemmas.specs.spec.association.Effect.{AssociationIdentity, Effect, holds, identity_in}
+use Rattle.dcsctp_spec_lemmas.specs.spec.association.Effect.{Effect, holds, identity_in}
 use Rattle.dcsctp_spec_lemmas.specs.spec.queues.Transfer.{EndpointQueues}
 use Rattle.dcsctp_theorem_association.proofs.Growth.{after_within}
 use Rattle.dcsctp_delivery_sending.specs.Places.{set_at}
@@ -24,7 +24,7 @@ use Rattle.dcsctp_delivery_turns.specs.Asking.{own_of, AsksFit}
 use Rattle.dcsctp_delivery_turns.specs.Addressed.{AreAddressed}
 use Rattle.dcsctp_delivery_turns.specs.Runs.{sender_at}
 use Rattle.dcsctp_delivery_turns.proofs.Runs.{begins_anew}
-use Rattle.dcsctp_delivery_associations.specs.Ends.{SendingEnd, ReceivingEnd, joined, new_end, Ends, IsUnbegun, NeverHeld, BeginsAnew, Sender, Receiver, Between}
+use Rattle.dcsctp_delivery_associations.specs.Ends.{SendingEnd, ReceivingEnd, joined, new_end, Ends, IsUnbegun, NeverHeld, BeginsAnew, Sender, Receiver, Between, IsOnlyTag}
 use Rattle.dcsctp_delivery_associations.specs.Answered.{AreAnswered}
 use Rattle.dcsctp_delivery_associations.specs.Laws.{AreEnds}
 use Rattle.dcsctp_delivery_associations.specs.Reads.{Reading}
@@ -68,11 +68,14 @@ module _ (options : Options) (ends : Ends) (e : Endpoint) (queued : List Message
   anew_before follows tag (inl anew) = inl (sym follows ∙ anew)
   anew_before follows tag (inr only) = inr (λ link held. only link (after_within o.effects past (holds link) held))
 
+  only_before : (tag : ℕ) → IsOnlyTag (after_effects o.effects past) tag → IsOnlyTag past tag
+  only_before tag only link held = only link (after_within o.effects past (holds link) held)
+
   -- what is to be shown of the turn
   abbrev pub Turned : Type 0
-  Turned = AreEnds options o.after (queued_after e input queued) (after_effects o.effects past) (packets ++ packets_in o.events) d their_past reading
+  Turned = AreEnds ends.never_resets options o.after (queued_after e input queued) (after_effects o.effects past) (packets ++ packets_in o.events) d their_past reading
 
-  pub goes_on : o.after.options.follow_rfc ≡ e.options.follow_rfc → (NeverHeld (after_effects o.effects past) → IsUnbegun o.after) → identity_in o.after.core ≡ identity_in e.core → o.after.queues.queue.is_interleaved ≡ e.queues.queue.is_interleaved → AreAddressed (peer_tag e.core) (packets_in o.events) → (acknowledged : ℕ) (asking : Asking) → AsksFit (ends.firsts (peer_tag e.core)) (own_of o.after) asking
+  pub goes_on : o.after.options.follow_rfc ≡ e.options.follow_rfc → (NeverHeld (after_effects o.effects past) → IsUnbegun ends.never_resets o.after) → identity_in o.after.core ≡ identity_in e.core → o.after.queues.queue.is_interleaved ≡ e.queues.queue.is_interleaved → AreAddressed (peer_tag e.core) (packets_in o.events) → (acknowledged : ℕ) (asking : Asking) → AsksFit (ends.firsts (peer_tag e.core)) (own_of o.after) asking
       → AreAnswered (grown_ends ends (peer_tag e.core) e.queues queued past packets h.sender o.effects more o.after.queues acknowledged (packets_in o.events) asking) o.after (after_effects o.effects past) d their_past
       → DirectionRun options (ends.firsts (peer_tag e.core)) options.max_receiver_window_buffer_size
       (sender_at (joined (ends.sends (peer_tag e.core)) (ends.gets (peer_tag e.core))) (queued_after e input (ends.sends (peer_tag e.core)).queued) o.after.queues acknowledged ((ends.sends (peer_tag e.core)).sent ++ packets_in o.events) asking)
@@ -85,6 +88,7 @@ module _ (options : Options) (ends : Ends) (e : Endpoint) (queued : List Message
       grown ends key e.queues queued past packets h.sender o.effects more o.after.queues acknowledged (packets_in o.events) asking addressed kind in
       record {
         ends = later;
+        is = refl;
         between = record {
           runs = set_all (λ tag s. DirectionRun options (ends.firsts tag) options.max_receiver_window_buffer_size (joined s (ends.gets tag))) key end ends.sends
               (subst (λ (l : List Message). DirectionRun options (ends.firsts key) options.max_receiver_window_buffer_size (joined (record end { queued = l }) (ends.gets key))) (input_adds e input (ends.sends key).queued) run)
@@ -94,8 +98,11 @@ module _ (options : Options) (ends : Ends) (e : Endpoint) (queued : List Message
               (subst (λ (k : ℕ). Sender later k o.after.queues (more ++ queued) (after_effects o.effects past) (packets ++ packets_in o.events)) (sym (same_key o.after.core e.core linked)) sender);
           asks = subst (λ (k : ℕ). AsksFit (ends.firsts k) (own_of o.after) (set_at key end ends.sends k).asking) (sym (same_key o.after.core e.core linked))
               (subst (λ (s : SendingEnd). AsksFit (ends.firsts key) (own_of o.after) s.asking) (sym (set_same key end ends.sends)) fits);
-          numbered = set_all (λ tag s. tag ≢ 0 → BeginsAnew o.after (after_effects o.effects past) tag → s.from_zero ≡ true) key end ends.sends (λ some anew. h.numbered key some (anew_before follows key anew))
+          numbered = set_all (λ tag s. tag ≢ 0 → BeginsAnew o.after (after_effects o.effects past) tag → s.beginning.from_zero ≡ true) key end ends.sends (λ some anew. h.numbered key some (anew_before follows key anew))
               (λ tag ne some anew. h.numbered tag some (anew_before follows tag anew));
+          kept = set_all (λ tag s. tag ≢ 0 → ends.never_resets ≡ true → IsOnlyTag (after_effects o.effects past) tag → s.beginning.keeps_all ≡ true) key end ends.sends
+              (λ some never only. h.kept key some never (only_before key only)) (λ tag ne some never only. h.kept tag some never (only_before tag only));
+          dropping = λ resets. set_all (λ tag s. s.beginning.keeps_all ≡ false) key end ends.sends (h.dropping resets key) (λ tag ne. h.dropping resets tag);
           unbegun = unbegun;
           receiver = receiver_same options ends later.sends d their_past reading h.receiver;
         };
@@ -106,9 +113,9 @@ module _ (options : Options) (ends : Ends) (e : Endpoint) (queued : List Message
   abbrev pub ended_ends : (last : EndpointQueues) → ℕ → Asking → AreAddressed (peer_tag e.core) (packets_in o.events) → last.queue.is_interleaved ≡ e.queues.queue.is_interleaved → Ends
   ended_ends last acknowledged asking addressed kind =
       renewed_ends (grown_ends ends (peer_tag e.core) e.queues queued past packets h.sender o.effects more last acknowledged (packets_in o.events) asking) (peer_tag e.core) last (more ++ queued) (after_effects o.effects past)
-      (packets ++ packets_in o.events) (grown ends (peer_tag e.core) e.queues queued past packets h.sender o.effects more last acknowledged (packets_in o.events) asking addressed kind) [] 0 o.after.queues 0 [] nothing_asked false ends.gets ends.firsts
+      (packets ++ packets_in o.events) (grown ends (peer_tag e.core) e.queues queued past packets h.sender o.effects more last acknowledged (packets_in o.events) asking addressed kind) [] 0 o.after.queues 0 [] nothing_asked (record { from_zero = false; keeps_all = false }) ends.gets ends.firsts
 
-  pub ended : o.after.options.follow_rfc ≡ e.options.follow_rfc → (NeverHeld (after_effects o.effects past) → IsUnbegun o.after) → identity_in o.after.core ≡ None → (addressed : AreAddressed (peer_tag e.core) (packets_in o.events)) → (last : EndpointQueues) → (kind : last.queue.is_interleaved ≡ e.queues.queue.is_interleaved) → o.after.queues ≡ record last { transfer = None }
+  pub ended : o.after.options.follow_rfc ≡ e.options.follow_rfc → (NeverHeld (after_effects o.effects past) → IsUnbegun ends.never_resets o.after) → identity_in o.after.core ≡ None → (addressed : AreAddressed (peer_tag e.core) (packets_in o.events)) → (last : EndpointQueues) → (kind : last.queue.is_interleaved ≡ e.queues.queue.is_interleaved) → o.after.queues ≡ record last { transfer = None }
       → QueueWaits (queued_after e input (ends.sends (peer_tag e.core)).queued) last.queue → AllByRecursion Fits (queued_after e input (ends.sends (peer_tag e.core)).queued) → (acknowledged : ℕ) (asking : Asking)
       → AreAnswered (ended_ends last acknowledged asking addressed kind) o.after (after_effects o.effects past) d their_past
       → DirectionRun options (ends.firsts (peer_tag e.core)) options.max_receiver_window_buffer_size
@@ -120,11 +127,11 @@ module _ (options : Options) (ends : Ends) (e : Endpoint) (queued : List Message
       let end : SendingEnd = grown_end ends key e.queues queued past packets h.sender o.effects more last acknowledged ps asking in
       let middle : Ends = grown_ends ends key e.queues queued past packets h.sender o.effects more last acknowledged ps asking in
       let first : Sender middle key last (more ++ queued) (after_effects o.effects past) (packets ++ ps) = grown ends key e.queues queued past packets h.sender o.effects more last acknowledged ps asking addressed kind in
-      let marked : List Message = marked_queue middle key last (more ++ queued) (after_effects o.effects past) (packets ++ ps) first [] 0 o.after.queues 0 [] nothing_asked false ends.gets ends.firsts in
-      let later : Ends = renewed_ends middle key last (more ++ queued) (after_effects o.effects past) (packets ++ ps) first [] 0 o.after.queues 0 [] nothing_asked false ends.gets ends.firsts in
-      let new : SendingEnd = renewed_end middle key last (more ++ queued) (after_effects o.effects past) (packets ++ ps) first [] 0 o.after.queues 0 [] nothing_asked false ends.gets ends.firsts in
+      let marked : List Message = marked_queue middle key last (more ++ queued) (after_effects o.effects past) (packets ++ ps) first [] 0 o.after.queues 0 [] nothing_asked (record { from_zero = false; keeps_all = false }) ends.gets ends.firsts in
+      let later : Ends = renewed_ends middle key last (more ++ queued) (after_effects o.effects past) (packets ++ ps) first [] 0 o.after.queues 0 [] nothing_asked (record { from_zero = false; keeps_all = false }) ends.gets ends.firsts in
+      let new : SendingEnd = renewed_end middle key last (more ++ queued) (after_effects o.effects past) (packets ++ ps) first [] 0 o.after.queues 0 [] nothing_asked (record { from_zero = false; keeps_all = false }) ends.gets ends.firsts in
       let second : Sender later 0 o.after.queues (more ++ queued) (after_effects o.effects past) ((packets ++ ps) ++ []) =
-      renewed middle key last (more ++ queued) (after_effects o.effects past) (packets ++ ps) first [] 0 o.after.queues 0 [] nothing_asked false ends.gets ends.firsts (inl refl) (λ some. absurd (some refl)) (λ tag ne. refl) tt (λ some. absurd (some refl)) in
+      renewed middle key last (more ++ queued) (after_effects o.effects past) (packets ++ ps) first [] 0 o.after.queues 0 [] nothing_asked (record { from_zero = false; keeps_all = false }) ends.gets ends.firsts (inl refl) (λ some. absurd (some refl)) (λ tag ne. refl) tt (λ some. absurd (some refl)) in
       let adds : queued_after e input (ends.sends key).queued ≡ end.queued = input_adds e input (ends.sends key).queued in
       let shown' : QueueWaits end.queued last.queue = subst (λ (l : List Message). QueueWaits l last.queue) adds shown in
       let fit' : AllByRecursion Fits end.queued = subst (λ (l : List Message). AllByRecursion Fits l) adds fit in
@@ -138,6 +145,7 @@ module _ (options : Options) (ends : Ends) (e : Endpoint) (queued : List Message
       let never : ends.gets 0 ≡ new_end options (ends.firsts 0) = elim (h.receiver.begun 0) [ inl new' ↦ new' | inr had ↦ absurd (had.some refl) ] in
       record {
         ends = later;
+        is = refl;
         between = record {
           runs = set_all (λ tag s. DirectionRun options (ends.firsts tag) options.max_receiver_window_buffer_size (joined s (ends.gets tag))) 0 new middle.sends
               (subst (λ (g : ReceivingEnd). DirectionRun options (ends.firsts 0) options.max_receiver_window_buffer_size (joined new g)) (sym never) anew)
@@ -148,9 +156,14 @@ module _ (options : Options) (ends : Ends) (e : Endpoint) (queued : List Message
               (subst (λ (k : ℕ). Sender later k o.after.queues (more ++ queued) (after_effects o.effects past) (packets ++ ps)) (sym (no_key o.after.core none))
               (subst (λ (l : List Emission). Sender later 0 o.after.queues (more ++ queued) (after_effects o.effects past) l) (append-nil (packets ++ ps)) second));
           asks = unlinked_fit o.after (ends.firsts (peer_tag o.after.core)) (later.sends (peer_tag o.after.core)).asking none;
-          numbered = set_all (λ tag s. tag ≢ 0 → BeginsAnew o.after (after_effects o.effects past) tag → s.from_zero ≡ true) 0 new middle.sends (λ some anew. absurd (some refl))
-              (λ tag ne. set_all (λ t s. t ≢ 0 → BeginsAnew o.after (after_effects o.effects past) t → s.from_zero ≡ true) key end ends.sends (λ some anew. h.numbered key some (anew_before follows key anew))
+          numbered = set_all (λ tag s. tag ≢ 0 → BeginsAnew o.after (after_effects o.effects past) tag → s.beginning.from_zero ≡ true) 0 new middle.sends (λ some anew. absurd (some refl))
+              (λ tag ne. set_all (λ t s. t ≢ 0 → BeginsAnew o.after (after_effects o.effects past) t → s.beginning.from_zero ≡ true) key end ends.sends (λ some anew. h.numbered key some (anew_before follows key anew))
               (λ t ne' some anew. h.numbered t some (anew_before follows t anew)) tag);
+          kept = set_all (λ tag s. tag ≢ 0 → ends.never_resets ≡ true → IsOnlyTag (after_effects o.effects past) tag → s.beginning.keeps_all ≡ true) 0 new middle.sends (λ some never only. absurd (some refl))
+              (λ tag ne. set_all (λ t s. t ≢ 0 → ends.never_resets ≡ true → IsOnlyTag (after_effects o.effects past) t → s.beginning.keeps_all ≡ true) key end ends.sends
+              (λ some never only. h.kept key some never (only_before key only)) (λ t ne' some never only. h.kept t some never (only_before t only)) tag);
+          dropping = λ resets. set_all (λ tag s. s.beginning.keeps_all ≡ false) 0 new middle.sends refl
+              (λ tag ne. set_all (λ t s. s.beginning.keeps_all ≡ false) key end ends.sends (h.dropping resets key) (λ t ne'. h.dropping resets t) tag);
           unbegun = unbegun;
           receiver = receiver_same options ends later.sends d their_past reading h.receiver;
         };

@@ -1,5 +1,5 @@
 -- Each turn of the sender.
-use Rattle.std.proofs.Common.{None, Some, ◌≡◌, ◌≢◌, ◌<◌, ◌-◌, ◌^◌, ℕ, Option, List, [], ◌∷◌, ◌++◌, length, refl, sym, ◌∙◌, ap, arith, subst, inl}
+use Rattle.std.proofs.Common.{Bool, true, false, None, Some, ◌≡◌, ◌≢◌, ◌<◌, ◌-◌, ◌^◌, ℕ, Option, List, [], ◌∷◌, ◌++◌, length, refl, sym, ◌∙◌, ap, arith, subst, inl, Bool, false}
 use Rattle.std.proofs.lemmas.List.{length-append}
 use Rattle.dcsctp_spec_lemmas.specs.types.declared.options.Options.{Options}
 use Rattle.dcsctp_spec_lemmas.specs.spec.endpoint.Endpoint.{Endpoint, Core, OutstandingRequest}
@@ -18,7 +18,7 @@ use Rattle.dcsctp_delivery_directions.proofs.RequestCounts.{requests_more, reque
 use Rattle.dcsctp_delivery_turns.specs.Actions.{IsOpening, came_by, peer_tag, queued_after, Begun, IsCall}
 use Rattle.dcsctp_delivery_turns.specs.Addressed.{AreAddressed}
 use Rattle.dcsctp_delivery_turns.specs.Asking.{own_in, own_of, AsksFit, AskingGrows}
-use Rattle.dcsctp_delivery_turns.specs.Runs.{sender_at, IsBetween, EndsPerformed, RefusesNone, SenderTurns, run_goes_on, run_ends, run_begins}
+use Rattle.dcsctp_delivery_turns.specs.Runs.{sender_at, IsBetween, EndsPerformed, RefusesNone, SenderTurns, run_goes_on, run_ends, run_begins, MayDrop}
 use Rattle.dcsctp_delivery_turns.proofs.Completing.{completes_own}
 use Rattle.dcsctp_delivery_turns.proofs.Runs.{senders_go_on}
 use Rattle.dcsctp_delivery_turns.specs.Unbegun.{UnbegunTurns, stays_unbegun, begins_first}
@@ -26,7 +26,7 @@ use Rattle.dcsctp_delivery_turns.proofs.Unbegun.{stays_at_zero}
 use Rattle.dcsctp_spec_runs.specs.Past.{HasEffect}
 use Rattle.dcsctp_delivery_associations.specs.Ends.{SendingEnd, joined, Ends, IsUnbegun, NeverHeld, NewPeer, Between}
 use Rattle.dcsctp_delivery_associations.specs.Answered.{AnswersRequests, requests_of, waiting_deferral, AreAnswered}
-use Rattle.dcsctp_delivery_associations.specs.Laws.{CompletesPerformed, AsksLittle, AreEnds}
+use Rattle.dcsctp_delivery_associations.specs.Laws.{CompletesPerformed, AsksLittle, AreEnds, ResetsAs}
 use Rattle.dcsctp_delivery_associations.specs.Reads.{Reading}
 use Rattle.dcsctp_delivery_associations.proofs.AskedOn as asked
 use Rattle.dcsctp_delivery_associations.proofs.AskedOn.{MayBegin}
@@ -194,38 +194,46 @@ module _ (options : Options) (ends : Ends) (e : Endpoint) (queued : List Message
       as_it_was_asked = ends_so _ asked.as_it_was
 
   -- A sender that had no association has none after the turn, or one begins.
-  unbegun_after : IsCall input → Turn e input o → NeverHeld (after_effects o.effects past) → IsUnbegun o.after
-  unbegun_after may turn never =
+  unbegun_after : ResetsAs ends.never_resets input → IsCall input → Turn e input o → NeverHeld (after_effects o.effects past) → IsUnbegun ends.never_resets o.after
+  unbegun_after resets may turn never =
       let before = h.unbegun (λ link held. never link (after_within o.effects past (holds link) held)) in
-      go (stays_at_zero e input o before.unlinked before.idle before.zero may turn)
+      go before (stays_at_zero e input o before.unlinked before.idle before.zero may turn)
     where
-      go : UnbegunTurns e input o → IsUnbegun o.after
-      go (stays_unbegun unlinked idle at) = record { unlinked = unlinked; idle = idle; zero = at }
-      go (begins_first begun opening linked) =
+      go : IsUnbegun ends.never_resets e → UnbegunTurns e input o → IsUnbegun ends.never_resets o.after
+      go before (stays_unbegun unlinked idle at waits) = record { unlinked = unlinked; idle = idle; zero = at; all = λ never_so. waits (resets never_so, before.all never_so) }
+      go before (begins_first begun opening linked) =
           absurd (never (identity_of begun.my begun.held) (subst (λ (l : List Effect). HasEffect (holds (identity_of begun.my begun.held)) (after_effects l past)) (sym begun.noted)
           (after_within begun.later (holds (identity_of begun.my begun.held) ∷ past) (holds (identity_of begun.my begun.held)) (inl refl))))
 
-  by_turn : o.after.options.follow_rfc ≡ e.options.follow_rfc → IsCall input → Turn e input o → RefusesNone e o → CompletesPerformed their_past o
+  by_turn : o.after.options.follow_rfc ≡ e.options.follow_rfc → ResetsAs ends.never_resets input → IsCall input → Turn e input o → RefusesNone e o → CompletesPerformed their_past o
       → SenderTurns options (ends.firsts (peer_tag e.core)) options.max_receiver_window_buffer_size (joined (ends.sends (peer_tag e.core)) (ends.gets (peer_tag e.core))) e input o
-      → AreEnds options o.after (queued_after e input queued) (after_effects o.effects past) (packets ++ packets_in o.events) d their_past reading
-  by_turn follows may turn refuses completes_so (run_goes_on linked addressed kind' acknowledged between asking is grows fit run) =
-      goes_on options ends e queued past packets d their_past reading h input o follows (unbegun_after may turn) linked kind' addressed acknowledged asking fit
+      → AreEnds ends.never_resets options o.after (queued_after e input queued) (after_effects o.effects past) (packets ++ packets_in o.events) d their_past reading
+  by_turn follows resets may turn refuses completes_so (run_goes_on linked addressed kind' acknowledged between asking is grows fit run) =
+      goes_on options ends e queued past packets d their_past reading h input o follows (unbegun_after resets may turn) linked kind' addressed acknowledged asking fit
       (goes_answered (identity_in e.core) refl may turn refuses completes_so linked addressed kind' acknowledged between asking is grows fit (few_then addressed o.after.queues acknowledged asking run)) run
-  by_turn follows may turn refuses completes_so (run_ends none addressed last kind' acknowledged asking grows fit run is shown fit') =
-      ended options ends e queued past packets d their_past reading h input o follows (unbegun_after may turn) none addressed last kind' is shown fit' acknowledged asking
+  by_turn follows resets may turn refuses completes_so (run_ends none addressed last kind' acknowledged asking grows fit run is shown fit') =
+      ended options ends e queued past packets d their_past reading h input o follows (unbegun_after resets may turn) none addressed last kind' is shown fit' acknowledged asking
       (ends_answered (identity_in e.core) refl may turn completes_so none addressed last kind' acknowledged asking grows fit (few_then addressed last acknowledged asking run)) run
-  by_turn follows may turn refuses completes_so (run_begins begun opening linked addressed kind' same shown fit later) =
+  by_turn follows resets may turn refuses completes_so (run_begins begun opening linked addressed kind' same shown fit later) =
       let none : queued_after e input [] ≡ [] = queues_none (queued_after e input []) (ends.sends (peer_tag e.core)).queued (sym (input_adds e input (ends.sends (peer_tag e.core)).queued) ∙ same) in
       let stays : queued_after e input queued ≡ queued = input_adds e input queued ∙ ap (λ (l : List Message). l ++ queued) none in
-      subst (λ (l : List Message). AreEnds options o.after l (after_effects o.effects past) (packets ++ packets_in o.events) d their_past reading) (sym stays)
-      (begins options ends e queued past packets d their_past reading h input o w little begun follows kind' (unbegun_after may turn) (new begun opening linked) linked addressed shown fit later)
+      subst (λ (l : List Message). AreEnds ends.never_resets options o.after l (after_effects o.effects past) (packets ++ packets_in o.events) d their_past reading) (sym stays)
+      (begins options ends e queued past packets d their_past reading h input o w little begun follows kind' (unbegun_after resets may turn) (new begun opening linked) linked addressed shown fit later)
 
-  pub sender_turns : length (queued_after e input queued) < 2 ^ 64 → RefusesNone e o → CompletesPerformed their_past o → o.after.options.follow_rfc ≡ e.options.follow_rfc → IsCall input → Turn e input o
-      → AreEnds options o.after (queued_after e input queued) (after_effects o.effects past) (packets ++ packets_in o.events) d their_past reading
-  sender_turns few refuses completes_so follows may turn =
-      by_turn follows may turn refuses completes_so
+  -- Where the user resets streams, messages may be dropped.
+  may_drop : ResetsAs ends.never_resets input → MayDrop input (ends.sends (peer_tag e.core)).beginning
+  may_drop resets is = h.dropping (resets_some ends.never_resets refl) (peer_tag e.core)
+    where
+      resets_some : (b : Bool) → ends.never_resets ≡ b → ends.never_resets ≡ false
+      resets_some true never = absurd (let clash : true ≡ false = sym is ∙ resets never in cc)
+      resets_some false not_never = not_never
+
+  pub sender_turns : length (queued_after e input queued) < 2 ^ 64 → RefusesNone e o → ResetsAs ends.never_resets input → CompletesPerformed their_past o → o.after.options.follow_rfc ≡ e.options.follow_rfc → IsCall input → Turn e input o
+      → AreEnds ends.never_resets options o.after (queued_after e input queued) (after_effects o.effects past) (packets ++ packets_in o.events) d their_past reading
+  sender_turns few refuses resets completes_so follows may turn =
+      by_turn follows resets may turn refuses completes_so
       (senders_go_on options (ends.firsts key) options.max_receiver_window_buffer_size now e input o (h.runs key) (h.small key) h.sender.queues_are h.asks
-      (performed_by (identity_in e.core) refl may turn completes_so) refuses (λ begun opening linked. (new begun opening linked).small)
+      (performed_by (identity_in e.core) refl may turn completes_so) refuses (may_drop resets) (λ begun opening linked. (new begun opening linked).small)
       (let long = ap (λ (l : List Message). length l) (input_adds e input (ends.sends key).queued) ∙ length-append (queued_after e input []) (ends.sends key).queued in
       let same = ap (λ (l : List Message). length l) (input_adds e input queued) ∙ length-append (queued_after e input []) queued in
       let size = h.sender.long in

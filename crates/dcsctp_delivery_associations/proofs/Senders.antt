@@ -16,7 +16,7 @@ use Rattle.dcsctp_delivery_sending.specs.Marking.{all_marked, AreMarked}
 use Rattle.dcsctp_delivery_sending.proofs.Places.{decide, set_same, set_other}
 use Rattle.dcsctp_delivery_sending.proofs.MarkingAll.{all_are_marked, gone_are_marked}
 use Rattle.dcsctp_delivery_directions.proofs.ChunkCounts.{chunks_more}
-use Rattle.dcsctp_delivery_directions.specs.Directions.{Asking}
+use Rattle.dcsctp_delivery_directions.specs.Directions.{Asking, Beginning}
 use Rattle.dcsctp_delivery_turns.specs.Actions.{peer_tag}
 use Rattle.dcsctp_delivery_turns.specs.Addressed.{IsAddressed, AreAddressed}
 use Rattle.dcsctp_delivery_directions.specs.Requests.{requests_in, requests_to}
@@ -98,7 +98,7 @@ kind_later effects past tag is_interleaved had = record { link = had.link; held 
 module _ (ends : Ends) (key : ℕ) (below : EndpointQueues) (queued : List Message) (past : List Effect) (packets : List Emission) (h : Sender ends key below queued past packets)
     (effects : List Effect) (more : List Message) (after : EndpointQueues) (acknowledged : ℕ) (ps : List Emission) (asking : Asking) where
   abbrev pub grown_end : SendingEnd
-  grown_end = record { queued = more ++ (ends.sends key).queued; queues = after; acknowledged = acknowledged; sent = (ends.sends key).sent ++ ps; asking = asking; from_zero = (ends.sends key).from_zero }
+  grown_end = record { queued = more ++ (ends.sends key).queued; queues = after; acknowledged = acknowledged; sent = (ends.sends key).sent ++ ps; asking = asking; beginning = (ends.sends key).beginning }
 
   abbrev pub grown_ends : Ends
   grown_ends = record ends { sends = set_at key grown_end ends.sends }
@@ -186,15 +186,15 @@ module _ (ends : Ends) (key : ℕ) (below : EndpointQueues) (queued : List Messa
 -- ---- another end takes its place, in which all that no longer waits is marked
 
 module _ (ends : Ends) (key : ℕ) (below : EndpointQueues) (queued : List Message) (past : List Effect) (packets : List Emission) (h : Sender ends key below queued past packets)
-    (effects : List Effect) (to : ℕ) (after : EndpointQueues) (acknowledged : ℕ) (ps : List Emission) (asking : Asking) (from_zero : Bool) (gets : ℕ → ReceivingEnd) (firsts : ℕ → ℕ) where
+    (effects : List Effect) (to : ℕ) (after : EndpointQueues) (acknowledged : ℕ) (ps : List Emission) (asking : Asking) (beginning : Beginning) (gets : ℕ → ReceivingEnd) (firsts : ℕ → ℕ) where
   abbrev pub marked_queue : List Message
   marked_queue = all_marked (length (ends.sends key).queued) (ends.sends key).queues.queue.streams (ends.sends key).queued
 
   abbrev pub renewed_end : SendingEnd
-  renewed_end = record { queued = marked_queue; queues = after; acknowledged = acknowledged; sent = ps; asking = asking; from_zero = from_zero }
+  renewed_end = record { queued = marked_queue; queues = after; acknowledged = acknowledged; sent = ps; asking = asking; beginning = beginning }
 
   abbrev pub renewed_ends : Ends
-  renewed_ends = record { sends = set_at to renewed_end ends.sends; gets = gets; firsts = firsts }
+  renewed_ends = record ends { sends = set_at to renewed_end ends.sends; gets = gets; firsts = firsts }
 
   are : AreMarked marked_queue (ends.sends key).queued
   are = all_are_marked (length (ends.sends key).queued) (ends.sends key).queues.queue.streams (ends.sends key).queued

@@ -1,7 +1,7 @@
 -- All associations of two sockets, in the direction from one to the other: for each verification
 -- tag of the receiver, what the sender has sent to it and what the receiver has received under it.
 -- A tag serves one association.
-use Rattle.std.specs.Prelude.{◌≡◌, ◌≢◌, ◌<◌, ◌≤◌, ◌^◌, ◌⊎◌, ℕ, Bool, true, Option, None, Some, List, [], ◌∷◌, length}
+use Rattle.std.specs.Prelude.{◌≡◌, ◌≢◌, ◌<◌, ◌≤◌, ◌^◌, ◌⊎◌, ℕ, Bool, true, false, Option, None, Some, List, [], ◌∷◌, length}
 use Rattle.dcsctp_spec_lemmas.specs.types.declared.options.Options.{Options}
 use Rattle.dcsctp_spec_lemmas.specs.spec.endpoint.Endpoint.{Endpoint}
 use Rattle.dcsctp_spec_lemmas.specs.spec.Packet.{Emission}
@@ -17,7 +17,7 @@ use Rattle.dcsctp_delivery_sending.specs.Log.{Message}
 use Rattle.dcsctp_delivery_sending.specs.Flushes.{NoData}
 use Rattle.dcsctp_delivery_sending.specs.ChunkCounts.{chunks_in, chunks_to}
 use Rattle.dcsctp_delivery_sending.specs.Marking.{WaitsNoLonger, FindsMarked, IsMarked}
-use Rattle.dcsctp_delivery_directions.specs.Directions.{Direction, Asking, nothing_asked, BeginsAtZero, DirectionRun}
+use Rattle.dcsctp_delivery_directions.specs.Directions.{Direction, Beginning, BeginsAs, AllWait, Asking, nothing_asked, DirectionRun}
 use Rattle.dcsctp_delivery_directions.specs.Requests.{requests_in, requests_to}
 use Rattle.dcsctp_delivery_turns.specs.Asking.{own_of, AsksFit, SomeFit}
 use Rattle.dcsctp_delivery_turns.specs.Actions.{NoEnd, peer_tag}
@@ -32,7 +32,7 @@ pub record SendingEnd : Type 0 where
   pub acknowledged : ℕ
   pub sent : List Emission
   pub asking : Asking
-  pub from_zero : Bool
+  pub beginning : Beginning
 
 pub record ReceivingEnd : Type 0 where
   pub tracker : TrackerState
@@ -50,7 +50,7 @@ joined sends gets =
       reassembly = gets.reassembly;
       read = gets.read;
       asking = sends.asking;
-      from_zero = sends.from_zero;
+      beginning = sends.beginning;
     }
 
 -- one at which nothing was received yet
@@ -62,6 +62,8 @@ pub record Ends : Type 0 where
   pub sends : ℕ → SendingEnd
   pub gets : ℕ → ReceivingEnd
   pub firsts : ℕ → ℕ
+  -- Does the user of the sender reset no stream?
+  pub never_resets : Bool
 
 abbrev pub EndsRun : Options → Ends → Type 0
 EndsRun options ends = (tag : ℕ) → DirectionRun options (ends.firsts tag) options.max_receiver_window_buffer_size (joined (ends.sends tag) (ends.gets tag))
@@ -86,19 +88,24 @@ pub record HadKind (past : List Effect) (tag : ℕ) (is_interleaved : Bool) : Ty
   pub tag_is : link.peer.tag ≡ tag
   pub kind_is : link.capabilities.message_interleaving ≡ is_interleaved
 
--- The sender had no association yet, and has numbered no message.
-pub record IsUnbegun (e : Endpoint) : Type 0 where
+-- The sender had no association yet, and has numbered no message. All that was queued waits, unless streams are reset.
+pub record IsUnbegun (never_resets : Bool) (e : Endpoint) : Type 0 where
   pub unlinked : identity_in e.core ≡ None
   pub idle : e.queues.transfer ≡ None
   pub zero : IsAtZero e.queues.queue
+  pub all : never_resets ≡ true → AllWait e.queues.queue
 
 abbrev pub NeverHeld : List Effect → Type 0
 NeverHeld past = (link : AssociationIdentity) → HasEffect (holds link) past → ⊥
 
+-- Each of its associations has this tag of the peer.
+abbrev pub IsOnlyTag : List Effect → ℕ → Type 0
+IsOnlyTag past tag = (link : AssociationIdentity) → HasEffect (holds link) past → link.peer.tag ≡ tag
+
 -- The numbers of each stream begin at 0 in the association with this tag of the peer: the sender follows the RFC (RFC 9260,
 -- section 6.5), or it had no other.
 abbrev pub BeginsAnew : Endpoint → List Effect → ℕ → Type 0
-BeginsAnew e past tag = (e.options.follow_rfc ≡ true) ⊎ ((link : AssociationIdentity) → HasEffect (holds link) past → link.peer.tag ≡ tag)
+BeginsAnew e past tag = (e.options.follow_rfc ≡ true) ⊎ IsOnlyTag past tag
 
 -- Nothing was sent at this end yet.
 pub record Awaits (sends : SendingEnd) : Type 0 where
@@ -107,7 +114,7 @@ pub record Awaits (sends : SendingEnd) : Type 0 where
   pub acknowledged : sends.acknowledged ≡ 0
   pub transfer : sends.queues.transfer ≡ None
   pub asking : sends.asking ≡ nothing_asked
-  pub zero : sends.from_zero ≡ true → BeginsAtZero sends.queues.queue
+  pub begun : BeginsAs sends.beginning sends.queues.queue
 
 -- Packets with data are of the association of their tag. No data is ever handled under the tag 0.
 abbrev pub IsOfEnds : Ends → Emission → Type 0
@@ -117,8 +124,7 @@ abbrev pub AreOfEnds : Ends → List Emission → Type 0
 AreOfEnds ends [] = Unit {0}
 AreOfEnds ends (emission ∷ emissions) = IsOfEnds ends emission × AreOfEnds ends emissions
 
--- The sender, whose peer has the tag `key` now, and which has this below: with these messages queued, this past, and these
--- packets sent. Without an association its end is that of the tag 0.
+-- The sender, whose peer has the tag `key` now, with these queues, these messages queued, this past, and these packets sent. Without an association its end is that of the tag 0.
 pub record Sender (ends : Ends) (key : ℕ) (sender_queues : EndpointQueues) (queued : List Message) (past : List Effect) (packets : List Emission) : Type 0 where
   pub queues_are : (ends.sends key).queues ≡ sender_queues
   pub long : length (ends.sends key).queued ≡ length queued
@@ -190,6 +196,8 @@ pub record Between (options : Options) (ends : Ends) (e : Endpoint) (queued : Li
   pub small : (tag : ℕ) → ends.firsts tag < 2 ^ 32
   pub sender : Sender ends (peer_tag e.core) e.queues queued past packets
   pub asks : AsksFit (ends.firsts (peer_tag e.core)) (own_of e) (ends.sends (peer_tag e.core)).asking
-  pub numbered : (tag : ℕ) → tag ≢ 0 → BeginsAnew e past tag → (ends.sends tag).from_zero ≡ true
-  pub unbegun : NeverHeld past → IsUnbegun e
+  pub numbered : (tag : ℕ) → tag ≢ 0 → BeginsAnew e past tag → (ends.sends tag).beginning.from_zero ≡ true
+  pub kept : (tag : ℕ) → tag ≢ 0 → ends.never_resets ≡ true → IsOnlyTag past tag → (ends.sends tag).beginning.keeps_all ≡ true
+  pub dropping : ends.never_resets ≡ false → (tag : ℕ) → (ends.sends tag).beginning.keeps_all ≡ false
+  pub unbegun : NeverHeld past → IsUnbegun ends.never_resets e
   pub receiver : Receiver options ends other their_past reading

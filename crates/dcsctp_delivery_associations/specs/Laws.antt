@@ -1,6 +1,6 @@
 -- What is known of all associations of two sockets, in the direction from one to the other, turn by
 -- turn, with interleaving or without.
-use Rattle.std.specs.Prelude.{◌≡◌, ◌≢◌, ◌⊎◌, ◌<◌, ◌-◌, ◌^◌, true, false, Some, List, [], ◌++◌, length, ℕ}
+use Rattle.std.specs.Prelude.{◌≡◌, ◌≢◌, ◌⊎◌, ◌<◌, ◌-◌, ◌^◌, Bool, true, false, Some, List, [], ◌++◌, length, ℕ}
 use Rattle.dcsctp_spec_lemmas.specs.types.declared.options.Options.{Options}
 use Rattle.dcsctp_spec_lemmas.specs.types.Settings.{SameOptions}
 use Rattle.dcsctp_spec_lemmas.specs.spec.endpoint.Endpoint.{Endpoint, fresh_endpoint}
@@ -10,12 +10,11 @@ use Rattle.dcsctp_spec_lemmas.specs.spec.Packet.{Emission}
 use Rattle.dcsctp_spec_lemmas.specs.spec.endpoint.Turn.{Input, Turn}
 use Rattle.dcsctp_spec_runs.specs.World.{after_effects}
 use Rattle.dcsctp_spec_lemmas.specs.spec.association.Effect.{AssociationIdentity, Effect, identity_of, identity_in}
-use Rattle.dcsctp_spec_lemmas.specs.types.queues.Messages.{MessageContent}
 use Rattle.dcsctp_spec_lemmas.specs.spec.queues.Transfer.{Transfer}
 use Rattle.dcsctp_delivery_sending.specs.Log.{Message}
 use Rattle.dcsctp_delivery_sending.specs.ChunkCounts.{chunks_to}
 use Rattle.dcsctp_delivery_directions.specs.Directions.{Delivered}
-use Rattle.dcsctp_delivery_turns.specs.Actions.{IsOpening, came_by, queued_after, Begun, IsCall}
+use Rattle.dcsctp_delivery_turns.specs.Actions.{IsOpening, came_by, queued_after, Begun, resets_streams, IsCall}
 use Rattle.dcsctp_delivery_turns.specs.Runs.{RefusesNone}
 use Rattle.dcsctp_delivery_turns.specs.PeerRequests.{KnowsPeerIn}
 use Rattle.dcsctp_spec_lemmas.specs.types.declared.association.Pair.{Pair}
@@ -35,15 +34,20 @@ CompletesPerformed their_past o = (my : Pair) (number : ℕ) → HasEffect (comp
 abbrev pub AsksLittle : List Emission → Type 0
 AsksLittle packets = (tag : ℕ) → requests_to tag packets < 2 ^ 32 - 1
 
--- There are ends for what was done so far, and for what was read.
-pub record AreEnds (options : Options) (e : Endpoint) (queued : List Message) (past : List Effect) (packets : List Emission) (other : Endpoint) (their_past : List Effect) (reading : Reading) : Type 0 where
+-- The user resets no stream by this call, if it never does.
+abbrev pub ResetsAs : Bool → Input → Type 0
+ResetsAs never_resets input = never_resets ≡ true → resets_streams input ≡ false
+
+-- There are ends for what was done so far, and for what was read, where the sender's user resets streams, or doesn't.
+pub record AreEnds (never_resets : Bool) (options : Options) (e : Endpoint) (queued : List Message) (past : List Effect) (packets : List Emission) (other : Endpoint) (their_past : List Effect) (reading : Reading) : Type 0 where
   pub ends : Ends
+  pub is : ends.never_resets ≡ never_resets
   pub between : Between options ends e queued past packets other their_past reading
   pub answered : AreAnswered ends e past other their_past
 
 -- Two sockets that were just made have them; `options` are those of the receiver.
 abbrev pub EndsBegin : Type 0
-EndsBegin = (mine options : Options) → AreEnds options (fresh_endpoint mine) [] [] [] (fresh_endpoint options) [] nothing_read
+EndsBegin = (never_resets : Bool) (mine options : Options) → AreEnds never_resets options (fresh_endpoint mine) [] [] [] (fresh_endpoint options) [] nothing_read
 
 -- A turn of the sender leaves them, with `follow_rfc` as it is, if an association that begins is of a new tag and of the matching one at the receiver, few
 -- requests to reset streams went to each tag, with interleaving none fails, and one that ends as performed was performed by the
@@ -52,7 +56,7 @@ abbrev pub SendersTurn : Type 0
 SendersTurn =
     (options : Options) (ends : Ends) (e : Endpoint) (queued : List Message) (past : List Effect) (packets : List Emission) (other : Endpoint) (their_past : List Effect) (reading : Reading) (input : Input) (o : Outcome)
     → Between options ends e queued past packets other their_past reading → AreAnswered ends e past other their_past → ((begun : Begun e o) → IsOpening (came_by input) → identity_in o.after.core ≡ Some (identity_of begun.my begun.held) → NewPeer past their_past (identity_of begun.my begun.held)) → length (queued_after e input queued) < 2 ^ 64 → AsksLittle (packets ++ packets_in o.events)
-    → RefusesNone e o → CompletesPerformed their_past o → o.after.options.follow_rfc ≡ e.options.follow_rfc → IsCall input → Turn e input o → AreEnds options o.after (queued_after e input queued) (after_effects o.effects past) (packets ++ packets_in o.events) other their_past reading
+    → RefusesNone e o → ResetsAs ends.never_resets input → CompletesPerformed their_past o → o.after.options.follow_rfc ≡ e.options.follow_rfc → IsCall input → Turn e input o → AreEnds ends.never_resets options o.after (queued_after e input queued) (after_effects o.effects past) (packets ++ packets_in o.events) other their_past reading
 
 -- So does one of the receiver, if what is handled in its association was sent in it, each association that is recorded has a new
 -- tag, and few requests went to each tag.
@@ -62,7 +66,7 @@ ReceiversTurn =
     → Between options ends e queued past packets other their_past reading → AreAnswered ends e past other their_past → length queued < 2 ^ 64 → AsksLittle packets → SameOptions options other.options → KnowsPeerIn their_past other.core
     → ((link old : AssociationIdentity) → HasEffect (holds link) o.effects → HasEffect (holds old) their_past → old.my.tag ≢ link.my.tag) → ((begun : Begun other o) → IsOpening (came_by input) → identity_in o.after.core ≡ Some (identity_of begun.my begun.held) → NewTag their_past past (identity_of begun.my begun.held))
     → ((transfer : Transfer) (link : AssociationIdentity) → other.queues.transfer ≡ Some transfer → identity_in other.core ≡ Some link → WasSent (ends.sends link.my.tag).sent (came_by input)) → IsCall input → Turn other input o
-    → AreEnds options e queued past packets o.after (after_effects o.effects their_past) (reading_after other input o.after reading)
+    → AreEnds ends.never_resets options e queued past packets o.after (after_effects o.effects their_past) (reading_after other input o.after reading)
 
 -- Each message that was read, in any association or after it, was queued, and none twice, if fewer than 2^30 chunks of data
 -- went to each tag: none assigned 2^31 TSNs.

@@ -7,7 +7,7 @@ use Rattle.dcsctp_spec_lemmas.specs.spec.endpoint.Turn.{Input, user_takes}
 use Rattle.dcsctp_spec_lemmas.specs.spec.association.Effect.{AssociationIdentity, identity_in}
 use Rattle.dcsctp_spec_lemmas.specs.types.queues.Messages.{MessageContent}
 
--- a message that was read, and our own tag of the association that received it
+-- a message that was read, and our own tag of the association in which it was read, or after whose end
 pub record Read : Type 0 where
   pub tag : ℕ
   pub message : MessageContent

@@ -1,6 +1,6 @@
 //! The laws of this crate.
 
-ghost use Rattle.dcsctp_delivery_associations.specs.InOrder.{EndsDeliverInOrder};
+ghost use Rattle.dcsctp_delivery_associations.specs.InOrder.{EndsDeliverDataInOrder, EndsDeliverWithoutGaps, EndsDeliverInOrder};
 ghost use Rattle.dcsctp_delivery_associations.specs.Laws.{EndsBegin, EndsDeliver, ReceiversTurn, SendersTurn};
 
 /// Two sockets that were just made have nothing between them.
@@ -28,7 +28,15 @@ pub fn ends_deliver()
 {}
 
 /// What was read in one association comes in the order in which it was queued, stream by stream: so the ordered
-/// messages do, where the numbers of each stream begin at 0.
+/// messages do, where the numbers of each stream begin at 0. Without interleaving it takes that no message may be
+/// abandoned, and that no request to reset streams was sent.
 pub fn ends_deliver_in_order()
-    ensures { EndsDeliverInOrder }
+    ensures interleaved { EndsDeliverInOrder }
+    ensures plain { EndsDeliverDataInOrder }
+{}
+
+/// Where the sender had one association, sets no limits on messages and resets no stream, what was read of a stream's
+/// ordered messages is a prefix of what was queued: none is missing before one that was read.
+pub fn ends_deliver_without_gaps()
+    ensures { EndsDeliverWithoutGaps }
 {}

@@ -53,7 +53,7 @@ module _ (options : Options) (first size : ℕ) (small : first < 2 ^ 32) (old : 
   unfolding standing
   stepped_few _ (queues now sending fits some) = by_queue (sending_queued now sending old.queues.queue) refl
   stepped_few _ (sets setting fits) = by_queue (set_in_queue setting old.queues.queue) (set_way setting old.queues.queue)
-  stepped_few _ (prepares ids fit) = by_queue (prepared_all ids old.queues.queue) (all_way ids old.queues.queue)
+  stepped_few _ (prepares ids fit kept) = by_queue (prepared_all ids old.queues.queue) (all_way ids old.queues.queue)
   stepped_few _ (commits go_on) = by_queue (queue_committed old.queues.queue) refl
   stepped_few _ (rolls_back unmixed) = by_queue (queue_rolled_back old.queues.queue) refl
   stepped_few _ (flushes e draft answers same no_data allowed) =
@@ -97,7 +97,7 @@ module _ (options : Options) (first size : ℕ) (small : first < 2 ^ 32) (old : 
   stepped_few _ (receives_interleaved emission chunk theirs new was holds some same same' does) = h
   stepped_few _ (forwards_interleaved emission tsn streams theirs new was holds same same' does) = h
   stepped_few _ (tracks new cumulative ranges) = h
-  stepped_few _ (defers last_tsn streams) = h
+  stepped_few _ (defers last_tsn streams some) = h
   stepped_few _ (performs newest earlier new asks unknown reached own leaves) = h
   stepped_few _ (resets streams new unmixed some leaves) = h
   stepped_few _ (performs_earlier newest earlier new asks unknown reached own leaves) = h
@@ -118,7 +118,7 @@ few_sent options first size _ small few (begins direction b) =
 few_sent options first size _ small few (goes_on old direction run step) =
     let before : length old.queued < 2 ^ 64 = omega (arith, few, more_queued old direction step) in
     stepped_few options first size small old run before (few_sent options first size old small before run) direction step
-few_sent options first size _ small few (starts old queued below from_zero run awaited fit waits none numbered) =
+few_sent options first size _ small few (starts old queued below beginning run awaited fit waits none numbered) =
     (let nothing = none_sent first old.acknowledged below.queue.is_interleaved below.queue below.transfer none awaited.acknowledged in omega (arith, nothing))
 
 assigned_below : (queue : SendQueueState) (transfer : Option Transfer) → tsns_in_flight transfer ≤ tsns_where queue transfer

@@ -15,7 +15,7 @@ use Rattle.dcsctp_delivery_sending.specs.Log.{Fits, Message, Piece, Slot, Mark, 
 use Rattle.dcsctp_delivery_sending.specs.Flushes.{SendsLogged, AreHandedFor}
 use Rattle.dcsctp_delivery_sending.specs.Numbers.{AreCurrent, AreKept, is_handed_out, stream_named}
 use Rattle.dcsctp_delivery_sending.specs.Queueing.{QueueWaits, floors_raised}
-use Rattle.dcsctp_delivery_directions.specs.Directions.{Direction, asking_with, NoneInFlight, BeginsDirection, IsAwaited, DirectionStep, queues, sets, prepares, commits, rolls_back, flushes, resends, resends_nothing, speaks, asks_again, renews, turns_aside, acknowledges, loses, receives, forwards, receives_interleaved, forwards_interleaved, tracks, defers, performs, performs_earlier, resets, takes}
+use Rattle.dcsctp_delivery_directions.specs.Directions.{Beginning, Direction, asking_with, NoneInFlight, BeginsDirection, IsAwaited, DirectionStep, queues, sets, prepares, commits, rolls_back, flushes, resends, resends_nothing, speaks, asks_again, renews, turns_aside, acknowledges, loses, receives, forwards, receives_interleaved, forwards_interleaved, tracks, defers, performs, performs_earlier, resets, takes}
 use Rattle.dcsctp_delivery_sending.proofs.Extended.{IsAsOne, as_itself, extends_grown, extends_noted, extends_renewed}
 use Rattle.dcsctp_delivery_sending.proofs.Places.{at_below}
 use Rattle.dcsctp_delivery_sending.proofs.StayHanded.{StayHanded, queueing_stays, setting_stays, preparing_stays}
@@ -167,7 +167,7 @@ unfolding stepped stepped_defers stepped_queues stepped_sets stepped_queue stepp
 step_continues first old small s _ few (queues now sending fits some) ends =
     continues_so s.history old.queues.queue.streams _ old.asking.out (queueing_stays now sending old.queues.queue)
 step_continues first old small s _ few (sets setting fits) ends = continues_so s.history old.queues.queue.streams _ old.asking.out (setting_stays setting old.queues.queue)
-step_continues first old small s _ few (prepares ids fit) ends = continues_so s.history old.queues.queue.streams _ old.asking.out (preparing_stays ids old.queues.queue)
+step_continues first old small s _ few (prepares ids fit kept) ends = continues_so s.history old.queues.queue.streams _ old.asking.out (preparing_stays ids old.queues.queue)
 step_continues first old small s _ few (commits go_on) ends = absurd ends
 step_continues first old small s _ few (rolls_back unmixed) ends = absurd ends
 step_continues first old small s _ few (flushes e draft answers same no_data allowed) ends = flushed_continues first old s _ _ _ _ _ _
@@ -190,7 +190,7 @@ step_continues first old small s _ few (forwards emission tsn streams theirs new
 step_continues first old small s _ few (receives_interleaved emission chunk theirs new was holds some same same' does) ends = continues_same s.history old.queues.queue.streams old.asking.out
 step_continues first old small s _ few (forwards_interleaved emission tsn streams theirs new was holds same same' does) ends = continues_same s.history old.queues.queue.streams old.asking.out
 step_continues first old small s _ few (tracks new cumulative ranges) ends = continues_same s.history old.queues.queue.streams old.asking.out
-step_continues first old small s _ few (defers last_tsn streams) ends = continues_same s.history old.queues.queue.streams old.asking.out
+step_continues first old small s _ few (defers last_tsn streams some) ends = continues_same s.history old.queues.queue.streams old.asking.out
 step_continues first old small s _ few (performs newest earlier new asks unknown reached own leaves) ends = continues_same s.history old.queues.queue.streams old.asking.out
 step_continues first old small s _ few (resets streams new unmixed some leaves) ends = continues_same s.history old.queues.queue.streams old.asking.out
 step_continues first old small s _ few (performs_earlier newest earlier new asks unknown reached own leaves) ends = continues_same s.history old.queues.queue.streams old.asking.out
@@ -215,7 +215,7 @@ pub begun_history : (options : Options) (first size : ℕ) (direction : Directio
 unfolding begun_stands stands_anew
 begun_history options first size direction small b = refl
 
-pub started_history : (first : ℕ) (old : Direction) (queued : List Message) (below : EndpointQueues) (from_zero : Bool) (s : Stands first old) (awaited : IsAwaited old) (small : first < 2 ^ 32) (fit : AllByRecursion Fits queued) (waits : QueueWaits queued below.queue)
-    (none : NoneInFlight first below.queue.is_interleaved below.transfer) → (started_stands first old queued below from_zero s awaited small fit waits none).history ≡ new_history waits.floors
+pub started_history : (first : ℕ) (old : Direction) (queued : List Message) (below : EndpointQueues) (beginning : Beginning) (s : Stands first old) (awaited : IsAwaited old) (small : first < 2 ^ 32) (fit : AllByRecursion Fits queued) (waits : QueueWaits queued below.queue)
+    (none : NoneInFlight first below.queue.is_interleaved below.transfer) → (started_stands first old queued below beginning s awaited small fit waits none).history ≡ new_history waits.floors
 unfolding started_stands stands_anew
-started_history first old queued below from_zero s awaited small fit waits none = refl
+started_history first old queued below beginning s awaited small fit waits none = refl

@@ -16,7 +16,7 @@ use Rattle.dcsctp_delivery_sending.specs.Numbers.{IsOfKind}
 use Rattle.dcsctp_delivery_sending.specs.Queueing.{QueueWaits}
 use Rattle.dcsctp_delivery_receiving.specs.Ready.{WereQueued}
 use Rattle.dcsctp_delivery_receiving.specs.Received.{HasReceived}
-use Rattle.dcsctp_delivery_directions.specs.Directions.{Direction, Asking, nothing_asked, tsns_in_flight, assigned, NoneInFlight, BeginsDirection, IsAwaited, DirectionRun, begins, goes_on, starts, Delivered}
+use Rattle.dcsctp_delivery_directions.specs.Directions.{Beginning, Direction, Asking, nothing_asked, tsns_in_flight, assigned, NoneInFlight, BeginsDirection, IsAwaited, DirectionRun, begins, goes_on, starts, Delivered}
 use Rattle.dcsctp_delivery_sending.proofs.KeptQueues.{kept_hold}
 use Rattle.dcsctp_delivery_receiving.proofs.Taking.{nothing_received}
 use Rattle.dcsctp_delivery_receiving.proofs.Growing.{received_awaited, received_more, were_more}
@@ -39,6 +39,7 @@ module _ (first : ℕ) (direction : Direction) (small : first < 2 ^ 32) (zero_go
         items = λ k item at. absurd (nothing_at k item (ap (λ (l : List Item). slice_get l k) (sym is.1) ∙ at));
         named = λ k item at. absurd (nothing_at k item (ap (λ (l : List Item). slice_get l k) (sym is.1) ∙ at));
         splits = λ mark has. absurd has;
+        abandoned = λ k item at. absurd (nothing_at k item (ap (λ (l : List Item). slice_get l k) (sym is.1) ∙ at));
       }
     where
       nothing_at : (k : ℕ) (item : Item) → slice_get [] k ≡ Some item → ⊥
@@ -101,14 +102,14 @@ no_slots : (log : List Slot) → length log ≡ 0 → log ≡ []
 no_slots [] none = refl
 no_slots (slot ∷ log) none = absurd (omega (arith, none))
 
-module _ (first : ℕ) (old : Direction) (queued : List Message) (below : EndpointQueues) (from_zero : Bool) (s : Stands first old) (awaited : IsAwaited old) where
+module _ (first : ℕ) (old : Direction) (queued : List Message) (below : EndpointQueues) (beginning : Beginning) (s : Stands first old) (awaited : IsAwaited old) where
   pub empty : length s.history.log ≡ 0
   empty = (let idle : tsns_in_flight old.queues.transfer ≡ 0 = ap tsns_in_flight awaited.transfer in let count = s.count in let acknowledged = awaited.acknowledged in omega (arith, idle, count, acknowledged))
 
   same_queued : queued ++ old.queued ≡ queued
   same_queued = ap (λ (l : List Message). queued ++ l) awaited.queued ∙ append-nil queued
 
-  pub arrived_anew : (floors : ℕ → Bool → ℕ) → Arrived first s.history old → Arrived first (new_history floors) (record old { queued = queued; queues = below; from_zero = from_zero })
+  pub arrived_anew : (floors : ℕ → Bool → ℕ) → Arrived first s.history old → Arrived first (new_history floors) (record old { queued = queued; queues = below; beginning = beginning })
   arrived_anew floors a =
       record {
         places = a.places;
@@ -120,9 +121,9 @@ module _ (first : ℕ) (old : Direction) (queued : List Message) (below : Endpoi
         cleared = λ is performed. absurd (not_performed old.asking awaited.asking performed);
       }
 
-  unfoldable pub started_stands : first < 2 ^ 32 → AllByRecursion Fits queued → QueueWaits queued below.queue → NoneInFlight first below.queue.is_interleaved below.transfer → Stands first (record old { queued = queued; queues = below; from_zero = from_zero })
+  unfoldable pub started_stands : first < 2 ^ 32 → AllByRecursion Fits queued → QueueWaits queued below.queue → NoneInFlight first below.queue.is_interleaved below.transfer → Stands first (record old { queued = queued; queues = below; beginning = beginning })
   started_stands small fit waits none =
-      let direction : Direction = record old { queued = queued; queues = below; from_zero = from_zero } in
+      let direction : Direction = record old { queued = queued; queues = below; beginning = beginning } in
       stands_anew first direction small awaited.acknowledged none waits fit awaited.sent awaited.asking (λ little. arrived_anew waits.floors (s.arrived (omega (arith, empty))))
 
 -- ---- a run
@@ -131,8 +132,8 @@ pub run_stands : (options : Options) (first size : ℕ) (direction : Direction) 
 run_stands options first size _ small few (begins direction b) = begun_stands options first size direction small b
 run_stands options first size _ small few (goes_on old direction run step) =
     stepped first old small (run_stands options first size old small (omega (arith, few, more_queued old direction step)) run) direction few step
-run_stands options first size _ small few (starts old queued below from_zero run awaited fit waits none numbered) =
-    started_stands first old queued below from_zero (run_stands options first size old small (let none_queued : length old.queued ≡ 0 = ap (λ (l : List Message). length l) awaited.queued in omega (arith, none_queued)) run) awaited small fit waits none
+run_stands options first size _ small few (starts old queued below beginning run awaited fit waits none numbered) =
+    started_stands first old queued below beginning (run_stands options first size old small (let none_queued : length old.queued ≡ 0 = ap (λ (l : List Message). length l) awaited.queued in omega (arith, none_queued)) run) awaited small fit waits none
 
 -- what is true of it
 pub direction_queues : (options : Options) (first size : ℕ) (direction : Direction) → DirectionRun options first size direction → first < 2 ^ 32 → length direction.queued < 2 ^ 64 → QueueWaits direction.queued direction.queues.queue × AllByRecursion Fits direction.queued

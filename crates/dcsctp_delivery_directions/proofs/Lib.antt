@@ -8,7 +8,11 @@ pub mod Performing
 pub mod Renewing
 pub mod Steps
 pub mod Continuing
+pub mod Calm
 pub mod Directions
+pub mod Forwards
+pub mod Unpaused
+pub mod Losing
 pub mod Marking
 pub mod ChunkCounts
 pub mod Requests

@@ -11,13 +11,15 @@ use Rattle.dcsctp_spec.specs.endpoint.SettingOutcomes.{set_in_queue}
 use Rattle.dcsctp_spec.specs.types.declared.sending.UnderWay.{UnderWay}
 use Rattle.dcsctp_delivery_sending.specs.Places.{HasEntry}
 use Rattle.dcsctp_delivery_sending.specs.Log.{Fits, Mark, Resets}
-use Rattle.dcsctp_delivery_sending.specs.Numbers.{CountsWhere, IsOfKind, is_handed_out, stream_named}
+use Rattle.dcsctp_delivery_sending.specs.Numbers.{CountsSsns, CountsWhere, IsOfKind, is_handed_out, stream_named}
 use Rattle.dcsctp_delivery_sending.specs.Stages.{AreMarks}
+use Rattle.dcsctp_delivery_sending.specs.Turns.{begun_on}
 use Rattle.dcsctp_delivery_sending.specs.Queueing.{QueueHolds, SettingFits, message_of, floors_raised}
 use Rattle.dcsctp_delivery_receiving.specs.Clear.{IsClear, IsOver, Unsent}
 use Rattle.dcsctp_delivery_directions.specs.Directions.{Direction, all_ended}
 use Rattle.dcsctp_delivery_sending.proofs.Queueing.{queueing_hold}
-use Rattle.dcsctp_delivery_sending.proofs.Settings.{setting_kind, setting_hold, committing_hold, rolling_back_hold}
+use Rattle.dcsctp_delivery_sending.proofs.Settings.{setting_kind, setting_hold, committing_hold, rolling_back_hold, ssns_committed}
+use Rattle.dcsctp_delivery_sending.proofs.Turns.{none_begun}
 use Rattle.dcsctp_delivery_sending.proofs.Prepared.{preparing_kind, preparing_hold}
 use Rattle.dcsctp_delivery_sending.proofs.Handed.{queueing_handed, setting_handed, preparing_handed, committed_handed, rolled_back_handed}
 use Rattle.dcsctp_delivery_receiving.proofs.Growing.{received_more, were_more}
@@ -154,11 +156,34 @@ module _ (first : ℕ) (old : Direction) (s : Stands first old) where
       stepped_queue (queue_rolled_back old.queues.queue) refl refl (λ id handed. absurd (rolled_back_handed old.queues.queue id handed)) 0 (λ id handed. absurd (rolled_back_handed old.queues.queue id handed))
       (rolling_back_hold old.queued s.history old.queues.queue now_queues)
 
+  -- a stream that is handed out was never used in the association, if no reset was begun in it
+  unused_so : s.history.marks ≡ [] → (id : ℕ) → is_handed_out (stream_named id old.queues.queue.streams).pause ≡ true → begun_on id s.history.log ≡ 0
+  unused_so none id handed =
+      elim (s.quiet id handed) [
+        | inl unsent ↦ none_begun id s.history.log unsent
+        | inr behind ↦ absurd (no_mark (behind.mark) old.asking.out s.history.marks none behind.has)
+      ]
+    where
+      no_mark : (mark : Mark) (out : ℕ) (marks : List Mark) → marks ≡ [] → HasEntry mark (take out marks) → ⊥
+      no_mark mark zero [] is has = has
+      no_mark mark (suc out) [] is has = has
+      no_mark mark out (m ∷ marks) is has = absurd (cc)
+
+  -- SSNs are counted on
+  pub ssns_ended : CountsSsns s.history old.queues.queue.streams old.queues.queue.under_way → CountsSsns s.history (queue_committed old.queues.queue).streams old.queues.queue.under_way
+  ssns_ended c =
+      record {
+        turns = λ id start. ssns_committed id s.history.log old.queues.queue.streams old.queues.queue.under_way s.queues.numbers.kept (unused_so start.none id) (c.turns id start);
+        closes = c.closes;
+        rests = c.rests;
+      }
+
   unfoldable pub commits_plain : old.queues.queue.is_interleaved ≡ false → Stands first (record old { queues = record old.queues { queue = queue_committed old.queues.queue }; asking = all_ended old.asking })
   commits_plain is =
       let q = committing_hold old.queued s.history old.queues.queue now_queues in
       let counts : CountsWhere old.queues.queue.is_interleaved s.history (queue_committed old.queues.queue).streams old.queues.queue.under_way =
-      subst (λ (b : Bool). CountsWhere b s.history (queue_committed old.queues.queue).streams old.queues.queue.under_way) (sym is) tt in
+      subst (λ (b : Bool). CountsWhere b s.history (queue_committed old.queues.queue).streams old.queues.queue.under_way) (sym is)
+      (ssns_ended (subst (λ (b : Bool). CountsWhere b s.history old.queues.queue.streams old.queues.queue.under_way) is s.queues.numbers.counts)) in
       stepped_queue (queue_committed old.queues.queue) refl refl (λ id handed. absurd (committed_handed old.queues.queue id handed)) 0 (λ id handed. absurd (committed_handed old.queues.queue id handed))
       (record { queue_holds = q.queue_holds; next = q.next; numbers = record { kinds = q.numbers.kinds; counts = counts; kept = q.numbers.kept } })
 

@@ -105,7 +105,7 @@ one_more old emission h = (let more = requests_more old.sent (emission ∷ []) i
 stepped : (old new : Direction) → AreSent old → DirectionStep old new → AreSent new
 stepped old _ h (queues now sending fits some) = h
 stepped old _ h (sets setting fits) = h
-stepped old _ h (prepares ids fit) = h
+stepped old _ h (prepares ids fit kept) = h
 stepped old _ h (commits go_on) = h
 stepped old _ h (rolls_back unmixed) = h
 stepped old _ h (flushes e draft answers same no_data allowed) =
@@ -129,7 +129,7 @@ stepped old _ h (forwards emission tsn streams theirs new was holds same same' d
 stepped old _ h (receives_interleaved emission chunk theirs new was holds some same same' does) = h
 stepped old _ h (forwards_interleaved emission tsn streams theirs new was holds same same' does) = h
 stepped old _ h (tracks new cumulative ranges) = h
-stepped old _ h (defers last_tsn streams) = h
+stepped old _ h (defers last_tsn streams some) = h
 stepped old _ h (performs newest earlier new asks unknown reached own leaves) = h
 stepped old _ h (resets streams new unmixed some leaves) = h
 stepped old _ h (performs_earlier newest earlier new asks unknown reached own leaves) = h
@@ -139,4 +139,4 @@ pub requests_are_sent : (options : Options) (first size : ℕ) (direction : Dire
 requests_are_sent options first size _ (begins direction b) =
     (let asked : length direction.asking.requests ≡ 0 = ap (λ (a : Asking). length a.requests) b.asking in omega (arith, asked))
 requests_are_sent options first size _ (goes_on old direction run step) = stepped old direction (requests_are_sent options first size old run) step
-requests_are_sent options first size _ (starts old queued below from_zero run awaited fit waits none numbered) = requests_are_sent options first size old run
+requests_are_sent options first size _ (starts old queued below beginning run awaited fit waits none numbered) = requests_are_sent options first size old run

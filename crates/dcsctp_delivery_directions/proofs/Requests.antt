@@ -166,7 +166,7 @@ one_more requests emissions emission are one = sent_both requests emissions (emi
 stepped : (old new : Direction) → OfBegun old → DirectionStep old new → OfBegun new
 stepped old _ h (queues now sending fits some) = h
 stepped old _ h (sets setting fits) = h
-stepped old _ h (prepares ids fit) = h
+stepped old _ h (prepares ids fit kept) = h
 stepped old _ h (commits go_on) = h
 stepped old _ h (rolls_back unmixed) = h
 stepped old _ h (flushes e draft answers same no_data allowed) =
@@ -191,7 +191,7 @@ stepped old _ h (forwards emission tsn streams theirs new was holds same same' d
 stepped old _ h (receives_interleaved emission chunk theirs new was holds some same same' does) = h
 stepped old _ h (forwards_interleaved emission tsn streams theirs new was holds same same' does) = h
 stepped old _ h (tracks new cumulative ranges) = h
-stepped old _ h (defers last_tsn streams) = h
+stepped old _ h (defers last_tsn streams some) = h
 stepped old _ h (performs newest earlier new asks unknown reached own leaves) = h
 stepped old _ h (resets streams new unmixed some leaves) = h
 stepped old _ h (performs_earlier newest earlier new asks unknown reached own leaves) = h
@@ -200,7 +200,7 @@ stepped old _ h (takes message messages is) = h
 pub all_of_begun : (options : Options) (first size : ℕ) (direction : Direction) → DirectionRun options first size direction → SentOfBegun direction.asking.requests direction.sent
 all_of_begun options first size _ (begins direction b) = subst (SentOfBegun direction.asking.requests) (sym b.sent) tt
 all_of_begun options first size _ (goes_on old direction run step) = stepped old direction (all_of_begun options first size old run) step
-all_of_begun options first size _ (starts old queued below from_zero run awaited fit waits none numbered) = all_of_begun options first size old run
+all_of_begun options first size _ (starts old queued below beginning run awaited fit waits none numbered) = all_of_begun options first size old run
 
 -- ---- one of them
 

@@ -12,7 +12,7 @@ use Rattle.dcsctp_delivery_directions.proofs.Standing.{Stands}
 pub more_queued : (old direction : Direction) → DirectionStep old direction → length old.queued ≤ length direction.queued
 more_queued old _ (queues now sending fits some) = omega arith
 more_queued old _ (sets setting fits) = omega arith
-more_queued old _ (prepares ids fit) = omega arith
+more_queued old _ (prepares ids fit kept) = omega arith
 more_queued old _ (commits go_on) = omega arith
 more_queued old _ (rolls_back unmixed) = omega arith
 more_queued old _ (flushes e draft answers same no_data allowed) = omega arith
@@ -29,7 +29,7 @@ more_queued old _ (forwards emission tsn streams theirs new was holds same same'
 more_queued old _ (receives_interleaved emission chunk theirs new was holds some same same' does) = omega arith
 more_queued old _ (forwards_interleaved emission tsn streams theirs new was holds same same' does) = omega arith
 more_queued old _ (tracks new cumulative ranges) = omega arith
-more_queued old _ (defers last_tsn streams) = omega arith
+more_queued old _ (defers last_tsn streams some) = omega arith
 more_queued old _ (performs newest earlier new asks unknown reached own leaves) = omega arith
 more_queued old _ (resets streams new unmixed some leaves) = omega arith
 more_queued old _ (performs_earlier newest earlier new asks unknown reached own leaves) = omega arith
@@ -38,7 +38,7 @@ more_queued old _ (takes message messages is) = omega arith
 unfoldable pub stepped : (first : ℕ) (old : Direction) → first < 2 ^ 32 → Stands first old → (direction : Direction) → length direction.queued < 2 ^ 64 → DirectionStep old direction → Stands first direction
 stepped first old small s _ few (queues now sending fits some) = stepped_queues first old s now sending fits some (omega (arith, few))
 stepped first old small s _ few (sets setting fits) = stepped_sets first old s setting fits
-stepped first old small s _ few (prepares ids fit) = stepped_prepares first old s ids fit
+stepped first old small s _ few (prepares ids fit kept) = stepped_prepares first old s ids fit
 stepped first old small s _ few (commits go_on) = stepped_commits first old s go_on
 stepped first old small s _ few (rolls_back unmixed) = stepped_rolls_back first old s
 stepped first old small s _ few (flushes e draft answers same no_data allowed) = stepped_flushes first old s e draft answers same no_data allowed
@@ -55,7 +55,7 @@ stepped first old small s _ few (forwards emission tsn streams theirs new was ho
 stepped first old small s _ few (receives_interleaved emission chunk theirs new was holds some same same' does) = stepped_receives_interleaved first old small s theirs new same same' emission chunk was holds some does
 stepped first old small s _ few (forwards_interleaved emission tsn streams theirs new was holds same same' does) = stepped_forwards_interleaved first old small s theirs new same same' emission tsn streams was holds does
 stepped first old small s _ few (tracks new cumulative ranges) = stepped_tracks first old small s new cumulative ranges
-stepped first old small s _ few (defers last_tsn streams) = stepped_defers first old small s last_tsn streams
+stepped first old small s _ few (defers last_tsn streams some) = stepped_defers first old small s last_tsn streams
 stepped first old small s _ few (performs newest earlier new asks unknown reached own leaves) = stepped_performs first old small s newest earlier new asks reached own leaves
 stepped first old small s _ few (resets streams new unmixed some leaves) = stepped_resets first old small s streams new leaves
 stepped first old small s _ few (performs_earlier newest earlier new asks unknown reached own leaves) = stepped_resets first old small s newest.reset.streams new leaves

@@ -5,7 +5,7 @@ use Rattle.std.specs.Prelude.{◌≡◌, ◌≢◌, ◌<◌, ◌≤◌, ◌+◌,
 use Rattle.dcsctp_spec.specs.wire.Content.{DataContent, IDataContent, SackContent, data_chunk, i_data_chunk, forward_tsn_chunk, i_forward_tsn_chunk}
 use Rattle.dcsctp_spec.specs.types.declared.options.Options.{Options}
 use Rattle.dcsctp_spec.specs.types.declared.sending.UnderWay.{UnderWay}
-use Rattle.dcsctp_spec.specs.types.queues.SendStreams.{Waiting, Stream, front_of}
+use Rattle.dcsctp_spec.specs.types.queues.SendStreams.{Waiting, Stream, front_of, next_numbers}
 use Rattle.dcsctp_spec.specs.queues.SendQueue.{SendQueueState}
 use Rattle.dcsctp_spec.specs.endpoint.Endpoint.{Endpoint}
 use Rattle.dcsctp_spec.specs.endpoint.Event.{packets_in}
@@ -30,6 +30,7 @@ use Rattle.dcsctp_spec.specs.endpoint.TransferMoves.{ReceivesData, MovesForward,
 use Rattle.dcsctp_delivery_sending.specs.Numbers.{stream_named, next_mid}
 use Rattle.dcsctp_delivery_sending.specs.Places.{HasEntry}
 use Rattle.dcsctp_delivery_sending.specs.Log.{Fits, Message}
+use Rattle.dcsctp_delivery_sending.specs.Losing.{StillWaits, AreOpen}
 use Rattle.dcsctp_spec.specs.Reconfiguration.{RequestedReset}
 use Rattle.dcsctp_spec.specs.association.FlushChanges.{reset_request}
 use Rattle.dcsctp_spec.specs.queues.Numbers.{is_tsn_beyond}
@@ -52,6 +53,13 @@ pub record Asking : Type 0 where
 abbrev pub nothing_asked : Asking
 nothing_asked = record { requests = []; out = 0; is_performed = false }
 
+-- How its sender began.
+pub record Beginning : Type 0 where
+  -- With number 0 on each stream (RFC 9260, section 6.5)?
+  pub from_zero : Bool
+  -- With all that was queued before and no stream to be reset, and does it drop nothing for a reset of a stream?
+  pub keeps_all : Bool
+
 -- One direction of an association, as both of its ends have it.
 pub record Direction : Type 0 where
   -- what was queued since the sending socket was made, newest first
@@ -68,8 +76,7 @@ pub record Direction : Type 0 where
   -- what its user read, oldest first
   pub read : List MessageContent
   pub asking : Asking
-  -- Did the sender begin with number 0 on each stream (RFC 9260, section 6.5)?
-  pub from_zero : Bool
+  pub beginning : Beginning
 
 -- once this reset was begun, if one was
 abbrev pub asking_with : Option BegunReset → Asking → Asking
@@ -101,10 +108,11 @@ pub data DirectionStep (old : Direction) : Direction → Type 0 where
   -- The user queues a message.
   queues : (now : ℕ) (sending : Sending) → Fits (message_of sending) → 0 < length sending.message.payload
       → DirectionStep old (record old { queued = message_of sending ∷ old.queued; queues = record old.queues { queue = sending_queued now sending old.queues.queue } })
-  -- The user sets something, or streams are prepared to be reset, each by a number of 16 bits; or a reset was performed, or was
-  -- not. With interleaving it is the only one that has no end, the receiver has performed it, and none fails.
+  -- The user sets something, or streams are prepared to be reset, each by a number of 16 bits, for which what waits on them is
+  -- dropped; or a reset was performed, or was not. With interleaving it is the only one that has no end, the receiver has performed
+  -- it, and none fails.
   sets : (setting : Setting) → SettingFits setting → DirectionStep old (record old { queues = record old.queues { queue = set_in_queue setting old.queues.queue } })
-  prepares : (ids : List ℕ) → AllByRecursion (λ id. id < 2 ^ 16) ids → DirectionStep old (record old { queues = record old.queues { queue = prepared_all ids old.queues.queue } })
+  prepares : (ids : List ℕ) → AllByRecursion (λ id. id < 2 ^ 16) ids → old.beginning.keeps_all ≡ false → DirectionStep old (record old { queues = record old.queues { queue = prepared_all ids old.queues.queue } })
   commits : (old.queues.queue.is_interleaved ≡ true → (old.asking.out ≤ 1) × (old.asking.is_performed ≡ true))
       → DirectionStep old (record old { queues = record old.queues { queue = queue_committed old.queues.queue }; asking = all_ended old.asking })
   rolls_back : old.queues.queue.is_interleaved ≡ false → DirectionStep old (record old { queues = record old.queues { queue = queue_rolled_back old.queues.queue }; asking = all_ended old.asking })
@@ -154,8 +162,9 @@ pub data DirectionStep (old : Direction) : Direction → Type 0 where
       → DirectionStep old (record old { tracker = new.tracker; reassembly = new.reassembly })
   -- The receiver acknowledges, now or later.
   tracks : (new : TrackerState) → new.cumulative ≡ old.tracker.cumulative → new.ranges ≡ old.tracker.ranges → DirectionStep old (record old { tracker = new })
-  -- Streams are to be reset once all up to a TSN was received, whichever they are, and whatever it is.
-  defers : (last_tsn : ℕ) (streams : List ℕ) → DirectionStep old (record old { reassembly = deferring last_tsn streams old.reassembly })
+  -- Streams are to be reset once all up to a TSN was received, whichever they are, and whatever it is, where the sender has
+  -- begun a request.
+  defers : (last_tsn : ℕ) (streams : List ℕ) → old.asking.requests ≢ [] → DirectionStep old (record old { reassembly = deferring last_tsn streams old.reassembly })
   -- The newest reset is performed: all that was sent before it was received, and what waits, waits for it. With interleaving it
   -- wasn't performed before under its number.
   performs : (newest : BegunReset) (earlier : List BegunReset) (new : ReassemblyState) → old.asking.requests ≡ newest ∷ earlier
@@ -184,10 +193,21 @@ RestIsUnordered streams under_way =
     (u : UnderWay) (waiting : Waiting) → under_way ≡ Some u → front_of (stream_named u.stream_id.0 streams).messages ≡ Some waiting
     → waiting.is_unordered ≡ true
 
--- No ordered message is under way, and the next one of each stream has the number 0.
+-- No ordered message is under way, and the next one of each stream has the number 0, with interleaving and without.
 pub record BeginsAtZero (queue : SendQueueState) : Type 0 where
   pub rest : RestIsUnordered queue.streams queue.under_way
   pub zero : (id : ℕ) → next_mid false (stream_named id queue.streams) % 2 ^ 32 ≡ 0
+  pub ssn : (id : ℕ) → (next_numbers false (stream_named id queue.streams)).0 ≡ 0
+
+-- All that was ever queued waits, and no stream is to be reset.
+pub record AllWait (queue : SendQueueState) : Type 0 where
+  pub waits : (place : ℕ) → place < queue.next_message_id → StillWaits queue.streams place
+  pub unpaused : AreOpen queue.streams
+
+-- The sender begins so with this queue.
+pub record BeginsAs (beginning : Beginning) (queue : SendQueueState) : Type 0 where
+  pub zero : beginning.from_zero ≡ true → BeginsAtZero queue
+  pub all : beginning.keeps_all ≡ true → AllWait queue
 
 -- An association begins; what was queued before may wait.
 pub record BeginsDirection (options : Options) (first size : ℕ) (direction : Direction) : Type 0 where
@@ -200,7 +220,7 @@ pub record BeginsDirection (options : Options) (first size : ℕ) (direction : D
   pub reassembly : direction.reassembly ≡ new_reassembly size
   pub read : direction.read ≡ []
   pub asking : direction.asking ≡ nothing_asked
-  pub zero : direction.from_zero ≡ true → BeginsAtZero direction.queues.queue
+  pub begun : BeginsAs direction.beginning direction.queues.queue
 
 -- Its sender has no association yet.
 pub record IsAwaited (direction : Direction) : Type 0 where
@@ -215,8 +235,8 @@ pub data DirectionRun (options : Options) (first size : ℕ) : Direction → Typ
   begins : (direction : Direction) → BeginsDirection options first size direction → DirectionRun options first size direction
   goes_on : (old direction : Direction) → DirectionRun options first size old → DirectionStep old direction → DirectionRun options first size direction
   -- The sender begins after the receiver.
-  starts : (old : Direction) (queued : List Message) (sender_queues : EndpointQueues) (from_zero : Bool) → DirectionRun options first size old → IsAwaited old → AllByRecursion Fits queued → QueueWaits queued sender_queues.queue → NoneInFlight first sender_queues.queue.is_interleaved sender_queues.transfer
-      → (from_zero ≡ true → BeginsAtZero sender_queues.queue) → DirectionRun options first size (record old { queued = queued; queues = sender_queues; from_zero = from_zero })
+  starts : (old : Direction) (queued : List Message) (sender_queues : EndpointQueues) (beginning : Beginning) → DirectionRun options first size old → IsAwaited old → AllByRecursion Fits queued → QueueWaits queued sender_queues.queue → NoneInFlight first sender_queues.queue.is_interleaved sender_queues.transfer
+      → BeginsAs beginning sender_queues.queue → DirectionRun options first size (record old { queued = queued; queues = sender_queues; beginning = beginning })
 
 -- Each message that was read was queued, and none twice.
 pub record Delivered (queued : List Message) (read : List MessageContent) : Type 0 where

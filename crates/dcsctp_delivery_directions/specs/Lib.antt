@@ -1,3 +1,6 @@
 pub mod Directions
 pub mod Marking
 pub mod Requests
+pub mod Calm
+pub mod Forwards
+pub mod Losing

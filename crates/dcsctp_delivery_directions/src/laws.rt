@@ -1,6 +1,8 @@
 //! The laws of this crate.
 
 ghost use Rattle.dcsctp_delivery_directions.specs.Directions.{DirectionsDeliver};
+ghost use Rattle.dcsctp_delivery_directions.specs.Forwards.{UnlimitedForwardNothing};
+ghost use Rattle.dcsctp_delivery_directions.specs.Losing.{KeptAskNothing, UnlimitedLeaveOutNone};
 ghost use Rattle.dcsctp_delivery_directions.specs.Marking.{DirectionsDeliverForGood};
 ghost use Rattle.dcsctp_delivery_directions.specs.Requests.{RequestsWereBegun, RequestsAreSent};
 
@@ -21,4 +23,22 @@ pub fn directions_deliver_for_good()
 pub fn requests_are_begun()
     ensures begun { RequestsWereBegun }
     ensures sent { RequestsAreSent }
+{}
+
+/// Where all messages were queued without a lifetime and without a limit on retransmissions, none is abandoned: no
+/// FORWARD-TSN is sent, and no I-FORWARD-TSN (RFC 3758, section 3.5).
+pub fn unlimited_forward_nothing()
+    ensures { UnlimitedForwardNothing }
+{}
+
+/// A sender that began with all that was queued before, and drops nothing for a reset of a stream, asks for no reset
+/// (RFC 6525, section 5.1.2).
+pub fn kept_ask_nothing()
+    ensures { KeptAskNothing }
+{}
+
+/// Where all messages were queued without a lifetime and without a limit on retransmissions, and the sender drops
+/// nothing for a reset of a stream, none is left out: each message was sent, or waits (RFC 9260, section 6.9).
+pub fn unlimited_leave_out_none()
+    ensures { UnlimitedLeaveOutNone }
 {}

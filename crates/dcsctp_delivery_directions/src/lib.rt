@@ -4,4 +4,7 @@
 
 mod laws;
 
-pub use laws::{directions_deliver, directions_deliver_for_good, requests_are_begun};
+pub use laws::{
+    directions_deliver, directions_deliver_for_good, kept_ask_nothing, requests_are_begun,
+    unlimited_forward_nothing, unlimited_leave_out_none,
+};

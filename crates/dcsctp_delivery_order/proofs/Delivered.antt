@@ -10,7 +10,7 @@ use Rattle.dcsctp_delivery_order.specs.Queue.{IsOrderedOn, ComeInOrder, LeaveNoG
 use Rattle.dcsctp_delivery_order.specs.Reading.{CountsFromZero}
 use Rattle.dcsctp_delivery_order.specs.Gaps.{SendsInTurn}
 use Rattle.dcsctp_delivery_order.specs.Incoming.{IncomingOrdered}
-use Rattle.dcsctp_delivery_order.specs.Delivered.{DeliveredInOrder, DeliveredFront}
+use Rattle.dcsctp_delivery_order.specs.Delivered.{DeliveredInOrder, DeliveredWithoutGaps}
 use Rattle.dcsctp_delivery_order.proofs.Gaps.{filled_no_gap}
 use Rattle.dcsctp_delivery_order.proofs.Incoming.{ordered_was_read}
 
@@ -34,7 +34,7 @@ module _ (queued : List Message) (id : ℕ) where
       first : x ≡ z → x < y
       first e = subst (λ (k : ℕ). k < y) (sym e) (are.0 y (has_right y xs ys has') (subst (λ (k : ℕ). IsOrderedOn queued id k) e on) on')
 
-  no_gap_front : (xs ys : List ℕ) → ComeInOrder queued id (xs ++ ys) → LeaveNoGap queued id (xs ++ ys) → LeaveNoGap queued id xs
+  pub no_gap_front : (xs ys : List ℕ) → ComeInOrder queued id (xs ++ ys) → LeaveNoGap queued id (xs ++ ys) → LeaveNoGap queued id xs
   no_gap_front xs ys are gap earlier later has on on' less =
       elim (has_either earlier xs ys (gap earlier later (has_left later xs ys has) on on' less)) [
         | inl l ↦ l
@@ -43,7 +43,7 @@ module _ (queued : List Message) (id : ℕ) where
 
 pub read_is_front : (queued : List Message) (history : History) (got : List ℕ) (base : ℕ) (places : List ℕ) (incoming : IncomingModel) (read : List MessageContent)
     → WereQueued queued places read → AreDistinct places → ((id : ℕ) → CountsFromZero history id) → ((id : ℕ) → SendsInTurn queued history id)
-    → IncomingOrdered true queued history (λ id. false) got base places incoming → DeliveredFront queued read
+    → IncomingOrdered true queued history (λ id. false) got base places incoming → DeliveredWithoutGaps queued read
 read_is_front queued history got base places incoming read were once counts sends o =
     record {
       ordered = record {

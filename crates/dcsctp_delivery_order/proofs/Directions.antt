@@ -18,7 +18,7 @@ use Rattle.dcsctp_delivery_sending.proofs.NextIdentifiers.{flush_kind}
 use Rattle.dcsctp_delivery_sending.proofs.Prepared.{preparing_kind}
 use Rattle.dcsctp_delivery_sending.proofs.Settings.{setting_kind}
 use Rattle.dcsctp_delivery_receiving.specs.Ready.{AreDistinct, WereQueued}
-use Rattle.dcsctp_delivery_directions.specs.Directions.{Direction, Asking, asking_with, assigned, BeginsDirection, IsAwaited, NoneInFlight, DirectionRun, begins, goes_on, starts, DirectionStep, BeginsAtZero, queues, sets, prepares, commits, rolls_back, flushes, resends, resends_nothing, speaks, asks_again, renews, turns_aside, acknowledges, loses, receives, forwards, receives_interleaved, forwards_interleaved, tracks, defers, performs, performs_earlier, resets, takes}
+use Rattle.dcsctp_delivery_directions.specs.Directions.{Beginning, BeginsAs, Direction, Asking, asking_with, assigned, BeginsDirection, IsAwaited, NoneInFlight, DirectionRun, begins, goes_on, starts, DirectionStep, queues, sets, prepares, commits, rolls_back, flushes, resends, resends_nothing, speaks, asks_again, renews, turns_aside, acknowledges, loses, receives, forwards, receives_interleaved, forwards_interleaved, tracks, defers, performs, performs_earlier, resets, takes}
 use Rattle.dcsctp_delivery_directions.proofs.Continuing.{NamedAreOut, EndsNone, Continues, step_continues, ended_raises, begun_history, started_history}
 use Rattle.dcsctp_delivery_directions.proofs.Directions.{begun_stands, started_stands}
 use Rattle.dcsctp_delivery_directions.proofs.Standing.{Stands}
@@ -45,15 +45,15 @@ record GoesInOrder (first : ℕ) (direction : Direction) : Type 0 where
   stands : Stands first direction
   named : NamedAreOut stands.history direction.asking.out direction.queues.queue.streams
   unended : direction.queues.queue.is_interleaved ≡ true → Unended direction.asking
-  zero : direction.queues.queue.is_interleaved ≡ true → direction.from_zero ≡ true → (id : ℕ) → stands.history.floors id false % 2 ^ 32 ≡ 0
-  arrives : length stands.history.log < 2 ^ 31 → direction.queues.queue.is_interleaved ≡ true → direction.from_zero ≡ true
+  zero : direction.queues.queue.is_interleaved ≡ true → direction.beginning.from_zero ≡ true → (id : ℕ) → stands.history.floors id false % 2 ^ 32 ≡ 0
+  arrives : length stands.history.log < 2 ^ 31 → direction.queues.queue.is_interleaved ≡ true → direction.beginning.from_zero ≡ true
       → Arrives first stands.history direction.queued direction.read direction.tracker direction.reassembly direction.queues.queue.streams
 
 -- ---- an association begins
 
 -- Nothing was sent in it yet, and no reset begun.
 begins_so : (first : ℕ) (direction : Direction) (s : Stands first direction) (floors : ℕ → Bool → ℕ) → s.history ≡ new_history floors → direction.asking.out ≡ 0 → direction.asking.requests ≡ []
-    → (direction.from_zero ≡ true → (id : ℕ) → floors id false % 2 ^ 32 ≡ 0) → GoesInOrder first direction
+    → (direction.beginning.from_zero ≡ true → (id : ℕ) → floors id false % 2 ^ 32 ≡ 0) → GoesInOrder first direction
 begins_so first direction s floors is none_out none_asked at_zero =
     record {
       stands = s;
@@ -77,7 +77,7 @@ begins_so first direction s floors is none_out none_asked at_zero =
 
 -- What no such step changes.
 record Keeps (old direction : Direction) : Type 0 where
-  start : direction.from_zero ≡ old.from_zero
+  start : direction.beginning.from_zero ≡ old.beginning.from_zero
   kind : direction.queues.queue.is_interleaved ≡ old.queues.queue.is_interleaved
   unended : Unended old.asking → Unended direction.asking
 
@@ -88,7 +88,7 @@ begun_unended (Some begun) asking unended = λ unknown. inr (omega arith)
 step_keeps : (old direction : Direction) (step : DirectionStep old direction) → EndsNone old direction step → Keeps old direction
 step_keeps old _ (queues now sending fits some) ends = record { start = refl; kind = refl; unended = λ u. u }
 step_keeps old _ (sets setting fits) ends = record { start = refl; kind = setting_kind setting old.queues.queue; unended = λ u. u }
-step_keeps old _ (prepares ids fit) ends = record { start = refl; kind = preparing_kind ids old.queues.queue; unended = λ u. u }
+step_keeps old _ (prepares ids fit kept) ends = record { start = refl; kind = preparing_kind ids old.queues.queue; unended = λ u. u }
 step_keeps old _ (commits go_on) ends = absurd ends
 step_keeps old _ (rolls_back unmixed) ends = absurd ends
 step_keeps old _ (flushes e draft answers same no_data allowed) ends =
@@ -110,7 +110,7 @@ step_keeps old _ (forwards emission tsn streams theirs new was holds same same' 
 step_keeps old _ (receives_interleaved emission chunk theirs new was holds some same same' does) ends = record { start = refl; kind = refl; unended = λ u. u }
 step_keeps old _ (forwards_interleaved emission tsn streams theirs new was holds same same' does) ends = record { start = refl; kind = refl; unended = λ u. u }
 step_keeps old _ (tracks new cumulative ranges) ends = record { start = refl; kind = refl; unended = λ u. u }
-step_keeps old _ (defers last_tsn streams) ends = record { start = refl; kind = refl; unended = λ u. u }
+step_keeps old _ (defers last_tsn streams some) ends = record { start = refl; kind = refl; unended = λ u. u }
 step_keeps old _ (performs newest earlier new asks unknown reached own leaves) ends = record { start = refl; kind = refl; unended = λ u unknown. absurd (cc) }
 step_keeps old _ (performs_earlier newest earlier new asks unknown reached own leaves) ends = record { start = refl; kind = refl; unended = λ u. u }
 step_keeps old _ (resets streams new unmixed some leaves) ends = record { start = refl; kind = refl; unended = λ u. u }
@@ -168,7 +168,7 @@ steps_in_order first old small g _ few (rolls_back unmixed) =
     }
 steps_in_order first old small g _ few (queues now sending fits some) = goes_on_in_order first old small g _ few (queues now sending fits some) tt
 steps_in_order first old small g _ few (sets setting fits) = goes_on_in_order first old small g _ few (sets setting fits) tt
-steps_in_order first old small g _ few (prepares ids fit) = goes_on_in_order first old small g _ few (prepares ids fit) tt
+steps_in_order first old small g _ few (prepares ids fit kept) = goes_on_in_order first old small g _ few (prepares ids fit kept) tt
 steps_in_order first old small g _ few (flushes e draft answers same no_data allowed) = goes_on_in_order first old small g _ few (flushes e draft answers same no_data allowed) tt
 steps_in_order first old small g _ few (resends now room transfer left tsns chunks emission known sends are contents) = goes_on_in_order first old small g _ few (resends now room transfer left tsns chunks emission known sends are contents) tt
 steps_in_order first old small g _ few (resends_nothing now room transfer left tsns known sends) = goes_on_in_order first old small g _ few (resends_nothing now room transfer left tsns known sends) tt
@@ -183,7 +183,7 @@ steps_in_order first old small g _ few (forwards emission tsn streams theirs new
 steps_in_order first old small g _ few (receives_interleaved emission chunk theirs new was holds some same same' does) = goes_on_in_order first old small g _ few (receives_interleaved emission chunk theirs new was holds some same same' does) tt
 steps_in_order first old small g _ few (forwards_interleaved emission tsn streams theirs new was holds same same' does) = goes_on_in_order first old small g _ few (forwards_interleaved emission tsn streams theirs new was holds same same' does) tt
 steps_in_order first old small g _ few (tracks new cumulative ranges) = goes_on_in_order first old small g _ few (tracks new cumulative ranges) tt
-steps_in_order first old small g _ few (defers last_tsn streams) = goes_on_in_order first old small g _ few (defers last_tsn streams) tt
+steps_in_order first old small g _ few (defers last_tsn streams some) = goes_on_in_order first old small g _ few (defers last_tsn streams some) tt
 steps_in_order first old small g _ few (performs newest earlier new asks unknown reached own leaves) = goes_on_in_order first old small g _ few (performs newest earlier new asks unknown reached own leaves) tt
 steps_in_order first old small g _ few (performs_earlier newest earlier new asks unknown reached own leaves) = goes_on_in_order first old small g _ few (performs_earlier newest earlier new asks unknown reached own leaves) tt
 steps_in_order first old small g _ few (resets streams new unmixed some leaves) = goes_on_in_order first old small g _ few (resets streams new unmixed some leaves) tt
@@ -196,26 +196,26 @@ begins_in_order options first size direction small b =
     let w = waits_from direction.queued direction.queues.queue b.queues in
     let b' : BeginsDirection options first size direction = record b { queues = w.waits } in
     let is = begun_history options first size direction small b' in
-    begins_so first direction (begun_stands options first size direction small b') w.waits.floors is (ap (λ (a : Asking). a.out) b.asking) (ap (λ (a : Asking). a.requests) b.asking) (λ from. w.zero (b.zero from))
+    begins_so first direction (begun_stands options first size direction small b') w.waits.floors is (ap (λ (a : Asking). a.out) b.asking) (ap (λ (a : Asking). a.requests) b.asking) (λ from. w.zero (b.begun.zero from))
 
-starts_in_order : (first : ℕ) (old : Direction) (queued : List Message) (below : EndpointQueues) (from_zero : Bool) → first < 2 ^ 32 → (g : GoesInOrder first old) → (awaited : IsAwaited old) → AllByRecursion Fits queued → QueueWaits queued below.queue
-    → NoneInFlight first below.queue.is_interleaved below.transfer → (from_zero ≡ true → BeginsAtZero below.queue) → GoesInOrder first (record old { queued = queued; queues = below; from_zero = from_zero })
-starts_in_order first old queued below from_zero small g awaited fit waits none numbered =
+starts_in_order : (first : ℕ) (old : Direction) (queued : List Message) (below : EndpointQueues) (beginning : Beginning) → first < 2 ^ 32 → (g : GoesInOrder first old) → (awaited : IsAwaited old) → AllByRecursion Fits queued → QueueWaits queued below.queue
+    → NoneInFlight first below.queue.is_interleaved below.transfer → BeginsAs beginning below.queue → GoesInOrder first (record old { queued = queued; queues = below; beginning = beginning })
+starts_in_order first old queued below beginning small g awaited fit waits none begun =
     let w = waits_from queued below.queue waits in
-    let s = started_stands first old queued below from_zero g.stands awaited small fit w.waits none in
-    let is = started_history first old queued below from_zero g.stands awaited small fit w.waits none in
-    begins_so first (record old { queued = queued; queues = below; from_zero = from_zero }) s w.waits.floors is (ap (λ (a : Asking). a.out) awaited.asking) (ap (λ (a : Asking). a.requests) awaited.asking) (λ from. w.zero (numbered from))
+    let s = started_stands first old queued below beginning g.stands awaited small fit w.waits none in
+    let is = started_history first old queued below beginning g.stands awaited small fit w.waits none in
+    begins_so first (record old { queued = queued; queues = below; beginning = beginning }) s w.waits.floors is (ap (λ (a : Asking). a.out) awaited.asking) (ap (λ (a : Asking). a.requests) awaited.asking) (λ from. w.zero (begun.zero from))
 
 run_in_order : (options : Options) (first size : ℕ) (direction : Direction) → first < 2 ^ 32 → length direction.queued < 2 ^ 64 → DirectionRun options first size direction → GoesInOrder first direction
 run_in_order options first size _ small few (begins direction b) = begins_in_order options first size direction small b
 run_in_order options first size _ small few (goes_on old direction run step) =
     steps_in_order first old small (run_in_order options first size old small (omega (arith, few, more_queued old direction step)) run) direction few step
-run_in_order options first size _ small few (starts old queued below from_zero run awaited fit waits idle numbered) =
+run_in_order options first size _ small few (starts old queued below beginning run awaited fit waits idle begun) =
     let none_queued : length old.queued ≡ 0 = ap (λ (l : List Message). length l) awaited.queued in
-    starts_in_order first old queued below from_zero small (run_in_order options first size old small (omega (arith, none_queued)) run) awaited fit waits idle numbered
+    starts_in_order first old queued below beginning small (run_in_order options first size old small (omega (arith, none_queued)) run) awaited fit waits idle begun
 
 pub directions_deliver_in_order : (options : Options) (first size : ℕ) (direction : Direction) → DirectionRun options first size direction → first < 2 ^ 32 → assigned direction < 2 ^ 31 → length direction.queued < 2 ^ 64
-    → direction.queues.queue.is_interleaved ≡ true → direction.from_zero ≡ true → DeliveredInOrder direction.queued direction.read
+    → direction.queues.queue.is_interleaved ≡ true → direction.beginning.from_zero ≡ true → DeliveredInOrder direction.queued direction.read
 directions_deliver_in_order options first size direction run small little few interleaved from =
     let g = run_in_order options first size direction small few run in
     let s = g.stands in
@@ -226,6 +226,6 @@ directions_deliver_in_order options first size direction run small little few in
     go s a.quiet a.received.got a.places a.were a.once counts a.received.holds
   where
     go : (s : Stands first direction) (quiet : ℕ → Bool) (got places : List ℕ) → WereQueued direction.queued places direction.read → AreDistinct places → ((id : ℕ) → CountsFromZero s.history id)
-        → ReassemblesInOrder direction.queued s.history quiet first got places direction.reassembly.incoming → DeliveredInOrder direction.queued direction.read
+        → ReassemblesInOrder false direction.queued s.history quiet first got places direction.reassembly.incoming → DeliveredInOrder direction.queued direction.read
     go s quiet got places were once counts (none_handled none' last empty') = read_is_in_order direction.queued s.history quiet [] 0 places direction.reassembly.incoming direction.read were once counts (empty' 0)
     go s quiet got places were once counts (some_handled base is holds) = read_is_in_order direction.queued s.history quiet got base places direction.reassembly.incoming direction.read were once counts holds

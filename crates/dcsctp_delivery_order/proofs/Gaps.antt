@@ -6,7 +6,7 @@ use Rattle.dcsctp_spec_lemmas.specs.spec.queues.IncomingStreams.{StreamModel, ne
 use Rattle.dcsctp_delivery_sending.specs.Places.{HasEntry}
 use Rattle.dcsctp_delivery_sending.specs.Log.{Message, History}
 use Rattle.dcsctp_delivery_receiving.proofs.Distinct.{has_left, has_right}
-use Rattle.dcsctp_delivery_order.specs.Queue.{LeaveNoGap}
+use Rattle.dcsctp_delivery_order.specs.Queue.{FollowsQueue, LeaveNoGap}
 use Rattle.dcsctp_delivery_order.specs.Rising.{FillRow}
 use Rattle.dcsctp_delivery_order.specs.Order.{IsSentAs, IsReadAs, AreReadAs, StreamInOrder, HasNumber, AreFilled}
 use Rattle.dcsctp_delivery_order.specs.Reading.{CountsFromZero}
@@ -39,36 +39,45 @@ rows_fill history id next end all more delivered are row filled number low less 
           record { place = early.place; has = has_left early.place all more early.has; is = early.is })
     ]
 
+-- ---- no gap
+
+-- Numbers of the stream follow the queue and tell its messages apart: then there is none.
+module _ (queued : List Message) (history : History) (id : ℕ) (follows : FollowsQueue history.log)
+    (apart : (p q m n : ℕ) → IsSentAs history id p m → IsSentAs history id q n → m ≡ n → p ≡ q) where
+  lower : (earlier later mid : ℕ) → earlier < later → IsSentAs history id earlier mid → (other : ℕ) → IsSentAs history id later other → mid < other
+  lower earlier later mid less one other two = elim (leb_tells other mid) [
+    | inr e ↦ e.1
+    | inl e ↦ elim (eqb_tells other mid) [
+      | inl same ↦ absurd (let is = apart earlier later mid other one two (sym same.1) in omega (arith, is, less))
+      | inr ne ↦
+          absurd
+          (let differ : other ≡ mid → ⊥ = ne.1 in
+          let down : other ≤ mid = e.1 in
+          let above : two.piece.mid < one.piece.mid = (let a = one.under in let b = two.under in omega (arith, a, b, differ, down)) in
+          let up = follows two.offset one.offset two.piece one.piece two.at one.at (two.stream ∙ sym one.stream) (two.ordered ∙ sym one.ordered) above in
+          let p = one.is in
+          let q = two.is in
+          omega (arith, up, p, q, less))
+    ]
+  ]
+
+  pub apart_no_gap : (all waits : List ℕ) (stream : StreamModel) → SendsInTurn queued history id → StreamInOrder queued history id all waits stream
+      → AreFilled history id all stream.next → LeaveNoGap queued id all
+  apart_no_gap all waits stream sends order filled earlier later has on on' less =
+      let read = order.below later has on in
+      let (mid, sent, from) = sends earlier later read.mid on' read.sent less in
+      let low : mid < read.mid = lower earlier later mid less sent read.mid read.sent in
+      let bound = read.below in
+      let found = filled (2 ^ 32 + (mid - history.floors id false)) (omega arith) (omega (arith, from, low, bound)) in
+      let same : found.is.mid ≡ mid = (let counted = found.is.counted in omega (arith, counted, from)) in
+      subst (λ (k : ℕ). HasEntry k all) (apart found.place earlier found.is.mid mid found.is.sent sent same) found.has
+
 pub filled_no_gap : (queued : List Message) (history : History) (id : ℕ) (all waits : List ℕ) (stream : StreamModel) → CountsFromZero history id → SendsInTurn queued history id → StreamInOrder queued history id all waits stream
     → AreFilled history id all stream.next → LeaveNoGap queued id all
-filled_no_gap queued history id all waits stream counts sends order filled earlier later has on on' less =
-    let read = order.below later has on in
-    let (mid, sent, from) = sends earlier later read.mid on' read.sent less in
-    let low : mid < read.mid = lower mid sent read.mid read.sent in
-    let bound = read.below in
-    let number : ℕ = 2 ^ 32 + (mid - history.floors id false) in
-    let found = filled (2 ^ 32 + (mid - history.floors id false)) (omega arith) (omega (arith, from, low, bound)) in
-    let same : found.is.mid ≡ mid = (let counted = found.is.counted in omega (arith, counted, from)) in
-    subst (λ (k : ℕ). HasEntry k all) (one_place found.place earlier found.is.mid mid found.is.sent sent same) found.has
+filled_no_gap queued history id all waits stream counts = apart_no_gap queued history id counts.follows one_place all waits stream
   where
     one_place : (p q m n : ℕ) → IsSentAs history id p m → IsSentAs history id q n → m ≡ n → p ≡ q
     one_place p q m n one two same =
         sym one.is
         ∙ counts.apart one.offset two.offset one.piece two.piece one.at two.at (one.stream ∙ sym two.stream) (one.ordered ∙ sym two.ordered) (let a = one.under in let b = two.under in omega (arith, a, b, same))
         ∙ two.is
-
-    lower : (mid : ℕ) → IsSentAs history id earlier mid → (other : ℕ) → IsSentAs history id later other → mid < other
-    lower mid one other two = elim (leb_tells other mid) [
-      | inr e ↦ e.1
-      | inl e ↦ elim (eqb_tells other mid) [
-        | inl same ↦ absurd (let is = one_place earlier later mid other one two (sym same.1) in omega (arith, is, less))
-        | inr ne ↦
-            absurd
-            (let apart : other ≡ mid → ⊥ = ne.1 in
-            let down : other ≤ mid = e.1 in
-            let up = counts.follows two.offset one.offset two.piece one.piece two.at one.at (two.stream ∙ sym one.stream) (two.ordered ∙ sym one.ordered) (let a = one.under in let b = two.under in omega (arith, a, b, apart, down)) in
-            let p = one.is in
-            let q = two.is in
-            omega (arith, up, p, q, less))
-      ]
-    ]

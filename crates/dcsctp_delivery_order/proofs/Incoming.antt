@@ -164,7 +164,7 @@ module _ (queued more : List Message) (history later : History) (id : ℕ) (with
       }
 
   -- a message that was queued
-  queued_so : (places : List ℕ) (contents : List MessageContent) → WereQueued queued places contents → (place : ℕ) → HasEntry place places → IsOrderedOn (more ++ queued) id place → IsOrderedOn queued id place
+  pub queued_so : (places : List ℕ) (contents : List MessageContent) → WereQueued queued places contents → (place : ℕ) → HasEntry place places → IsOrderedOn (more ++ queued) id place → IsOrderedOn queued id place
   queued_so [] contents were place has on = absurd has
   queued_so (p ∷ places) [] were place has on = absurd were
   queued_so (p ∷ places) (c ∷ contents) were place has on =
@@ -177,7 +177,7 @@ module _ (queued more : List Message) (history later : History) (id : ℕ) (with
         | inr t ↦ queued_so places contents were.1 place t on
       ]
 
-  in_order_more : (places : List ℕ) (contents : List MessageContent) → WereQueued queued places contents → ComeInOrder queued id places → ComeInOrder (more ++ queued) id places
+  pub in_order_more : (places : List ℕ) (contents : List MessageContent) → WereQueued queued places contents → ComeInOrder queued id places → ComeInOrder (more ++ queued) id places
   in_order_more [] contents were are = tt
   in_order_more (p ∷ places) [] were are = absurd were
   in_order_more (p ∷ places) (c ∷ contents) were are = (
@@ -185,10 +185,10 @@ module _ (queued more : List Message) (history later : History) (id : ℕ) (with
     in_order_more places contents were.1 are.1,
   )
 
-  sent_more : (place mid : ℕ) → IsSentAs history id place mid → IsSentAs later id place mid
+  pub sent_more : (place mid : ℕ) → IsSentAs history id place mid → IsSentAs later id place mid
   sent_more place mid sent = record { offset = sent.offset; piece = sent.piece; at = within.stays sent.offset (Some sent.piece) sent.at; is = sent.is; stream = sent.stream; ordered = sent.ordered; under = sent.under }
 
-  read_more : (places : List ℕ) (wholes : List WholeModel) → AreReadAs history id places wholes → AreReadAs later id places wholes
+  pub read_more : (places : List ℕ) (wholes : List WholeModel) → AreReadAs history id places wholes → AreReadAs later id places wholes
   read_more [] [] are = tt
   read_more [] (w ∷ wholes) are = absurd are
   read_more (p ∷ places) [] are = absurd are

@@ -25,7 +25,7 @@ use Rattle.dcsctp_delivery_order.proofs.Reading.{numbers_are_fresh, parts_in_rea
 
 -- ---- what is due, by its places
 
-due_all : (next : ℕ) (waiting : List WholeModel) → due next waiting ++ not_due next waiting ≡ waiting
+pub due_all : (next : ℕ) (waiting : List WholeModel) → due next waiting ++ not_due next waiting ≡ waiting
 due_all next [] = refl
 due_all next (w ∷ waiting) = go (nat_le w.number next) (due_all (next_after next w) waiting)
   where
@@ -34,7 +34,7 @@ due_all next (w ∷ waiting) = go (nat_le w.number next) (due_all (next_after ne
     go true rest = ap (λ (l : List WholeModel). w ∷ l) rest
     go false rest = refl
 
-split_read : (queued : List Message) (history : History) (id on : ℕ) (front back : List ℕ) (ahead left : List WholeModel) → WereQueued queued front (map (delivered_as on) ahead) → AreReadAs history id (front ++ back) (ahead ++ left)
+pub split_read : (queued : List Message) (history : History) (id on : ℕ) (front back : List ℕ) (ahead left : List WholeModel) → WereQueued queued front (map (delivered_as on) ahead) → AreReadAs history id (front ++ back) (ahead ++ left)
     → AreReadAs history id front ahead × AreReadAs history id back left
 split_read queued history id on [] back [] left were are = (tt, are)
 split_read queued history id on [] back (w ∷ ahead) left were are = absurd were
@@ -44,7 +44,7 @@ split_read queued history id on (p ∷ front) back (w ∷ ahead) left were are =
     ((are.0, rest.0), rest.1)
 
 -- more messages leave no gap
-more_filled : (history : History) (id next : ℕ) (all more : List ℕ) → AreFilled history id all next → AreFilled history id (all ++ more) next
+pub more_filled : (history : History) (id next : ℕ) (all more : List ℕ) → AreFilled history id all next → AreFilled history id (all ++ more) next
 more_filled history id next all more filled number low less = (let is = filled number low less in record { place = is.place; has = has_left is.place all more is.has; is = is.is })
 
 -- only the next number and what waits matter
@@ -80,13 +80,13 @@ one_stream queued id other place (m, at, on) (n, at', on') =
 
 module _ (queued : List Message) (history : History) (got : List ℕ) where
   -- whole messages as they are delivered
-  delivered_so : (id place : ℕ) (whole : WholeModel) → IsQueued queued history.log got (OfStream id) place whole → WasQueued queued place (delivered_as id whole)
+  pub delivered_so : (id place : ℕ) (whole : WholeModel) → IsQueued queued history.log got (OfStream id) place whole → WasQueued queued place (delivered_as id whole)
   delivered_so id place whole is = record { message = is.head.message; at = is.queued_at; stream = sym is.number; ppid = is.ppid; payload = is.payload }
 
-  on_it : (id place : ℕ) (whole : WholeModel) → IsQueued queued history.log got (OfStream id) place whole → IsOnIt queued id place
+  pub on_it : (id place : ℕ) (whole : WholeModel) → IsQueued queued history.log got (OfStream id) place whole → IsOnIt queued id place
   on_it id place whole is = (is.head.message, is.queued_at, is.number)
 
-  of_stream : (id place : ℕ) (whole : WholeModel) → IsQueued queued history.log got (IsOn history id) place whole → IsQueued queued history.log got (OfStream id) place whole
+  pub of_stream : (id place : ℕ) (whole : WholeModel) → IsQueued queued history.log got (IsOn history id) place whole → IsQueued queued history.log got (OfStream id) place whole
   of_stream id place whole is = renamed queued history got (IsOn history id) (OfStream id) (λ f number named. named.0) place (message_whole whole) is
 
   pub wait_on_it : (id p : ℕ) (places : List ℕ) (wholes : List WholeModel) → WaitQueued queued history got id places wholes → HasEntry p places → IsOnIt queued id p
@@ -148,12 +148,12 @@ module _ (gapless : Bool) (queued : List Message) (history : History) (got : Lis
         order = order;
       }
 
-  take_drop : (k : ℕ) (l : List ℕ) → take k l ++ drop k l ≡ l
+  pub take_drop : (k : ℕ) (l : List ℕ) → take k l ++ drop k l ≡ l
   take_drop zero l = refl
   take_drop (suc k) [] = refl
   take_drop (suc k) (x ∷ l) = ap (λ (r : List ℕ). x ∷ r) (take_drop k l)
 
-  wait_with : (id p k : ℕ) (whole : WholeModel) (places : List ℕ) (wholes : List WholeModel) → IsQueued queued history.log got (IsOn history id) p whole → WaitQueued queued history got id places wholes
+  pub wait_with : (id p k : ℕ) (whole : WholeModel) (places : List ℕ) (wholes : List WholeModel) → IsQueued queued history.log got (IsOn history id) p whole → WaitQueued queued history got id places wholes
       → WaitQueued queued history got id (take k places ++ p ∷ drop k places) (take k wholes ++ whole ∷ drop k wholes)
   wait_with id p zero whole places wholes is wait = (is, wait)
   wait_with id p (suc k) whole [] [] is wait = (is, tt)

@@ -3,6 +3,8 @@ pub mod Order
 pub mod Queue
 pub mod Reading
 pub mod Reach
+pub mod PlainTurns
+pub mod PlainRows
 pub mod Gaps
 pub mod Leaving
 pub mod Ready
@@ -12,6 +14,11 @@ pub mod Sending
 pub mod Delivered
 pub mod Runs
 pub mod Held
+pub mod PlainMissing
+pub mod PlainReading
+pub mod PlainHeld
+pub mod PlainLeaving
+pub mod PlainReady
 pub mod Follows
 pub mod Received
 pub mod Ending
@@ -20,5 +27,13 @@ pub mod Unsent
 pub mod Raised
 pub mod Quiet
 pub mod Steps
-pub mod Directions
 pub mod Beginning
+pub mod FrontReceived
+pub mod PlainReceived
+pub mod PlainGrowing
+pub mod PlainSteps
+pub mod PlainDirections
+pub mod PlainFront
+pub mod Directions
+pub mod FrontSteps
+pub mod Front

@@ -100,7 +100,7 @@ module _ (queued : List Message) (history : History) (streams : List Stream) (cu
 
       by_pause : (id : ℕ) (b : Bool) → is_handed_out (stream_named id streams).pause ≡ b → OrderedStream false queued raised id (read ++ o.holds.places) (o.holds.waits id) (stream_on id reassembly.incoming.streams)
       by_pause id true handed = elim (out id handed) [
-        | inl none ↦ unsent_ordered queued raised id cut kinds none got base read reassembly.incoming (holds_raised got base read o.holds)
+        | inl none ↦ unsent_ordered queued raised id cut kinds none false got base read reassembly.incoming (holds_raised got base read o.holds)
         | inr c ↦ renewed id handed c.1
       ]
       by_pause id false shut =
@@ -125,6 +125,6 @@ module _ (queued : List Message) (history : History) (streams : List Stream) (cu
         defers = defers_keeps queued history streams first r.later (waiting_of reassembly.deferral) (λ id. elim (kept id) [ inl keep ↦ inl keep | inr c ↦ inr c.1.none ]) r.defers;
       }
     where
-      go : ReassemblesInOrder queued history quiet first r.got read reassembly.incoming → ReassemblesInOrder queued raised none_quiet first r.got read reassembly.incoming
+      go : ReassemblesInOrder false queued history quiet first r.got read reassembly.incoming → ReassemblesInOrder false queued raised none_quiet first r.got read reassembly.incoming
       go (none_handled none last empty) = none_handled none last (λ base. ordered_raised [] base read (empty base))
       go (some_handled base is holds) = some_handled base is (ordered_raised r.got base read holds)

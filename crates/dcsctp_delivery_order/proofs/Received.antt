@@ -50,25 +50,25 @@ loud_entries quiet (entry ∷ entries) none = (loud_by quiet (skipped_stream ent
 -- ---- the reassembly queue
 
 module _ (queued : List Message) (history : History) (first : ℕ) (cut : Cut queued history.log) (told : IsUnambiguous history) (f : Few history first) (quiet : ℕ → Bool) (read : List ℕ) where
-  pub data_in_order : (got : List ℕ) (offset tsn : ℕ) (chunk : ChunkModel) (old new : IncomingModel) → CarriesCurrent history first offset tsn chunk → (HasEntry offset got → ⊥) → quiet chunk.stream ≡ false
-      → ReassemblesInOrder queued history quiet first got read old → TakesIncomingChunk tsn chunk old new → ReassemblesInOrder queued history quiet first (offset ∷ got) read new
+  pub data_in_order : (gapless : Bool) (got : List ℕ) (offset tsn : ℕ) (chunk : ChunkModel) (old new : IncomingModel) → CarriesCurrent history first offset tsn chunk → (HasEntry offset got → ⊥) → quiet chunk.stream ≡ false
+      → ReassemblesInOrder gapless queued history quiet first got read old → TakesIncomingChunk tsn chunk old new → ReassemblesInOrder gapless queued history quiet first (offset ∷ got) read new
   unfolding bears_of
-  data_in_order got offset tsn chunk old new c is_new loud (some_handled base is holds) takes =
+  data_in_order gapless got offset tsn chunk old new c is_new loud (some_handled base is holds) takes =
       let few = few_behind history first offset tsn chunk f c in
       let number = number_read first base old.last_tsn_number offset tsn is few c.carries.is in
       some_handled base (record { same = is.same; near = is.near; worked = offset; few = few; is = takes.last ∙ number })
-      (ready_in_order false queued history quiet cut told got base tsn read chunk old new (bears_of history first base offset tsn (number_near old.last_tsn_number tsn) chunk c number) is_new loud holds takes)
-  data_in_order got offset tsn chunk old new c is_new loud (none_handled none last empty) takes =
+      (ready_in_order gapless queued history quiet cut told got base tsn read chunk old new (bears_of history first base offset tsn (number_near old.last_tsn_number tsn) chunk c number) is_new loud holds takes)
+  data_in_order gapless got offset tsn chunk old new c is_new loud (none_handled none last empty) takes =
       let few = few_behind history first offset tsn chunk f c in
       let base : ℕ = number_near (2 ^ 32) ((first + offset) % 2 ^ 32) - offset in
       let up = first_number first offset f.small few in
       let number : number_near old.last_tsn_number tsn ≡ base + offset = ap (λ (l : ℕ). number_near l tsn) last ∙ ap (number_near (2 ^ 32)) c.carries.is ∙ omega (arith, up) in
       some_handled base (record { same = first_base first offset f.small few; near = first_near first offset f.small few; worked = offset; few = few; is = takes.last ∙ number })
-      (ready_in_order false queued history quiet cut told got base tsn read chunk old new (bears_of history first base offset tsn (number_near old.last_tsn_number tsn) chunk c number) is_new loud
-      (subst (λ (l : List ℕ). IncomingOrdered false queued history quiet l base read old) (sym none) (empty base)) takes)
+      (ready_in_order gapless queued history quiet cut told got base tsn read chunk old new (bears_of history first base offset tsn (number_near old.last_tsn_number tsn) chunk c number) is_new loud
+      (subst (λ (l : List ℕ). IncomingOrdered gapless queued history quiet l base read old) (sym none) (empty base)) takes)
 
   pub forward_in_order : (got : List ℕ) (tsn : ℕ) (entries : List SkippedTo) (old new : IncomingModel) → IsTsn history.log first tsn → AreNamed history entries → NoneIsQuiet quiet entries
-      → ReassemblesInOrder queued history quiet first got read old → MovesOn tsn entries old new → ReassemblesInOrder queued history quiet first got read new
+      → ReassemblesInOrder false queued history quiet first got read old → MovesOn tsn entries old new → ReassemblesInOrder false queued history quiet first got read new
   forward_in_order got tsn entries old new t names loud (some_handled base is holds) moves =
       let few : t.offset < 2 ^ 31 = omega (arith, f.few, t.below) in
       let number = number_read first base old.last_tsn_number t.offset tsn is few t.is in
@@ -88,7 +88,7 @@ pub tracks_fewer : (first count : ℕ) (taken got : List ℕ) (tracker : Tracker
 tracks_fewer first count taken got tracker among t = record { beyond = t.beyond; reached = t.reached; started = t.started; sent = t.sent; received = λ offset h. t.received offset (among offset h) }
 
 -- when an acknowledgement is due is another matter
-tracks_alike : (first count : ℕ) (taken : List ℕ) (tracker now : TrackerState) → now.cumulative ≡ tracker.cumulative → now.ranges ≡ tracker.ranges → Tracks first count taken tracker → Tracks first count taken now
+pub tracks_alike : (first count : ℕ) (taken : List ℕ) (tracker now : TrackerState) → now.cumulative ≡ tracker.cumulative → now.ranges ≡ tracker.ranges → Tracks first count taken tracker → Tracks first count taken now
 tracks_alike first count taken tracker now same same' t =
     record {
       beyond = subst (λ (c : ℕ). IsBeyond c now.ranges) (sym same) (subst (λ (l : List TsnRange). IsBeyond tracker.cumulative l) (sym same') t.beyond);
@@ -192,7 +192,7 @@ module _ (queued : List Message) (history : History) (first : ℕ) (cut : Cut qu
             later_taken = λ k h. inr (r.later_taken k h);
             apart = λ k h g. elim g [ inl e ↦ is_new (r.later_taken offset (subst (λ (j : ℕ). HasEntry j r.later) e h)) | inr t ↦ r.apart k h t ];
             distinct = r.distinct;
-            holds = data_in_order queued history first cut told f quiet read r.got offset tsn chunk old.incoming new.incoming c (λ h. is_new (r.got_taken offset h)) loud r.holds takes.incoming;
+            holds = data_in_order queued history first cut told f quiet read false r.got offset tsn chunk old.incoming new.incoming c (λ h. is_new (r.got_taken offset h)) loud r.holds takes.incoming;
             defers = subst (λ (d : Option DeferralModel). DefersData history first r.later (waiting_of d)) (sym takes.deferral) r.defers;
           }
 
@@ -265,7 +265,7 @@ module _ (queued : List Message) (history : History) (first : ℕ) (cut : Cut qu
       named : AreNamed history entries
       named = each_named history first (to.tsn_is.offset + 1) entries to.names
 
-      left : (holds : ReassemblesInOrder queued history quiet first r.got read new.incoming) → DefersData history first r.later (waiting_of new.deferral) → HasReceivedInOrder queued history quiet first read now new
+      left : (holds : ReassemblesInOrder false queued history quiet first r.got read new.incoming) → DefersData history first r.later (waiting_of new.deferral) → HasReceivedInOrder queued history quiet first read now new
       left holds defers =
           record {
             taken = r.taken;

@@ -107,7 +107,7 @@ module _ (first : ℕ) (old : Direction) (small : first < 2 ^ 32) (s : Stands fi
   arrives_on _ (queues now sending fits some) ends named unended a =
       arrives_later first s.history s.history old.queues.queue.streams old.queues.queue.streams 0 0 (continues_same s.history old.queues.queue.streams 0) old.queued (message_of sending ∷ []) old.read old.tracker old.reassembly a
   arrives_on _ (sets setting fits) ends named unended a = a
-  arrives_on _ (prepares ids fit) ends named unended a = a
+  arrives_on _ (prepares ids fit kept) ends named unended a = a
   arrives_on _ (commits go_on) ends named unended a = absurd ends
   arrives_on _ (rolls_back unmixed) ends named unended a = absurd ends
   arrives_on _ (flushes e draft answers same no_data allowed) ends named unended a = a
@@ -142,7 +142,7 @@ module _ (first : ℕ) (old : Direction) (small : first < 2 ^ 32) (s : Stands fi
         received = tracked_in_order old.queued s.history a.quiet first a.places old.tracker new old.reassembly cumulative ranges a.received;
         silent = subst (λ (k : ℕ). AreSilent a.quiet s.history first k old.queues.queue.streams old.reassembly) (sym cumulative) a.silent;
       }
-  arrives_on _ (defers last_tsn streams) ends named unended a =
+  arrives_on _ (defers last_tsn streams some) ends named unended a =
       record {
         places = a.places;
         were = a.were;

@@ -1,5 +1,5 @@
 -- A stream of which nothing was sent is in order.
-use Rattle.std.proofs.Common.{◌≡◌, ℕ, true, false, ◌+◌, ◌^◌, List, [], ◌∷◌, ◌++◌, sym, ◌∙◌, ap, arith, subst}
+use Rattle.std.proofs.Common.{◌≡◌, ℕ, Bool, true, false, ◌+◌, ◌^◌, List, [], ◌∷◌, ◌++◌, sym, ◌∙◌, ap, arith, subst}
 use Rattle.std.specs.Prelude.{Some}
 use Rattle.dcsctp_spec_lemmas.specs.spec.queues.Runs.{WholeModel}
 use Rattle.dcsctp_spec_lemmas.specs.spec.queues.IncomingStreams.{StreamModel}
@@ -31,9 +31,9 @@ module _ (queued : List Message) (history : History) (id : ℕ) (cut : Cut queue
   none_wait got (p ∷ waits) [] wait next = absurd wait
   none_wait got (p ∷ waits) (w ∷ waiting) wait next = absurd (none wait.0.offset wait.0.head wait.0.at wait.0.number.0)
 
-  pub unsent_ordered : (got : List ℕ) (base : ℕ) (read : List ℕ) (incoming : IncomingModel) (holds : HoldsIncoming queued history got base read incoming)
-      → OrderedStream false queued history id (read ++ holds.places) (holds.waits id) (stream_on id incoming.streams)
-  unsent_ordered got base read incoming holds =
+  pub unsent_ordered : (gapless : Bool) (got : List ℕ) (base : ℕ) (read : List ℕ) (incoming : IncomingModel) (holds : HoldsIncoming queued history got base read incoming)
+      → OrderedStream gapless queued history id (read ++ holds.places) (holds.waits id) (stream_on id incoming.streams)
+  unsent_ordered gapless got base read incoming holds =
       let here = holds.streams_hold id in
       let stream : StreamModel = stream_on id incoming.streams in
       let waits = none_wait got (holds.waits id) stream.waiting here.wait (stream.next + 1) in
@@ -42,7 +42,7 @@ module _ (queued : List Message) (history : History) (id : ℕ) (cut : Cut queue
       record {
         order = record { in_order = in_order_none queued id (read ++ holds.places) elsewhere; below = λ place has on. absurd (elsewhere place has on); waiting = waits.0; ahead = waits.1 };
         reach = record { from = omega (arith, next); up_to = omega (arith, next) };
-        filled = λ is. absurd (cc);
+        filled = λ is number low less. absurd (omega (arith, next, low, less));
       }
     where
       elsewhere : (p : ℕ) → HasEntry p (read ++ holds.places) → IsOrderedOn queued id p → ⊥
@@ -67,12 +67,16 @@ module _ (queued : List Message) (history : History) (empty : history.log ≡ []
         climbs = λ m n f g less at at'. absurd (nowhere m (Some f) at);
       }
 
-  holds_none : (got : List ℕ) (base : ℕ) (read : List ℕ) (incoming : IncomingModel) → HoldsIncoming queued history got base read incoming → IncomingOrdered false queued history none_quiet got base read incoming
-  holds_none got base read incoming holds =
+  holds_none : (gapless : Bool) (got : List ℕ) (base : ℕ) (read : List ℕ) (incoming : IncomingModel) → HoldsIncoming queued history got base read incoming → IncomingOrdered gapless queued history none_quiet got base read incoming
+  holds_none gapless got base read incoming holds =
       record {
         holds = holds;
-        order = λ id counts. unsent_ordered queued history id no_cut (λ n f at. absurd (nowhere n (Some f) at)) (λ n f at on. absurd (nowhere n (Some f) at)) got base read incoming holds;
+        order = λ id counts. unsent_ordered queued history id no_cut (λ n f at. absurd (nowhere n (Some f) at)) (λ n f at on. absurd (nowhere n (Some f) at)) gapless got base read incoming holds;
       }
+
+  pub reassembles_none : (gapless : Bool) (first : ℕ) (got read : List ℕ) (incoming : IncomingModel) → Reassembles queued history first got read incoming → ReassemblesInOrder gapless queued history none_quiet first got read incoming
+  reassembles_none gapless first got read incoming (untouched none' last empty') = none_handled none' last (λ base. holds_none gapless [] base read incoming (empty' base))
+  reassembles_none gapless first got read incoming (placed base is holds) = some_handled base is (holds_none gapless got base read incoming holds)
 
   pub received_none : (first : ℕ) (read : List ℕ) (tracker : TrackerState) (reassembly : ReassemblyState) → HasReceived queued history first read tracker reassembly
       → HasReceivedInOrder queued history none_quiet first read tracker reassembly
@@ -86,10 +90,6 @@ module _ (queued : List Message) (history : History) (empty : history.log ≡ []
         later_taken = r.later_taken;
         apart = r.apart;
         distinct = r.distinct;
-        holds = go r.holds;
+        holds = reassembles_none false first r.got read reassembly.incoming r.holds;
         defers = r.defers;
       }
-    where
-      go : Reassembles queued history first r.got read reassembly.incoming → ReassemblesInOrder queued history none_quiet first r.got read reassembly.incoming
-      go (untouched none' last empty') = none_handled none' last (λ base. holds_none [] base read reassembly.incoming (empty' base))
-      go (placed base is holds) = some_handled base is (holds_none r.got base read reassembly.incoming holds)

@@ -17,21 +17,21 @@ pub record DeliveredInOrder (queued : List Message) (read : List MessageContent)
   pub delivered : Delivered queued read
   pub in_order : (id : ℕ) → ComeInOrder queued id delivered.places
 
--- And none of them is left out before another: what was read of a stream's ordered messages is a front part of what was queued.
-pub record DeliveredFront (queued : List Message) (read : List MessageContent) : Type 0 where
+-- And none of them is left out before another: what was read of a stream's ordered messages is a prefix of what was queued.
+pub record DeliveredWithoutGaps (queued : List Message) (read : List MessageContent) : Type 0 where
   pub ordered : DeliveredInOrder queued read
   pub no_gap : (id : ℕ) → LeaveNoGap queued id ordered.delivered.places
 
--- So it is where the numbers of each stream begin at 0,
+-- Messages are read in order where the numbers of each stream begin at 0.
 abbrev pub ReadIsInOrder : Type 0
 ReadIsInOrder =
     (queued : List Message) (history : History) (quiet : ℕ → Bool) (got : List ℕ) (base : ℕ) (places : List ℕ) (incoming : IncomingModel) (read : List MessageContent)
     → WereQueued queued places read → AreDistinct places → ((id : ℕ) → CountsFromZero history id) → IncomingOrdered false queued history quiet got base places incoming
     → DeliveredInOrder queued read
 
--- and where nothing is skipped or reset, and messages are sent in turn.
-abbrev pub ReadIsFront : Type 0
-ReadIsFront =
+-- They are read without gaps where besides nothing is skipped or reset, and messages are sent in turn.
+abbrev pub ReadIsWithoutGaps : Type 0
+ReadIsWithoutGaps =
     (queued : List Message) (history : History) (got : List ℕ) (base : ℕ) (places : List ℕ) (incoming : IncomingModel) (read : List MessageContent)
     → WereQueued queued places read → AreDistinct places → ((id : ℕ) → CountsFromZero history id) → ((id : ℕ) → SendsInTurn queued history id)
-    → IncomingOrdered true queued history (λ id. false) got base places incoming → DeliveredFront queued read
+    → IncomingOrdered true queued history (λ id. false) got base places incoming → DeliveredWithoutGaps queued read

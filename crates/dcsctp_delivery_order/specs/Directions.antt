@@ -2,8 +2,9 @@
 -- which they were queued, across resets of streams (RFC 9260, section 6.6; RFC 8260; RFC 6525).
 use Rattle.std.specs.Prelude.{◌≡◌, ◌<◌, ◌^◌, ℕ, true, length}
 use Rattle.dcsctp_spec_lemmas.specs.types.declared.options.Options.{Options}
+use Rattle.dcsctp_delivery_sending.specs.Losing.{AreUnlimited}
 use Rattle.dcsctp_delivery_directions.specs.Directions.{Direction, DirectionRun, assigned}
-use Rattle.dcsctp_delivery_order.specs.Delivered.{DeliveredInOrder}
+use Rattle.dcsctp_delivery_order.specs.Delivered.{DeliveredInOrder, DeliveredWithoutGaps}
 
 -- With interleaving each message that was read was queued, none twice, and the ordered ones of each stream in the order of
 -- reading, also where streams are reset. This holds where the sender began with number 0 on each stream, if fewer than 2^31 TSNs
@@ -12,4 +13,14 @@ abbrev pub DirectionsDeliverInOrder : Type 0
 DirectionsDeliverInOrder =
     (options : Options) (first size : ℕ) (direction : Direction) → DirectionRun options first size direction
     → first < 2 ^ 32 → assigned direction < 2 ^ 31 → length direction.queued < 2 ^ 64 → direction.queues.queue.is_interleaved ≡ true
-    → direction.from_zero ≡ true → DeliveredInOrder direction.queued direction.read
+    → direction.beginning.from_zero ≡ true → DeliveredInOrder direction.queued direction.read
+
+-- With interleaving what was read of each stream's ordered messages is a prefix of what was queued: none is left out before
+-- another. This holds where no message may be abandoned, and where the sender began with number 0 on each stream and with all
+-- that was queued before, and drops nothing for a reset: then it begins none.
+abbrev pub DirectionsDeliverWithoutGaps : Type 0
+DirectionsDeliverWithoutGaps =
+    (options : Options) (first size : ℕ) (direction : Direction) → DirectionRun options first size direction
+    → first < 2 ^ 32 → assigned direction < 2 ^ 31 → length direction.queued < 2 ^ 64 → direction.queues.queue.is_interleaved ≡ true
+    → direction.beginning.from_zero ≡ true → direction.beginning.keeps_all ≡ true → AreUnlimited direction.queued
+    → DeliveredWithoutGaps direction.queued direction.read

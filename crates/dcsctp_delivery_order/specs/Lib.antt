@@ -8,5 +8,7 @@ pub mod Gaps
 pub mod Sending
 pub mod Delivered
 pub mod Runs
+pub mod Plain
 pub mod Received
 pub mod Directions
+pub mod PlainDirections

@@ -15,15 +15,18 @@ use Rattle.dcsctp_delivery_order.specs.Incoming.{IncomingOrdered}
 abbrev pub none_quiet : ℕ → Bool
 none_quiet id = false
 
--- No TSN was handled yet; or the number of the first is known, and all that is held is in order. Messages may have been skipped.
-pub data ReassemblesInOrder (queued : List Message) (history : History) (quiet : ℕ → Bool) (first : ℕ) (got read : List ℕ) (incoming : IncomingModel) : Type 0 where
+-- No TSN was handled yet; or the number of the first is known, and all that is held is in order. `gapless` is whether
+-- nothing was skipped.
+pub data ReassemblesInOrder
+    (gapless : Bool) (queued : List Message) (history : History) (quiet : ℕ → Bool) (first : ℕ) (got read : List ℕ) (incoming : IncomingModel) : Type 0 where
   none_handled : got ≡ [] → incoming.last_tsn_number ≡ 2 ^ 32
-      → ((base : ℕ) → IncomingOrdered false queued history quiet [] base read incoming) → ReassemblesInOrder queued history quiet first got read incoming
+      → ((base : ℕ) → IncomingOrdered gapless queued history quiet [] base read incoming) → ReassemblesInOrder gapless queued history quiet first got read incoming
   some_handled : (base : ℕ) → Placed first base incoming.last_tsn_number
-      → IncomingOrdered false queued history quiet got base read incoming → ReassemblesInOrder queued history quiet first got read incoming
+      → IncomingOrdered gapless queued history quiet got base read incoming → ReassemblesInOrder gapless queued history quiet first got read incoming
 
--- All that an association has received in order whose peer has this log. `taken` has the offsets that the tracker knows, `got`
--- those that the reassembly queue has handled, and `later` those that wait for the end of a deferred reset.
+-- All that an association has received in order whose peer has this log. Messages may have been skipped. `taken` has the offsets
+-- that the tracker knows, `got` those that the reassembly queue has handled, and `later` those that wait for the end of a deferred
+-- reset.
 pub record HasReceivedInOrder
     (queued : List Message) (history : History) (quiet : ℕ → Bool) (first : ℕ) (read : List ℕ) (tracker : TrackerState) (reassembly : ReassemblyState) : Type 0 where
   pub taken : List ℕ
@@ -34,5 +37,5 @@ pub record HasReceivedInOrder
   pub later_taken : (k : ℕ) → HasEntry k later → HasEntry k taken
   pub apart : (k : ℕ) → HasEntry k later → HasEntry k got → ⊥
   pub distinct : AreDistinct later
-  pub holds : ReassemblesInOrder queued history quiet first got read reassembly.incoming
+  pub holds : ReassemblesInOrder false queued history quiet first got read reassembly.incoming
   pub defers : DefersData history first later (waiting_of reassembly.deferral)

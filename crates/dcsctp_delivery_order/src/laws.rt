@@ -1,10 +1,11 @@
 //! The laws of this crate.
 
-ghost use Rattle.dcsctp_delivery_order.specs.Delivered.{ReadIsFront, ReadIsInOrder};
-ghost use Rattle.dcsctp_delivery_order.specs.Directions.{DirectionsDeliverInOrder};
+ghost use Rattle.dcsctp_delivery_order.specs.Delivered.{ReadIsWithoutGaps, ReadIsInOrder};
+ghost use Rattle.dcsctp_delivery_order.specs.Directions.{DirectionsDeliverWithoutGaps, DirectionsDeliverInOrder};
 ghost use Rattle.dcsctp_delivery_order.specs.Gaps.{FilledLeavesNoGap, NewStreamsAreFilled, RowsFill};
 ghost use Rattle.dcsctp_delivery_order.specs.Incoming.{BeginningInOrder, GrowingInOrder, OrderedWasRead, ReadyInOrder, ResettingInOrder, SkippingInOrder, TakingInOrder};
 ghost use Rattle.dcsctp_delivery_order.specs.Order.{NewStreamsInOrder, OthersStayInOrder, PartsStayInOrder, ResetsComeBetween, ResetsStayInOrder, SkipsStayInOrder};
+ghost use Rattle.dcsctp_delivery_order.specs.PlainDirections.{PlainDirectionsDeliverWithoutGaps, PlainDirectionsDeliverInOrder};
 ghost use Rattle.dcsctp_delivery_order.specs.Queue.{HandingFollows};
 ghost use Rattle.dcsctp_delivery_order.specs.Reach.{SkippedSsnsAreReadRight, SsnsAreReadRight};
 ghost use Rattle.dcsctp_delivery_order.specs.Reading.{MidsAreReadRight, NumbersAreFresh, PartsStayInReach, SkipsStayInReach};
@@ -80,10 +81,10 @@ pub fn sending_loses_none()
 {}
 
 /// What a user reads is in order where the numbers of each stream begin at 0. Where nothing is skipped or reset either,
-/// it is a front part of what was queued.
+/// it is a prefix of what was queued.
 pub fn read_is_in_order()
     ensures ordered { ReadIsInOrder }
-    ensures front { ReadIsFront }
+    ensures without_gaps { ReadIsWithoutGaps }
 {}
 
 /// Runs of parts that are held lie apart: none is whole, and none continues the one before it. So a part is missing of
@@ -99,4 +100,23 @@ pub fn runs_lie_apart()
 /// asks for. This is shown with interleaving, where the numbers of each stream begin at 0.
 pub fn directions_deliver_in_order()
     ensures { DirectionsDeliverInOrder }
+{}
+
+/// What is read of each stream's ordered messages is a prefix of what was queued: none is left out before another. This
+/// is shown with interleaving, where no message may be abandoned, and the sender begins with number 0 on each stream, keeps
+/// all that was queued, and begins no reset.
+pub fn directions_deliver_without_gaps()
+    ensures { DirectionsDeliverWithoutGaps }
+{}
+
+/// Ordered messages are read in order without interleaving too, where the sender begins no reset and passes no TSNs with a
+/// FORWARD-TSN. Stream sequence numbers are read right within the window of TSNs, though they have 16 bits.
+pub fn plain_directions_deliver_in_order()
+    ensures { PlainDirectionsDeliverInOrder }
+{}
+
+/// Where no message has a limit either, and the sender keeps all that was queued, none is left out: what is read of each
+/// stream's ordered messages is a prefix of what was queued.
+pub fn plain_directions_deliver_without_gaps()
+    ensures { PlainDirectionsDeliverWithoutGaps }
 {}

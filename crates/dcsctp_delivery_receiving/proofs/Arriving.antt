@@ -44,9 +44,9 @@ same_bytes (b ∷ bytes) are =
     let here : b % 2 ^ 8 ≡ b = (let small = are.0 in omega (arith, small)) in
     ap (λ (k : ℕ). k ∷ map byte_field bytes) here ∙ ap (λ (l : List ℕ). b ∷ l) (same_bytes bytes are.1)
 
-numbered_plain : (piece : Piece) (unordered : Bool) (ssn : ℕ) → piece.is_interleaved ≡ false → piece.message.is_unordered ≡ unordered → IsNumbered piece (numbering_of unordered ssn)
-numbered_plain piece true ssn kind is = (kind, is)
-numbered_plain piece false ssn kind is = (kind, is)
+numbered_plain : (piece : Piece) (unordered : Bool) (ssn : ℕ) → piece.is_interleaved ≡ false → piece.message.is_unordered ≡ unordered → ssn ≡ piece.ssn % 2 ^ 16 → IsNumbered piece (numbering_of unordered ssn)
+numbered_plain piece true ssn kind is same = (kind, is)
+numbered_plain piece false ssn kind is same = (kind, is, same)
 
 numbered_interleaved : (piece : Piece) (unordered : Bool) (mid fsn : ℕ) → piece.is_interleaved ≡ true → piece.message.is_unordered ≡ unordered → mid ≡ piece.mid % 2 ^ 32 → fsn ≡ piece.fsn % 2 ^ 32
     → IsNumbered piece (interleaved_numbering unordered mid fsn)
@@ -83,7 +83,7 @@ carries_piece queued log first chunk cut fit is some =
           at = at;
           is = omega arith;
           stream = ap (λ (k : ℕ). k % 2 ^ 16) says.stream ∙ (let small = fits.stream in omega (arith, small));
-          numbered = numbered_plain piece is.part.is_unordered (is.part.ssn % 2 ^ 16) (is.kind piece at) (sym says.unordered);
+          numbered = numbered_plain piece is.part.is_unordered (is.part.ssn % 2 ^ 16) (is.kind piece at) (sym says.unordered) (ap (λ (k : ℕ). k % 2 ^ 16) says.ssn);
           ppid = λ begins. ap (λ (k : ℕ). k % 2 ^ 32) says.ppid ∙ (let small = fits.ppid in omega (arith, small));
           payload = ap (map byte_field) says.payload ∙ same_bytes (piece_bytes piece) (bytes_take piece.size (drop piece.start piece.message.payload) (bytes_drop piece.start piece.message.payload fits.payload));
           beginning = says.beginning;

@@ -117,11 +117,11 @@ abbrev pub HoldsIncoming : List Message → History → List ℕ → ℕ → Lis
 HoldsIncoming queued history got base read incoming =
     HoldsAll queued history got base read (λ id. stream_on id incoming.streams) incoming.unordered incoming.ready
 
--- The chunk of a piece is numbered by whether its message is unordered; that of an interleaved one says two of the piece's
--- numbers.
+-- The chunk of a piece is numbered by whether its message is unordered. That of an interleaved one says two of the piece's
+-- numbers, and that of an ordered message of DATA its SSN.
 abbrev pub IsNumbered : Piece → Numbering → Type 0
 IsNumbered piece Unordered = (piece.is_interleaved ≡ false) × (piece.message.is_unordered ≡ true)
-IsNumbered piece (Ordered ssn) = (piece.is_interleaved ≡ false) × (piece.message.is_unordered ≡ false)
+IsNumbered piece (Ordered ssn) = (piece.is_interleaved ≡ false) × (piece.message.is_unordered ≡ false) × (ssn ≡ piece.ssn % 2 ^ 16)
 IsNumbered piece (InterleavedOrdered mid fsn) =
     (piece.is_interleaved ≡ true) × (piece.message.is_unordered ≡ false) × (mid ≡ piece.mid % 2 ^ 32) × (fsn ≡ piece.fsn % 2 ^ 32)
 IsNumbered piece (InterleavedUnordered mid fsn) =

@@ -12,6 +12,7 @@ use Rattle.dcsctp_spec.specs.queues.Outstanding.{OutstandingState, acknowledged_
 use Rattle.dcsctp_spec.specs.queues.Retransmission.{RetransmissionState, with_items, outstanding_count, after_expiry}
 use Rattle.dcsctp_delivery_sending.specs.Log.{History}
 use Rattle.dcsctp_delivery_sending.specs.Stages.{SaysAt, IsNamedFragment, Bears}
+use Rattle.dcsctp_delivery_sending.proofs.Limits.{losing_leaves, missing_leaves, acknowledging_leaves}
 use Rattle.dcsctp_delivery_sending.proofs.Stages.{changed_length, bears_changed}
 
 -- with these items
@@ -22,15 +23,15 @@ reported_bear : (history : History) (first acknowledged count : ℕ) (blocks : L
 reported_bear history first acknowledged count [] outstanding b = b
 reported_bear history first acknowledged count (block ∷ blocks) outstanding b =
     reported_bear history first acknowledged count blocks (record outstanding { items = changed_between Acknowledge (count + block.start - 1) (count + block.end) outstanding.items })
-    (bears_changed history first acknowledged Acknowledge (count + block.start - 1) (count + block.end) outstanding b)
+    (bears_changed history first acknowledged Acknowledge (count + block.start - 1) (count + block.end) outstanding acknowledging_leaves b)
 
 covered_bear : (history : History) (first acknowledged count : ℕ) (blocks : List GapAckBlock) (outstanding : OutstandingState) → Bears history first acknowledged outstanding → Having history first acknowledged outstanding (covered count blocks outstanding.items)
 covered_bear history first acknowledged count blocks outstanding b =
-    reported_bear history first acknowledged count blocks (record outstanding { items = changed_between Acknowledge 0 count outstanding.items }) (bears_changed history first acknowledged Acknowledge 0 count outstanding b)
+    reported_bear history first acknowledged count blocks (record outstanding { items = changed_between Acknowledge 0 count outstanding.items }) (bears_changed history first acknowledged Acknowledge 0 count outstanding acknowledging_leaves b)
 
 missed_bear : (history : History) (first acknowledged count limit : ℕ) (newest : Option ℕ) (state : RetransmissionState) → Bears history first acknowledged state.outstanding → Bears history first acknowledged (missed_until count limit newest state).outstanding
 missed_bear history first acknowledged count limit newest state b =
-    go (nat_lt (marked_items state.outstanding.items) (marked_items (changed_between (Miss newest) count limit state.outstanding.items))) (bears_changed history first acknowledged (Miss newest) count limit state.outstanding b)
+    go (nat_lt (marked_items state.outstanding.items) (marked_items (changed_between (Miss newest) count limit state.outstanding.items))) (bears_changed history first acknowledged (Miss newest) count limit state.outstanding (missing_leaves newest) b)
   where
     items : List Item
     items = changed_between (Miss newest) count limit state.outstanding.items
@@ -66,6 +67,7 @@ first_bear history first acknowledged count state le b =
           let same : acknowledged + (count + k) ≡ acknowledged + count + k = omega arith in
           subst (λ (n : ℕ). IsNamedFragment history n item.fragment) same there
           );
+      abandoned = λ k item at is. b.abandoned (count + k) item (sym (dropped_at count k (count + k) state.outstanding.items refl) ∙ at) is;
       splits = λ mark has k item at is. (
           let same : acknowledged + (count + k) ≡ mark.bound = omega (arith, is) in
           b.splits mark has (count + k) item (sym (dropped_at count k (count + k) state.outstanding.items refl) ∙ at) same
@@ -152,4 +154,4 @@ pub lost_pends : (now : ℕ) (state : RetransmissionState) → (after_expiry now
 lost_pends now state = refl
 
 pub lost_bear : (history : History) (first acknowledged now : ℕ) (state : RetransmissionState) → Bears history first acknowledged state.outstanding → Bears history first acknowledged (after_expiry now state).outstanding
-lost_bear history first acknowledged now state b = bears_changed history first acknowledged Mark 0 (outstanding_count state) state.outstanding b
+lost_bear history first acknowledged now state b = bears_changed history first acknowledged Mark 0 (outstanding_count state) state.outstanding losing_leaves b

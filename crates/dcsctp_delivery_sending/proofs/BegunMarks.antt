@@ -38,6 +38,7 @@ named_marked history begun ids own part below n =
       stream = n.stream;
       unordered = n.unordered;
       mid = n.mid;
+      limits = n.limits;
     }
 
 pub bears_marked : (history : History) (first acknowledged : ℕ) (begun : Option BegunReset) (ids : List ℕ) (state : RetransmissionState) → Bears history first acknowledged state.outstanding
@@ -56,6 +57,7 @@ bears_marked history first acknowledged (Some begun) ids state b =
             absurd (omega (arith, is, b.count)))
         | inr old ↦ b.splits mark old k item at is
       ];
+      abandoned = b.abandoned;
     }
 
 -- What is sent next says so.

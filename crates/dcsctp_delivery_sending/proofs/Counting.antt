@@ -135,6 +135,27 @@ counts_anew history streams u counts = go u counts.going
         counts_rest streams v last.waiting last.mid last.front last.is
         (counts.next v.stream_id.0 last.waiting.is_unordered ∙ ap (λ (k : ℕ). k % 2 ^ 32) (sym last.last))
 
+-- without interleaving the SSNs continue; the rest of a message, if one is under way, isn't counted
+pub ssns_anew : (streams : List Stream) (u : Option UnderWay) → Begins false streams u
+ssns_anew streams None =
+    record {
+      floors = λ id b. (stream_named id streams).next_ssn;
+      counts = record {
+        turns = λ id start. record { next = ap (λ (k : ℕ). k % 2 ^ 16) start.floor; sent = λ n f at. absurd (cc); going = λ v is. absurd (cc) };
+        closes = λ n f g at. absurd (cc);
+        rests = λ idle f at. absurd (cc);
+      };
+    }
+ssns_anew streams (Some u) =
+    record {
+      floors = λ id b. 1;
+      counts = record {
+        turns = λ id start. absurd (let clash : 1 ≡ 0 = start.floor in omega (arith, clash));
+        closes = λ n f g at. absurd (cc);
+        rests = λ idle f at. absurd (cc);
+      };
+    }
+
 -- what a receiver knows of the log
 pub told : (history : History) (queue : SendQueueState) → Numbered history queue → length history.log < 2 ^ 31 → IsUnambiguous history
 told history queue numbers small = go queue.is_interleaved numbers.kinds numbers.counts

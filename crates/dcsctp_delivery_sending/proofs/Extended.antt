@@ -12,7 +12,7 @@ use Rattle.dcsctp_delivery_sending.specs.Places.{HasEntry, at_place}
 use Rattle.dcsctp_delivery_sending.specs.Log.{Slot, Mark, History, log_extended, with_mark, with_renewed}
 use Rattle.dcsctp_delivery_sending.specs.Numbers.{KindAt}
 use Rattle.dcsctp_delivery_sending.specs.Stages.{SaysAt}
-use Rattle.dcsctp_delivery_sending.specs.Flushes.{IsPassed, AreForwardEntries, IsForward, SaysPlain, AreBegun, SaysContent, SayAll, PacketsSay}
+use Rattle.dcsctp_delivery_sending.specs.Flushes.{IsPassed, AreForwardEntries, HasLimited, IsForward, SaysPlain, AreBegun, SaysContent, SayAll, PacketsSay}
 use Rattle.dcsctp_delivery_sending.proofs.Places.{at_stays}
 
 pub at_more : {A : Type 0} (more log : List A) (n : ℕ) (x : A) → at_place n log ≡ Some x → at_place n (more ++ log) ≡ Some x
@@ -132,9 +132,12 @@ module _ (old new : History) (extends : Extends old new) (first : ℕ) where
   passed_later : (tsn : ℕ) → IsPassed old.log first tsn → IsPassed new.log first tsn
   passed_later tsn p = record { passed = p.passed; below = (let size = extends.size in omega (arith, p.below, size)); is = p.is }
 
+  limited_later : HasLimited old.log → HasLimited new.log
+  limited_later is = record { number = is.number; piece = is.piece; at = extends.at is.number (Some is.piece) is.at; limited = is.limited }
+
   forward_later : (is_interleaved : Bool) (tsn : ℕ) (streams : List ℕ) → IsForward is_interleaved old first tsn streams → IsForward is_interleaved new first tsn streams
   unfolding passed_later
-  forward_later is_interleaved tsn streams f = record { passed = passed_later tsn f.passed; entries = f.entries; is = f.is; names = entries_later is_interleaved f.passed.passed f.entries f.passed.below f.names }
+  forward_later is_interleaved tsn streams f = record { passed = passed_later tsn f.passed; entries = f.entries; is = f.is; names = entries_later is_interleaved f.passed.passed f.entries f.passed.below f.names; limited = limited_later f.limited }
 
   open_later : (chunk : ChunkContent) → SaysPlain old first (unworked chunk) → SaysPlain new first (unworked chunk)
   open_later (data_chunk d) says =

@@ -20,6 +20,7 @@ use Rattle.dcsctp_delivery_sending.proofs.Discarding.{drops_keep_under_way, take
 use Rattle.dcsctp_delivery_sending.proofs.Places.{at_new, at_cases}
 use Rattle.dcsctp_delivery_sending.proofs.Numbers.{NumbersStay, numbered_stay, numbers_dropped, kind_dropped}
 use Rattle.dcsctp_delivery_sending.proofs.Streams.{drops_hold}
+use Rattle.dcsctp_delivery_sending.proofs.Limits.{sending_leaves, new_limited}
 use Rattle.dcsctp_delivery_sending.proofs.Stages.{bears_grown, cut_more, bears_changed}
 use Rattle.dcsctp_delivery_sending.proofs.GivingUp.{ended, grown_twice, gives_up_ends}
 use Rattle.dcsctp_delivery_sending.proofs.Pauses.{StaysPaused, again_paused, anew_paused, steps_paused, kept_later, kept_both, current_both}
@@ -46,7 +47,7 @@ marked_stays queued history first acknowledged now old new stands sends =
     (record {
       queue_holds = stands.queue_holds;
       cut = stands.cut;
-      bears = bears_changed history first acknowledged (SendAgain (next_tsn old.queue.outstanding)) sends.place (sends.place + 1) old.queue.outstanding stands.bears;
+      bears = bears_changed history first acknowledged (SendAgain (next_tsn old.queue.outstanding)) sends.place (sends.place + 1) old.queue.outstanding (sending_leaves (next_tsn old.queue.outstanding)) stands.bears;
       pends = stands.pends;
       marks = stands.marks;
       numbers = stands.numbers;
@@ -57,7 +58,7 @@ again_stays : (queued : List Message) (history : History) (first acknowledged no
 again_stays queued history first acknowledged now old new stands step =
     elim step [
       | inl e ↦ marked_stays queued history first acknowledged now old new stands e.1
-      | inr e ↦ ended queued history first acknowledged new (gives_up_ends queued history first acknowledged now e.place old new stands e.gives_up)
+      | inr e ↦ ended queued history first acknowledged new (gives_up_ends queued history first acknowledged now e.place old new stands e.next.marked.item e.next.marked.at e.due e.gives_up)
     ]
 
 has_room : (header room : ℕ) → header ≤ 20 → header + 4 ≤ room → 0 < payload_room header room
@@ -94,7 +95,8 @@ new_stays queued history first acknowledged now old new stands may sends =
               stream = handed.says.stream;
               unordered = handed.says.unordered;
               mid = handed.says.mid;
-            }) (subst (λ (b : Bool). Pends history b) (sym sends.begins) stands.pends));
+              limits = handed.says.limits;
+            }) (new_limited sends.item sends.is_fresh.progress) (subst (λ (b : Bool). Pends history b) (sym sends.begins) stands.pends));
         pends = pends_later (Some handed.piece) history first old.waiting.under_way new.queue.reset_begun stands.marks;
         marks = marks_more queued history first old.waiting.under_way new.waiting.under_way sends.item.fragment new.waiting handed stands.cut
             (takes_on queued history now (payload_room (header old.queue.outstanding) old.room) old.waiting new.waiting old.told new.told sends.item.fragment handed sends.takes) stands.marks;

@@ -1,12 +1,14 @@
 -- Messages that are abandoned: their ends may take TSNs, which carry no piece.
-use Rattle.std.proofs.Common.{◌≡◌, ℕ, Bool, true, false, ◌+◌, List, [], ◌∷◌, ◌++◌, length, refl, sym, ◌∙◌, ap, subst, inl, inr}
-use Rattle.std.specs.Prelude.{Option, None, Some}
+use Rattle.std.proofs.Common.{◌≡◌, ℕ, Bool, true, false, ◌<◌, ◌+◌, arith, List, [], ◌∷◌, ◌++◌, length, refl, sym, ◌∙◌, ap, subst, inl, inr}
+use Rattle.std.specs.Prelude.{Option, None, Some, slice_get}
+use Rattle.std.proofs.lemmas.Bool.Decides.{leb_tells}
 use Rattle.dcsctp_spec.specs.types.declared.progress.Change.TheVariants.{Abandon}
 use Rattle.dcsctp_spec.specs.types.declared.sending.UnderWay.{UnderWay}
 use Rattle.dcsctp_spec.specs.queues.Abandoning.{GivesUpFirst, GivesUpAll}
 use Rattle.dcsctp_spec.specs.queues.Filling.{Stage, ClosesMessage, DropsRestAt, GivesUpAt, StageSteps, none, more}
 use Rattle.dcsctp_spec.specs.queues.ItemMessages.{EndsDropped}
 use Rattle.dcsctp_spec.specs.queues.Items.{Item}
+use Rattle.dcsctp_spec.specs.queues.NextItem.{is_abandonment_due}
 use Rattle.dcsctp_spec.specs.queues.Outstanding.{OutstandingState}
 use Rattle.dcsctp_spec.specs.queues.SendQueue.{SendQueueState}
 use Rattle.dcsctp_spec.specs.queues.Sending.{Fragment, DiscardsNamed}
@@ -14,11 +16,12 @@ use Rattle.dcsctp_delivery_sending.specs.Log.{Message, Piece, Slot, History, log
 use Rattle.dcsctp_delivery_sending.specs.Places.{at_place}
 use Rattle.dcsctp_delivery_sending.specs.Pieces.{HoldsQueued}
 use Rattle.dcsctp_delivery_sending.specs.Numbers.{Numbered}
-use Rattle.dcsctp_delivery_sending.specs.Stages.{IsNamedFragment, Bears, Pends, AreMarks, Stands, Stays}
+use Rattle.dcsctp_delivery_sending.specs.Stages.{IsNamedFragment, IsOfLimited, Bears, Pends, AreMarks, Stands, Stays}
 use Rattle.dcsctp_delivery_sending.proofs.Marks.{pends_later, marks_none, named_end, end_whole}
 use Rattle.dcsctp_delivery_sending.proofs.Discarding.{discards_numbered, discards_hold}
 use Rattle.dcsctp_delivery_sending.proofs.Places.{at_either}
-use Rattle.dcsctp_delivery_sending.proofs.Stages.{with_none, bears_grown, bears_changed, cut_none}
+use Rattle.dcsctp_delivery_sending.proofs.Limits.{limited_due, limited_same, limited_stays, limited_more}
+use Rattle.dcsctp_delivery_sending.proofs.Stages.{with_none, at_last, bears_grown, bears_abandoned, cut_none}
 
 -- More TSNs may have been assigned that carry no piece.
 pub record Ends (queued : List Message) (history : History) (first acknowledged : ℕ) (new : Stage) : Type 0 where
@@ -40,8 +43,8 @@ pub grown_twice : (newest newer : List Slot) (history : History) → log_extende
 grown_twice newest newer history = ap (λ (l : List Slot). record history { log = l }) (append_twice newest newer history.log)
 
 -- what waits of a message is dropped
-drops_rest_ends : (queued : List Message) (history : History) (first acknowledged own now : ℕ) (last : Item) (old new : Stage) → Stands queued history first acknowledged old → IsNamedFragment history own last.fragment → DropsRestAt now last old new → Ends queued history first acknowledged new
-drops_rest_ends queued history first acknowledged own now last old new stands named drops =
+drops_rest_ends : (queued : List Message) (history : History) (first acknowledged own now : ℕ) (last : Item) (old new : Stage) → Stands queued history first acknowledged old → IsNamedFragment history own last.fragment → IsOfLimited history.log last.fragment → DropsRestAt now last old new → Ends queued history first acknowledged new
+drops_rest_ends queued history first acknowledged own now last old new stands named limited drops =
     subst (λ (s : Stage). Ends queued history first acknowledged s) (sym drops.is) (go drops.drops.is_dropped drops.drops.drops drops.drops.ends)
   where
     go : (dropped : Bool) → DiscardsNamed old.waiting last.fragment.stream last.fragment.message_id old.told dropped new.waiting new.told → EndsDropped now old.queue.reset_begun last old.queue.outstanding drops.outstanding dropped
@@ -57,6 +60,7 @@ drops_rest_ends queued history first acknowledged own now last old new stands na
                 (bears_grown history first acknowledged None ends.item old.queue.outstanding stands.bears (ap (λ (f : Fragment). f.payload) ends.is_end.is)
                 (subst (λ (f : Fragment). IsNamedFragment (with_slot None history) (length history.log) f) (sym ends.is_end.is)
                 (named_end history own last.fragment named (end_whole queued history first own old.waiting new.waiting last.fragment old.told new.told stands.queue_holds stands.marks discards named)))
+                (λ is. limited_stays None history.log ends.item.fragment (limited_same history.log ends.item.fragment last.fragment (ap (λ (f : Fragment). f.message_id) ends.is_end.is) limited))
                 (subst (λ (b : Bool). Pends history b) (sym ends.is_end.begins_after_reset) stands.pends));
             pends = pends_later None history first old.waiting.under_way old.queue.reset_begun stands.marks;
             marks = subst (λ (u : Option UnderWay). AreMarks (with_slot None history) first u) (sym (ap (λ (w : SendQueueState). w.under_way) discards.left)) (marks_none history first old.waiting.under_way stands.marks);
@@ -76,18 +80,43 @@ drops_rest_ends queued history first acknowledged own now last old new stands na
           kind = ap (λ (o : OutstandingState). o.is_interleaved) ends ∙ stands.kind ∙ sym (ap (λ (w : SendQueueState). w.is_interleaved) discards.1);
         })
 
-closes_end : (queued : List Message) (history : History) (first acknowledged own now : ℕ) (last : Item) (old new : Stage) (is_end : Bool) → Stands queued history first acknowledged old → IsNamedFragment history own last.fragment → ClosesMessage now last old new is_end → Ends queued history first acknowledged new
-closes_end queued history first acknowledged own now last old new true stands named closes =
+closes_end : (queued : List Message) (history : History) (first acknowledged own now : ℕ) (last : Item) (old new : Stage) (is_end : Bool) → Stands queued history first acknowledged old → IsNamedFragment history own last.fragment → IsOfLimited history.log last.fragment → ClosesMessage now last old new is_end → Ends queued history first acknowledged new
+closes_end queued history first acknowledged own now last old new true stands named limited closes =
     end queued history first acknowledged new (subst (λ (s : Stage). Stands queued history first acknowledged s) (sym closes) (record { queue_holds = stands.queue_holds; cut = stands.cut; bears = stands.bears; pends = stands.pends; marks = stands.marks; numbers = stands.numbers; kind = stands.kind }))
-closes_end queued history first acknowledged own now last old new false stands named closes =
+closes_end queued history first acknowledged own now last old new false stands named limited closes =
     elim closes [
-      | inl e ↦ drops_rest_ends queued history first acknowledged own now last old new stands named e.1
+      | inl e ↦ drops_rest_ends queued history first acknowledged own now last old new stands named limited e.1
       | inr e ↦ end queued history first acknowledged new (subst (λ (s : Stage). Stands queued history first acknowledged s) (sym e.1) stands)
     ]
 
-pub gives_up_ends : (queued : List Message) (history : History) (first acknowledged now place : ℕ) (old new : Stage) → Stands queued history first acknowledged old → GivesUpAt now place old new → Ends queued history first acknowledged new
-gives_up_ends queued history first acknowledged now place old new stands gives =
-    let closed = closes_end queued history first acknowledged (acknowledged + gives.last_place) now gives.last old gives.closed gives.last.fragment.is_end stands (stands.bears.named gives.last_place gives.last gives.at) gives.closes in
+-- What was in flight before the message was closed still is.
+closes_items : (now k : ℕ) (last item : Item) (old new : Stage) (is_end : Bool) → k < length old.queue.outstanding.items → ClosesMessage now last old new is_end → slice_get new.queue.outstanding.items k ≡ Some item
+    → slice_get old.queue.outstanding.items k ≡ Some item
+closes_items now k last item old new true below closes at = ap (λ (s : Stage). slice_get s.queue.outstanding.items k) (sym closes) ∙ at
+closes_items now k last item old new false below (inr closes) at = ap (λ (s : Stage). slice_get s.queue.outstanding.items k) (sym closes.1) ∙ at
+closes_items now k last item old new false below (inl closes) at =
+    go closes.1.drops.is_dropped closes.1.drops.ends (ap (λ (s : Stage). slice_get s.queue.outstanding.items k) (sym closes.1.is) ∙ at)
+  where
+    go : (dropped : Bool) → EndsDropped now old.queue.reset_begun last old.queue.outstanding closes.1.outstanding dropped → slice_get closes.1.outstanding.items k ≡ Some item → slice_get old.queue.outstanding.items k ≡ Some item
+    go true ends at' =
+        elim (at_last old.queue.outstanding.items ends.item k item (ap (λ (o : OutstandingState). slice_get o.items k) (sym ends.grows) ∙ at')) [
+          | inl there ↦ there
+          | inr e ↦ (let past = e.0 in absurd (omega (arith, below, past)))
+        ]
+    go false ends at' = ap (λ (o : OutstandingState). slice_get o.items k) (sym ends) ∙ at'
+
+-- The message of an item that is due to be abandoned is.
+pub gives_up_ends : (queued : List Message) (history : History) (first acknowledged now place : ℕ) (old new : Stage) → Stands queued history first acknowledged old
+    → (item : Item) → slice_get old.queue.outstanding.items place ≡ Some item → is_abandonment_due now old.queue.partial_reliability item ≡ true → GivesUpAt now place old new → Ends queued history first acknowledged new
+gives_up_ends queued history first acknowledged now place old new stands item at due gives =
+    let limited = limited_due history (acknowledged + place) now old.queue.partial_reliability item (stands.bears.named place item at) due in
+    let begins = gives.message.0 in
+    let ends = gives.message.1 in
+    let to = ends.to in
+    let within = ends.within in
+    let of_last : IsOfLimited history.log gives.last.fragment =
+    limited_same history.log gives.last.fragment item.fragment (ends.same gives.last_place gives.last item (omega (arith, to)) (omega arith) gives.at at) limited in
+    let closed = closes_end queued history first acknowledged (acknowledged + gives.last_place) now gives.last old gives.closed gives.last.fragment.is_end stands (stands.bears.named gives.last_place gives.last gives.at) of_last gives.closes in
     record {
       more = closed.more;
       none = closed.none;
@@ -95,7 +124,15 @@ gives_up_ends queued history first acknowledged now place old new stands gives =
           (record {
             queue_holds = closed.stands.queue_holds;
             cut = closed.stands.cut;
-            bears = bears_changed (log_extended closed.more history) first acknowledged Abandon gives.start (gives.last_place + 1) gives.closed.queue.outstanding closed.stands.bears;
+            bears = bears_abandoned (log_extended closed.more history) first acknowledged Abandon gives.start (gives.last_place + 1) gives.closed.queue.outstanding closed.stands.bears
+                (λ k other there from below is. (
+                let before = closes_items now k gives.last other old gives.closed gives.last.fragment.is_end (omega (arith, below, within)) gives.closes there in
+                limited_more closed.more history.log other.fragment (limited_same history.log other.fragment item.fragment
+                (elim (leb_tells k place) [
+                  | inl low ↦ begins.same k other item from low.1 before at
+                  | inr high ↦ ends.same k other item (let past = high.1 in omega (arith, past)) below before at
+                ]) limited)
+                ));
             pends = closed.stands.pends;
             marks = closed.stands.marks;
             numbers = closed.stands.numbers;
@@ -108,7 +145,7 @@ give_up_steps : (queued : List Message) (history : History) (first acknowledged 
 give_up_steps queued history first acknowledged now old new stands none = end queued history first acknowledged old stands
 give_up_steps queued history first acknowledged now old new stands (more between _ steps step) =
     let earlier = give_up_steps queued history first acknowledged now old between stands steps in
-    let later = gives_up_ends queued (log_extended earlier.more history) first acknowledged now step.place between new earlier.stands step.gives_up in
+    let later = gives_up_ends queued (log_extended earlier.more history) first acknowledged now step.place between new earlier.stands step.is_due.item step.is_due.at step.is_due.due step.gives_up in
     record {
       more = later.more ++ earlier.more;
       stands = subst (λ (h : History). Stands queued h first acknowledged new) (sym (grown_twice later.more earlier.more history)) later.stands;

@@ -21,7 +21,7 @@ use Rattle.dcsctp_delivery_sending.proofs.Numbers.{NumbersStay, numbers_same, nu
 
 -- ---- what waits stays
 
-changed_alike : (id : ℕ) (streams : List Stream) → Alike streams (stream_changed id handed_out streams)
+pub changed_alike : (id : ℕ) (streams : List Stream) → Alike streams (stream_changed id handed_out streams)
 changed_alike id streams = record { sizes = sizes streams; ids = ids streams; messages = messages streams }
   where
     one_id : (b : Bool) (s : Stream) → (if b then handed_out s else s).id ≡ s.id
@@ -101,7 +101,7 @@ unfolding NoneUnderWay
 handing_numbers u [] streams none = numbers_same u streams
 handing_numbers u (id ∷ ids) streams none =
     numbers_then u streams (stream_changed id handed_out streams) (handing_out ids (stream_changed id handed_out streams))
-    (numbers_changed u id handed_out (λ s. refl) (λ s. record { ordered = refl; unordered = refl }) (λ v is s here same. absurd (goes_on v is (sym same ∙ here))) streams)
+    (numbers_changed u id handed_out (λ s. refl) (λ s. record { ordered = refl; unordered = refl; ssn = refl }) (λ v is s here same. absurd (goes_on v is (sym same ∙ here))) streams)
     (handing_numbers u ids (stream_changed id handed_out streams) none.1)
   where
     goes_on : (v : UnderWay) → u ≡ Some v → id ≡ v.stream_id.0 → ⊥

@@ -9,7 +9,7 @@ use Rattle.dcsctp_delivery_sending.specs.Pieces.{Going, HoldsQueued}
 use Rattle.dcsctp_delivery_sending.specs.Queueing.{QueueHolds, QueueWaits}
 use Rattle.dcsctp_delivery_sending.proofs.Streams.{Alike, alike_hold}
 use Rattle.dcsctp_delivery_sending.specs.Numbers.{KeptWhere, CountsWhere, Numbered}
-use Rattle.dcsctp_delivery_sending.proofs.Counting.{Begins, counts_idle, counts_anew}
+use Rattle.dcsctp_delivery_sending.proofs.Counting.{Begins, counts_idle, counts_anew, ssns_anew}
 
 -- ---- another association
 
@@ -21,12 +21,12 @@ fresh_going queued log streams (Some u) g =
 -- the numbers continue
 pub begins_again : (b : Bool) (history : History) (streams : List Stream) (u : Option UnderWay) → CountsWhere b history streams u → Begins b streams u
 begins_again true history streams u counts = counts_anew history streams u counts
-begins_again false history streams u counts = record { floors = λ id is_unordered. 0; counts = tt }
+begins_again false history streams u counts = ssns_anew streams u
 
 -- with no message under way they may begin anywhere
 pub begins_idle : (b : Bool) (streams : List Stream) → Begins b streams None
 begins_idle true streams = counts_idle streams
-begins_idle false streams = record { floors = λ id is_unordered. 0; counts = tt }
+begins_idle false streams = ssns_anew streams None
 
 -- so they are numbered
 pub numbered_new : (queue : SendQueueState) (begins : Begins queue.is_interleaved queue.streams queue.under_way) → KeptWhere queue.streams queue.under_way → Numbered (new_history begins.floors) queue

@@ -126,5 +126,5 @@ marking_fits place [] fit = tt
 marking_fits place (message ∷ queued) fit = go (place == length queued) (marking_fits place queued fit.1)
   where
     go : (b : Bool) → AllByRecursion Fits (message_marked_spent place queued) → AllByRecursion Fits (if b then record message { is_spent = true } ∷ queued else message ∷ message_marked_spent place queued)
-    go true rest = (record { stream = fit.0.stream; ppid = fit.0.ppid; payload = fit.0.payload }, fit.1)
+    go true rest = (record { stream = fit.0.stream; ppid = fit.0.ppid; payload = fit.0.payload; size = fit.0.size }, fit.1)
     go false rest = (fit.0, rest)

@@ -53,7 +53,7 @@ none_waits place (s ∷ streams) none =
 -- ---- one that is marked
 
 pub is_own : (message : Message) → IsMarkOf message message
-is_own message = record { stream = refl; ppid = refl; unordered = refl; payload = refl; kept = λ spent. spent }
+is_own message = record { stream = refl; ppid = refl; unordered = refl; payload = refl; limited = refl; kept = λ spent. spent }
 
 here_found : (mark first : Message) (queued : List Message) (place : ℕ) → place ≡ length queued → IsMarkOf mark first → FindsMarked mark (first ∷ queued) place
 here_found mark first queued place is like = record { message = first; at = subst (λ (n : ℕ). at_place n (first ∷ queued) ≡ Some first) (sym is) (at_new first queued); is = like }
@@ -69,7 +69,7 @@ marked_found place k (first ∷ queued) mark at = go (place == length queued) (m
         → at_place k (if b then record first { is_spent = true } ∷ queued else first ∷ message_marked_spent place queued) ≡ Some mark → FindsMarked mark (first ∷ queued) k
     go true long rest at =
         elim (at_cases k (record first { is_spent = true }) mark queued at) [
-          | inl e ↦ here_found mark first queued k e.0 (subst (λ (m : Message). IsMarkOf m first) e.1 (record { stream = refl; ppid = refl; unordered = refl; payload = refl; kept = λ spent. refl }))
+          | inl e ↦ here_found mark first queued k e.0 (subst (λ (m : Message). IsMarkOf m first) e.1 (record { stream = refl; ppid = refl; unordered = refl; payload = refl; limited = refl; kept = λ spent. refl }))
           | inr e ↦ later_found mark first queued k (record { message = mark; at = e; is = is_own mark })
         ]
     go false long rest at =
@@ -87,6 +87,7 @@ mark_then one other message first second =
       ppid = first.ppid ∙ second.ppid;
       unordered = first.unordered ∙ second.unordered;
       payload = first.payload ∙ second.payload;
+      limited = first.limited ∙ second.limited;
       kept = λ spent. first.kept (second.kept spent);
     }
 

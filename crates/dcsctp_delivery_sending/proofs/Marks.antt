@@ -48,6 +48,7 @@ named_end history own part n whole =
       stream = n.stream;
       unordered = n.unordered;
       mid = n.mid;
+      limits = n.limits;
     }
 
 -- No reset of its stream lies between a message under way and its end: the newest piece comes after all these resets.

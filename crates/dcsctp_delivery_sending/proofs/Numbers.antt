@@ -1,5 +1,5 @@
 -- The MIDs of the messages of a stream.
-use Rattle.std.proofs.Common.{◌≡◌, ◌==◌, ℕ, Bool, true, false, ◌-◌, ◌%◌, ◌^◌, List, length, map, refl, sym, ◌∙◌, ap, arith, subst}
+use Rattle.std.proofs.Common.{◌≡◌, ◌==◌, ℕ, Bool, true, false, ◌+◌, ◌-◌, ◌%◌, ◌^◌, List, length, map, refl, sym, ◌∙◌, ap, arith, subst}
 use Rattle.std.specs.Prelude.{Option, None, Some, slice_set, if◌then◌else◌}
 use Rattle.std.proofs.lemmas.Bool.{eqb-true}
 use Rattle.dcsctp_spec.specs.types.declared.sending.UnderWay.{UnderWay}
@@ -7,8 +7,11 @@ use Rattle.dcsctp_spec.specs.types.queues.SendStreams.{Waiting, Stream, front_of
 use Rattle.dcsctp_spec.specs.queues.SendQueue.{SendQueueState, stream_changed, used}
 use Rattle.dcsctp_spec.specs.endpoint.Event.{Event}
 use Rattle.dcsctp_spec.specs.queues.Sending.{Drops, none as drops_none, more as drops_more, reduced, without_rest}
-use Rattle.dcsctp_delivery_sending.specs.Log.{History, with_slot}
-use Rattle.dcsctp_delivery_sending.specs.Numbers.{stream_named, next_mid, is_handed_out, KeptWhere, LastIs, CountsMessages, CountsWhere, Numbered}
+use Rattle.dcsctp_delivery_sending.specs.Log.{Slot, History, with_slot}
+use Rattle.dcsctp_delivery_sending.specs.Turns.{IsSsnOfTurn}
+use Rattle.dcsctp_delivery_sending.specs.Numbers.{stream_named, next_mid, is_handed_out, KeptWhere, LastIs, CountsMessages, CountsTurns, CountsWhere, Numbered}
+use Rattle.dcsctp_delivery_sending.proofs.Places.{at_below}
+use Rattle.dcsctp_delivery_sending.proofs.Turns.{turn_old}
 use Rattle.dcsctp_delivery_sending.proofs.Stages.{with_none}
 use Rattle.dcsctp_delivery_sending.proofs.StreamsNamed.{found_mapped, found_set, found_used}
 
@@ -18,6 +21,7 @@ use Rattle.dcsctp_delivery_sending.proofs.StreamsNamed.{found_mapped, found_set,
 pub record SameMids (old new : Stream) : Type 0 where
   pub ordered : new.next_mid ≡ old.next_mid
   pub unordered : new.next_unordered_mid ≡ old.next_unordered_mid
+  pub ssn : new.next_ssn ≡ old.next_ssn
 
 -- its oldest message is kept, and it isn't handed out if it wasn't
 pub record KeepsFront (old new : Stream) : Type 0 where
@@ -40,7 +44,7 @@ mid_stays true old new same = same.unordered
 mid_stays false old new same = same.ordered
 
 pub same_mids : (s : Stream) → SameMids s s
-same_mids s = record { ordered = refl; unordered = refl }
+same_mids s = record { ordered = refl; unordered = refl; ssn = refl }
 
 pub numbers_same : (u : Option UnderWay) (streams : List Stream) → NumbersStay u streams streams
 numbers_same u streams = record { mids = λ id. same_mids (stream_named id streams); fronts = λ v is. same_front (stream_named v.stream_id.0 streams) }
@@ -48,7 +52,7 @@ numbers_same u streams = record { mids = λ id. same_mids (stream_named id strea
 pub numbers_then : (u : Option UnderWay) (old between new : List Stream) → NumbersStay u old between → NumbersStay u between new → NumbersStay u old new
 numbers_then u old between new one two =
     record {
-      mids = λ id. record { ordered = (two.mids id).ordered ∙ (one.mids id).ordered; unordered = (two.mids id).unordered ∙ (one.mids id).unordered };
+      mids = λ id. record { ordered = (two.mids id).ordered ∙ (one.mids id).ordered; unordered = (two.mids id).unordered ∙ (one.mids id).unordered; ssn = (two.mids id).ssn ∙ (one.mids id).ssn };
       fronts = λ v is. record { front = λ w e. (two.fronts v is).front w ((one.fronts v is).front w e); kept = λ e. (two.fronts v is).kept ((one.fronts v is).kept e) };
     }
 
@@ -92,7 +96,7 @@ numbers_set u place new streams is mids fronts =
 pub numbers_used : (u : Option UnderWay) (queue : SendQueueState) (id : ℕ) → NumbersStay u queue.streams (used queue id)
 numbers_used u queue id =
     record {
-      mids = λ other. found_used SameMids other queue id same_mids (λ s t unordered ordered none pause. record { ordered = sym (ap (λ (p : ℕ × ℕ). p.1) ordered); unordered = sym (ap (λ (p : ℕ × ℕ). p.1) unordered) });
+      mids = λ other. found_used SameMids other queue id same_mids (λ s t unordered ordered none pause. record { ordered = sym (ap (λ (p : ℕ × ℕ). p.1) ordered); unordered = sym (ap (λ (p : ℕ × ℕ). p.1) unordered); ssn = sym (ap (λ (p : ℕ × ℕ). p.0) ordered) });
       fronts = λ v is. found_used KeepsFront v.stream_id.0 queue id same_front
           (λ s t unordered ordered none pause. record {
             front = λ w e. absurd (let clash : None ≡ Some w = sym (ap front_of none) ∙ e in cc);
@@ -103,12 +107,12 @@ numbers_used u queue id =
 -- that much leaves a stream
 pub numbers_reduced : (u : Option UnderWay) (place size : ℕ) (queue : SendQueueState) → NumbersStay u queue.streams (reduced place size queue).streams
 numbers_reduced u place size queue =
-    numbers_set u place (record (stream_at queue.streams place) { amount = (stream_at queue.streams place).amount - size }) queue.streams refl (record { ordered = refl; unordered = refl })
+    numbers_set u place (record (stream_at queue.streams place) { amount = (stream_at queue.streams place).amount - size }) queue.streams refl (record { ordered = refl; unordered = refl; ssn = refl })
     (λ v is. front_kept (stream_at queue.streams place) (record (stream_at queue.streams place) { amount = (stream_at queue.streams place).amount - size }) refl (λ e. e))
 
 -- its oldest message does, and none is under way
 pub numbers_without : (place : ℕ) (streams : List Stream) → NumbersStay None streams (slice_set streams place (without_front (stream_at streams place)))
-numbers_without place streams = numbers_set None place (without_front (stream_at streams place)) streams refl (record { ordered = refl; unordered = refl }) (λ v is. absurd (cc))
+numbers_without place streams = numbers_set None place (without_front (stream_at streams place)) streams refl (record { ordered = refl; unordered = refl; ssn = refl }) (λ v is. absurd (cc))
 
 -- messages are dropped
 pub numbers_dropped : {P : Type 0} (now : ℕ) (old : SendQueueState) (events : List (Event P)) (new : SendQueueState) → Drops now old events new → NumbersStay None old.streams new.streams
@@ -139,8 +143,25 @@ counts_stay history u old new stay counts =
     go None is last = tt
     go (Some v) is last = record { waiting = last.waiting; front = (stay.fronts v is).front last.waiting last.front; mid = last.mid; is = last.is; from = last.from; last = last.last; came = last.came }
 
+pub turns_stay : (id : ℕ) (log : List Slot) (u : Option UnderWay) (old new : List Stream) → NumbersStay u old new → CountsTurns id log old u → CountsTurns id log new u
+turns_stay id log u old new stay c =
+    record {
+      next = ap (λ (k : ℕ). k % 2 ^ 16) (stay.mids id).ssn ∙ c.next;
+      sent = c.sent;
+      going = λ v is on. (
+          let g = c.going v is on in
+          record {
+            waiting = g.waiting;
+            front = subst (λ (k : ℕ). front_of (stream_named k new).messages ≡ Some g.waiting) on
+                ((stay.fronts v is).front g.waiting (subst (λ (k : ℕ). front_of (stream_named k old).messages ≡ Some g.waiting) (sym on) g.front));
+            last = g.last;
+          }
+          );
+    }
+
 pub where_stay : (b : Bool) (history : History) (u : Option UnderWay) (old new : List Stream) → NumbersStay u old new → CountsWhere b history old u → CountsWhere b history new u
-where_stay false history u old new stay counts = tt
+where_stay false history u old new stay counts =
+    record { turns = λ id start. turns_stay id history.log u old new stay (counts.turns id start); closes = counts.closes; rests = counts.rests }
 where_stay true history u old new stay counts = counts_stay history u old new stay counts
 
 pub kept_stays : (u : Option UnderWay) (old new : List Stream) → NumbersStay u old new → KeptWhere old u → KeptWhere new u
@@ -170,7 +191,22 @@ counts_ended history u streams counts =
     }
 
 where_ended : (b : Bool) (history : History) (u : Option UnderWay) (streams : List Stream) → CountsWhere b history streams u → CountsWhere b (with_slot None history) streams None
-where_ended false history u streams counts = tt
+where_ended false history u streams counts =
+    record {
+      turns = λ id start. (
+          let c = counts.turns id (record { floor = start.floor; none = start.none }) in
+          record {
+            next = c.next;
+            sent = λ n f at on ordered. (
+                let at' = with_none history.log n f at in
+                subst (λ (k : ℕ). IsSsnOfTurn f.ssn k) (sym (turn_old id n None history.log (at_below n (Some f) history.log at'))) (c.sent n f at' on ordered)
+                );
+            going = λ v is. absurd (cc);
+          }
+          );
+      closes = λ n f g at at'. counts.closes n f g (with_none history.log n f at) (with_none history.log (n + 1) g at');
+      rests = λ idle f at. absurd (cc);
+    }
 where_ended true history u streams counts = counts_ended history u streams counts
 
 pub numbered_ended : (history : History) (old new : SendQueueState) → new.is_interleaved ≡ old.is_interleaved → new.under_way ≡ None → NumbersStay None old.streams new.streams → Numbered history old → Numbered (with_slot None history) new

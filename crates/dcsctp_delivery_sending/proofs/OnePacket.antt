@@ -35,7 +35,7 @@ gives_up_where queued history first acknowledged now room true transfer old new 
 forwards_where : (history : History) (first acknowledged now room : ℕ) (b : Bool) (transfer : Transfer) (old new : Stage) (next : Option ℕ) (chunks : List Plain) → AreOfKind new.queue.outstanding.is_interleaved history.log → Bears history first acknowledged new.queue.outstanding → GivesUpWhere b now transfer room old new next chunks
     → SayAll history first (plain_contents chunks)
 forwards_where history first acknowledged now room false transfer old new next chunks kinds bears gives = subst (λ (l : List Plain). SayAll history first (plain_contents l)) (sym gives.2) tt
-forwards_where history first acknowledged now room true transfer old new next chunks kinds bears gives = said_forwards history first acknowledged _ now transfer room new.queue next chunks kinds bears gives.1
+forwards_where history first acknowledged now room true transfer old new next chunks kinds bears gives = said_forwards history first acknowledged _ now transfer room new.queue next chunks kinds bears (λ made. made) gives.1
 
 fills_where : (queued : List Message) (history : History) (first acknowledged now : ℕ) (b : Bool) (old new : Stage) → Stands queued history first acknowledged old → FillsWhere b now old new → Stays queued history first acknowledged new
 fills_where queued history first acknowledged now true old new stands fills = fills_stay queued history first acknowledged now old new stands fills

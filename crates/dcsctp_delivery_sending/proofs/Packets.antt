@@ -1,6 +1,6 @@
 -- What packets say.
 use Rattle.std.proofs.Common.{◌≡◌, ℕ, Bool, true, false, ◌+◌, ◌-◌, ◌≤◌, ◌%◌, ◌^◌, List, [], ◌∷◌, ◌++◌, length, map, refl, sym, arith, subst, inl}
-use Rattle.std.specs.Prelude.{Option, None, Some, nat_le, if◌then◌else◌}
+use Rattle.std.specs.Prelude.{Option, None, Some, slice_get, nat_le, if◌then◌else◌}
 use Rattle.dcsctp_spec.specs.wire.Content.{ChunkContent, data_chunk, i_data_chunk, init_chunk, init_ack_chunk, sack_chunk, heartbeat_chunk, heartbeat_ack_chunk, abort_chunk, shutdown_chunk, shutdown_ack_chunk, error_chunk, cookie_echo_chunk, cookie_ack_chunk, shutdown_complete_chunk, re_config_chunk, forward_tsn_chunk, i_forward_tsn_chunk, unknown_chunk}
 use Rattle.dcsctp_spec.specs.wire.Spelling.{chunk_bytes}
 use Rattle.dcsctp_spec.specs.endpoint.Event.{Event, sent, connected, closed, connection_restarted, aborted, error, buffered_amount_low, total_buffered_amount_low, streams_reset_failed, streams_reset_performed, incoming_stream_reset, lifecycle_message_fully_sent, lifecycle_message_maybe_expired, lifecycle_message_expired, lifecycle_message_delivered, lifecycle_end, packets_in}
@@ -8,6 +8,8 @@ use Rattle.dcsctp_spec.specs.Packet.{Plain, unknown, heartbeat, heartbeat_ack, u
 use Rattle.dcsctp_spec.specs.endpoint.Endpoint.{Endpoint}
 use Rattle.dcsctp_spec.specs.Reconfiguration.{ResetParameter, outgoing_reset_request, incoming_reset_request, reconfiguration_response, other_reset_parameter}
 use Rattle.dcsctp_spec.specs.association.Choices.{plain_contents}
+use Rattle.dcsctp_spec.specs.types.queues.Progress.{is_abandoned}
+use Rattle.dcsctp_spec.specs.queues.Items.{Item, is_first_abandoned}
 use Rattle.dcsctp_spec.specs.queues.Outstanding.{OutstandingState}
 use Rattle.dcsctp_spec.specs.queues.Retransmission.{RetransmissionState}
 use Rattle.dcsctp_spec.specs.queues.Skipping.{forward_chunk}
@@ -17,8 +19,8 @@ use Rattle.dcsctp_spec.specs.endpoint.BegunResets.{BegunReset, request_contents}
 use Rattle.dcsctp_spec.specs.endpoint.FlushOutcomes.{FillingEvent, amount_is_low, total_amount_is_low, message_is_sent, message_may_have_expired, message_has_expired, message_ends, filling_event, goes_out, where_fits, own_sack, Acknowledges, ForwardsWhere}
 use Rattle.dcsctp_delivery_sending.specs.Log.{Slot, History, log_extended, with_mark}
 use Rattle.dcsctp_delivery_sending.specs.Numbers.{AreOfKind}
-use Rattle.dcsctp_delivery_sending.specs.Stages.{Bears, IsOfLog, AreOfLog}
-use Rattle.dcsctp_delivery_sending.specs.Flushes.{AreBegun, NoRequests, IsPassed, AreForwardEntries, SaysPlain, NoPlain, NoContent, NoData, SaysContent, SayAll, PacketsSay}
+use Rattle.dcsctp_delivery_sending.specs.Stages.{Bears, IsOfLimited, IsOfLog, AreOfLog}
+use Rattle.dcsctp_delivery_sending.specs.Flushes.{AreBegun, NoRequests, IsPassed, AreForwardEntries, HasLimited, SaysPlain, NoPlain, NoContent, NoData, SaysContent, SayAll, PacketsSay}
 pub use Rattle.dcsctp_delivery_sending.proofs.Extended.{at_more}
 use Rattle.dcsctp_delivery_sending.proofs.Extended.{extends_grown, packets_later}
 use Rattle.dcsctp_delivery_sending.proofs.Entries.{listed_entries, entry_found}
@@ -73,23 +75,34 @@ module _ (history : History) (first : ℕ) where
   said_sacks false room transfer after chunks acknowledges = subst (λ (l : List Plain). SayAll history first (plain_contents l)) (sym acknowledges.1) tt
   said_sacks true room transfer after chunks acknowledges = subst (λ (l : List Plain). SayAll history first (plain_contents l)) (sym acknowledges.1) (said_fitting room (own_sack transfer) tt)
 
-  said_forward : (is_interleaved : Bool) (tsn : ℕ) (entries : List ((ℕ × Bool) × ℕ)) → (passed : IsPassed history.log first tsn) → AreForwardEntries is_interleaved history passed.passed entries → SaysPlain history first (unworked (forward_chunk is_interleaved tsn entries))
-  said_forward true tsn entries passed names = record { passed = passed; entries = entries; is = refl; names = names }
-  said_forward false tsn entries passed names = record { passed = passed; entries = entries; is = refl; names = names }
+  said_forward : (is_interleaved : Bool) (tsn : ℕ) (entries : List ((ℕ × Bool) × ℕ)) → (passed : IsPassed history.log first tsn) → AreForwardEntries is_interleaved history passed.passed entries → HasLimited history.log
+      → SaysPlain history first (unworked (forward_chunk is_interleaved tsn entries))
+  said_forward true tsn entries passed names limited = record { passed = passed; entries = entries; is = refl; names = names; limited = limited }
+  said_forward false tsn entries passed names limited = record { passed = passed; entries = entries; is = refl; names = names; limited = limited }
+
+  -- the message of the first item in flight may be abandoned, if it was
+  first_limited : (acknowledged : ℕ) (outstanding : OutstandingState) → Bears history first acknowledged outstanding → is_first_abandoned outstanding.items ≡ true → HasLimited history.log
+  first_limited acknowledged outstanding b is = go outstanding.items (b.abandoned 0) is
+    where
+      go : (items : List Item) → ((item : Item) → slice_get items 0 ≡ Some item → is_abandoned item.progress.state ≡ true → IsOfLimited history.log item.fragment) → is_first_abandoned items ≡ true → HasLimited history.log
+      go [] limited first_is = absurd (cc)
+      go (item ∷ items) limited first_is = (let of = limited item refl first_is in record { number = of.number; piece = of.piece; at = of.at; limited = of.limited })
 
   passed_by : (acknowledged count : ℕ) (outstanding : OutstandingState) → Bears history first acknowledged outstanding → count ≤ length outstanding.items → IsPassed history.log first ((outstanding.first_tsn + count + (2 ^ 32 - 1)) % 2 ^ 32)
   passed_by acknowledged count outstanding b within =
       record { passed = acknowledged + count; below = omega (arith, b.count, within); is = (let at = b.tsn in grind (arith, at)) }
 
-  pub said_forwards : (acknowledged : ℕ) (made : Bool) (now : ℕ) (transfer : Transfer) (room : ℕ) (state : RetransmissionState) (next : Option ℕ) (chunks : List Plain) → AreOfKind state.outstanding.is_interleaved history.log → Bears history first acknowledged state.outstanding → ForwardsWhere made now transfer room state next chunks
+  pub said_forwards : (acknowledged : ℕ) (made : Bool) (now : ℕ) (transfer : Transfer) (room : ℕ) (state : RetransmissionState) (next : Option ℕ) (chunks : List Plain) → AreOfKind state.outstanding.is_interleaved history.log → Bears history first acknowledged state.outstanding
+      → (made ≡ true → is_first_abandoned state.outstanding.items ≡ true) → ForwardsWhere made now transfer room state next chunks
       → SayAll history first (plain_contents chunks)
   unfolding passed_by
-  said_forwards acknowledged false now transfer room state next chunks kinds b forwards = subst (λ (l : List Plain). SayAll history first (plain_contents l)) (sym forwards.1) tt
-  said_forwards acknowledged true now transfer room state next chunks kinds b forwards =
+  said_forwards acknowledged false now transfer room state next chunks kinds b abandoned forwards = subst (λ (l : List Plain). SayAll history first (plain_contents l)) (sym forwards.1) tt
+  said_forwards acknowledged true now transfer room state next chunks kinds b abandoned forwards =
       let (chunk, says, is) = forwards.1 in
       subst (λ (l : List Plain). SayAll history first (plain_contents l)) (sym is)
       (said_fitting room (unworked chunk) (subst (λ (c : ChunkContent). SaysPlain history first (unworked c)) (sym says.is) (said_forward state.outstanding.is_interleaved _ says.entries (passed_by acknowledged says.count state.outstanding b says.row.within)
-      (listed_entries history first acknowledged says.count state.outstanding kinds b says.row.within says.row.each says.entries says.entries says.lists.numbers (entry_found says.entries says.lists.none_twice)))))
+      (listed_entries history first acknowledged says.count state.outstanding kinds b says.row.within says.row.each says.entries says.entries says.lists.numbers (entry_found says.entries says.lists.none_twice))
+      (first_limited acknowledged state.outstanding b (abandoned refl)))))
 
   pub said_request : (begun : Option BegunReset) (ids : List ℕ) (bound : ℕ) → SayAll (with_mark begun ids bound history) first (request_contents begun)
   said_request None ids bound = tt

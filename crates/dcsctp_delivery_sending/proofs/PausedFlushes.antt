@@ -1,44 +1,29 @@
 -- Which streams are handed out to be reset, while a flush is under way: the request in its first
 -- packet alone hands streams out.
-use Rattle.std.proofs.Common.{◌≡◌, ℕ, Bool, true, false, List, [], ◌++◌, map, refl, ◌∙◌, ap, inl, inr}
+use Rattle.std.proofs.Common.{◌≡◌, ℕ, Bool, true, false, List, map, refl, ◌∙◌, ap}
 use Rattle.std.specs.Prelude.{Option, None, Some}
-use Rattle.dcsctp_spec.specs.Packet.{Plain, Emission}
+use Rattle.dcsctp_spec.specs.Packet.{Emission}
 use Rattle.dcsctp_spec.specs.endpoint.Endpoint.{Endpoint}
-use Rattle.dcsctp_spec.specs.queues.Abandoning.{GivesUpFirst}
-use Rattle.dcsctp_spec.specs.queues.Filling.{Stage}
 use Rattle.dcsctp_spec.specs.queues.SendQueue.{SendQueueState}
-use Rattle.dcsctp_spec.specs.queues.Transfer.{Transfer, EndpointQueues, may_give, is_idle}
-use Rattle.dcsctp_spec.specs.queues.Retransmission.{RetransmissionState}
+use Rattle.dcsctp_spec.specs.queues.Transfer.{Transfer, EndpointQueues, is_idle}
 use Rattle.dcsctp_spec.specs.association.Choices.{plain_contents}
-use Rattle.dcsctp_spec.specs.endpoint.BegunResets.{BegunReset, streams_within, request_contents, queue_requesting, retransmission_begun}
-use Rattle.dcsctp_spec.specs.endpoint.FlushOutcomes.{Ask, Gives, room_in, stage_of, may_forward, filling_event, Answer, answer_contents, filled, asked, next_draft, flush_of, later_ask, GivesUpWhere, FillsWhere, GivesWhere, IsAnswerOfQueues, IsFlushAnswer, AreFlushAnswers, at_limit, at_empty, after_packet}
+use Rattle.dcsctp_spec.specs.endpoint.BegunResets.{BegunReset, streams_within, queue_requesting}
+use Rattle.dcsctp_spec.specs.endpoint.FlushOutcomes.{Ask, Gives, room_in, filling_event, Answer, answer_contents, filled, asked, next_draft, flush_of, later_ask, GivesWhere, IsAnswerOfQueues, IsFlushAnswer, AreFlushAnswers, at_limit, at_empty, after_packet}
 use Rattle.dcsctp_delivery_sending.specs.Numbers.{stream_named, is_handed_out}
 use Rattle.dcsctp_delivery_sending.specs.Flushes.{reset_begun_by}
-use Rattle.dcsctp_delivery_sending.proofs.Pauses.{PausesStay, StaysPaused, same_paused, gives_up_paused, steps_paused, fills_paused}
+use Rattle.dcsctp_delivery_sending.proofs.Pauses.{PausesStay, pauses_follow}
+use Rattle.dcsctp_delivery_sending.proofs.KeptPauses.{before_request, after_request}
 use Rattle.dcsctp_delivery_sending.proofs.Packets.{out_below}
-
-gives_up_where_paused : (b : Bool) (now room : ℕ) (transfer : Transfer) (old new : Stage) (next : Option ℕ) (chunks : List Plain) → GivesUpWhere b now transfer room old new next chunks → StaysPaused old new
-gives_up_where_paused true now room transfer old new next chunks gives id = steps_paused (GivesUpFirst now) (λ o n s. gives_up_paused now s.place o n s.gives_up) old new gives.0.steps id
-gives_up_where_paused false now room transfer old new next chunks gives id = same_paused old new (ap (λ (s : Stage). s.waiting) gives.0) id
-
-fills_where_paused : (now : ℕ) (b : Bool) (old new : Stage) → FillsWhere b now old new → StaysPaused old new
-fills_where_paused now true old new fills id = fills_paused now old new fills id
-fills_where_paused now false old new fills id = elim fills [ inl e ↦ same_paused old new (ap (λ (s : Stage). s.waiting) e) id | inr e ↦ fills_paused now old new e id ]
 
 -- this holds for one packet, before the request and after it
 pub gave_up_paused : (ask : Ask) (e : Endpoint) (draft : Emission) (transfer : Transfer) (answer : Answer) (gives : Gives ask e draft transfer answer) → PausesStay e.queues.queue.streams gives.gave_up.waiting.streams
-gave_up_paused ask e draft transfer answer gives id =
-    gives_up_where_paused (may_forward ask e transfer.retransmission) e.moment (room_in e (filled draft (plain_contents gives.sacks))) transfer (stage_of e.queues.queue transfer.retransmission [] 0) gives.gave_up gives.next
-    gives.forwards gives.gives_up id
+gave_up_paused ask e draft transfer answer gives = before_request PausesStay pauses_follow ask e draft transfer answer gives
 
 pub sent_paused : (ask : Ask) (e : Endpoint) (draft : Emission) (transfer : Transfer) (answer : Answer) (gives : Gives ask e draft transfer answer)
     → PausesStay (queue_requesting (streams_within (room_in e (filled draft (plain_contents answer.acknowledgements)))) answer.begun gives.gave_up.waiting).streams gives.sent.waiting.streams
-sent_paused ask e draft transfer answer gives id =
-    let left : SendQueueState = queue_requesting (streams_within (room_in e (filled draft (plain_contents answer.acknowledgements)))) answer.begun gives.gave_up.waiting in
-    let begun : RetransmissionState = retransmission_begun answer.begun gives.gave_up.queue in
-    fills_where_paused e.moment (may_give left begun) (stage_of left begun gives.gave_up.told (room_in e (filled draft (plain_contents answer.acknowledgements ++ request_contents answer.begun)))) gives.sent gives.fills id
+sent_paused ask e draft transfer answer gives = after_request PausesStay pauses_follow ask e draft transfer answer gives
 
-requesting_none : (count : ℕ) (begun : Option BegunReset) (queue : SendQueueState) → begun ≡ None → queue_requesting count begun queue ≡ queue
+pub requesting_none : (count : ℕ) (begun : Option BegunReset) (queue : SendQueueState) → begun ≡ None → queue_requesting count begun queue ≡ queue
 requesting_none count None queue is = refl
 requesting_none count (Some begun) queue is = absurd (cc)
 

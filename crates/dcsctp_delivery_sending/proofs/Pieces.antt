@@ -15,6 +15,7 @@ use Rattle.dcsctp_delivery_sending.proofs.Streams.{newest_at, drops_hold, front_
 use Rattle.dcsctp_delivery_sending.proofs.Produced.{it_is_piece, it_says, within_streams, it_hold}
 use Rattle.dcsctp_delivery_sending.proofs.Numbers.{where_stay, numbers_dropped, kind_dropped}
 use Rattle.dcsctp_delivery_sending.proofs.ProducedNumbers.{produced_kind, later_counts, later_current, kinds_more}
+use Rattle.dcsctp_delivery_sending.proofs.ProducedTurns.{later_ssns}
 use Rattle.dcsctp_delivery_sending.proofs.Pauses.{pauses_produced, produced_kept}
 use Rattle.dcsctp_delivery_sending.proofs.Begun.{begins}
 
@@ -80,18 +81,26 @@ module _ (queued : List Message) (history : History) (max place : ℕ) (queue : 
 
   next_piece : ℕ → Piece
   next_piece mid =
-      record { place = message.message_id; message = waited.message; start = under_way.sent; size = size_produced max message under_way; mid = mid; fsn = under_way.next_fsn; is_interleaved = queue.is_interleaved }
+      record { place = message.message_id; message = waited.message; start = under_way.sent; size = size_produced max message under_way; mid = mid; fsn = under_way.next_fsn; ssn = under_way.ssn; is_interleaved = queue.is_interleaved }
 
   unfinished : under_way.sent < length message.payload
   unfolding going
   unfinished = let sizes : length message.payload ≡ length going.message.payload = ap (λ (l : List ℕ). length l) waited.is.payload ∙ ap (λ (m : Message). length m.payload) same_message in omega (arith, going.unfinished)
+
+  -- SSNs are counted
+  later_ssns_on : queue.is_interleaved ≡ false → CountsWhere false history queue.streams (Some under_way) → (mid : ℕ)
+      → CountsWhere false (with_slot (Some (next_piece mid)) history) (produced place max message under_way queue).streams (produced place max message under_way queue).under_way
+  unfolding next_piece going
+  later_ssns_on kind c mid =
+      later_ssns history max place queue message under_way (next_piece mid) front (within_streams queue.streams place message front) queue_holds.distinct id (sym waited.is.stream) (sym waited.is.unordered) kind refl
+      going.begun refl refl (sym waited.is.payload) unfinished c
 
   -- what is counted, by whether messages are interleaved
   counted_on : (b : Bool) → queue.is_interleaved ≡ b → (c : CountsWhere b history queue.streams (Some under_way)) (mid : ℕ) → under_way.mid % 2 ^ 32 ≡ mid % 2 ^ 32 → mid ≡ rest_mid b history queue under_way c
       → (0 < length history.log → HasBefore history.log (length history.log) (next_piece mid))
       → CountsWhere b (with_slot (Some (next_piece mid)) history) (produced place max message under_way queue).streams (produced place max message under_way queue).under_way
   unfolding next_piece rest_mid going
-  counted_on false kind c mid mid_is number row = tt
+  counted_on false kind c mid mid_is number row = later_ssns_on kind c mid
   counted_on true kind c mid mid_is number row =
       later_counts history max place queue message under_way (next_piece mid) front (within_streams queue.streams place message front) queue_holds.distinct id (sym waited.is.stream) (sym waited.is.unordered) mid_is going.begun c number row
 
@@ -114,12 +123,12 @@ module _ (queued : List Message) (history : History) (max place : ℕ) (queue : 
       let first : (next_piece mid).start ≡ 0 → (next_piece mid).fsn ≡ 0 = λ start. (let clash : under_way.sent ≡ 0 = start in absurd (omega (arith, going.begun))) in
       record {
         piece = next_piece mid;
-        is_piece = it_is_piece queued history.log max place queue message under_way (next_piece mid) queue_holds.wait queue_holds.ascend queue_holds.distinct front id old_here old_there refl waited.is waited.at waited.fresh refl mid_is refl first refl room queue_holds.room unfinished;
+        is_piece = it_is_piece queued history.log max place queue message under_way (next_piece mid) queue_holds.wait queue_holds.ascend queue_holds.distinct front id old_here old_there refl waited.is waited.at waited.fresh refl mid_is refl refl first refl room queue_holds.room unfinished;
         row = λ some started. row some;
         ascends = λ n f at starts of. (let clash : under_way.sent ≡ 0 = starts in absurd (omega (arith, going.begun)));
         climbs = λ n f at starts interleaved of of'. (let clash : under_way.sent ≡ 0 = starts in absurd (omega (arith, going.begun)));
-        says = it_says queued history.log max place queue message under_way (next_piece mid) queue_holds.wait queue_holds.ascend queue_holds.distinct front id old_here old_there refl waited.is waited.at waited.fresh refl mid_is refl first refl room queue_holds.room unfinished;
-        queue_holds = it_hold queued history.log max place queue message under_way (next_piece mid) queue_holds.wait queue_holds.ascend queue_holds.distinct front id old_here old_there refl waited.is waited.at waited.fresh refl mid_is refl first refl room queue_holds.room unfinished queue_holds.small;
+        says = it_says queued history.log max place queue message under_way (next_piece mid) queue_holds.wait queue_holds.ascend queue_holds.distinct front id old_here old_there refl waited.is waited.at waited.fresh refl mid_is refl refl first refl room queue_holds.room unfinished;
+        queue_holds = it_hold queued history.log max place queue message under_way (next_piece mid) queue_holds.wait queue_holds.ascend queue_holds.distinct front id old_here old_there refl waited.is waited.at waited.fresh refl mid_is refl refl first refl room queue_holds.room unfinished queue_holds.small;
         numbers = record {
           kinds = kinds_more queue.is_interleaved (produced place max message under_way queue).is_interleaved history.log (next_piece mid) (produced_kind place max message under_way queue) kinds refl;
           counts = subst (λ (b : Bool). CountsWhere b (with_slot (Some (next_piece mid)) history) (produced place max message under_way queue).streams (produced place max message under_way queue).under_way)
@@ -155,7 +164,7 @@ module _ (queued : List Message) (history : History) (max place : ℕ) (queue : 
       counted_where : (b : Bool) → queue.is_interleaved ≡ b → (counts' : CountsWhere b history queue.streams (Some under_way)) (c : ComesTo history.log going.place under_way going.message)
           → (0 < length history.log → HasBefore history.log (length history.log) (next_piece c.piece.mid))
           → CountsWhere b (with_slot (Some (next_piece c.piece.mid)) history) (produced place max message under_way queue).streams (produced place max message under_way queue).under_way
-      counted_where false kind counts' c row = tt
+      counted_where false kind counts' c row = later_ssns_on kind counts' c.piece.mid
       counted_where true kind counts' c row = counted_on true kind counts' c.piece.mid c.mid (newest_mid true counts' c refl) row
 
       current_where : (b : Bool) → queue.is_interleaved ≡ b → (counts' : CountsWhere b history queue.streams (Some under_way)) (c : ComesTo history.log going.place under_way going.message)

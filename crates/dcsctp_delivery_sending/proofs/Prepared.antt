@@ -199,8 +199,8 @@ prepared_one queued history id queue fits queues = go (is_open_pause (queue_stre
         one_id false s = refl
 
         one_mids : (b : Bool) (s : Stream) → SameMids s (if b then prepared_stream (dropped_size id start) (count_under_way id start.under_way) s else s)
-        one_mids true s = record { ordered = refl; unordered = refl }
-        one_mids false s = record { ordered = refl; unordered = refl }
+        one_mids true s = record { ordered = refl; unordered = refl; ssn = refl }
+        one_mids false s = record { ordered = refl; unordered = refl; ssn = refl }
 
     go : (b : Bool) → QueueHolds queued history (if b then prepared_open id start else start)
     go true =

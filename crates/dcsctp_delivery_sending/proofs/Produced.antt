@@ -56,6 +56,7 @@ module _ (queued : List Message) (log : List Slot) (max place : ℕ) (queue : Se
     (start_is : under_way.sent ≡ piece.start)
     (mid_is : under_way.mid % 2 ^ 32 ≡ piece.mid % 2 ^ 32)
     (fsn_is : under_way.next_fsn ≡ piece.fsn)
+    (ssn_is : under_way.ssn ≡ piece.ssn)
     (first_is : piece.start ≡ 0 → piece.fsn ≡ 0)
     (size_is : piece.size ≡ size_produced max message under_way)
     (has_room : 0 < max)
@@ -89,8 +90,10 @@ module _ (queued : List Message) (log : List Slot) (max place : ℕ) (queue : Se
             ∙ ap (λ (k : ℕ). (piece.start + k) == length message.payload) (sym size_is) ∙ ap (λ (k : ℕ). (piece.start + piece.size) == k) lengths;
         payload = ap (λ (k : ℕ). take k (drop under_way.sent message.payload)) (sym size_is) ∙ ap (λ (k : ℕ). take piece.size (drop k message.payload)) start_is
             ∙ ap (λ (l : List ℕ). take piece.size (drop piece.start l)) message_is.payload;
+        limits = message_is.limits;
         mid = mid_is;
         fsn = fsn_is;
+        ssn = ssn_is;
       }
 
   within : place < length queue.streams

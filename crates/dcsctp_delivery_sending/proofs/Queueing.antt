@@ -12,6 +12,7 @@ use Rattle.dcsctp_delivery_sending.specs.Pieces.{WaitingWasQueued, AllQueued, Al
 use Rattle.dcsctp_delivery_sending.specs.Queueing.{message_of, QueueHolds}
 use Rattle.dcsctp_delivery_sending.proofs.Places.{decide, at_new, at_below, at_stays}
 use Rattle.dcsctp_delivery_sending.specs.Weights.{weight}
+use Rattle.dcsctp_delivery_sending.proofs.Limits.{no_limits}
 use Rattle.dcsctp_delivery_sending.proofs.Produced.{within_streams}
 use Rattle.dcsctp_delivery_sending.proofs.Weights.{weight_added}
 use Rattle.dcsctp_delivery_sending.proofs.NewStreams.{used_hold, empty_unbegun}
@@ -206,7 +207,7 @@ queueing_hold queued history now sending queue fits few some cut queues =
           (record {
             message = message_of sending;
             at = subst (λ (k : ℕ). at_place k (message_of sending ∷ queued) ≡ Some (message_of sending)) (sym queues.next) (at_new (message_of sending) queued);
-            is = record { stream = refl; ppid = refl; unordered = refl; payload = refl };
+            is = record { stream = refl; ppid = refl; unordered = refl; payload = refl; limits = no_limits now sending.options };
             fresh = refl;
             some = some;
           }) queues.next (λ n f at. at_below f.place f.message queued (cut.pieces n f at).at) (used_hold queued history.log queue sending.message.stream fits queues.queue_holds)
@@ -214,7 +215,7 @@ queueing_hold queued history now sending queue fits few some cut queues =
       next = (let next = queues.next in omega (arith, next, few));
       numbers = numbered_stay history queue (sending_queued now sending queue) refl refl
           (numbers_then queue.under_way queue.streams streams (stream_changed sending.message.stream (with_message m) streams) (numbers_used queue.under_way queue sending.message.stream)
-          (numbers_changed queue.under_way sending.message.stream (with_message m) (λ s. refl) (λ s. record { ordered = refl; unordered = refl }) (λ v is s here same. record { front = λ w e. front_append s.messages m w e; kept = λ e. e }) streams)) queues.numbers;
+          (numbers_changed queue.under_way sending.message.stream (with_message m) (λ s. refl) (λ s. record { ordered = refl; unordered = refl; ssn = refl }) (λ v is s here same. record { front = λ w e. front_append s.messages m w e; kept = λ e. e }) streams)) queues.numbers;
     }
   where
     m : Waiting

@@ -20,11 +20,11 @@ pub extends_floors : (floors : ℕ → Bool → ℕ) (history : History) → Ext
 extends_floors floors history = record { at = λ n slot at. at; size = omega arith; marks = λ mark has. has; later = λ mark has. inl (as_itself history mark has) }
 
 named_floors : (floors : ℕ → Bool → ℕ) (history : History) (own : ℕ) (part : Fragment) → IsNamedFragment history own part → IsNamedFragment (with_floors floors history) own part
-named_floors floors history own part n = record { number = n.number; piece = n.piece; at = n.at; of = n.of; whole = n.whole; stream = n.stream; unordered = n.unordered; mid = n.mid }
+named_floors floors history own part n = record { number = n.number; piece = n.piece; at = n.at; of = n.of; whole = n.whole; stream = n.stream; unordered = n.unordered; mid = n.mid; limits = n.limits }
 
 pub bears_floors : (floors : ℕ → Bool → ℕ) (history : History) (first acknowledged : ℕ) (outstanding : OutstandingState) → Bears history first acknowledged outstanding → Bears (with_floors floors history) first acknowledged outstanding
 bears_floors floors history first acknowledged outstanding b =
-    record { tsn = b.tsn; count = b.count; items = b.items; named = λ k item at. named_floors floors history _ item.fragment (b.named k item at); splits = b.splits }
+    record { tsn = b.tsn; count = b.count; items = b.items; named = λ k item at. named_floors floors history _ item.fragment (b.named k item at); splits = b.splits; abandoned = b.abandoned }
 
 pub flight_floors : (floors : ℕ → Bool → ℕ) (history : History) (first acknowledged : ℕ) (transfer : Option Transfer) → InFlight history first acknowledged transfer → InFlight (with_floors floors history) first acknowledged transfer
 flight_floors floors history first acknowledged None flight = flight

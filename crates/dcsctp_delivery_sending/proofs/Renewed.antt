@@ -33,6 +33,7 @@ module _ (history : History) (number : ℕ) (renewed : Mark) (known : HasEntry r
         stream = n.stream;
         unordered = n.unordered;
         mid = n.mid;
+        limits = n.limits;
       }
 
   bears_renewed : (first acknowledged : ℕ) (outstanding : OutstandingState) → Bears history first acknowledged outstanding → Bears now first acknowledged outstanding
@@ -43,6 +44,7 @@ module _ (history : History) (number : ℕ) (renewed : Mark) (known : HasEntry r
         items = b.items;
         named = λ k item at. named_renewed (acknowledged + k) item.fragment (b.named k item at);
         splits = of_each (λ mark. (k : ℕ) (item : Item) → slice_get outstanding.items k ≡ Some item → acknowledged + k ≡ mark.bound → item.begins_after_reset ≡ true) (λ is. is) b.splits;
+        abandoned = b.abandoned;
       }
 
   flight_renewed : (first acknowledged : ℕ) (transfer : Option Transfer) → InFlight history first acknowledged transfer → InFlight now first acknowledged transfer
@@ -62,7 +64,7 @@ module _ (history : History) (number : ℕ) (renewed : Mark) (known : HasEntry r
   last_renewed streams counts (Some under_way) l = record { waiting = l.waiting; front = l.front; mid = l.mid; is = l.is; from = l.from; last = l.last; came = l.came }
 
   counts_renewed : (is_interleaved : Bool) (streams : List Stream) (under_way : Option UnderWay) → CountsWhere is_interleaved history streams under_way → CountsWhere is_interleaved now streams under_way
-  counts_renewed false streams under_way counts = tt
+  counts_renewed false streams under_way c = record { turns = λ id start. absurd (let none = start.none in cc); closes = c.closes; rests = c.rests }
   counts_renewed true streams under_way c =
       record { counts = c.counts; few = c.few; next = c.next; below = c.below; apart = c.apart; going = last_renewed streams c.counts under_way c.going }
 

@@ -11,7 +11,7 @@ use Rattle.dcsctp_delivery_sending.proofs.Streams.{alike_hold}
 use Rattle.dcsctp_delivery_sending.specs.Numbers.{stream_named, next_mid, KeptWhere, CountsWhere}
 use Rattle.dcsctp_delivery_sending.proofs.StreamsNamed.{found_at, found_mapped}
 use Rattle.dcsctp_delivery_sending.proofs.Pauses.{SamePause}
-use Rattle.dcsctp_delivery_sending.proofs.Counting.{Begins, counts_rest}
+use Rattle.dcsctp_delivery_sending.proofs.Counting.{Begins, counts_rest, ssns_anew}
 use Rattle.std.proofs.lemmas.Bool.Decides.{eqb_tells}
 use Rattle.dcsctp_delivery_sending.proofs.KeptQueues.{begins_idle, numbered_new, one_set}
 
@@ -60,7 +60,7 @@ found_changed d f same id (suc q) (s ∷ streams) within is =
 -- the rest of a message that takes the next number of its stream
 renumbered_counts : (queued : List Message) (enabled : Bool) (u : UnderWay) (queue : SendQueueState) → HoldsQueued queued [] queue.streams (Some u)
     → Begins enabled (stream_changed u.stream_id.0 (front_counted enabled) queue.streams) (Some (message_renumbered u (queue_stream queue u.stream_id.0)))
-renumbered_counts queued false u queue queue_holds = record { floors = λ id is_unordered. 0; counts = tt }
+renumbered_counts queued false u queue queue_holds = ssns_anew (stream_changed u.stream_id.0 (front_counted false) queue.streams) (Some (message_renumbered u (queue_stream queue u.stream_id.0)))
 renumbered_counts queued true u queue queue_holds =
     counts_rest (stream_changed id (front_counted true) queue.streams) (message_renumbered u (queue_stream queue id)) g.there.waiting (message_renumbered u (queue_stream queue id)).mid front refl next
   where

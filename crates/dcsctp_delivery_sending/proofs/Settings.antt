@@ -1,5 +1,5 @@
 -- What is set, and resets of our streams, leave what waits.
-use Rattle.std.proofs.Common.{◌≡◌, ℕ, Bool, true, false, ◌<◌, ◌≤◌, ◌+◌, ◌*◌, ◌%◌, ◌^◌, List, length, map, refl, ◌∙◌, ap, arith}
+use Rattle.std.proofs.Common.{◌≡◌, ℕ, Bool, true, false, ◌<◌, ◌≤◌, ◌+◌, ◌*◌, ◌%◌, ◌^◌, List, [], length, map, refl, sym, ◌∙◌, ap, arith}
 use Rattle.std.specs.Prelude.{Option, None, Some, if◌then◌else◌}
 use Rattle.dcsctp_spec.specs.types.queues.SendStreams.{Stream, front_of, unused, committed, rolled_back}
 use Rattle.dcsctp_spec.specs.types.declared.sending.UnderWay.{UnderWay}
@@ -9,9 +9,10 @@ use Rattle.dcsctp_spec.specs.queues.OwnResets.{queue_committed, queue_rolled_bac
 use Rattle.dcsctp_spec.specs.queues.SendQueue.{with_priority, with_threshold, SendQueueState, stream_changed, used}
 use Rattle.dcsctp_spec.specs.types.Setting.{Setting, stream_priority, stream_low_threshold, longest_message}
 use Rattle.dcsctp_spec.specs.endpoint.SettingOutcomes.{set_in_queue}
-use Rattle.dcsctp_delivery_sending.specs.Log.{Message, History}
+use Rattle.dcsctp_delivery_sending.specs.Log.{Message, Slot, History}
+use Rattle.dcsctp_delivery_sending.specs.Turns.{begun_on}
 use Rattle.dcsctp_delivery_sending.specs.Queueing.{SettingFits, floors_raised, QueueHolds}
-use Rattle.dcsctp_delivery_sending.specs.Numbers.{stream_named, next_mid, is_handed_out, KeptWhere, LastIs, CountsMessages, CountsWhere, Numbered}
+use Rattle.dcsctp_delivery_sending.specs.Numbers.{stream_named, next_mid, is_handed_out, KeptWhere, LastIs, CountsMessages, CountsTurns, CountsSsns, CountsWhere, Numbered}
 use Rattle.dcsctp_delivery_sending.proofs.Numbers.{SameMids, front_kept, numbers_then, numbers_used, numbers_changed, numbers_mapped, numbered_stay}
 use Rattle.dcsctp_delivery_sending.proofs.Streams.{alike_hold}
 use Rattle.dcsctp_delivery_sending.proofs.StreamsNamed.{found_mapped}
@@ -35,13 +36,13 @@ setting_hold queued history (stream_priority id priority) queue fits queues =
     record {
       queue_holds = alike_hold queued history.log queue.under_way (used queue id) (stream_changed id (with_priority priority) (used queue id)) (one_set (with_priority priority) (λ s. refl) (λ s. refl) id (used queue id)) (used_hold queued history.log queue id fits queues.queue_holds);
       next = queues.next;
-      numbers = set_numbered history id queue (with_priority priority) (λ s. refl) (λ s. record { ordered = refl; unordered = refl }) (λ s. refl) (λ s. refl) queues.numbers;
+      numbers = set_numbered history id queue (with_priority priority) (λ s. refl) (λ s. record { ordered = refl; unordered = refl; ssn = refl }) (λ s. refl) (λ s. refl) queues.numbers;
     }
 setting_hold queued history (stream_low_threshold id bytes) queue fits queues =
     record {
       queue_holds = alike_hold queued history.log queue.under_way (used queue id) (stream_changed id (with_threshold bytes) (used queue id)) (one_set (with_threshold bytes) (λ s. refl) (λ s. refl) id (used queue id)) (used_hold queued history.log queue id fits queues.queue_holds);
       next = queues.next;
-      numbers = set_numbered history id queue (with_threshold bytes) (λ s. refl) (λ s. record { ordered = refl; unordered = refl }) (λ s. refl) (λ s. refl) queues.numbers;
+      numbers = set_numbered history id queue (with_threshold bytes) (λ s. refl) (λ s. record { ordered = refl; unordered = refl; ssn = refl }) (λ s. refl) (λ s. refl) queues.numbers;
     }
 setting_hold queued history (longest_message bytes) queue fits queues = queues
 
@@ -76,6 +77,18 @@ module _ (streams : List Stream) (id : ℕ) where
       go b s Pausing is = rw is refl
       go true s HandedOut is = rw is refl
       go false s HandedOut is = rw is refl
+
+  SsnWas : Stream → Stream → Type 0
+  SsnWas old new = new.next_ssn ≡ (if is_handed_out old.pause then 0 else old.next_ssn)
+
+  committed_ssn : (stream_named id (map committed streams)).next_ssn ≡ (if is_handed_out (stream_named id streams).pause then 0 else (stream_named id streams).next_ssn)
+  unfolding SsnWas
+  committed_ssn = found_mapped SsnWas id (unused 0 0 0) committed its_id refl (λ s here. go s s.pause refl) streams
+    where
+      go : (s : Stream) (p : Pause) → s.pause ≡ p → (committed s).next_ssn ≡ (if is_handed_out s.pause then 0 else s.next_ssn)
+      go s Open is = rw is refl
+      go s Pausing is = rw is refl
+      go s HandedOut is = rw is refl
 
   committed_messages : (stream_named id (map committed streams)).messages ≡ (stream_named id streams).messages
   unfolding SameMessages
@@ -141,6 +154,31 @@ committed_counts history streams u kept c =
           came = last.came;
         }
 
+-- SSNs count as before on a stream that wasn't handed out
+pub ssns_committed : (id : ℕ) (log : List Slot) (streams : List Stream) (u : Option UnderWay) → KeptWhere streams u → (is_handed_out (stream_named id streams).pause ≡ true → begun_on id log ≡ 0) → CountsTurns id log streams u
+    → CountsTurns id log (map committed streams) u
+ssns_committed id log streams u kept unsent c =
+    record {
+      next = ap (λ (k : ℕ). k % 2 ^ 16) (committed_ssn streams id) ∙ next (is_handed_out (stream_named id streams).pause) refl;
+      sent = c.sent;
+      going = λ v is on. (let g = c.going v is on in record { waiting = g.waiting; front = ap front_of (committed_messages streams id) ∙ g.front; last = g.last });
+    }
+  where
+    next : (h : Bool) → is_handed_out (stream_named id streams).pause ≡ h → (if h then 0 else (stream_named id streams).next_ssn) % 2 ^ 16 ≡ begun_on id log % 2 ^ 16
+    next true is = ap (λ (k : ℕ). k % 2 ^ 16) (sym (unsent is))
+    next false is = c.next
+
+-- one that was handed out has a new floor
+committed_ssns : (history : History) (streams : List Stream) (u : Option UnderWay) → KeptWhere streams u → CountsSsns history streams u → CountsSsns (floors_raised streams history) (map committed streams) u
+committed_ssns history streams u kept c =
+    record { turns = λ id start. go id (is_handed_out (stream_named id streams).pause) refl start.floor start.none; closes = c.closes; rests = c.rests }
+  where
+    go : (id : ℕ) (h : Bool) → is_handed_out (stream_named id streams).pause ≡ h → (if h then 2 ^ 32 * (history.floors id false + length history.log + 1) else history.floors id false) ≡ 0 → history.marks ≡ []
+        → CountsTurns id history.log (map committed streams) u
+    go id true is floor none = absurd (omega (arith, floor))
+    go id false is floor none =
+        ssns_committed id history.log streams u kept (λ handed. absurd (let clash : true ≡ false = sym handed ∙ is in cc)) (c.turns id (record { floor = floor; none = none }))
+
 pub committing_hold : (queued : List Message) (history : History) (queue : SendQueueState) → QueueHolds queued history queue → QueueHolds queued (floors_raised queue.streams history) (queue_committed queue)
 committing_hold queued history queue queues =
     record {
@@ -150,7 +188,7 @@ committing_hold queued history queue queues =
     }
   where
     counted : (b : Bool) → CountsWhere b history queue.streams queue.under_way → CountsWhere b (floors_raised queue.streams history) (map committed queue.streams) queue.under_way
-    counted false counts = tt
+    counted false counts = committed_ssns history queue.streams queue.under_way queues.numbers.kept counts
     counted true counts = committed_counts history queue.streams queue.under_way queues.numbers.kept counts
 
     by_id : (s : Stream) (p : Pause) → s.pause ≡ p → (committed s).id ≡ s.id
@@ -178,9 +216,9 @@ rolling_back_hold queued history queue queues =
     by_open s HandedOut is = rw is refl
 
     by_mids : (s : Stream) (p : Pause) → s.pause ≡ p → SameMids s (rolled_back s)
-    by_mids s Open is = rw is (record { ordered = refl; unordered = refl })
-    by_mids s Pausing is = rw is (record { ordered = refl; unordered = refl })
-    by_mids s HandedOut is = rw is (record { ordered = refl; unordered = refl })
+    by_mids s Open is = rw is (record { ordered = refl; unordered = refl; ssn = refl })
+    by_mids s Pausing is = rw is (record { ordered = refl; unordered = refl; ssn = refl })
+    by_mids s HandedOut is = rw is (record { ordered = refl; unordered = refl; ssn = refl })
 
     by_id : (s : Stream) (p : Pause) → s.pause ≡ p → (rolled_back s).id ≡ s.id
     by_id s Open is = rw is refl

@@ -1,8 +1,10 @@
 -- Logs that grow, and items in flight that change.
-use Rattle.std.proofs.Common.{◌≡◌, ℕ, zero, suc, ◌<◌, ◌+◌, List, [], ◌∷◌, ◌++◌, length, refl, sym, ◌∙◌, ap, arith, subst, inl, inr}
+use Rattle.std.proofs.Common.{◌≡◌, ℕ, zero, suc, true, ◌<◌, ◌≤◌, ◌+◌, List, [], ◌∷◌, ◌++◌, length, refl, sym, ◌∙◌, ap, arith, subst, inl, inr}
 use Rattle.std.specs.Prelude.{◌⊎◌, None, Some, slice_get}
 use Rattle.std.proofs.lemmas.List.{length-append}
 use Rattle.dcsctp_spec.specs.types.declared.progress.Change.{Change}
+use Rattle.dcsctp_spec.specs.types.declared.progress.Progress.{Progress}
+use Rattle.dcsctp_spec.specs.types.queues.Progress.{is_abandoned, progress_changed}
 use Rattle.dcsctp_spec.specs.queues.Items.{Item, changed_item, changed_between}
 use Rattle.dcsctp_spec.specs.queues.Outstanding.{OutstandingState}
 use Rattle.dcsctp_spec.specs.queues.SendQueue.{SendQueueState}
@@ -10,7 +12,8 @@ use Rattle.dcsctp_spec.specs.queues.Sending.{Fragment}
 use Rattle.dcsctp_delivery_sending.specs.Places.{at_place}
 use Rattle.dcsctp_delivery_sending.specs.Log.{Message, Piece, Slot, IsPiece, HasBefore, Cut, History, with_slot}
 use Rattle.dcsctp_delivery_sending.specs.Pieces.{HandsOutPiece}
-use Rattle.dcsctp_delivery_sending.specs.Stages.{SaysSlot, SaysAt, IsNamedFragment, Bears, Pends}
+use Rattle.dcsctp_delivery_sending.specs.Stages.{SaysSlot, SaysAt, IsNamedFragment, IsOfLimited, Bears, Pends}
+use Rattle.dcsctp_delivery_sending.proofs.Limits.{Leaves, limited_stays}
 use Rattle.dcsctp_delivery_sending.proofs.Places.{at_new, at_cases, at_below, at_stays}
 
 -- ---- logs
@@ -96,28 +99,38 @@ changed_length change (suc start) zero items = refl
 changed_length change (suc start) (suc end) [] = refl
 changed_length change (suc start) (suc end) (item ∷ items) = ap suc (changed_length change start end items)
 
--- the item at this place, which said the same and began after a reset or not
-record WasThere (items : List Item) (k : ℕ) (item : Item) : Type 0 where
-  old : Item
-  at : slice_get items k ≡ Some old
-  fragment : old.fragment ≡ item.fragment
-  begins : old.begins_after_reset ≡ item.begins_after_reset
+-- the item at this place, which said the same and began after a reset or not; it may be one of those that changed
+pub record WasThere (change : Change) (start end : ℕ) (items : List Item) (k : ℕ) (item : Item) : Type 0 where
+  pub old : Item
+  pub at : slice_get items k ≡ Some old
+  pub fragment : old.fragment ≡ item.fragment
+  pub begins : old.begins_after_reset ≡ item.begins_after_reset
+  pub progress : (old.progress ≡ item.progress) ⊎ ((start ≤ k) × (k < end) × (progress_changed change old.progress ≡ item.progress))
 
-changed_at : (change : Change) (start end k : ℕ) (items : List Item) (item : Item) → slice_get (changed_between change start end items) k ≡ Some item → WasThere items k item
-changed_at change zero zero k items item at = record { old = item; at = at; fragment = refl; begins = refl }
-changed_at change zero (suc end) k [] item at = record { old = item; at = at; fragment = refl; begins = refl }
+was_same : (change : Change) (start end k : ℕ) (items : List Item) (item : Item) → slice_get items k ≡ Some item → WasThere change start end items k item
+was_same change start end k items item at = record { old = item; at = at; fragment = refl; begins = refl; progress = inl refl }
+
+pub changed_at : (change : Change) (start end k : ℕ) (items : List Item) (item : Item) → slice_get (changed_between change start end items) k ≡ Some item → WasThere change start end items k item
+changed_at change zero zero k items item at = was_same change 0 0 k items item at
+changed_at change zero (suc end) k [] item at = was_same change 0 (suc end) k [] item at
 changed_at change zero (suc end) zero (i ∷ items) item at =
     let same : changed_item change i ≡ item = cc in
-    record { old = i; at = refl; fragment = ap (λ (x : Item). x.fragment) same; begins = ap (λ (x : Item). x.begins_after_reset) same }
-changed_at change zero (suc end) (suc k) (i ∷ items) item at = let was = changed_at change zero end k items item at in record { old = was.old; at = was.at; fragment = was.fragment; begins = was.begins }
-changed_at change (suc start) zero k items item at = record { old = item; at = at; fragment = refl; begins = refl }
-changed_at change (suc start) (suc end) k [] item at = record { old = item; at = at; fragment = refl; begins = refl }
-changed_at change (suc start) (suc end) zero (i ∷ items) item at = record { old = item; at = at; fragment = refl; begins = refl }
-changed_at change (suc start) (suc end) (suc k) (i ∷ items) item at = let was = changed_at change start end k items item at in record { old = was.old; at = was.at; fragment = was.fragment; begins = was.begins }
+    record { old = i; at = refl; fragment = ap (λ (x : Item). x.fragment) same; begins = ap (λ (x : Item). x.begins_after_reset) same; progress = inr (omega arith, omega arith, ap (λ (x : Item). x.progress) same) }
+changed_at change zero (suc end) (suc k) (i ∷ items) item at =
+    let was = changed_at change zero end k items item at in
+    record { old = was.old; at = was.at; fragment = was.fragment; begins = was.begins; progress = elim was.progress [ inl e ↦ inl e | inr e ↦ inr (omega arith, (let below = e.1 in omega (arith, below)), e.2) ] }
+changed_at change (suc start) zero k items item at = was_same change (suc start) 0 k items item at
+changed_at change (suc start) (suc end) k [] item at = was_same change (suc start) (suc end) k [] item at
+changed_at change (suc start) (suc end) zero (i ∷ items) item at = was_same change (suc start) (suc end) 0 (i ∷ items) item at
+changed_at change (suc start) (suc end) (suc k) (i ∷ items) item at =
+    let was = changed_at change start end k items item at in
+    record { old = was.old; at = was.at; fragment = was.fragment; begins = was.begins; progress = elim was.progress [ inl e ↦ inl e | inr e ↦ inr ((let from = e.0 in omega (arith, from)), (let below = e.1 in omega (arith, below)), e.2) ] }
 
-pub bears_changed : (history : History) (first acknowledged : ℕ) (change : Change) (start end : ℕ) (outstanding : OutstandingState) → Bears history first acknowledged outstanding
+-- Those that are abandoned by the change are of messages with limits.
+pub bears_abandoned : (history : History) (first acknowledged : ℕ) (change : Change) (start end : ℕ) (outstanding : OutstandingState) → Bears history first acknowledged outstanding
+    → ((k : ℕ) (item : Item) → slice_get outstanding.items k ≡ Some item → start ≤ k → k < end → is_abandoned (progress_changed change item.progress).state ≡ true → IsOfLimited history.log item.fragment)
     → Bears history first acknowledged (record outstanding { items = changed_between change start end outstanding.items })
-bears_changed history first acknowledged change start end outstanding b =
+bears_abandoned history first acknowledged change start end outstanding b limited =
     record {
       tsn = b.tsn;
       count = omega (arith, b.count, changed_length change start end outstanding.items);
@@ -133,10 +146,24 @@ bears_changed history first acknowledged change start end outstanding b =
           let was = changed_at change start end k outstanding.items item at in
           sym was.begins ∙ b.splits mark has k was.old was.at is
           );
+      abandoned = λ k item at is. (
+          let was = changed_at change start end k outstanding.items item at in
+          subst (λ (part : Fragment). IsOfLimited history.log part) was.fragment
+          (elim was.progress [
+            | inl e ↦ b.abandoned k was.old was.at (ap (λ (p : Progress). is_abandoned p.state) e ∙ is)
+            | inr e ↦ limited k was.old was.at e.0 e.1 (ap (λ (p : Progress). is_abandoned p.state) e.2 ∙ is)
+          ])
+          );
     }
 
+-- a change that abandons none
+pub bears_changed : (history : History) (first acknowledged : ℕ) (change : Change) (start end : ℕ) (outstanding : OutstandingState) → Leaves change → Bears history first acknowledged outstanding
+    → Bears history first acknowledged (record outstanding { items = changed_between change start end outstanding.items })
+bears_changed history first acknowledged change start end outstanding leaves b =
+    bears_abandoned history first acknowledged change start end outstanding b (λ k item at from below is. b.abandoned k item at (leaves item.progress is))
+
 -- the item at a place once one was added
-at_last : (items : List Item) (last : Item) (k : ℕ) (item : Item) → slice_get (items ++ last ∷ []) k ≡ Some item → (slice_get items k ≡ Some item) ⊎ ((k ≡ length items) × (last ≡ item))
+pub at_last : (items : List Item) (last : Item) (k : ℕ) (item : Item) → slice_get (items ++ last ∷ []) k ≡ Some item → (slice_get items k ≡ Some item) ⊎ ((k ≡ length items) × (last ≡ item))
 at_last [] last zero item at = inr (refl, cc)
 at_last [] last (suc k) item at = absurd (cc)
 at_last (i ∷ items) last zero item at = inl at
@@ -144,13 +171,13 @@ at_last (i ∷ items) last (suc k) item at = elim (at_last items last k item at)
 
 pub named_stays : (slot : Slot) (history : History) (own : ℕ) (part : Fragment) → IsNamedFragment history own part → IsNamedFragment (with_slot slot history) own part
 named_stays slot history own part n =
-    record { number = n.number; piece = n.piece; at = at_stays n.number slot (Some n.piece) history.log n.at; of = n.of; whole = n.whole; stream = n.stream; unordered = n.unordered; mid = n.mid }
+    record { number = n.number; piece = n.piece; at = at_stays n.number slot (Some n.piece) history.log n.at; of = n.of; whole = n.whole; stream = n.stream; unordered = n.unordered; mid = n.mid; limits = n.limits }
 
 -- The new item says whether a reset was begun before it.
 pub bears_grown : (history : History) (first acknowledged : ℕ) (slot : Slot) (item : Item) (outstanding : OutstandingState) → Bears history first acknowledged outstanding → SaysSlot item.fragment slot
-    → IsNamedFragment (with_slot slot history) (length history.log) item.fragment → Pends history item.begins_after_reset
+    → IsNamedFragment (with_slot slot history) (length history.log) item.fragment → (is_abandoned item.progress.state ≡ true → IsOfLimited (slot ∷ history.log) item.fragment) → Pends history item.begins_after_reset
     → Bears (with_slot slot history) first acknowledged (record outstanding { items = outstanding.items ++ item ∷ [] })
-bears_grown history first acknowledged slot item outstanding b says named pends =
+bears_grown history first acknowledged slot item outstanding b says named limited pends =
     record {
       tsn = b.tsn;
       count = omega (arith, b.count, length-append outstanding.items (item ∷ []));
@@ -168,6 +195,10 @@ bears_grown history first acknowledged slot item outstanding b says named pends 
         | inr e ↦
             subst (λ (n : ℕ). IsNamedFragment (with_slot slot history) n found.fragment) (sym (here k e.0))
             (subst (λ (x : Item). IsNamedFragment (with_slot slot history) (length history.log) x.fragment) e.1 named)
+      ];
+      abandoned = λ k found at is. elim (at_last outstanding.items item k found at) [
+        | inl old ↦ limited_stays slot history.log found.fragment (b.abandoned k found old is)
+        | inr e ↦ subst (λ (x : Item). IsOfLimited (slot ∷ history.log) x.fragment) e.1 (limited (ap (λ (x : Item). is_abandoned x.progress.state) e.1 ∙ is))
       ];
       splits = λ mark has k found at is. elim (at_last outstanding.items item k found at) [
         | inl old ↦ b.splits mark has k found old is

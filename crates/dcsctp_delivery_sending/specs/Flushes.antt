@@ -64,12 +64,21 @@ abbrev pub AreForwardEntries : Bool → History → ℕ → List ((ℕ × Bool) 
 AreForwardEntries is_interleaved history passed [] = Unit {0}
 AreForwardEntries is_interleaved history passed (entry ∷ entries) = IsEntry is_interleaved history passed entry × AreForwardEntries is_interleaved history passed entries
 
--- A FORWARD-TSN or I-FORWARD-TSN passes assigned TSNs, and names messages of the log.
+-- A piece of the log is of a message that may be abandoned (RFC 3758).
+pub record HasLimited (log : List Slot) : Type 0 where
+  pub number : ℕ
+  pub piece : Piece
+  pub at : at_place number log ≡ Some (Some piece)
+  pub limited : piece.message.is_limited ≡ true
+
+-- A FORWARD-TSN or I-FORWARD-TSN passes assigned TSNs, and names messages of the log. It is sent only where a message was
+-- abandoned.
 pub record IsForward (is_interleaved : Bool) (history : History) (first tsn : ℕ) (streams : List ℕ) : Type 0 where
   pub passed : IsPassed history.log first tsn
   pub entries : List ((ℕ × Bool) × ℕ)
   pub is : streams ≡ flat_map (entry_bytes is_interleaved) entries
   pub names : AreForwardEntries is_interleaved history passed.passed entries
+  pub limited : HasLimited history.log
 
 -- A chunk of data carries what its TSN carries, and one that passes TSNs passes assigned ones.
 abbrev pub SaysPlain : History → ℕ → Plain → Type 0

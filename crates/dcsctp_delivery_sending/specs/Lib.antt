@@ -1,5 +1,6 @@
 pub mod Places
 pub mod Log
+pub mod Turns
 pub mod Weights
 pub mod Numbers
 pub mod Pieces
@@ -9,3 +10,4 @@ pub mod Flushes
 pub mod Queueing
 pub mod Marking
 pub mod ChunkCounts
+pub mod Losing

@@ -14,6 +14,8 @@ pub record Message : Type 0 where
   pub payload : List ℕ
   -- Was it read in an earlier association? No piece of it is sent then.
   pub is_spent : Bool
+  -- May it be abandoned (RFC 3758)? It has a lifetime, or a limit on how often it is sent again.
+  pub is_limited : Bool
 
 -- A stretch of a message, which one fragment carries.
 pub record Piece : Type 0 where
@@ -27,6 +29,8 @@ pub record Piece : Type 0 where
   pub mid : ℕ
   -- how many fragments of its message come before it
   pub fsn : ℕ
+  -- the number that its message has as DATA, if it is ordered (RFC 9260, section 3.3.1)
+  pub ssn : ℕ
   -- Was it sent as I-DATA (RFC 8260)?
   pub is_interleaved : Bool
 
@@ -131,3 +135,4 @@ pub record Fits (message : Message) : Type 0 where
   pub stream : message.stream < 2 ^ 16
   pub ppid : message.ppid < 2 ^ 32
   pub payload : AllByRecursion (λ byte. byte < 2 ^ 8) message.payload
+  pub size : length message.payload < 2 ^ 63

@@ -57,6 +57,7 @@ pub record IsMarkOf (mark message : Message) : Type 0 where
   pub ppid : mark.ppid ≡ message.ppid
   pub unordered : mark.is_unordered ≡ message.is_unordered
   pub payload : mark.payload ≡ message.payload
+  pub limited : mark.is_limited ≡ message.is_limited
   pub kept : message.is_spent ≡ true → mark.is_spent ≡ true
 
 -- The message at a place of the one list is such a one.

@@ -1,7 +1,7 @@
--- How messages are numbered with interleaving: no two of a stream have one number in an association,
--- among ordered messages and among unordered ones (RFC 8260, section 2.1). After a reset the numbers
--- of a stream continue from a new floor.
-use Rattle.std.specs.Prelude.{◌≡◌, ◌<◌, ◌≤◌, ◌+◌, ◌%◌, ◌^◌, ℕ, Bool, true, false, Option, None, Some, List, length}
+-- How messages are numbered. With interleaving no two of a stream have one number in an association,
+-- among ordered messages and among unordered ones (RFC 8260, section 2.1); after a reset the numbers
+-- of a stream continue from a new floor. Without it SSNs count the ordered messages of a stream.
+use Rattle.std.specs.Prelude.{◌≡◌, ◌<◌, ◌≤◌, ◌+◌, ◌%◌, ◌^◌, ℕ, Bool, true, false, Option, None, Some, List, [], length}
 use Rattle.dcsctp_spec.specs.types.declared.sending.UnderWay.{UnderWay}
 use Rattle.dcsctp_spec.specs.types.declared.sending.Pause.{Pause}
 use Rattle.dcsctp_spec.specs.types.declared.sending.Pause.TheVariants.{Open, Pausing, HandedOut}
@@ -9,7 +9,8 @@ use Rattle.dcsctp_spec.specs.types.queues.SendStreams.{Waiting, Stream, front_of
 use Rattle.dcsctp_spec.specs.queues.SendQueue.{SendQueueState, found_in}
 use Rattle.dcsctp_spec.specs.queues.Transfer.{Transfer}
 use Rattle.dcsctp_delivery_sending.specs.Places.{at_place}
-use Rattle.dcsctp_delivery_sending.specs.Log.{Piece, Slot, newest, History}
+use Rattle.dcsctp_delivery_sending.specs.Log.{Piece, Slot, newest, is_end, History}
+use Rattle.dcsctp_delivery_sending.specs.Turns.{begun_on, turn_at, IsSsnOfTurn}
 
 -- the stream of this number, or one that was never used
 abbrev pub stream_named : ℕ → List Stream → Stream
@@ -69,9 +70,32 @@ pub record CountsMessages (history : History) (streams : List Stream) (under_way
       → f.message.is_unordered ≡ g.message.is_unordered → f.mid ≡ g.mid → f.place ≡ g.place
   pub going : LastIs history streams counts under_way
 
--- Without interleaving MIDs don't count.
+-- The SSNs of the stream began at 0 in the association, and no reset was begun.
+pub record IsFromStart (history : History) (id : ℕ) : Type 0 where
+  pub floor : history.floors id false ≡ 0
+  pub none : history.marks ≡ []
+
+-- The message under way is the last that was begun on the stream, if it is ordered.
+pub record GoesInTurn (id : ℕ) (log : List Slot) (streams : List Stream) (under_way : UnderWay) : Type 0 where
+  pub waiting : Waiting
+  pub front : front_of (stream_named id streams).messages ≡ Some waiting
+  pub last : waiting.is_unordered ≡ false → IsSsnOfTurn under_way.ssn (begun_on id log)
+
+-- The SSNs of a stream count its ordered messages.
+pub record CountsTurns (id : ℕ) (log : List Slot) (streams : List Stream) (under_way : Option UnderWay) : Type 0 where
+  pub next : (stream_named id streams).next_ssn % 2 ^ 16 ≡ begun_on id log % 2 ^ 16
+  pub sent : (n : ℕ) (f : Piece) → at_place n log ≡ Some (Some f) → f.message.stream ≡ id → f.message.is_unordered ≡ false → IsSsnOfTurn f.ssn (turn_at id n log)
+  pub going : (u : UnderWay) → under_way ≡ Some u → u.stream_id.0 ≡ id → GoesInTurn id log streams u
+
+-- So they do on each stream. A message is begun only once the one before has ended, or is abandoned.
+pub record CountsSsns (history : History) (streams : List Stream) (under_way : Option UnderWay) : Type 0 where
+  pub turns : (id : ℕ) → IsFromStart history id → CountsTurns id history.log streams under_way
+  pub closes : (n : ℕ) (f g : Piece) → at_place n history.log ≡ Some (Some f) → at_place (n + 1) history.log ≡ Some (Some g) → g.start ≡ 0 → is_end f ≡ true
+  pub rests : under_way ≡ None → (f : Piece) → newest history.log ≡ Some (Some f) → is_end f ≡ true
+
+-- Without interleaving SSNs count, and with it MIDs do.
 abbrev pub CountsWhere : Bool → History → List Stream → Option UnderWay → Type 0
-CountsWhere false history streams under_way = Unit {0}
+CountsWhere false history streams under_way = CountsSsns history streams under_way
 CountsWhere true history streams under_way = CountsMessages history streams under_way
 
 -- Each piece was sent as the queue numbers messages.

@@ -1,6 +1,6 @@
 -- What the send queue hands out are the pieces of the messages that its user queued, one after
 -- another (RFC 9260, section 6.9).
-use Rattle.std.specs.Prelude.{◌≡◌, ◌⊎◌, ◌==◌, ◌<◌, ◌+◌, ◌%◌, ◌^◌, ℕ, true, false, Option, None, Some, List, [], ◌∷◌, length, drop, if◌then◌else◌}
+use Rattle.std.specs.Prelude.{◌≡◌, ◌⊎◌, ◌==◌, ◌<◌, ◌+◌, ◌%◌, ◌^◌, ℕ, Bool, true, false, Option, None, Some, List, [], ◌∷◌, length, drop, if◌then◌else◌}
 use Rattle.dcsctp_spec.specs.endpoint.Event.{Event}
 use Rattle.dcsctp_spec.specs.types.declared.sending.UnderWay.{UnderWay}
 use Rattle.dcsctp_spec.specs.types.queues.SendStreams.{Waiting, Stream, front_of, stream_at}
@@ -11,12 +11,17 @@ use Rattle.dcsctp_delivery_sending.specs.Weights.{HasRoomForLog}
 use Rattle.dcsctp_delivery_sending.specs.Numbers.{stream_named, is_handed_out, IsCurrent, Numbered}
 use Rattle.dcsctp_delivery_sending.specs.Log.{Message, Piece, Slot, newest, is_beginning, is_end, piece_bytes, IsPiece, HasBefore, History, with_slot}
 
+-- A message that may not be abandoned has no limits (RFC 3758).
+abbrev pub LimitedWhere : Bool → Option ℕ → Option ℕ → Type 0
+LimitedWhere is_limited expires_at max_retransmissions = is_limited ≡ false → (expires_at ≡ None) × (max_retransmissions ≡ None)
+
 -- The message that waits on the stream is this one.
 pub record IsWaitingMessage (id : ℕ) (waiting : Waiting) (message : Message) : Type 0 where
   pub stream : id ≡ message.stream
   pub ppid : waiting.ppid ≡ message.ppid
   pub unordered : waiting.is_unordered ≡ message.is_unordered
   pub payload : waiting.payload ≡ message.payload
+  pub limits : LimitedWhere message.is_limited waiting.expires_at waiting.max_retransmissions
 
 -- The message that waits was queued, and isn't spent: its identifier counts the messages queued before it.
 pub record WaitingWasQueued (queued : List Message) (id : ℕ) (waiting : Waiting) : Type 0 where
@@ -102,8 +107,10 @@ pub record CarriesPiece (part : Fragment) (piece : Piece) : Type 0 where
   pub beginning : part.is_beginning ≡ is_beginning piece
   pub end : part.is_end ≡ is_end piece
   pub payload : part.payload ≡ piece_bytes piece
+  pub limits : LimitedWhere piece.message.is_limited part.expires_at part.max_retransmissions
   pub mid : part.mid % 2 ^ 32 ≡ piece.mid % 2 ^ 32
   pub fsn : part.fsn ≡ piece.fsn
+  pub ssn : part.ssn ≡ piece.ssn
 
 -- What is handed out is the next piece, of a stream that isn't handed out to be reset. The queue holds the rest.
 pub record HandsOutPiece (queued : List Message) (history : History) (part : Fragment) (new : SendQueueState) : Type 0 where

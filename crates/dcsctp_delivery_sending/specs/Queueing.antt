@@ -1,7 +1,8 @@
 -- What a user queues waits after the rest, under the next identifier; it outlasts settings, resets
 -- and associations.
-use Rattle.std.specs.Prelude.{◌≡◌, ◌<◌, ◌+◌, ◌*◌, ◌^◌, ℕ, Bool, false, List, if◌then◌else◌, ◌∷◌, length}
+use Rattle.std.specs.Prelude.{◌≡◌, ◌<◌, ◌+◌, ◌*◌, ◌^◌, ◌||◌, is_some, ℕ, Bool, false, List, if◌then◌else◌, ◌∷◌, length}
 use Rattle.std.specs.List.{AllByRecursion}
+use Rattle.dcsctp_spec.specs.types.declared.message.SendOptions.{SendOptions}
 use Rattle.dcsctp_spec.specs.types.queues.SendStreams.{Stream}
 use Rattle.dcsctp_spec.specs.queues.SendQueue.{SendQueueState, queue_restarted}
 use Rattle.dcsctp_spec.specs.queues.OwnResets.{prepared_all, queue_committed, queue_rolled_back}
@@ -12,10 +13,14 @@ use Rattle.dcsctp_delivery_sending.specs.Log.{Message, Cut, History, new_history
 use Rattle.dcsctp_delivery_sending.specs.Numbers.{stream_named, is_handed_out, Numbered}
 use Rattle.dcsctp_delivery_sending.specs.Pieces.{HoldsQueued}
 
+-- May a message with these options be abandoned (RFC 3758)?
+abbrev pub has_limits : SendOptions → Bool
+has_limits options = is_some options.lifetime || is_some options.max_retransmissions
+
 -- the message of a call
 abbrev pub message_of : Sending → Message
 message_of sending =
-    record { stream = sending.message.stream; ppid = sending.message.ppid; is_unordered = sending.options.unordered; payload = sending.message.payload; is_spent = false }
+    record { stream = sending.message.stream; ppid = sending.message.ppid; is_unordered = sending.options.unordered; payload = sending.message.payload; is_spent = false; is_limited = has_limits sending.options }
 
 -- The queue holds messages that were queued, and its next identifier counts them.
 pub record QueueHolds (queued : List Message) (history : History) (queue : SendQueueState) : Type 0 where

@@ -7,12 +7,13 @@ use Rattle.dcsctp_spec.specs.queues.Filling.{Stage, FillsPacket}
 use Rattle.dcsctp_spec.specs.queues.Items.{Item}
 use Rattle.dcsctp_spec.specs.queues.Outstanding.{OutstandingState}
 use Rattle.dcsctp_spec.specs.queues.Sending.{Fragment}
+use Rattle.dcsctp_spec.specs.types.queues.Progress.{is_abandoned}
 use Rattle.dcsctp_spec.specs.endpoint.BegunResets.{stream_field}
 use Rattle.dcsctp_delivery_sending.specs.Places.{HasEntry, at_place}
 use Rattle.dcsctp_spec.specs.types.declared.sending.UnderWay.{UnderWay}
 use Rattle.dcsctp_delivery_sending.specs.Log.{Message, Piece, Slot, Cut, Mark, History, log_extended, Resets}
 use Rattle.dcsctp_delivery_sending.specs.Numbers.{Numbered, KindAt, AreCurrent, AreKept}
-use Rattle.dcsctp_delivery_sending.specs.Pieces.{CarriesPiece, HoldsQueued}
+use Rattle.dcsctp_delivery_sending.specs.Pieces.{LimitedWhere, CarriesPiece, HoldsQueued}
 
 -- The fragment says what the slot does. The end of an abandoned message has no payload.
 abbrev pub SaysSlot : Fragment → Slot → Type 0
@@ -30,6 +31,15 @@ pub record IsNamedFragment (history : History) (own : ℕ) (part : Fragment) : T
   pub stream : part.stream ≡ piece.message.stream
   pub unordered : part.is_unordered ≡ piece.message.is_unordered
   pub mid : part.mid % 2 ^ 32 ≡ piece.mid % 2 ^ 32
+  pub limits : LimitedWhere piece.message.is_limited part.expires_at part.max_retransmissions
+
+-- The fragment is of the message of a piece of the log, and that may be abandoned (RFC 3758).
+pub record IsOfLimited (log : List Slot) (part : Fragment) : Type 0 where
+  pub number : ℕ
+  pub piece : Piece
+  pub at : at_place number log ≡ Some (Some piece)
+  pub of : part.message_id ≡ piece.place
+  pub limited : piece.message.is_limited ≡ true
 
 -- The fragment says what the TSN carries that is so many after the first.
 pub record SaysAt (log : List Slot) (number : ℕ) (part : Fragment) : Type 0 where
@@ -38,7 +48,7 @@ pub record SaysAt (log : List Slot) (number : ℕ) (part : Fragment) : Type 0 wh
   pub says : SaysSlot part slot
 
 -- The items in flight are those of the newest TSNs. `first` is the first TSN of the association, and `acknowledged` how many were
--- acknowledged cumulatively. The first item after a reset that was begun says so.
+-- acknowledged cumulatively. The first item after a reset that was begun says so. Only messages with limits are abandoned.
 pub record Bears (history : History) (first acknowledged : ℕ) (outstanding : OutstandingState) : Type 0 where
   pub tsn : outstanding.first_tsn ≡ (first + acknowledged) % 2 ^ 32
   pub count : length history.log ≡ acknowledged + length outstanding.items
@@ -46,6 +56,7 @@ pub record Bears (history : History) (first acknowledged : ℕ) (outstanding : O
   pub named : (k : ℕ) (item : Item) → slice_get outstanding.items k ≡ Some item → IsNamedFragment history (acknowledged + k) item.fragment
   pub splits : (mark : Mark) → HasEntry mark history.marks → (k : ℕ) (item : Item) → slice_get outstanding.items k ≡ Some item → acknowledged + k ≡ mark.bound
       → item.begins_after_reset ≡ true
+  pub abandoned : (k : ℕ) (item : Item) → slice_get outstanding.items k ≡ Some item → is_abandoned item.progress.state ≡ true → IsOfLimited history.log item.fragment
 
 -- What was in flight when a reset was begun lies before it. The next item will say so.
 abbrev pub Pends : History → Bool → Type 0

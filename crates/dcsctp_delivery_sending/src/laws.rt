@@ -3,6 +3,7 @@
 ghost use Rattle.dcsctp_delivery_sending.specs.Acknowledged.{AcknowledgingKeeps, LosingKeeps};
 ghost use Rattle.dcsctp_delivery_sending.specs.ChunkCounts.{FlushesAssignFew};
 ghost use Rattle.dcsctp_delivery_sending.specs.Flushes.{FlushesSendPieces};
+ghost use Rattle.dcsctp_delivery_sending.specs.Losing.{FlushingLosesNone};
 ghost use Rattle.dcsctp_delivery_sending.specs.Marking.{AllAreMarked, AllMarkedFit, AllMarkedKeep, GoneAreMarked, MarkedIsSpent, MarkingFits, MarkingKeeps};
 ghost use Rattle.dcsctp_delivery_sending.specs.Numbers.{LogsAreUnambiguous};
 ghost use Rattle.dcsctp_delivery_sending.specs.Pieces.{PiecesFollow};
@@ -73,4 +74,10 @@ pub fn marking_keeps()
 /// message that is abandoned, which is never sent (RFC 3758, section 3.5).
 pub fn flushes_assign_few()
     ensures { FlushesAssignFew }
+{}
+
+/// Where no message that was queued has a lifetime or a limit on retransmissions, a flush leaves out none: each was
+/// sent, or waits (RFC 9260, section 6.9).
+pub fn flushing_loses_none()
+    ensures { FlushingLosesNone }
 {}

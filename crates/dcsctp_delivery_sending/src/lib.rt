@@ -5,6 +5,7 @@
 mod laws;
 
 pub use laws::{
-    acknowledging_keeps, flushes_assign_few, flushes_send_pieces, giving_up_keeps, marking_keeps,
-    numbers_tell_apart, packets_bear_pieces, pieces_follow, queueing_keeps,
+    acknowledging_keeps, flushes_assign_few, flushes_send_pieces, flushing_loses_none,
+    giving_up_keeps, marking_keeps, numbers_tell_apart, packets_bear_pieces, pieces_follow,
+    queueing_keeps,
 };

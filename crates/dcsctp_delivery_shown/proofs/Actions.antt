@@ -135,7 +135,6 @@ module _ (kinds : Capabilities) where
   action_is : (came : Option Content) (to : ℕ) (old new : Ledger) → LedgerIs old → Action came to old new → LedgerIs new
   action_is came to old _ h (actions.queues now sending fits some) = record { left = h.left; says = h.says }
   action_is came to old _ h (actions.sets setting small) = record { left = h.left; says = h.says }
-  action_is came to old _ h (actions.prepares ids small) = record { left = h.left; says = h.says }
   action_is came to old _ h (actions.flushes e draft answers below at same no_data no_end allowed) =
       let keeps = flush_keeps e draft answers (subst (λ (b : EndpointQueues). TransferIs kinds b.transfer) (sym below) h.left) (no_data_goes kinds draft.packet.contents no_data) allowed in
       record { left = keeps.left; says = all_append _ old.sent (packets_in (flush_of e draft answers).events) h.says keeps.says }

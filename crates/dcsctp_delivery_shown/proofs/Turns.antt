@@ -16,7 +16,7 @@ use Rattle.dcsctp_theorem_sockets.proofs.Bursts.{packets_in-append}
 use Rattle.dcsctp_delivery_sending.specs.Log.{Message}
 use Rattle.dcsctp_delivery_directions.specs.Directions.{nothing_asked}
 use Rattle.dcsctp_delivery_turns.specs.Asking.{own_of, SomeFit}
-use Rattle.dcsctp_delivery_turns.specs.Actions.{ledger_of, came_by, Begun, opening_queues, IsOpening, Inside, inside, Made, MakesAlso, OwnEnds, unended, committed, rolled_back, PeerResets, unreset, absent, deferred, reset_now, Becomes, goes_on, works_resets, renews, ends, begins, IsCall, peer_tag, queued_after, read_after}
+use Rattle.dcsctp_delivery_turns.specs.Actions.{ledger_of, came_by, Begun, opening_queues, IsOpening, Inside, inside, Made, MakesAlso, OwnEnds, unended, committed, rolled_back, PeerResets, unreset, absent, deferred, reset_now, Becomes, goes_on, pauses, prepared_inside, works_resets, renews, ends, begins, IsCall, peer_tag, queued_after, read_after}
 use Rattle.dcsctp_delivery_turns.proofs.Fixed.{queue_all_core, refusal_none, prepared_none}
 use Rattle.dcsctp_delivery_turns.proofs.Fronts.{renewed_fit, own_ends_fit}
 use Rattle.dcsctp_delivery_turns.proofs.Beginnings.{nothing_fits, unlinked_fits}
@@ -130,7 +130,7 @@ module _ (kinds : Capabilities) where
   peer_resets : (came : Option Content) (happened : List Effect) (old new : Inside) → InsideIs old → PeerResets came happened old new → InsideIs new
   peer_resets came happened old _ h (unreset none) = h
   peer_resets came happened old _ h (absent gone) = h
-  peer_resets came happened old _ h (deferred none transfer last_tsn streams known) = record { left = of_known kinds transfer old.queues.transfer known h.left; asks = h.asks }
+  peer_resets came happened old _ h (deferred none parameters reset came_is wants transfer last_tsn streams known) = record { left = of_known kinds transfer old.queues.transfer known h.left; asks = h.asks }
   peer_resets came happened old _ h (reset_now done parameters reset handled asked transfer reassembly known reached leaves) =
       record { left = of_known kinds transfer old.queues.transfer known h.left; asks = h.asks }
 
@@ -164,10 +164,12 @@ module _ (kinds : Capabilities) where
   stays_is came e o h linked made =
       record { moves = link_stays linked; after = record { linked = subst (LinkIs kinds) (sym linked) h.linked; left = made.inside_is.left; asks = made.inside_is.asks }; says = made.says }
 
-  becomes_is : (came : Option Content) (to : ℕ) (adds : List Message → List Message) (taken : List MessageContent → List MessageContent) (e : Endpoint) (o : Outcome) → EndpointIs kinds e → BeginsSo e came o
-      → Becomes came to adds taken e o → TurnIs e came o
+  becomes_is : {resets : Bool} (came : Option Content) (to : ℕ) (adds : List Message → List Message) (taken : List MessageContent → List MessageContent) (e : Endpoint) (o : Outcome) → EndpointIs kinds e → BeginsSo e came o
+      → Becomes resets came to adds taken e o → TurnIs e came o
   becomes_is came to adds taken e o h so (goes_on calm linked makes) =
       stays_is came e o h linked (makes_is came to adds taken (inside e) (inside o.after) (packets_in o.events) (record { left = h.left; asks = h.asks }) makes)
+  becomes_is came to adds taken e o h so (pauses resets calm linked ids small makes) =
+      stays_is came e o h linked (makes_is came to adds taken (prepared_inside ids (inside e)) (inside o.after) (packets_in o.events) (record { left = h.left; asks = h.asks }) makes)
   becomes_is came to adds taken e o h so (works_resets linked between worked ended peer makes) =
       let worked_is : InsideIs worked = peer_resets came o.effects between worked (own_ends o.effects (inside e) between (record { left = h.left; asks = h.asks }) ended) peer in
       stays_is came e o h linked (makes_is came to adds taken worked (inside o.after) (packets_in o.events) worked_is makes)

@@ -33,7 +33,8 @@ pub fn shown_tags_suffice()
 /// no act comes from outside and no tag is drawn twice; if each verification tag serves one association, as far as the
 /// sockets show; if fewer than 2^30 chunks of data and fewer than 2^32 - 1 requests to reset streams go to each, each
 /// counted as often as it is sent; if a side sends fewer than 2^64 messages; and if none of these requests fails in an
-/// association with interleaving (RFC 8260). It comes in order, stream by stream, as `sockets_deliver` says.
+/// association with interleaving (RFC 8260). It comes in order, stream by stream, and without gaps, as `sockets_deliver`
+/// says.
 pub fn users_read_what_was_sent()
     ensures { UsersReadWhatWasSent }
 {

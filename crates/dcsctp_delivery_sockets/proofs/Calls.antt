@@ -16,7 +16,6 @@ use Rattle.dcsctp_spec_lemmas.specs.types.queues.Messages.{MessageContent}
 use Rattle.dcsctp_spec_lemmas.specs.spec.endpoint.HeartbeatOutcomes.{is_exhausted}
 use Rattle.dcsctp_spec_lemmas.specs.spec.endpoint.MessageOutcomes.{sending_of}
 use Rattle.dcsctp_spec_lemmas.specs.spec.endpoint.OwnTimers.{OwnTimer}
-use Rattle.dcsctp_spec_lemmas.specs.types.Setting.{Setting}
 use Rattle.dcsctp_spec_lemmas.specs.spec.endpoint.Turn.{Input, arrival, refusal, packet_begins, chunk_input, packet_ends, act_input, user_sets, user_sends, user_resets, user_takes, timer_expires, time_passes, unreadable_text}
 use Rattle.dcsctp_spec_lemmas.specs.spec.endpoint.TimeTurns.{Timer, t1_timer, own_timer, t2_timer, timers_in, deadline, has_come, has_restart, t2_input, expiry_input, inputs_behind, after_expiries, ExpiryThen, ExpiryTurns, MomentTurns, TimeTurns}
 use Rattle.dcsctp_spec_lemmas.specs.spec.endpoint.CallTurns.{Transition, IsTurn, Turns, AfterChunk, ChunkTurns, AdmittedTurns, HandleInput, unreadable, readable}
@@ -192,7 +191,7 @@ calls_are =
     }
 
 sending_fits : (message : MessageContent) (options : SendOptions) → FitsMessage message → Fits (message_of (sending_of options message))
-sending_fits message options fits = record { stream = fits.stream; ppid = fits.ppid; payload = fits.payload }
+sending_fits message options fits = record { stream = fits.stream; ppid = fits.ppid; payload = fits.payload; size = fits.size }
 
 sendings_fit : (messages : List MessageContent) (options : SendOptions) → AllByRecursion FitsMessage messages → AllByRecursion (λ sending. Fits (message_of sending)) (map (sending_of options) messages)
 sendings_fit [] options fit = tt

@@ -1,7 +1,7 @@
 -- Over an honest run in which each tag serves one association, what a user reads is what its peer's
 -- user sent.
-use Rattle.std.proofs.Common.{◌≡◌, ℕ, zero, suc, List, [], ◌∷◌, ◌++◌, refl, sym, ◌∙◌, ap, subst, inl, inr}
-use Rattle.std.specs.Prelude.{Option, None, Some}
+use Rattle.std.proofs.Common.{◌≡◌, ℕ, zero, suc, List, [], ◌∷◌, ◌++◌, refl, sym, ◌∙◌, ap, subst, inl, inr, Bool, true, not, ◌<◌, ◌^◌, false}
+use Rattle.std.specs.Prelude.{◌⊎◌, Option, None, Some}
 use Rattle.std.specs.List.{slice_get}
 use Rattle.std.proofs.lemmas.List.{append-nil}
 use Rattle.dcsctp_spec_lemmas.specs.wire.Content.{PacketContent}
@@ -11,7 +11,7 @@ use Rattle.dcsctp_spec_lemmas.specs.types.declared.schedule.Side.{Side}
 use Rattle.dcsctp_spec_lemmas.specs.types.declared.schedule.Side.TheVariants as sides
 use Rattle.dcsctp_spec_lemmas.specs.types.Schedule.{StepContent, call_step, delivery_step, ActContent, step_act, outside_act, IsHonestAct, AreHonest}
 use Rattle.dcsctp_spec_lemmas.specs.types.Settings.{FitsOptions, wire_options, ports_of}
-use Rattle.dcsctp_spec_lemmas.specs.spec.endpoint.CallTurns.{Transition, HandleInput, events_of}
+use Rattle.dcsctp_spec_lemmas.specs.spec.endpoint.CallTurns.{Transition, HandleInput, events_of, AlongTurns}
 use Rattle.dcsctp_spec_lemmas.specs.spec.endpoint.Endpoint.{Endpoint, fresh_endpoint}
 use Rattle.dcsctp_spec_lemmas.specs.spec.endpoint.Event.{Event, sent, packets_in}
 use Rattle.dcsctp_spec_runs.specs.Fitting.{OfSent, AllSent, FitsEndpoint, IsSendable}
@@ -29,11 +29,19 @@ use Rattle.dcsctp_delivery_sending.specs.Places as places
 use Rattle.dcsctp_delivery_directions.specs.Directions.{Delivered}
 use Rattle.dcsctp_delivery_associations.specs.Reads.{nothing_read, messages_of}
 use Rattle.dcsctp_delivery_sockets.specs.Echoes.{GoesToMaker}
-use Rattle.dcsctp_delivery_sockets.specs.Ordered.{AllowsOrder, IsDeliveredInOrder, read_under}
+use Rattle.dcsctp_delivery_sockets.specs.Ordered.{AllowsOrder, IsDeliveredInOrder, read_under, AllowsNoGaps, IsDeliveredWithoutGaps, SendsReliableData}
 use Rattle.dcsctp_delivery_sockets.specs.UserMessages.{messages_sent_in, sendings_in, read_of, IsDelivered}
 use Rattle.dcsctp_delivery_sockets.specs.Delivery.{FitsStep, AreInMemory, MatchByTags, SendsLittle, TurnsAllowDelivery, Delivers, SocketsDeliver}
 use Rattle.dcsctp_delivery_associations.proofs.Delivers.{ends_begin, ends_deliver}
-use Rattle.dcsctp_delivery_associations.proofs.InOrder.{ends_deliver_in_order}
+use Rattle.dcsctp_delivery_sockets.specs.Acts.{ResetsIn}
+use Rattle.dcsctp_delivery_turns.specs.Actions.{resets_streams}
+use Rattle.std.specs.List.{AllByRecursion}
+use Rattle.std.specs.Prelude.{not, ◌&&◌}
+use Rattle.dcsctp_delivery_order.specs.Delivered.{DeliveredInOrder}
+use Rattle.dcsctp_delivery_associations.specs.InOrder.{Interleaves}
+use Rattle.dcsctp_delivery_associations.specs.Ends.{BeginsAnew}
+use Rattle.dcsctp_spec_lemmas.specs.spec.endpoint.MessageOutcomes.{Sending}
+use Rattle.dcsctp_delivery_associations.proofs.InOrder.{ends_deliver_in_order, ends_deliver_data_in_order, ends_deliver_without_gaps}
 use Rattle.dcsctp_delivery_sockets.proofs.Calls.{AreCalls, call_without, call_is, input_is}
 use Rattle.dcsctp_delivery_sockets.proofs.Echoes.{echoes_go_to_makers}
 use Rattle.dcsctp_delivery_sockets.proofs.KnownPeers.{IsMove}
@@ -41,7 +49,7 @@ use Rattle.dcsctp_delivery_sockets.proofs.NewLinks.{AllOpenFitting, none_open, m
 use Rattle.dcsctp_delivery_sockets.proofs.Performed.{BothPerformed, both_performed, fresh_front}
 use Rattle.dcsctp_delivery_sockets.proofs.Known.{same_rules_after, own_turn, IsOwn, GoodPacket, SideKnown, BothKnown, both_front}
 use Rattle.dcsctp_delivery_sockets.proofs.Stands.{Stand, queued_of, packets_of, reading_of, queued_same, sender_more, receiver_calls, receiver_handles, few_queued}
-use Rattle.dcsctp_delivery_sockets.proofs.UserMessages.{nothing_same, turns_same, turns_read, is_delivered, is_in_order}
+use Rattle.dcsctp_delivery_sockets.proofs.UserMessages.{is_without_gaps, SaysSame, are_unlimited, nothing_same, turns_same, turns_read, is_delivered, is_in_order, SaysSame, is_without_gaps}
 
 -- ---- a packet that is delivered
 
@@ -60,80 +68,80 @@ good_among all (event ∷ events) within each = (tt, good_among all events withi
 -- ---- an act of one side
 
 -- both directions, once the side that acts has taken these turns
-record ActedSide (mine theirs : Options) (turns others more : List Transition) : Type 0 where
-  sends : Stand mine theirs (turns ++ more) others
-  receives : Stand theirs mine others (turns ++ more)
+record ActedSide (never_resets their_never : Bool) (mine theirs : Options) (turns others more : List Transition) : Type 0 where
+  sends : Stand never_resets mine theirs (turns ++ more) others
+  receives : Stand their_never theirs mine others (turns ++ more)
 
-module _ (law : Below) (mine theirs : Options) (turns others more : List Transition) (fits : FitsEndpoint (endpoint_after mine turns)) (their_fits : FitsOptions theirs)
-    (known : SideKnown mine (turns ++ more)) (their_known : SideKnown theirs others) (matched : MatchByTags (noted_past (turns ++ more)) (noted_past others))
-    (performed : AllPerformed (noted_past (turns ++ more)) (noted_past others)) (sends : Stand mine theirs turns others)
-    (receives : Stand theirs mine others turns) where
-  nothing_done : more ≡ [] → ActedSide mine theirs turns others more
+module _ (law : Below) (never_resets their_never : Bool) (mine theirs : Options) (turns others more : List Transition) (fits : FitsEndpoint (endpoint_after mine turns)) (their_fits : FitsOptions theirs)
+    (known : SideKnown never_resets mine (turns ++ more)) (their_known : SideKnown their_never theirs others) (matched : MatchByTags (noted_past (turns ++ more)) (noted_past others))
+    (performed : AllPerformed (noted_past (turns ++ more)) (noted_past others)) (sends : Stand never_resets mine theirs turns others)
+    (receives : Stand their_never theirs mine others turns) where
+  nothing_done : more ≡ [] → ActedSide never_resets their_never mine theirs turns others more
   nothing_done none =
       record {
-        sends = subst (λ (ts : List Transition). Stand mine theirs ts others) (sym (ap (λ (m : List Transition). turns ++ m) none ∙ append-nil turns)) sends;
-        receives = subst (λ (ts : List Transition). Stand theirs mine others ts) (sym (ap (λ (m : List Transition). turns ++ m) none ∙ append-nil turns)) receives;
+        sends = subst (λ (ts : List Transition). Stand never_resets mine theirs ts others) (sym (ap (λ (m : List Transition). turns ++ m) none ∙ append-nil turns)) sends;
+        receives = subst (λ (ts : List Transition). Stand their_never theirs mine others ts) (sym (ap (λ (m : List Transition). turns ++ m) none ∙ append-nil turns)) receives;
       }
 
-  handled : (bytes : List ℕ) → IsSent (WasGood (packets_of others)) (emission_bytes (ports_of theirs)) bytes → HandleInput (endpoint_after mine turns) bytes more → ActedSide mine theirs turns others more
+  handled : (bytes : List ℕ) → IsSent (WasGood (packets_of others)) (emission_bytes (ports_of theirs)) bytes → HandleInput (endpoint_after mine turns) bytes more → ActedSide never_resets their_never mine theirs turns others more
   handled bytes out taken =
       let e : Endpoint = endpoint_after mine turns in
       let is : (packet : PacketContent) → IsPacket (wire_options e.options) packet bytes → packet_in packet ≡ out.emission.packet =
       λ packet found. reads_as_sent law.built e.options theirs out.emission packet their_fits out.good.good.sendable (subst (λ (bs : List ℕ). IsPacket (wire_options e.options) packet bs) out.is found) in
       let opens : AllOpenFitting more = packet_opens law.offers e bytes out.emission more fits out.good.good.sendable is taken in
       record {
-        sends = sender_more mine theirs turns others more sends known matched performed (input_is e bytes more taken) opens;
-        receives = receiver_handles theirs mine others turns more receives known (matched_swapped (noted_past (turns ++ more)) (noted_past others) matched) their_known.little bytes out.emission out.good.has
+        sends = sender_more never_resets mine theirs turns others more sends known matched performed (input_is e bytes more taken) opens;
+        receives = receiver_handles their_never never_resets theirs mine others turns more receives known (matched_swapped (noted_past (turns ++ more)) (noted_past others) matched) their_known.little bytes out.emission out.good.has
             out.good.good is taken opens;
       }
 
-  delivered : (index : ℕ) (found : Option (List ℕ)) → slice_get (packets_shown theirs others) index ≡ found → DeliveryTurns (endpoint_after mine turns) found more → ActedSide mine theirs turns others more
+  delivered : (index : ℕ) (found : Option (List ℕ)) → slice_get (packets_shown theirs others) index ≡ found → DeliveryTurns (endpoint_after mine turns) found more → ActedSide never_resets their_never mine theirs turns others more
   delivered index None is none = nothing_done none
   delivered index (Some bytes) is taken =
       handled bytes (sent_at (WasGood (packets_of others)) (emission_bytes (ports_of theirs)) (events_of others) index bytes
       (good_among (packets_of others) (events_of others) (λ emission has. has) their_known.packets) is) taken
 
-  side_acts : (step : StepContent) → FitsStep step → StepTurns (endpoint_after mine turns) (packets_shown theirs others) step more → ActedSide mine theirs turns others more
+  side_acts : (step : StepContent) → FitsStep step → StepTurns (endpoint_after mine turns) (packets_shown theirs others) step more → ActedSide never_resets their_never mine theirs turns others more
   side_acts (call_step which call) in_memory taken =
       let calls : AreCalls more = call_is (endpoint_after mine turns) call more in_memory taken in
       record {
-        sends = sender_more mine theirs turns others more sends known matched performed calls (none_open more (call_without (endpoint_after mine turns) call more taken));
-        receives = receiver_calls theirs mine others turns more receives known (matched_swapped (noted_past (turns ++ more)) (noted_past others) matched) their_known.little call taken calls;
+        sends = sender_more never_resets mine theirs turns others more sends known matched performed calls (none_open more (call_without (endpoint_after mine turns) call more taken));
+        receives = receiver_calls their_never never_resets theirs mine others turns more receives known (matched_swapped (noted_past (turns ++ more)) (noted_past others) matched) their_known.little call taken calls;
       }
   side_acts (delivery_step which zero) in_memory none = nothing_done none
   side_acts (delivery_step which (suc index)) in_memory taken = delivered index (slice_get (packets_shown theirs others) index) refl taken
 
 -- ---- a run
 
-record BothStand (options : Both Options) (turns : Both (List Transition)) : Type 0 where
-  to_b : Stand options.a options.b turns.a turns.b
-  to_a : Stand options.b options.a turns.b turns.a
+record BothStand (never_resets : Both Bool) (options : Both Options) (turns : Both (List Transition)) : Type 0 where
+  to_b : Stand never_resets.a options.a options.b turns.a turns.b
+  to_a : Stand never_resets.b options.b options.a turns.b turns.a
 
-stepped : Below → (options : Both Options) (turns : Both (List Transition)) (step : StepContent) (more : List Transition) (side : Side) → AreUsable options → Joined options turns → BothKnown options (side_turns_added side more turns)
-    → BothPerformed (side_turns_added side more turns) → FitsStep step → BothStand options turns → StepTurns (endpoint_after (of_side side options) (of_side side turns)) (packets_shown (of_other side options) (of_other side turns)) step more
-    → BothStand options (side_turns_added side more turns)
-stepped law options turns step more sides.A are j known performed in_memory h taken =
-    let done = side_acts law options.a options.b turns.a turns.b more j.a.fits (are sides.B).fits known.a known.b known.matched performed.a h.to_b h.to_a step in_memory taken in
+stepped : Below → (never_resets : Both Bool) (options : Both Options) (turns : Both (List Transition)) (step : StepContent) (more : List Transition) (side : Side) → AreUsable options → Joined options turns → BothKnown never_resets options (side_turns_added side more turns)
+    → BothPerformed (side_turns_added side more turns) → FitsStep step → BothStand never_resets options turns → StepTurns (endpoint_after (of_side side options) (of_side side turns)) (packets_shown (of_other side options) (of_other side turns)) step more
+    → BothStand never_resets options (side_turns_added side more turns)
+stepped law never_resets options turns step more sides.A are j known performed in_memory h taken =
+    let done = side_acts law never_resets.a never_resets.b options.a options.b turns.a turns.b more j.a.fits (are sides.B).fits known.a known.b known.matched performed.a h.to_b h.to_a step in_memory taken in
     record { to_b = done.sends; to_a = done.receives }
-stepped law options turns step more sides.B are j known performed in_memory h taken =
-    let done = side_acts law options.b options.a turns.b turns.a more j.b.fits (are sides.A).fits known.b known.a
+stepped law never_resets options turns step more sides.B are j known performed in_memory h taken =
+    let done = side_acts law never_resets.b never_resets.a options.b options.a turns.b turns.a more j.b.fits (are sides.A).fits known.b known.a
     (matched_swapped (noted_past turns.a) (noted_past (turns.b ++ more)) known.matched) performed.b h.to_a h.to_b step in_memory taken in
     record { to_b = done.receives; to_a = done.sends }
 
-acted : Below → (options : Both Options) (turns : Both (List Transition)) (act : ActContent) (more : List Transition) → AreUsable options → IsHonestAct act → AreInMemory (act ∷ []) → Joined options turns
-    → BothKnown options (side_turns_added (side_of_act act) more turns) → BothPerformed (side_turns_added (side_of_act act) more turns) → BothStand options turns → NextTurns options turns act more → BothStand options (side_turns_added (side_of_act act) more turns)
-acted law options turns (step_act step) more are honest in_memory j known performed h taken = stepped law options turns step more (side_of step) are j known performed in_memory.0 h taken
-acted law options turns (outside_act outside) more are honest in_memory j known performed h taken = absurd honest
+acted : Below → (never_resets : Both Bool) (options : Both Options) (turns : Both (List Transition)) (act : ActContent) (more : List Transition) → AreUsable options → IsHonestAct act → AreInMemory (act ∷ []) → Joined options turns
+    → BothKnown never_resets options (side_turns_added (side_of_act act) more turns) → BothPerformed (side_turns_added (side_of_act act) more turns) → BothStand never_resets options turns → NextTurns options turns act more → BothStand never_resets options (side_turns_added (side_of_act act) more turns)
+acted law never_resets options turns (step_act step) more are honest in_memory j known performed h taken = stepped law never_resets options turns step more (side_of step) are j known performed in_memory.0 h taken
+acted law never_resets options turns (outside_act outside) more are honest in_memory j known performed h taken = absurd honest
 
-both_stand : Below → AnswerKeepsAgreement → (options : Both Options) (run : List PerformedAct) → AreUsable options → SocketRun options run → AreHonest (acts_of run) → AreFresh (turns_after run) → AreInMemory (acts_of run)
-    → BothKnown options (turns_after run)
-    → BothStand options (turns_after run)
-both_stand law answers options [] are runs honest fresh in_memory known = record { to_b = ends_begin options.a options.b; to_a = ends_begin options.b options.a }
-both_stand law answers options (worked ∷ earlier) are runs honest fresh in_memory known =
-    let before : BothKnown options (turns_after earlier) = both_front options (turns_after earlier) (side_of_act worked.act) worked.turns known in
-    acted law options (turns_after earlier) worked.act worked.turns are honest.0 (in_memory.0, tt) (joined law options earlier are runs.1 honest.1) known
+both_stand : Below → AnswerKeepsAgreement → (never_resets : Both Bool) (options : Both Options) (run : List PerformedAct) → AreUsable options → SocketRun options run → AreHonest (acts_of run) → AreFresh (turns_after run) → AreInMemory (acts_of run)
+    → BothKnown never_resets options (turns_after run)
+    → BothStand never_resets options (turns_after run)
+both_stand law answers never_resets options [] are runs honest fresh in_memory known = record { to_b = ends_begin never_resets.a options.a options.b; to_a = ends_begin never_resets.b options.b options.a }
+both_stand law answers never_resets options (worked ∷ earlier) are runs honest fresh in_memory known =
+    let before : BothKnown never_resets options (turns_after earlier) = both_front never_resets options (turns_after earlier) (side_of_act worked.act) worked.turns known in
+    acted law never_resets options (turns_after earlier) worked.act worked.turns are honest.0 (in_memory.0, tt) (joined law options earlier are runs.1 honest.1) known
     (both_performed law answers options (worked ∷ earlier) are runs honest fresh)
-    (both_stand law answers options earlier are runs.1 honest.1 (fresh_front (turns_after earlier) (side_of_act worked.act) worked.turns fresh) in_memory.1 before) runs.0
+    (both_stand law answers never_resets options earlier are runs.1 honest.1 (fresh_front (turns_after earlier) (side_of_act worked.act) worked.turns fresh) in_memory.1 before) runs.0
 
 -- ---- what is known of a run
 
@@ -151,8 +159,29 @@ good_all : (events : List (Event Emission)) → AllSent IsSendable events → Al
 good_all [] sendable goes = tt
 good_all (event ∷ events) sendable goes = (good_one event sendable.0 goes.0, good_all events sendable.1 goes.1)
 
+-- does its user never reset streams?
+abbrev resets_none : List Transition → Bool
+resets_none [] = true
+resets_none (turn ∷ turns) = not (resets_streams turn.input) && resets_none turns
+
+not_false : (b c : Bool) → (not b && c) ≡ true → (b ≡ false) × (c ≡ true)
+not_false true c is = absurd (cc)
+not_false false c is = (refl, is)
+
+resets_so : (e : Endpoint) (never : Bool) (turns : List Transition) → (never ≡ true → resets_none turns ≡ true) → AlongTurns (ResetsIn never) e turns
+resets_so e never [] is = tt
+resets_so e never (turn ∷ turns) is =
+    ((λ never_so. (not_false (resets_streams turn.input) (resets_none turns) (is never_so)).0), resets_so turn.outcome.after never turns (λ never_so. (not_false (resets_streams turn.input) (resets_none turns) (is never_so)).1))
+
+none_reset : (turns : List Transition) → AllByRecursion (λ turn. resets_streams turn.input ≡ false) turns → resets_none turns ≡ true
+none_reset [] each = refl
+none_reset (turn ∷ turns) each = ap (λ (b : Bool). not b && resets_none turns) each.0 ∙ none_reset turns each.1
+
+abbrev both_resets_none : Both (List Transition) → Both Bool
+both_resets_none turns = record { a = resets_none turns.a; b = resets_none turns.b }
+
 both_known : DeliveryLaws → (options : Both Options) (run : List PerformedAct) → AreUsable options → SocketRun options run → AreHonest (acts_of run) → AreFresh (turns_after run) → TurnsAllowDelivery options (turns_after run)
-    → BothKnown options (turns_after run)
+    → BothKnown (both_resets_none (turns_after run)) options (turns_after run)
 both_known law options run are runs honest fresh allows =
     let j : Joined options (turns_after run) = joined law.below options run are runs honest in
     record {
@@ -162,6 +191,7 @@ both_known law options run are runs honest fresh allows =
         packets = good_all (events_of (turns_after run).a) (all_sent_map (λ emission went. went.sendable) (events_of (turns_after run).a) j.a.went)
             (echoes_go_to_makers law.below law.answers options run are runs honest fresh sides.A);
         refused = allows.refused sides.A;
+        resets = resets_so (fresh_endpoint options.a) (resets_none (turns_after run).a) (turns_after run).a (λ is. is);
         tags = allows.tags.a;
         little = allows.little sides.A;
       };
@@ -171,6 +201,7 @@ both_known law options run are runs honest fresh allows =
         packets = good_all (events_of (turns_after run).b) (all_sent_map (λ emission went. went.sendable) (events_of (turns_after run).b) j.b.went)
             (echoes_go_to_makers law.below law.answers options run are runs honest fresh sides.B);
         refused = allows.refused sides.B;
+        resets = resets_so (fresh_endpoint options.b) (resets_none (turns_after run).b) (turns_after run).b (λ is. is);
         tags = allows.tags.b;
         little = allows.little sides.B;
       };
@@ -179,7 +210,7 @@ both_known law options run are runs honest fresh allows =
 
 -- ---- what was read
 
-module _ (mine theirs : Options) (turns others : List Transition) (little : SendsLittle mine turns) (h : Stand mine theirs turns others) where
+module _ (never_resets : Bool) (mine theirs : Options) (turns others : List Transition) (little : SendsLittle mine turns) (h : Stand never_resets mine theirs turns others) (window : theirs.max_receiver_window_buffer_size < 2 ^ 32) where
   one_way : IsDelivered (messages_sent_in (fresh_endpoint mine) turns) (read_of (fresh_endpoint theirs) others)
   one_way =
       let same = queued_same mine turns in
@@ -189,27 +220,57 @@ module _ (mine theirs : Options) (turns others : List Transition) (little : Send
       subst (IsDelivered (messages_sent_in (fresh_endpoint mine) turns)) (turns_read (fresh_endpoint theirs) others nothing_read)
       (is_delivered (queued_of mine turns) (messages_sent_in (fresh_endpoint mine) turns) (messages_of (reading_of theirs others).reads) same all)
 
-  one_in_order : (endpoint_after mine turns).options.follow_rfc ≡ mine.follow_rfc → (tag : ℕ) → AllowsOrder mine turns tag → IsDeliveredInOrder (sendings_in (fresh_endpoint mine) turns) (read_under tag theirs others)
+  -- what was sent, with its options
+  abbrev sent_all : List Sending
+  sent_all = sendings_in (fresh_endpoint mine) turns
+
+  sent_same : SaysSame (λ sending. sending) (queued_of mine turns) sent_all
+  sent_same = turns_same (λ sending. sending) (fresh_endpoint mine) turns [] [] (nothing_same (λ sending. sending))
+
+  by_order : (tag : ℕ) → BeginsAnew (endpoint_after mine turns) (noted_past turns) tag → Interleaves true (noted_past turns) tag ⊎ SendsReliableData mine turns tag
+      → DeliveredInOrder (queued_of mine turns) (read_under tag theirs others)
+  by_order tag anew (inl interleaves) =
+      ends_deliver_in_order theirs h.ends (endpoint_after mine turns) (queued_of mine turns) (noted_past turns) (packets_of turns) (endpoint_after theirs others) (noted_past others) (reading_of theirs others) h.between
+      (few_queued mine turns little) little.chunks tag anew interleaves
+  by_order tag anew (inr reliable) =
+      ends_deliver_data_in_order theirs h.ends (endpoint_after mine turns) (queued_of mine turns) (noted_past turns) (packets_of turns) (endpoint_after theirs others) (noted_past others) (reading_of theirs others) h.between
+      (few_queued mine turns little) little.chunks window (are_unlimited (queued_of mine turns) sent_all sent_same reliable.unlimited) tag anew reliable.not_interleaved reliable.no_requests
+
+  one_in_order : (endpoint_after mine turns).options.follow_rfc ≡ mine.follow_rfc → (tag : ℕ) → AllowsOrder mine turns tag → IsDeliveredInOrder sent_all (read_under tag theirs others)
   one_in_order rules tag allows =
-      is_in_order (queued_of mine turns) (sendings_in (fresh_endpoint mine) turns) (read_under tag theirs others) (turns_same (λ sending. sending) (fresh_endpoint mine) turns [] [] (nothing_same (λ sending. sending)))
-      (ends_deliver_in_order theirs h.ends (endpoint_after mine turns) (queued_of mine turns) (noted_past turns) (packets_of turns) (endpoint_after theirs others) (noted_past others) (reading_of theirs others) h.between
-      (few_queued mine turns little) little.chunks tag (elim allows.anew [ inl follows ↦ inl (rules ∙ follows) | inr only ↦ inr only ]) allows.interleaves)
+      is_in_order (queued_of mine turns) sent_all (read_under tag theirs others) sent_same
+      (by_order tag (elim allows.starts_at_zero [ inl follows ↦ inl (rules ∙ follows) | inr only ↦ inr only ]) allows.numbering)
+
+  one_without_gaps : (resets_none turns ≡ true → never_resets ≡ true) → (tag : ℕ) → AllowsNoGaps mine turns tag → IsDeliveredWithoutGaps sent_all (read_under tag theirs others)
+  one_without_gaps never tag leaves =
+      is_without_gaps (queued_of mine turns) sent_all (read_under tag theirs others) sent_same
+      (ends_deliver_without_gaps theirs h.ends (endpoint_after mine turns) (queued_of mine turns) (noted_past turns) (packets_of turns) (endpoint_after theirs others) (noted_past others) (reading_of theirs others) h.between
+      (few_queued mine turns little) little.chunks window (are_unlimited (queued_of mine turns) sent_all sent_same leaves.unlimited)
+      (h.is ∙ never (none_reset turns leaves.never_resets)) tag leaves.only_association)
 
 pub sockets_deliver : DeliveryLaws → SocketsDeliver
 sockets_deliver law options run are in_memory runs honest fresh allows side =
-    both_deliver (both_stand law.below law.answers options run are runs honest fresh in_memory (both_known law options run are runs honest fresh allows)) side
+    both_deliver (both_stand law.below law.answers (both_resets_none turns) options run are runs honest fresh in_memory known) side
   where
-    known : BothKnown options (turns_after run)
+    turns : Both (List Transition)
+    turns = turns_after run
+
+    known : BothKnown (both_resets_none turns) options turns
     known = both_known law options run are runs honest fresh allows
 
-    both_deliver : BothStand options (turns_after run) → (s : Side) → Delivers options (turns_after run) s
+    window : (s : Side) → (of_side s options).max_receiver_window_buffer_size < 2 ^ 32
+    window s = (are s).valid.receive_window
+
+    both_deliver : BothStand (both_resets_none turns) options turns → (s : Side) → Delivers options turns s
     both_deliver h sides.A =
         record {
-          once = one_way options.b options.a (turns_after run).b (turns_after run).a (allows.little sides.B) h.to_a;
-          in_order = one_in_order options.b options.a (turns_after run).b (turns_after run).a (allows.little sides.B) h.to_a (same_rules_after options.b (turns_after run).b known.b);
+          once = one_way (resets_none turns.b) options.b options.a turns.b turns.a (allows.little sides.B) h.to_a (window sides.A);
+          in_order = one_in_order (resets_none turns.b) options.b options.a turns.b turns.a (allows.little sides.B) h.to_a (window sides.A) (same_rules_after (resets_none turns.b) options.b turns.b known.b);
+          no_gaps = one_without_gaps (resets_none turns.b) options.b options.a turns.b turns.a (allows.little sides.B) h.to_a (window sides.A) (λ is. is);
         }
     both_deliver h sides.B =
         record {
-          once = one_way options.a options.b (turns_after run).a (turns_after run).b (allows.little sides.A) h.to_b;
-          in_order = one_in_order options.a options.b (turns_after run).a (turns_after run).b (allows.little sides.A) h.to_b (same_rules_after options.a (turns_after run).a known.a);
+          once = one_way (resets_none turns.a) options.a options.b turns.a turns.b (allows.little sides.A) h.to_b (window sides.B);
+          in_order = one_in_order (resets_none turns.a) options.a options.b turns.a turns.b (allows.little sides.A) h.to_b (window sides.B) (same_rules_after (resets_none turns.a) options.a turns.a known.a);
+          no_gaps = one_without_gaps (resets_none turns.a) options.a options.b turns.a turns.b (allows.little sides.A) h.to_b (window sides.B) (λ is. is);
         }

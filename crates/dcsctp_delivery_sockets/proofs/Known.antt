@@ -1,5 +1,5 @@
 -- What is known of each side of a run, and so of each first part of it.
-use Rattle.std.proofs.Common.{◌≡◌, List, [], ◌∷◌, ◌++◌, length, refl, sym, ◌∙◌, ap, arith, subst, append_assoc}
+use Rattle.std.proofs.Common.{◌≡◌, List, [], ◌∷◌, ◌++◌, length, refl, sym, ◌∙◌, ap, arith, subst, append_assoc, Bool}
 use Rattle.dcsctp_spec_lemmas.specs.types.declared.options.Options.{Options}
 use Rattle.dcsctp_spec_lemmas.specs.types.declared.schedule.Side.{Side}
 use Rattle.dcsctp_spec_lemmas.specs.types.declared.schedule.Side.TheVariants as sides
@@ -22,7 +22,7 @@ use Rattle.dcsctp_theorem_sockets.proofs.Bursts.{packets_in-append}
 use Rattle.dcsctp_delivery_sending.specs.ChunkCounts.{chunks_to}
 use Rattle.dcsctp_delivery_directions.specs.Requests.{requests_to}
 use Rattle.dcsctp_delivery_directions.proofs.RequestCounts.{requests_more_to}
-use Rattle.dcsctp_delivery_sockets.specs.Acts.{AreTurns}
+use Rattle.dcsctp_delivery_sockets.specs.Acts.{AreTurns, ResetsIn}
 use Rattle.dcsctp_delivery_sockets.specs.Echoes.{GoesToMaker}
 use Rattle.dcsctp_delivery_sockets.specs.UserMessages.{sent_in, messages_sent_in}
 use Rattle.dcsctp_delivery_sockets.specs.Delivery.{IsOfNewTags, MatchByTags, SendsLittle, IsUnrefused}
@@ -70,20 +70,22 @@ pub record GoodPacket (emission : Emission) : Type 0 where
   pub sendable : IsSendable emission
   pub goes : GoesToMaker emission
 
-pub record SideKnown (options : Options) (turns : List Transition) : Type 0 where
+pub record SideKnown (never_resets : Bool) (options : Options) (turns : List Transition) : Type 0 where
   pub own : AlongTurns IsOwn (fresh_endpoint options) turns
   pub moves : AlongTurns IsMove (fresh_endpoint options) turns
   pub refused : AlongTurns IsUnrefused (fresh_endpoint options) turns
+  pub resets : AlongTurns (ResetsIn never_resets) (fresh_endpoint options) turns
   pub packets : AllSent GoodPacket (events_of turns)
   pub tags : Each IsOfNewTags (noted_past turns)
   pub little : SendsLittle options turns
 
-pub side_front : (options : Options) (turns more : List Transition) → SideKnown options (turns ++ more) → SideKnown options turns
-side_front options turns more h =
+pub side_front : (never_resets : Bool) (options : Options) (turns more : List Transition) → SideKnown never_resets options (turns ++ more) → SideKnown never_resets options turns
+side_front never_resets options turns more h =
     record {
       own = along_front IsOwn (fresh_endpoint options) turns more h.own;
       moves = along_front IsMove (fresh_endpoint options) turns more h.moves;
       refused = along_front IsUnrefused (fresh_endpoint options) turns more h.refused;
+      resets = along_front (ResetsIn never_resets) (fresh_endpoint options) turns more h.resets;
       packets = sent_front GoodPacket (events_of turns) (events_of more) (subst (AllSent GoodPacket) (events_of-append turns more) h.packets);
       tags = each_earlier IsOfNewTags (effects_of more) (noted_past turns) (subst (Each IsOfNewTags) (past_more turns more) h.tags);
       little =
@@ -107,40 +109,44 @@ side_front options turns more h =
     }
 
 -- what is known of the turns of an act
-pub rest_turns : (options : Options) (turns more : List Transition) → SideKnown options (turns ++ more) → AreTurns (endpoint_after options turns) more
-rest_turns options turns more h = are_turns (endpoint_after options turns) more (along_rest IsOwn (fresh_endpoint options) turns more h.own)
+pub rest_turns : (never_resets : Bool) (options : Options) (turns more : List Transition) → SideKnown never_resets options (turns ++ more) → AreTurns (endpoint_after options turns) more
+rest_turns never_resets options turns more h = are_turns (endpoint_after options turns) more (along_rest IsOwn (fresh_endpoint options) turns more h.own)
 
-pub rest_moves : (options : Options) (turns more : List Transition) → SideKnown options (turns ++ more) → AlongTurns IsMove (endpoint_after options turns) more
-rest_moves options turns more h = along_rest IsMove (fresh_endpoint options) turns more h.moves
+pub rest_moves : (never_resets : Bool) (options : Options) (turns more : List Transition) → SideKnown never_resets options (turns ++ more) → AlongTurns IsMove (endpoint_after options turns) more
+rest_moves never_resets options turns more h = along_rest IsMove (fresh_endpoint options) turns more h.moves
 
-pub rest_refused : (options : Options) (turns more : List Transition) → SideKnown options (turns ++ more) → AlongTurns IsUnrefused (endpoint_after options turns) more
-rest_refused options turns more h = along_rest IsUnrefused (fresh_endpoint options) turns more h.refused
+pub rest_refused : (never_resets : Bool) (options : Options) (turns more : List Transition) → SideKnown never_resets options (turns ++ more) → AlongTurns IsUnrefused (endpoint_after options turns) more
+rest_refused never_resets options turns more h = along_rest IsUnrefused (fresh_endpoint options) turns more h.refused
+
+pub rest_resets : (never_resets : Bool) (options : Options) (turns more : List Transition) → SideKnown never_resets options (turns ++ more) → AlongTurns (ResetsIn never_resets) (endpoint_after options turns) more
+rest_resets never_resets options turns more h = along_rest (ResetsIn never_resets) (fresh_endpoint options) turns more h.resets
 
 -- A side ran to where the act begins.
-pub ran_front : (options : Options) (turns more : List Transition) → SideKnown options (turns ++ more) → RanTo options (endpoint_after options turns) (noted_past turns)
-ran_front options turns more h = run_through options turns (fresh_endpoint options) [] (run_starts options) (along_front IsMove (fresh_endpoint options) turns more h.moves)
+pub ran_front : (never_resets : Bool) (options : Options) (turns more : List Transition) → SideKnown never_resets options (turns ++ more) → RanTo options (endpoint_after options turns) (noted_past turns)
+ran_front never_resets options turns more h = run_through options turns (fresh_endpoint options) [] (run_starts options) (along_front IsMove (fresh_endpoint options) turns more h.moves)
 
 -- It follows the RFC at the end if it did when it was made.
-pub same_rules_after : (options : Options) (turns : List Transition) → SideKnown options turns → (endpoint_after options turns).options.follow_rfc ≡ options.follow_rfc
-same_rules_after options turns h = ap (λ (p : Options). p.follow_rfc) (run_through options turns (fresh_endpoint options) [] (run_starts options) h.moves).same
+pub same_rules_after : (never_resets : Bool) (options : Options) (turns : List Transition) → SideKnown never_resets options turns → (endpoint_after options turns).options.follow_rfc ≡ options.follow_rfc
+same_rules_after never_resets options turns h = ap (λ (p : Options). p.follow_rfc) (run_through options turns (fresh_endpoint options) [] (run_starts options) h.moves).same
 
 -- ---- both sides
 
-pub record BothKnown (options : Both Options) (turns : Both (List Transition)) : Type 0 where
-  pub a : SideKnown options.a turns.a
-  pub b : SideKnown options.b turns.b
+pub record BothKnown (never_resets : Both Bool) (options : Both Options) (turns : Both (List Transition)) : Type 0 where
+  pub a : SideKnown never_resets.a options.a turns.a
+  pub b : SideKnown never_resets.b options.b turns.b
   pub matched : MatchByTags (noted_past turns.a) (noted_past turns.b)
 
-pub both_front : (options : Both Options) (turns : Both (List Transition)) (side : Side) (more : List Transition) → BothKnown options (side_turns_added side more turns) → BothKnown options turns
-both_front options turns sides.A more h =
+pub both_front : (never_resets : Both Bool) (options : Both Options) (turns : Both (List Transition)) (side : Side) (more : List Transition) → BothKnown never_resets options (side_turns_added side more turns)
+    → BothKnown never_resets options turns
+both_front never_resets options turns sides.A more h =
     record {
-      a = side_front options.a turns.a more h.a;
+      a = side_front never_resets.a options.a turns.a more h.a;
       b = h.b;
       matched = matched_earlier (noted_past turns.a) (noted_past turns.b) (effects_of more) [] (subst (λ (p : List Effect). MatchByTags p (noted_past turns.b)) (past_more turns.a more) h.matched);
     }
-both_front options turns sides.B more h =
+both_front never_resets options turns sides.B more h =
     record {
       a = h.a;
-      b = side_front options.b turns.b more h.b;
+      b = side_front never_resets.b options.b turns.b more h.b;
       matched = matched_earlier (noted_past turns.a) (noted_past turns.b) [] (effects_of more) (subst (λ (p : List Effect). MatchByTags (noted_past turns.a) p) (past_more turns.b more) h.matched);
     }

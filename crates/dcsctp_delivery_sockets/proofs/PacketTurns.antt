@@ -11,7 +11,6 @@ use Rattle.dcsctp_spec_lemmas.specs.spec.Packet.{Content, init, init_ack, cookie
 use Rattle.dcsctp_spec_lemmas.specs.spec.endpoint.Turn.{Input, refusal, packet_begins, chunk_input, packet_ends, has_data_chunk, BeginTurn}
 use Rattle.dcsctp_spec_runs.specs.World.{after_effects}
 use Rattle.dcsctp_spec_lemmas.specs.spec.association.Effect.{AssociationIdentity, Effect, identity_in}
-use Rattle.dcsctp_spec_lemmas.specs.types.queues.Messages.{MessageContent}
 use Rattle.dcsctp_spec_lemmas.specs.spec.queues.Transfer.{Transfer}
 use Rattle.dcsctp_theorem_association.proofs.Growth.{after_effects-append}
 use Rattle.dcsctp_delivery_sending.specs.Log.{Message}
@@ -54,9 +53,9 @@ acks_none (shutdown t ∷ contents) = acks_none contents
 acks_none (shutdown_complete r ∷ contents) = acks_none contents
 acks_none (plain c ∷ contents) = acks_none contents
 
-module _ (options : Options) (e : Endpoint) (queued : List Message) (past : List Effect) (packets : List Emission) (few : length queued < 2 ^ 64) (little : AsksLittle packets) (emission : Emission) (has : places.HasEntry emission packets) where
+module _ (never_resets : Bool) (options : Options) (e : Endpoint) (queued : List Message) (past : List Effect) (packets : List Emission) (few : length queued < 2 ^ 64) (little : AsksLittle packets) (emission : Emission) (has : places.HasEntry emission packets) where
   abbrev Have : Endpoint → List Effect → Reading → Type 0
-  Have d their_past reading = AreEnds options e queued past packets d their_past reading
+  Have d their_past reading = AreEnds never_resets options e queued past packets d their_past reading
 
   -- what is to be shown of turns
   abbrev Leave : Endpoint → List Effect → Reading → List Transition → Type 0
@@ -74,7 +73,8 @@ module _ (options : Options) (e : Endpoint) (queued : List Message) (past : List
       → Have t.outcome.after (after_effects t.outcome.effects their_past) (reading_after d t.input t.outcome.after reading)
   one_turn d their_past reading input t h turn new sent may =
       subst (λ (i : Input). Have t.outcome.after (after_effects t.outcome.effects their_past) (reading_after d i t.outcome.after reading)) (sym turn.is)
-      ((receiver_turns options h.ends e queued past packets d their_past reading h.between few new.0 input t.outcome (λ begun opening linked. new.1 begun (subst (λ (i : Input). IsOpening (came_by i)) (sym turn.is) opening) linked)
+      (subst (λ (n : Bool). AreEnds n options e queued past packets t.outcome.after (after_effects t.outcome.effects their_past) (reading_after d input t.outcome.after reading)) h.is
+      (receiver_turns options h.ends e queued past packets d their_past reading h.between few new.0 input t.outcome (λ begun opening linked. new.1 begun (subst (λ (i : Input). IsOpening (came_by i)) (sym turn.is) opening) linked)
       h.answered little new.3 may turn.comes new.2 sent))
 
   chunk_turn : (d : Endpoint) (their_past : List Effect) (reading : Reading) (tag : ℕ) (content : Content) (t : Transition) → Have d their_past reading → IsTurn d (chunk_input tag content) t

@@ -14,7 +14,7 @@ use Rattle.dcsctp_spec_lemmas.specs.spec.endpoint.HandshakeOutcomes.{echo_emissi
 use Rattle.dcsctp_spec_lemmas.specs.spec.endpoint.Turn.{Input, Turn}
 use Rattle.dcsctp_delivery_sending.specs.Places as places
 use Rattle.dcsctp_delivery_sending.specs.Flushes.{NoRequests, NoContent, NoData}
-use Rattle.dcsctp_delivery_turns.specs.Actions.{came_by, IsOpening, Becomes, goes_on, works_resets, renews, ends, begins, IsCall}
+use Rattle.dcsctp_delivery_turns.specs.Actions.{came_by, IsOpening, Becomes, goes_on, pauses, works_resets, renews, ends, begins, IsCall}
 use Rattle.dcsctp_delivery_turns.specs.Sides.{WasIn, WasAsked, WasSent}
 use Rattle.dcsctp_delivery_associations.specs.Ends.{Ends, IsOfEnds, AreOfEnds}
 use Rattle.dcsctp_delivery_sockets.specs.Echoes.{MayFollow}
@@ -95,8 +95,9 @@ module _ (table : Ends) (emission : Emission) (is : IsOfEnds table emission) (e 
 
 -- ---- the tag of the association, chunk by chunk
 
-by_becomes : {to : ℕ} {adds : _} {taken : _} (tag : ℕ) (e : Endpoint) (came : Option Content) (o : Outcome) → (IsOpening came → ⊥) → TagIs tag e → Becomes came to adds taken e o → TagIs tag o.after
+by_becomes : {resets : Bool} {to : ℕ} {adds : _} {taken : _} (tag : ℕ) (e : Endpoint) (came : Option Content) (o : Outcome) → (IsOpening came → ⊥) → TagIs tag e → Becomes resets came to adds taken e o → TagIs tag o.after
 by_becomes tag e came o not is (goes_on calm linked makes) = λ link there. is link (sym linked ∙ there)
+by_becomes tag e came o not is (pauses resets calm linked ids small makes) = λ link there. is link (sym linked ∙ there)
 by_becomes tag e came o not is (works_resets linked between worked ended peer makes) = λ link there. is link (sym linked ∙ there)
 by_becomes tag e came o not is (renews calm linked alike unread own number emission kept out after packets goes contents) = λ link there. is link (sym linked ∙ there)
 by_becomes tag e came o not is (ends none unread last own makes below) = λ link there. (let clash : ◌≡◌ {A = Option AssociationIdentity} None (Some link) = sym none ∙ there in absurd (cc))

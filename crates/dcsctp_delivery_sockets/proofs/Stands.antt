@@ -1,5 +1,5 @@
 -- What is known of all associations in one direction outlasts each act of either side.
-use Rattle.std.proofs.Common.{◌≡◌, ℕ, ◌<◌, ◌^◌, List, [], ◌∷◌, ◌++◌, length, refl, sym, ◌∙◌, ap, arith, subst}
+use Rattle.std.proofs.Common.{◌≡◌, Bool, ℕ, ◌<◌, ◌^◌, List, [], ◌∷◌, ◌++◌, length, refl, sym, ◌∙◌, ap, arith, subst}
 use Rattle.dcsctp_spec_lemmas.specs.wire.Content.{PacketContent}
 use Rattle.dcsctp_spec_lemmas.specs.wire.Format.{IsPacket}
 use Rattle.dcsctp_spec_lemmas.specs.types.declared.options.Options.{Options}
@@ -14,7 +14,6 @@ use Rattle.dcsctp_spec_lemmas.specs.spec.endpoint.UserTurns.{UserTurns}
 use Rattle.dcsctp_spec_runs.specs.Sockets.{endpoint_after}
 use Rattle.dcsctp_spec_runs.specs.World.{after_effects}
 use Rattle.dcsctp_spec_lemmas.specs.spec.association.Effect.{Effect}
-use Rattle.dcsctp_spec_lemmas.specs.types.queues.Messages.{MessageContent}
 use Rattle.dcsctp_spec_lemmas.proofs.TurnLists.{after_all-append, events_of-append}
 use Rattle.dcsctp_theorem_sockets.specs.Agreement.{noted_past}
 use Rattle.dcsctp_theorem_sockets.proofs.Bursts.{packets_in-append}
@@ -30,7 +29,7 @@ use Rattle.dcsctp_delivery_sockets.specs.Delivery.{IsOfNewTags, MatchByTags, Sen
 use Rattle.dcsctp_delivery_sockets.proofs.Acts.{senders_act, receivers_act, receivers_handle}
 use Rattle.dcsctp_delivery_sockets.proofs.Calls.{NoChunks, AreCalls, call_without}
 use Rattle.dcsctp_delivery_sockets.proofs.NewLinks.{AllOpenFitting, none_open, matched_swapped, AllPerformed, new_peers, new_tags}
-use Rattle.dcsctp_delivery_sockets.proofs.Known.{past_more, GoodPacket, SideKnown, rest_turns, rest_moves, rest_refused, ran_front}
+use Rattle.dcsctp_delivery_sockets.proofs.Known.{past_more, GoodPacket, SideKnown, rest_turns, rest_moves, rest_refused, rest_resets, ran_front}
 use Rattle.dcsctp_delivery_sockets.proofs.UserMessages.{SaysSame, nothing_same, turns_same}
 
 -- ---- what two sockets have done
@@ -45,9 +44,9 @@ abbrev pub reading_of : Options → List Transition → Reading
 reading_of options turns = reading_through (fresh_endpoint options) turns nothing_read
 
 -- the direction from the one to the other
-abbrev pub Stand : Options → Options → List Transition → List Transition → Type 0
-Stand mine theirs turns others =
-    AreEnds theirs (endpoint_after mine turns) (queued_of mine turns) (noted_past turns) (packets_of turns) (endpoint_after theirs others) (noted_past others) (reading_of theirs others)
+abbrev pub Stand : Bool → Options → Options → List Transition → List Transition → Type 0
+Stand never_resets mine theirs turns others =
+    AreEnds never_resets theirs (endpoint_after mine turns) (queued_of mine turns) (noted_past turns) (packets_of turns) (endpoint_after theirs others) (noted_past others) (reading_of theirs others)
 
 queued_more : (e : Endpoint) (turns more : List Transition) (queued : List Message) → queued_through e (turns ++ more) queued ≡ queued_through (after_all e turns) more (queued_through e turns queued)
 queued_more e [] more queued = refl
@@ -70,65 +69,65 @@ few_queued options turns little = (let same = queued_same options turns in let f
 
 -- ---- the sender acts
 
-module _ (theirs : Options) (d : Endpoint) (their_past : List Effect) (reading : Reading) where
+module _ (never_resets : Bool) (theirs : Options) (d : Endpoint) (their_past : List Effect) (reading : Reading) where
   same_sender : (e e' : Endpoint) (queued queued' : List Message) (past past' : List Effect) (packets packets' : List Emission) → e ≡ e' → queued ≡ queued' → past ≡ past' → packets ≡ packets'
-      → AreEnds theirs e queued past packets d their_past reading → AreEnds theirs e' queued' past' packets' d their_past reading
+      → AreEnds never_resets theirs e queued past packets d their_past reading → AreEnds never_resets theirs e' queued' past' packets' d their_past reading
   same_sender e e' queued queued' past past' packets packets' same_e same_queued same_past same_packets h =
-      subst (λ (x : Endpoint). AreEnds theirs x queued' past' packets' d their_past reading) same_e
-      (subst (λ (x : List Message). AreEnds theirs e x past' packets' d their_past reading) same_queued
-      (subst (λ (x : List Effect). AreEnds theirs e queued x packets' d their_past reading) same_past
-      (subst (λ (x : List Emission). AreEnds theirs e queued past x d their_past reading) same_packets h)))
+      subst (λ (x : Endpoint). AreEnds never_resets theirs x queued' past' packets' d their_past reading) same_e
+      (subst (λ (x : List Message). AreEnds never_resets theirs e x past' packets' d their_past reading) same_queued
+      (subst (λ (x : List Effect). AreEnds never_resets theirs e queued x packets' d their_past reading) same_past
+      (subst (λ (x : List Emission). AreEnds never_resets theirs e queued past x d their_past reading) same_packets h)))
 
-pub sender_more : (mine theirs : Options) (turns others more : List Transition) → Stand mine theirs turns others → SideKnown mine (turns ++ more) → MatchByTags (noted_past (turns ++ more)) (noted_past others)
-    → AllPerformed (noted_past (turns ++ more)) (noted_past others) → AreCalls more → AllOpenFitting more → Stand mine theirs (turns ++ more) others
-sender_more mine theirs turns others more h known matched performed calls opens =
+pub sender_more : (never_resets : Bool) (mine theirs : Options) (turns others more : List Transition) → Stand never_resets mine theirs turns others → SideKnown never_resets mine (turns ++ more) → MatchByTags (noted_past (turns ++ more)) (noted_past others)
+    → AllPerformed (noted_past (turns ++ more)) (noted_past others) → AreCalls more → AllOpenFitting more → Stand never_resets mine theirs (turns ++ more) others
+sender_more never_resets mine theirs turns others more h known matched performed calls opens =
     let e : Endpoint = endpoint_after mine turns in
     let past : List Effect = noted_past turns in
     let new : AreNewPeers past (noted_past others) e more =
-    new_peers (noted_past others) more past e calls (rest_refused mine turns more known) (rest_moves mine turns more known) opens (subst (Each IsOfNewTags) (past_more turns more) known.tags)
+    new_peers (noted_past others) more past e calls (rest_refused never_resets mine turns more known) (rest_moves never_resets mine turns more known) opens (subst (Each IsOfNewTags) (past_more turns more) known.tags)
     (subst (λ (p : List Effect). MatchByTags p (noted_past others)) (past_more turns more) matched)
     (subst (λ (p : List Effect). AllPerformed p (noted_past others)) (past_more turns more) performed) in
     let few : length (queued_through e more (queued_of mine turns)) < 2 ^ 64 =
     subst (λ (q : List Message). length q < 2 ^ 64) (queued_more (fresh_endpoint mine) turns more []) (few_queued mine (turns ++ more) known.little) in
-    same_sender theirs (endpoint_after theirs others) (noted_past others) (reading_of theirs others) (after_all e more) (endpoint_after mine (turns ++ more)) (queued_through e more (queued_of mine turns)) (queued_of mine (turns ++ more))
+    same_sender never_resets theirs (endpoint_after theirs others) (noted_past others) (reading_of theirs others) (after_all e more) (endpoint_after mine (turns ++ more)) (queued_through e more (queued_of mine turns)) (queued_of mine (turns ++ more))
     (after_effects (effects_of more) past) (noted_past (turns ++ more)) (packets_of turns ++ packets_of more) (packets_of (turns ++ more)) (sym (after_all-append (fresh_endpoint mine) turns more))
     (sym (queued_more (fresh_endpoint mine) turns more [])) (sym (past_more turns more)) (sym (packets_more turns more))
-    (senders_act theirs (endpoint_after theirs others) (noted_past others) (reading_of theirs others) more e (queued_of mine turns) past (packets_of turns) h (rest_turns mine turns more known) new few
+    (senders_act never_resets theirs (endpoint_after theirs others) (noted_past others) (reading_of theirs others) more e (queued_of mine turns) past (packets_of turns) h (rest_turns never_resets mine turns more known) (rest_resets never_resets mine turns more known) new few
     (subst AsksLittle (packets_more turns more) known.little.requests))
 
 -- ---- the receiver acts
 
-module _ (theirs : Options) (e : Endpoint) (queued : List Message) (past : List Effect) (packets : List Emission) where
+module _ (never_resets : Bool) (theirs : Options) (e : Endpoint) (queued : List Message) (past : List Effect) (packets : List Emission) where
   same_receiver : (d d' : Endpoint) (their_past their_past' : List Effect) (reading reading' : Reading) → d ≡ d' → their_past ≡ their_past' → reading ≡ reading'
-      → AreEnds theirs e queued past packets d their_past reading → AreEnds theirs e queued past packets d' their_past' reading'
+      → AreEnds never_resets theirs e queued past packets d their_past reading → AreEnds never_resets theirs e queued past packets d' their_past' reading'
   same_receiver d d' their_past their_past' reading reading' same_d same_past same_reading h =
-      subst (λ (x : Endpoint). AreEnds theirs e queued past packets x their_past' reading') same_d
-      (subst (λ (x : List Effect). AreEnds theirs e queued past packets d x reading') same_past
-      (subst (λ (x : Reading). AreEnds theirs e queued past packets d their_past x) same_reading h))
+      subst (λ (x : Endpoint). AreEnds never_resets theirs e queued past packets x their_past' reading') same_d
+      (subst (λ (x : List Effect). AreEnds never_resets theirs e queued past packets d x reading') same_past
+      (subst (λ (x : Reading). AreEnds never_resets theirs e queued past packets d their_past x) same_reading h))
 
-module _ (mine theirs : Options) (turns others more : List Transition) (h : Stand mine theirs turns others) (known : SideKnown theirs (others ++ more)) (matched : MatchByTags (noted_past turns) (noted_past (others ++ more)))
+module _ (never_resets their_never : Bool) (mine theirs : Options) (turns others more : List Transition) (h : Stand never_resets mine theirs turns others) (known : SideKnown their_never theirs (others ++ more)) (matched : MatchByTags (noted_past turns) (noted_past (others ++ more)))
     (little : SendsLittle mine turns) where
   their_tags : AllOpenFitting more → AreNewTags theirs (noted_past others) (noted_past turns) (endpoint_after theirs others) more
   their_tags opens =
-      new_tags theirs (noted_past turns) more (noted_past others) (endpoint_after theirs others) (ran_front theirs others more known) (rest_moves theirs others more known) opens (subst (Each IsOfNewTags) (past_more others more) known.tags)
+      new_tags theirs (noted_past turns) more (noted_past others) (endpoint_after theirs others) (ran_front their_never theirs others more known) (rest_moves their_never theirs others more known) opens (subst (Each IsOfNewTags) (past_more others more) known.tags)
       (subst (λ (p : List Effect). MatchByTags p (noted_past turns)) (past_more others more) (matched_swapped (noted_past turns) (noted_past (others ++ more)) matched))
 
-  now_stands : AreEnds theirs (endpoint_after mine turns) (queued_of mine turns) (noted_past turns) (packets_of turns) (after_all (endpoint_after theirs others) more) (after_effects (effects_of more) (noted_past others))
-      (reading_through (endpoint_after theirs others) more (reading_of theirs others)) → Stand mine theirs turns (others ++ more)
+  now_stands : AreEnds never_resets theirs (endpoint_after mine turns) (queued_of mine turns) (noted_past turns) (packets_of turns) (after_all (endpoint_after theirs others) more) (after_effects (effects_of more) (noted_past others))
+      (reading_through (endpoint_after theirs others) more (reading_of theirs others)) → Stand never_resets mine theirs turns (others ++ more)
   now_stands after =
-      same_receiver theirs (endpoint_after mine turns) (queued_of mine turns) (noted_past turns) (packets_of turns) (after_all (endpoint_after theirs others) more) (endpoint_after theirs (others ++ more))
+      same_receiver never_resets theirs (endpoint_after mine turns) (queued_of mine turns) (noted_past turns) (packets_of turns) (after_all (endpoint_after theirs others) more) (endpoint_after theirs (others ++ more))
       (after_effects (effects_of more) (noted_past others)) (noted_past (others ++ more)) (reading_through (endpoint_after theirs others) more (reading_of theirs others)) (reading_of theirs (others ++ more))
       (sym (after_all-append (fresh_endpoint theirs) others more)) (sym (past_more others more)) (sym (reading_more (fresh_endpoint theirs) others more nothing_read)) after
 
-  pub receiver_calls : (call : CallContent) → UserTurns (endpoint_after theirs others) call more → AreCalls more → Stand mine theirs turns (others ++ more)
+  pub receiver_calls : (call : CallContent) → UserTurns (endpoint_after theirs others) call more → AreCalls more → Stand never_resets mine theirs turns (others ++ more)
   receiver_calls call taken calls =
       let none : NoChunks more = call_without (endpoint_after theirs others) call more taken in
-      now_stands (receivers_act theirs (endpoint_after mine turns) (queued_of mine turns) (noted_past turns) (packets_of turns) (few_queued mine turns little) little.requests more (endpoint_after theirs others) (noted_past others)
-      (reading_of theirs others) h none (rest_turns theirs others more known) calls (their_tags (none_open more none)))
+      now_stands (receivers_act never_resets theirs (endpoint_after mine turns) (queued_of mine turns) (noted_past turns) (packets_of turns) (few_queued mine turns little) little.requests more (endpoint_after theirs others) (noted_past others)
+      (reading_of theirs others) h none (rest_turns their_never theirs others more known) calls (their_tags (none_open more none)))
 
   pub receiver_handles : (bytes : List ℕ) (emission : Emission) → places.HasEntry emission (packets_of turns) → GoodPacket emission
       → ((packet : PacketContent) → IsPacket (wire_options (endpoint_after theirs others).options) packet bytes → packet_in packet ≡ emission.packet) → HandleInput (endpoint_after theirs others) bytes more → AllOpenFitting more
-      → Stand mine theirs turns (others ++ more)
+      → Stand never_resets mine theirs turns (others ++ more)
   receiver_handles bytes emission has good is taken opens =
-      now_stands (receivers_handle theirs (endpoint_after mine turns) (queued_of mine turns) (noted_past turns) (packets_of turns) (few_queued mine turns little) little.requests (endpoint_after theirs others) (noted_past others)
+      now_stands (receivers_handle never_resets theirs (endpoint_after mine turns) (queued_of mine turns) (noted_past turns) (packets_of turns) (few_queued mine turns little) little.requests (endpoint_after theirs others) (noted_past others)
       (reading_of theirs others) emission bytes more h has good.goes is (their_tags opens) taken)

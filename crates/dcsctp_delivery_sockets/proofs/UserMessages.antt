@@ -1,5 +1,5 @@
 -- What was queued and what was read, as the messages of a user.
-use Rattle.std.proofs.Common.{◌≡◌, ℕ, zero, suc, List, [], ◌∷◌, ◌++◌, length, refl, sym, ◌∙◌, ap, arith, subst, inl, inr, append_assoc}
+use Rattle.std.proofs.Common.{◌≡◌, ℕ, zero, suc, ◌<◌, false, List, [], ◌∷◌, ◌++◌, length, refl, sym, ◌∙◌, ap, arith, subst, inl, inr, append_assoc}
 use Rattle.std.specs.Prelude.{Option, None, Some, map, slice_get}
 use Rattle.std.proofs.lemmas.List.{append-nil, length-append}
 use Rattle.dcsctp_spec_lemmas.specs.spec.endpoint.CallTurns.{Transition}
@@ -14,14 +14,17 @@ use Rattle.dcsctp_delivery_sending.specs.Queueing.{message_of}
 use Rattle.dcsctp_delivery_sending.proofs.Places.{at_cases}
 use Rattle.dcsctp_delivery_receiving.specs.Ready.{WereQueued}
 use Rattle.dcsctp_delivery_directions.specs.Directions.{Delivered}
-use Rattle.dcsctp_delivery_turns.specs.Actions.{queued_where, queued_together, queued_after, with_first}
+use Rattle.dcsctp_delivery_turns.specs.Actions.{queued_where, queued_together, queued_after}
 use Rattle.dcsctp_delivery_associations.specs.Reads.{Read, Reading, messages_of, and_first, tagged_after, reading_after}
 use Rattle.dcsctp_delivery_sockets.specs.Acts.{queued_through}
 use Rattle.dcsctp_delivery_sockets.specs.Packets.{reading_through}
-use Rattle.dcsctp_delivery_order.specs.Delivered.{DeliveredInOrder}
+use Rattle.dcsctp_delivery_order.specs.Delivered.{DeliveredInOrder, DeliveredWithoutGaps}
+use Rattle.dcsctp_delivery_sending.specs.Losing.{AreUnlimited}
+use Rattle.dcsctp_delivery_sending.specs.Queueing.{has_limits}
+use Rattle.dcsctp_delivery_associations.proofs.InOrder.{MarkAt, below_at, unlimited_of}
+use Rattle.std.specs.List.{AllByRecursion}
 use Rattle.dcsctp_delivery_order.specs.Queue.{IsOrderedOn, ComeInOrder}
-use Rattle.dcsctp_delivery_sending.specs.Places.{HasEntry}
-use Rattle.dcsctp_delivery_sockets.specs.Ordered.{IsOrderedAt, RiseOn, IsDeliveredInOrder}
+use Rattle.dcsctp_delivery_sockets.specs.Ordered.{IsOrderedAt, RiseOn, IsDeliveredInOrder, IsDeliveredWithoutGaps}
 use Rattle.dcsctp_delivery_sockets.specs.UserMessages.{accepted_where, accepted_as, sent_as, all_sent_as, message_sent, first_readable, read_in, read_of, WereSent, IsDelivered}
 
 -- ---- lists
@@ -166,35 +169,33 @@ is_delivered queued sent read h d = record { places = d.places; were_sent = were
 
 -- ---- in order
 
-rise_on : (queued : List Message) (sent : List Sending) → SaysSame (λ sending. sending) queued sent → (stream : ℕ) (places : List ℕ) (read : List MessageContent) → WereQueued queued places read → ComeInOrder queued stream places → RiseOn sent stream places
-rise_on queued sent h stream [] read were come = tt
-rise_on queued sent h stream (place ∷ places) [] were come = absurd were
-rise_on queued sent h stream (place ∷ places) (content ∷ read) were come = (
-  λ later has on on'. come.0 later has (ordered place were.0.message were.0.at on) (ordered_later later places read were.1 has on'),
-  rise_on queued sent h stream places read were.1 come.1,
-)
-  where
-    same_sending : {one two : Sending} → Some one ≡ Some two → one ≡ two
-    same_sending is = cc
+found_below : {A : Type 0} (xs : List A) (k : ℕ) (x : A) → slice_get xs k ≡ Some x → k < length xs
+found_below [] k x at = absurd (cc)
+found_below (y ∷ xs) zero x at = omega arith
+found_below (y ∷ xs) (suc k) x at = (let below = found_below xs k x at in omega (arith, below))
 
-    ordered : (p : ℕ) (message : Message) → at_place p queued ≡ Some message → IsOrderedAt sent stream p → IsOrderedOn queued stream p
-    ordered p message at on =
-        let one = h.at p message at in
-        let same : one.sending ≡ on.sending = same_sending (sym one.at ∙ on.at) in
-        record {
-          message = message;
-          at = at;
-          stream = sym (ap (λ (m : Message). m.stream) one.is) ∙ ap (λ (s : Sending). s.message.stream) same ∙ on.on;
-          ordered = sym (ap (λ (m : Message). m.is_unordered) one.is) ∙ ap (λ (s : Sending). s.options.unordered) same ∙ on.ordered;
-        }
+-- An ordered message that was sent was queued at its place.
+module _ (queued : List Message) (sent : List Sending) (h : SaysSame (λ sending. sending) queued sent) (stream : ℕ) where
+  same_sending : {one two : Sending} → Some one ≡ Some two → one ≡ two
+  same_sending is = cc
 
-    ordered_later : (p : ℕ) (ps : List ℕ) (contents : List MessageContent) → WereQueued queued ps contents → HasEntry p ps → IsOrderedAt sent stream p → IsOrderedOn queued stream p
-    ordered_later p [] contents were' has on = absurd has
-    ordered_later p (q ∷ ps) [] were' has on = absurd were'
-    ordered_later p (q ∷ ps) (c ∷ contents) were' (inl is) on = ordered p were'.0.message (subst (λ (k : ℕ). at_place k queued ≡ Some were'.0.message) (sym is) were'.0.at) on
-    ordered_later p (q ∷ ps) (c ∷ contents) were' (inr has) on = ordered_later p ps contents were'.1 has on
+  ordered_on : (p : ℕ) → IsOrderedAt sent stream p → IsOrderedOn queued stream p
+  ordered_on p on =
+      let m : MarkAt queued p = below_at p queued (let below = found_below sent p on.sending on.at in let size = h.size in omega (arith, below, size)) in
+      let one = h.at p m.mark m.at in
+      let same : one.sending ≡ on.sending = same_sending (sym one.at ∙ on.at) in
+      record {
+        message = m.mark;
+        at = m.at;
+        stream = sym (ap (λ (x : Message). x.stream) one.is) ∙ ap (λ (s : Sending). s.message.stream) same ∙ on.on;
+        ordered = sym (ap (λ (x : Message). x.is_unordered) one.is) ∙ ap (λ (s : Sending). s.options.unordered) same ∙ on.ordered;
+      }
 
-were_sent_so : (queued : List Message) (sent : List Sending) → SaysSame (λ sending. sending) queued sent → (places : List ℕ) (read : List MessageContent) → WereQueued queued places read → WereSent (map message_sent sent) places read
+  pub rise_on : (places : List ℕ) → ComeInOrder queued stream places → RiseOn sent stream places
+  rise_on [] come = tt
+  rise_on (place ∷ places) come = ((λ later has on on'. come.0 later has (ordered_on place on) (ordered_on later on')), rise_on places come.1)
+
+pub were_sent_so : (queued : List Message) (sent : List Sending) → SaysSame (λ sending. sending) queued sent → (places : List ℕ) (read : List MessageContent) → WereQueued queued places read → WereSent (map message_sent sent) places read
 were_sent_so queued sent h [] [] were = tt
 were_sent_so queued sent h [] (content ∷ read) were = absurd were
 were_sent_so queued sent h (place ∷ places) [] were = absurd were
@@ -209,11 +210,30 @@ were_sent_so queued sent h (place ∷ places) (content ∷ read) were = (
     found_mapped (s ∷ all) zero sending at = (let same : s ≡ sending = cc in ap (λ (x : Sending). Some x.message) same)
     found_mapped (s ∷ all) (suc k) sending at = found_mapped all k sending at
 
-pub is_in_order : (queued : List Message) (sent : List Sending) (read : List MessageContent) → SaysSame (λ sending. sending) queued sent → DeliveredInOrder queued read → IsDeliveredInOrder sent read
+abbrev pub is_in_order : (queued : List Message) (sent : List Sending) (read : List MessageContent) → SaysSame (λ sending. sending) queued sent → DeliveredInOrder queued read → IsDeliveredInOrder sent read
 is_in_order queued sent read same d =
     record {
       places = d.delivered.places;
       were_sent = were_sent_so queued sent same d.delivered.places read d.delivered.were_queued;
       once = d.delivered.once;
-      in_order = λ stream. rise_on queued sent same stream d.delivered.places read d.delivered.were_queued (d.in_order stream);
+      in_order = λ stream. rise_on queued sent same stream d.delivered.places (d.in_order stream);
     }
+
+pub is_without_gaps : (queued : List Message) (sent : List Sending) (read : List MessageContent) → SaysSame (λ sending. sending) queued sent → DeliveredWithoutGaps queued read → IsDeliveredWithoutGaps sent read
+is_without_gaps queued sent read same d =
+    record {
+      delivered = is_in_order queued sent read same d.ordered;
+      no_gap = λ stream earlier later has on on' before. d.no_gap stream earlier later has (ordered_on queued sent same stream later on) (ordered_on queued sent same stream earlier on') before;
+    }
+
+-- ---- without limits
+
+sent_unlimited : (sent : List Sending) (k : ℕ) (sending : Sending) → AllByRecursion (λ sending. has_limits sending.options ≡ false) sent → slice_get sent k ≡ Some sending → has_limits sending.options ≡ false
+sent_unlimited [] k sending are at = absurd (cc)
+sent_unlimited (s ∷ sent) zero sending are at = (let same : s ≡ sending = cc in subst (λ (x : Sending). has_limits x.options ≡ false) same are.0)
+sent_unlimited (s ∷ sent) (suc k) sending are at = sent_unlimited sent k sending are.1 at
+
+-- What was queued has no limits, if nothing that was sent has.
+pub are_unlimited : (queued : List Message) (sent : List Sending) → SaysSame (λ sending. sending) queued sent → AllByRecursion (λ sending. has_limits sending.options ≡ false) sent → AreUnlimited queued
+are_unlimited queued sent h are =
+    unlimited_of queued (λ place message at. (let one = h.at place message at in sym (ap (λ (m : Message). m.is_limited) one.is) ∙ sent_unlimited sent place one.sending are one.at))

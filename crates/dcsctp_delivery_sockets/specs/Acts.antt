@@ -1,12 +1,12 @@
 -- What two sockets do one after another, and all their associations.
-use Rattle.std.specs.Prelude.{◌≡◌, ◌<◌, ◌^◌, ℕ, Some, List, [], ◌∷◌, ◌++◌, length}
+use Rattle.std.specs.Prelude.{◌≡◌, ◌<◌, ◌^◌, ℕ, Bool, Some, List, [], ◌∷◌, ◌++◌, length}
 use Rattle.std.specs.List.{AllByRecursion}
 use Rattle.dcsctp_spec_lemmas.specs.wire.Content.{PacketContent}
 use Rattle.dcsctp_spec_lemmas.specs.wire.Format.{IsPacket}
 use Rattle.dcsctp_spec_lemmas.specs.types.declared.options.Options.{Options}
 use Rattle.dcsctp_spec_lemmas.specs.types.Schedule.{CallContent}
 use Rattle.dcsctp_spec_lemmas.specs.types.Settings.{wire_options}
-use Rattle.dcsctp_spec_lemmas.specs.spec.endpoint.CallTurns.{Transition, HandleInput, after_all, effects_of, events_of}
+use Rattle.dcsctp_spec_lemmas.specs.spec.endpoint.CallTurns.{Transition, AlongTurns, HandleInput, after_all, effects_of, events_of}
 use Rattle.dcsctp_spec_lemmas.specs.spec.endpoint.Endpoint.{Endpoint}
 use Rattle.dcsctp_spec_lemmas.specs.spec.endpoint.Event.{packets_in}
 use Rattle.dcsctp_spec_lemmas.specs.spec.Packet.{packet_in, Emission}
@@ -20,7 +20,7 @@ use Rattle.dcsctp_delivery_turns.specs.Actions.{came_by, queued_after, IsOpening
 use Rattle.dcsctp_delivery_associations.specs.Answered.{AreAnswered}
 use Rattle.dcsctp_delivery_associations.specs.Ends.{Ends, NewPeer, Between}
 use Rattle.dcsctp_delivery_turns.specs.Runs.{RefusesNone}
-use Rattle.dcsctp_delivery_associations.specs.Laws.{CompletesPerformed, AsksLittle, AreEnds}
+use Rattle.dcsctp_delivery_associations.specs.Laws.{CompletesPerformed, AsksLittle, ResetsAs, AreEnds}
 use Rattle.dcsctp_delivery_associations.specs.Reads.{Reading}
 use Rattle.dcsctp_delivery_sockets.specs.Echoes.{GoesToMaker}
 use Rattle.dcsctp_delivery_sockets.specs.Packets.{reading_through, AreNewTags}
@@ -48,13 +48,17 @@ AreNewPeers past their_past e (turn ∷ turns) =
     × (turn.outcome.after.options.follow_rfc ≡ e.options.follow_rfc)
     × AreNewPeers (after_effects turn.outcome.effects past) their_past turn.outcome.after turns
 
+-- The user resets no stream by this turn, if it never does.
+abbrev pub ResetsIn : Bool → Endpoint → Transition → Type 0
+ResetsIn never_resets e turn = ResetsAs never_resets turn.input
+
 -- Turns of the sender leave what is known of all associations.
 abbrev pub SendersAct : Type 0
 SendersAct =
     (options : Options) (ends : Ends) (e : Endpoint) (queued : List Message) (past : List Effect) (packets : List Emission) (other : Endpoint) (their_past : List Effect) (reading : Reading) (turns : List Transition)
-    → Between options ends e queued past packets other their_past reading → AreAnswered ends e past other their_past → AreTurns e turns → AreNewPeers past their_past e turns → length (queued_through e turns queued) < 2 ^ 64
+    → Between options ends e queued past packets other their_past reading → AreAnswered ends e past other their_past → AreTurns e turns → AlongTurns (ResetsIn ends.never_resets) e turns → AreNewPeers past their_past e turns → length (queued_through e turns queued) < 2 ^ 64
     → AsksLittle (packets ++ packets_in (events_of turns))
-    → AreEnds options (after_all e turns) (queued_through e turns queued) (after_effects (effects_of turns) past) (packets ++ packets_in (events_of turns)) other their_past reading
+    → AreEnds ends.never_resets options (after_all e turns) (queued_through e turns queued) (after_effects (effects_of turns) past) (packets ++ packets_in (events_of turns)) other their_past reading
 
 -- So does a call at the receiver,
 abbrev pub ReceiversCall : Type 0
@@ -62,7 +66,7 @@ ReceiversCall =
     (options : Options) (ends : Ends) (e : Endpoint) (queued : List Message) (past : List Effect) (packets : List Emission) (other : Endpoint) (their_past : List Effect) (reading : Reading) (call : CallContent) (turns : List Transition)
     → Between options ends e queued past packets other their_past reading → AreAnswered ends e past other their_past → length queued < 2 ^ 64 → AsksLittle packets → UserTurns other call turns → AreTurns other turns
     → AllByRecursion (λ turn. IsCall turn.input) turns → AreNewTags options their_past past other turns
-    → AreEnds options e queued past packets (after_all other turns) (after_effects (effects_of turns) their_past) (reading_through other turns reading)
+    → AreEnds ends.never_resets options e queued past packets (after_all other turns) (after_effects (effects_of turns) their_past) (reading_through other turns reading)
 
 -- and so do bytes that are handed to it, if they are those of a packet that was sent.
 abbrev pub ReceiversHandle : Type 0
@@ -71,4 +75,4 @@ ReceiversHandle =
     (bytes : List ℕ) (turns : List Transition) → Between options ends e queued past packets other their_past reading → AreAnswered ends e past other their_past → length queued < 2 ^ 64 → AsksLittle packets
     → places.HasEntry emission packets → GoesToMaker emission → ((packet : PacketContent) → IsPacket (wire_options other.options) packet bytes → packet_in packet ≡ emission.packet)
     → AreNewTags options their_past past other turns → HandleInput other bytes turns
-    → AreEnds options e queued past packets (after_all other turns) (after_effects (effects_of turns) their_past) (reading_through other turns reading)
+    → AreEnds ends.never_resets options e queued past packets (after_all other turns) (after_effects (effects_of turns) their_past) (reading_through other turns reading)

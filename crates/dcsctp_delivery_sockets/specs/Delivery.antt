@@ -17,7 +17,7 @@ use Rattle.dcsctp_delivery_sending.specs.ChunkCounts.{chunks_to}
 use Rattle.dcsctp_delivery_sending.specs.Queueing.{SettingFits}
 use Rattle.dcsctp_delivery_directions.specs.Requests.{requests_to}
 use Rattle.dcsctp_delivery_turns.specs.Runs.{RefusesNone}
-use Rattle.dcsctp_delivery_sockets.specs.Ordered.{AllowsOrder, IsDeliveredInOrder, read_under}
+use Rattle.dcsctp_delivery_sockets.specs.Ordered.{AllowsOrder, AllowsNoGaps, IsDeliveredInOrder, IsDeliveredWithoutGaps, read_under}
 use Rattle.dcsctp_delivery_sockets.specs.UserMessages.{messages_sent_in, sendings_in, read_of, IsDelivered}
 
 -- ---- messages and streams in memory
@@ -27,6 +27,7 @@ pub record FitsMessage (message : MessageContent) : Type 0 where
   pub stream : message.stream < 2 ^ 16
   pub ppid : message.ppid < 2 ^ 32
   pub payload : AllByRecursion (λ byte. byte < 2 ^ 8) message.payload
+  pub size : length message.payload < 2 ^ 63
 
 abbrev pub FitsCall : CallContent → Type 0
 FitsCall (send_call message options) = FitsMessage message
@@ -94,11 +95,13 @@ pub record TurnsAllowDelivery (options : Both Options) (turns : Both (List Trans
 
 -- What this side's user read is what the other's user sent, and no message was read twice, in any association or after it has
 -- ended. What it read in one association came in the order in which it was sent, stream by stream, where the other side allows
--- it.
+-- it, and is a prefix of that where the other side allows no gaps.
 pub record Delivers (options : Both Options) (turns : Both (List Transition)) (side : Side) : Type 0 where
   pub once : IsDelivered (messages_sent_in (fresh_endpoint (of_other side options)) (of_other side turns)) (read_of (fresh_endpoint (of_side side options)) (of_side side turns))
   pub in_order : (tag : ℕ) → AllowsOrder (of_other side options) (of_other side turns) tag
       → IsDeliveredInOrder (sendings_in (fresh_endpoint (of_other side options)) (of_other side turns)) (read_under tag (of_side side options) (of_side side turns))
+  pub no_gaps : (tag : ℕ) → AllowsNoGaps (of_other side options) (of_other side turns) tag
+      → IsDeliveredWithoutGaps (sendings_in (fresh_endpoint (of_other side options)) (of_other side turns)) (read_under tag (of_side side options) (of_side side turns))
 
 -- So it is at the end of a run that is honest, in which no tag was drawn twice, each served one association, little was sent,
 -- and with interleaving no request to reset streams failed.

@@ -1,20 +1,24 @@
 -- What a user reads in one association comes in the order in which the other user sent it, stream by
--- stream (RFC 9260, section 6.6).
+-- stream, and without gaps where nothing may be left out (RFC 9260, section 6.6).
 use Rattle.std.specs.Prelude.{◌≡◌, ◌⊎◌, ◌<◌, ℕ, true, false, Some, List, [], ◌∷◌, map, slice_get}
 use Rattle.dcsctp_spec_lemmas.specs.types.declared.options.Options.{Options}
-use Rattle.dcsctp_spec_lemmas.specs.spec.endpoint.CallTurns.{Transition}
+use Rattle.dcsctp_spec_lemmas.specs.spec.endpoint.CallTurns.{Transition, events_of}
 use Rattle.dcsctp_spec_lemmas.specs.spec.endpoint.Endpoint.{fresh_endpoint}
-use Rattle.dcsctp_spec_lemmas.specs.spec.association.Effect.{AssociationIdentity, holds}
 use Rattle.dcsctp_spec_lemmas.specs.spec.endpoint.MessageOutcomes.{Sending}
 use Rattle.dcsctp_spec_lemmas.specs.types.queues.Messages.{MessageContent}
-use Rattle.dcsctp_spec_runs.specs.Past.{HasEffect}
 use Rattle.dcsctp_theorem_sockets.specs.Agreement.{noted_past}
 use Rattle.dcsctp_delivery_sending.specs.Places.{HasEntry}
 use Rattle.dcsctp_delivery_receiving.specs.Ready.{AreDistinct}
 use Rattle.dcsctp_delivery_associations.specs.Reads.{nothing_read, with_tag}
 use Rattle.dcsctp_delivery_associations.specs.InOrder.{Interleaves}
+use Rattle.dcsctp_delivery_associations.specs.Ends.{IsOnlyTag}
+use Rattle.dcsctp_delivery_sending.specs.Queueing.{has_limits}
+use Rattle.dcsctp_delivery_directions.specs.Requests.{requests_to}
+use Rattle.dcsctp_delivery_turns.specs.Actions.{resets_streams}
+use Rattle.std.specs.List.{AllByRecursion}
+use Rattle.dcsctp_spec_lemmas.specs.spec.endpoint.Event.{packets_in}
 use Rattle.dcsctp_delivery_sockets.specs.Packets.{reading_through}
-use Rattle.dcsctp_delivery_sockets.specs.UserMessages.{message_sent, WereSent}
+use Rattle.dcsctp_delivery_sockets.specs.UserMessages.{message_sent, sendings_in, WereSent}
 
 -- ---- what was sent, and what was read
 
@@ -39,15 +43,38 @@ pub record IsDeliveredInOrder (sent : List Sending) (read : List MessageContent)
   pub once : AreDistinct places
   pub in_order : (stream : ℕ) → RiseOn sent stream places
 
+-- And none is missing before one that was read: what was read of a stream's ordered messages is a prefix of what was sent.
+pub record IsDeliveredWithoutGaps (sent : List Sending) (read : List MessageContent) : Type 0 where
+  pub delivered : IsDeliveredInOrder sent read
+  pub no_gap : (stream earlier later : ℕ) → HasEntry later delivered.places → IsOrderedAt sent stream later → IsOrderedAt sent stream earlier → earlier < later → HasEntry earlier delivered.places
+
 -- the messages that the user of this socket read in these turns in the association with this own tag, or after it had ended
 abbrev pub read_under : ℕ → Options → List Transition → List MessageContent
 read_under tag options turns = with_tag tag (reading_through (fresh_endpoint options) turns nothing_read).reads
 
 -- ---- when it comes in order
 
--- All that order asks of the sender and its association whose peer has this tag, beside what delivery asks: it follows the RFC,
--- or had no other association, so that the numbers of each stream begin at 0 (RFC 9260, section 6.5); and messages interleave
--- (RFC 8260).
+-- No message that the user of this socket sent may be abandoned: none has a lifetime, or a limit on retransmissions (RFC 3758).
+abbrev pub SetsNoLimits : Options → List Transition → Type 0
+SetsNoLimits options turns = AllByRecursion (λ sending. has_limits sending.options ≡ false) (sendings_in (fresh_endpoint options) turns)
+
+-- In the association whose peer has this tag messages go in DATA, not in I-DATA. No message may be abandoned, and no request to
+-- reset streams was sent there (RFC 6525).
+pub record SendsReliableData (options : Options) (turns : List Transition) (tag : ℕ) : Type 0 where
+  pub not_interleaved : Interleaves false (noted_past turns) tag
+  pub unlimited : SetsNoLimits options turns
+  pub no_requests : requests_to tag (packets_in (events_of turns)) ≡ 0
+
+-- All that order asks of the sender and its association whose peer has this tag, beside what delivery asks. It follows the RFC,
+-- or had no other association, so that the numbers of each stream begin at 0 (RFC 9260, section 6.5). And messages interleave
+-- (RFC 8260), or it sends reliable data.
 pub record AllowsOrder (options : Options) (turns : List Transition) (tag : ℕ) : Type 0 where
-  pub anew : (options.follow_rfc ≡ true) ⊎ ((link : AssociationIdentity) → HasEffect (holds link) (noted_past turns) → link.peer.tag ≡ tag)
-  pub interleaves : Interleaves (noted_past turns) tag
+  pub starts_at_zero : (options.follow_rfc ≡ true) ⊎ IsOnlyTag (noted_past turns) tag
+  pub numbering : Interleaves true (noted_past turns) tag ⊎ SendsReliableData options turns tag
+
+-- All that it takes for nothing to be missing: the association is the sender's only one, no message may be abandoned, and its user
+-- has never called `reset_streams`. A call that is refused counts.
+pub record AllowsNoGaps (options : Options) (turns : List Transition) (tag : ℕ) : Type 0 where
+  pub only_association : IsOnlyTag (noted_past turns) tag
+  pub unlimited : SetsNoLimits options turns
+  pub never_resets : AllByRecursion (λ turn. resets_streams turn.input ≡ false) turns

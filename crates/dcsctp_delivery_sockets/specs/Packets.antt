@@ -7,7 +7,6 @@ use Rattle.dcsctp_spec_lemmas.specs.spec.Admission.{admits}
 use Rattle.dcsctp_spec_lemmas.specs.spec.endpoint.CallTurns.{Transition, AdmittedTurns, after_all, effects_of}
 use Rattle.dcsctp_spec_lemmas.specs.spec.endpoint.Endpoint.{Endpoint}
 use Rattle.dcsctp_spec_lemmas.specs.spec.Packet.{Emission}
-use Rattle.dcsctp_spec_lemmas.specs.types.queues.Messages.{MessageContent}
 use Rattle.dcsctp_spec_runs.specs.Past.{HasEffect}
 use Rattle.dcsctp_spec_runs.specs.World.{after_effects}
 use Rattle.dcsctp_spec_lemmas.specs.spec.association.Effect.{AssociationIdentity, Effect, holds, identity_of, identity_in}
@@ -41,4 +40,4 @@ PacketsKeepEnds =
     (options : Options) (ends : Ends) (e : Endpoint) (queued : List Message) (past : List Effect) (packets : List Emission) (other : Endpoint) (their_past : List Effect) (reading : Reading) (emission : Emission)
     (turns : List Transition) → Between options ends e queued past packets other their_past reading → AreAnswered ends e past other their_past → length queued < 2 ^ 64 → AsksLittle packets → places.HasEntry emission packets
     → GoesToMaker emission → AreNewTags options their_past past other turns → AdmittedTurns other emission.packet (admits other.core emission.packet) turns
-    → AreEnds options e queued past packets (after_all other turns) (after_effects (effects_of turns) their_past) (reading_through other turns reading)
+    → AreEnds ends.never_resets options e queued past packets (after_all other turns) (after_effects (effects_of turns) their_past) (reading_through other turns reading)

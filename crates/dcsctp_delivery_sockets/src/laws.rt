@@ -47,8 +47,10 @@ pub fn acts_keep_ends()
 /// outside, no tag is drawn twice, each verification tag serves one association, fewer than 2^30 chunks of data and
 /// fewer than 2^32 - 1 requests to reset streams go to each, each counted as often as it is sent, a side sends fewer
 /// than 2^64 messages, and none of these requests fails in an association with interleaving (RFC 8260). The ordered
-/// messages of a stream that are read in one association come in the order in which they were sent, across resets of
-/// the stream, where messages interleave, and the sender follows the RFC or has no other association.
+/// messages of a stream that are read in one association come in the order in which they were sent, where the sender
+/// follows the RFC or has no other association, and messages interleave, across resets of the stream, or none may be
+/// abandoned and no request to reset streams was sent. Where the sender has one association, no message may be
+/// abandoned and its user never resets streams, they are a prefix of what was sent.
 pub fn sockets_deliver()
     ensures { SocketsDeliver }
 {

@@ -24,7 +24,7 @@ use Rattle.dcsctp_delivery_turns.proofs.Begun.{grows_then, grows_not, grows_by, 
 
 -- where nothing is queued or read
 abbrev pub Goes : Option Content → ℕ → Endpoint → Outcome → Type 0
-Goes came to e o = Becomes came to (λ queued. queued) (λ read. read) e o
+Goes came to e o = Becomes false came to (λ queued. queued) (λ read. read) e o
 
 -- the outcome that follows from what is inside, by actions
 abbrev pub MakesTo : Option Content → ℕ → Inside → Outcome → Type 0

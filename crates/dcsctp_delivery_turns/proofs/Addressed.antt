@@ -9,7 +9,7 @@ use Rattle.dcsctp_spec_lemmas.specs.spec.association.Choices.{plain_contents}
 use Rattle.dcsctp_spec_lemmas.specs.spec.endpoint.BegunResets.{BegunReset, request_contents}
 use Rattle.dcsctp_spec_lemmas.specs.spec.endpoint.FlushOutcomes.{FillingEvent, filling_event, Answer, answer_contents, filled, goes_out, asked, next_draft, flush_of, Ask, first_ask, later_ask, AreFlushAnswers, at_limit, at_empty, after_packet, packets_allowed}
 use Rattle.dcsctp_theorem_sockets.proofs.Bursts.{packets_in-append, told_none}
-use Rattle.dcsctp_delivery_turns.specs.Actions.{Ledger, NoEnd, Action, queues, sets, prepares, flushes, resends, resends_nothing, speaks, asks_again, acknowledges, loses, receives, receives_interleaved, forwards, forwards_interleaved, tracks, takes, Actions, nothing, further}
+use Rattle.dcsctp_delivery_turns.specs.Actions.{Ledger, NoEnd, Action, queues, sets, flushes, resends, resends_nothing, speaks, asks_again, acknowledges, loses, receives, receives_interleaved, forwards, forwards_interleaved, tracks, takes, Actions, nothing, further}
 use Rattle.dcsctp_delivery_turns.specs.Addressed.{AreAddressed}
 use Rattle.dcsctp_delivery_turns.specs.Tags.{AllTo, IsPeerTag}
 use Rattle.dcsctp_delivery_turns.proofs.Tags.{flushes_to, tags_own}
@@ -93,7 +93,6 @@ flushed_addressed to (emission ∷ emissions) there free = (inr (there.0, free.0
 action_addressed : (came : Option Content) (to : ℕ) (old new : Ledger) → AreAddressed to old.sent → Action came to old new → AreAddressed to new.sent
 action_addressed came to old _ addressed (queues now sending fits some) = addressed
 action_addressed came to old _ addressed (sets setting small) = addressed
-action_addressed came to old _ addressed (prepares ids small) = addressed
 action_addressed came to old _ addressed (flushes e draft answers same at tag no_data no_end allowed) =
     both_addressed to old.sent (packets_in (flush_of e draft answers).events) addressed
     (flushed_addressed to (packets_in (flush_of e draft answers).events)

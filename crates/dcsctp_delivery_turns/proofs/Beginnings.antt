@@ -14,10 +14,10 @@ use Rattle.dcsctp_spec_lemmas.specs.spec.queues.Transfer.{EndpointQueues}
 use Rattle.dcsctp_spec_lemmas.specs.spec.endpoint.MessageOutcomes.{MessageRefusal, Sending, sending_refusal, queue_one}
 use Rattle.dcsctp_delivery_sending.specs.Log.{Fits, Message, new_history}
 use Rattle.dcsctp_delivery_turns.specs.Actions.{Inside, OwnEnds, PeerResets, queued_where, queued_together, queued_after, Begun}
-use Rattle.dcsctp_spec_lemmas.specs.types.queues.SendStreams.{Stream, begun_anew, stream_at}
+use Rattle.dcsctp_spec_lemmas.specs.types.queues.SendStreams.{Stream, next_numbers, begun_anew, stream_at}
 use Rattle.dcsctp_spec_lemmas.specs.types.declared.sending.UnderWay.{UnderWay}
-use Rattle.dcsctp_delivery_directions.specs.Directions.{BeginsAtZero}
-use Rattle.dcsctp_delivery_sending.specs.Numbers.{stream_named, next_mid}
+use Rattle.dcsctp_delivery_directions.specs.Directions.{Beginning, BeginsAs, BeginsAtZero}
+use Rattle.dcsctp_delivery_sending.specs.Numbers.{stream_named}
 use Rattle.dcsctp_delivery_sending.specs.Pieces.{AllQueued, Ascend}
 use Rattle.dcsctp_delivery_sending.specs.Queueing.{QueueWaits}
 use Rattle.dcsctp_delivery_sending.proofs.KeptQueues.{restarted_hold}
@@ -78,11 +78,11 @@ worked_fits came o old between worked own peer fits =
 
 -- ---- directions that begin
 
-pub anew_runs : (options : Options) (first size : ℕ) (queued : List Message) (below : EndpointQueues) (from_zero : Bool) → AllByRecursion Fits queued → QueueWaits queued below.queue → directions.NoneInFlight first below.queue.is_interleaved below.transfer
-    → (from_zero ≡ true → BeginsAtZero below.queue) → DirectionRun options first size (new_direction options first size queued below 0 [] from_zero)
-anew_runs options first size queued below from_zero fit queues none numbered =
-    directions.begins (new_direction options first size queued below 0 [] from_zero)
-    (record { fit = fit; queues = queues; flight = none; acknowledged = refl; sent = refl; tracker = refl; reassembly = refl; read = refl; asking = refl; zero = numbered })
+pub anew_runs : (options : Options) (first size : ℕ) (queued : List Message) (below : EndpointQueues) (beginning : Beginning) → AllByRecursion Fits queued → QueueWaits queued below.queue → directions.NoneInFlight first below.queue.is_interleaved below.transfer
+    → BeginsAs beginning below.queue → DirectionRun options first size (new_direction options first size queued below 0 [] beginning)
+anew_runs options first size queued below beginning fit queues none begun =
+    directions.begins (new_direction options first size queued below 0 [] beginning)
+    (record { fit = fit; queues = queues; flight = none; acknowledged = refl; sent = refl; tracker = refl; reassembly = refl; read = refl; asking = refl; begun = begun })
 
 -- Nothing waits in a socket that was just made.
 pub fresh_waits : (mine : Options) → QueueWaits [] (empty_queue mine)
@@ -100,7 +100,15 @@ fresh_waits mine =
           small = none_small;
         };
         next = refl;
-        numbers = record { kinds = λ n f at. absurd (cc); counts = tt; kept = tt };
+        numbers = record {
+          kinds = λ n f at. absurd (cc);
+          counts = record {
+            turns = λ id from. record { next = refl; sent = λ n f at. absurd (cc); going = λ u is. absurd (cc) };
+            closes = λ n f g at. absurd (cc);
+            rests = λ none f at. absurd (cc);
+          };
+          kept = tt;
+        };
       };
     }
   where
@@ -138,13 +146,13 @@ begun_kind e o begun =
 
 -- A socket that was just made has numbered nothing.
 pub fresh_at_zero : (mine : Options) → BeginsAtZero (empty_queue mine)
-fresh_at_zero mine = record { rest = λ u waiting is. absurd (cc); zero = λ id. refl }
+fresh_at_zero mine = record { rest = λ u waiting is. absurd (cc); zero = λ id. refl; ssn = λ id. refl }
 
-renamed_zero : (id : ℕ) (streams : List Stream) → next_mid false (stream_named id (map begun_anew streams)) ≡ 0
+renamed_zero : (id : ℕ) (streams : List Stream) → next_numbers false (stream_named id (map begun_anew streams)) ≡ (0, 0)
 renamed_zero id [] = refl
 renamed_zero id (stream ∷ streams) = go (stream.id == id) (renamed_zero id streams)
   where
-    go : (b : Bool) → next_mid false (stream_named id (map begun_anew streams)) ≡ 0 → next_mid false (if b then begun_anew stream else stream_named id (map begun_anew streams)) ≡ 0
+    go : (b : Bool) → next_numbers false (stream_named id (map begun_anew streams)) ≡ (0, 0) → next_numbers false (if b then begun_anew stream else stream_named id (map begun_anew streams)) ≡ (0, 0)
     go true rest = refl
     go false rest = rest
 
@@ -162,7 +170,8 @@ restarted_at_zero enabled queue =
     subst BeginsAtZero (sym (numbered_idle enabled (queue_restarted queue) idle))
     (record {
       rest = λ u waiting is front. absurd (let clash : None ≡ Some u = sym idle ∙ is in cc);
-      zero = λ id. ap (λ (n : ℕ). n % 2 ^ 32) (renamed_zero id (put_back queue.under_way queue).streams);
+      zero = λ id. ap (λ (p : ℕ × ℕ). p.1 % 2 ^ 32) (renamed_zero id (put_back queue.under_way queue).streams);
+      ssn = λ id. ap (λ (p : ℕ × ℕ). p.0) (renamed_zero id (put_back queue.under_way queue).streams);
     })
 
 -- With `follow_rfc` each association begins so (RFC 9260, section 6.5).

@@ -4,14 +4,12 @@ use Rattle.dcsctp_spec_lemmas.specs.spec.Packet.{Content}
 use Rattle.dcsctp_spec_lemmas.specs.spec.queues.Transfer.{EndpointQueues}
 use Rattle.dcsctp_spec_lemmas.specs.spec.endpoint.FlushOutcomes.{first_ask, packets_allowed}
 use Rattle.dcsctp_delivery_sending.proofs.NextIdentifiers.{flush_kind}
-use Rattle.dcsctp_delivery_sending.proofs.Prepared.{preparing_kind}
 use Rattle.dcsctp_delivery_sending.proofs.Settings.{setting_kind}
-use Rattle.dcsctp_delivery_turns.specs.Actions.{Ledger, Action, queues, sets, prepares, flushes, resends, resends_nothing, speaks, asks_again, acknowledges, loses, receives, receives_interleaved, forwards, forwards_interleaved, tracks, takes, Actions, nothing, further}
+use Rattle.dcsctp_delivery_turns.specs.Actions.{Ledger, Action, queues, sets, flushes, resends, resends_nothing, speaks, asks_again, acknowledges, loses, receives, receives_interleaved, forwards, forwards_interleaved, tracks, takes, Actions, nothing, further}
 
 action_kind : (came : Option Content) (to : ℕ) (old new : Ledger) → Action came to old new → new.queues.queue.is_interleaved ≡ old.queues.queue.is_interleaved
 action_kind came to old _ (queues now sending fit some) = refl
 action_kind came to old _ (sets setting small) = setting_kind setting old.queues.queue
-action_kind came to old _ (prepares ids small) = preparing_kind ids old.queues.queue
 action_kind came to old _ (flushes e draft answers same at tag no_data no_end allowed) =
     flush_kind first_ask (packets_allowed e.options.max_burst e.core) e draft answers allowed ∙ ap (λ (b : EndpointQueues). b.queue.is_interleaved) same
 action_kind came to old _ (resends now room transfer left tsns chunks emission tag known does are contents) = refl

@@ -1,6 +1,6 @@
 -- The laws of turns, as what they do to runs of two directions.
 use Rattle.dcsctp_delivery_directions.specs.Directions as directions
-use Rattle.std.proofs.Common.{Bool, true, false, None, [], sym, subst}
+use Rattle.std.proofs.Common.{true, false, None, [], sym, arith, subst}
 use Rattle.dcsctp_spec_lemmas.specs.spec.queues.SendQueue.{empty_queue}
 use Rattle.dcsctp_delivery_turns.specs.Runs.{SendersGoOn, SendersBegin, SendersBeginAnew, ReceiversGoOn, ReceiversBegin}
 use Rattle.dcsctp_delivery_turns.proofs.Turns.{turns_are_actions}
@@ -9,14 +9,17 @@ use Rattle.dcsctp_delivery_turns.proofs.SenderRuns.{sender_becomes}
 use Rattle.dcsctp_delivery_turns.proofs.ReceiverRuns.{idle_becomes, receiver_becomes}
 
 pub senders_begin : SendersBegin
-senders_begin mine options first size = anew_runs options first size [] (record { queue = empty_queue mine; transfer = None }) true tt (fresh_waits mine) tt (λ is. fresh_at_zero mine)
+senders_begin mine options first size keeps_all =
+    anew_runs options first size [] (record { queue = empty_queue mine; transfer = None }) (record { from_zero = true; keeps_all = keeps_all }) tt (fresh_waits mine) tt
+    (record { zero = λ is. fresh_at_zero mine; all = λ is. record { waits = λ place below. absurd (omega (arith, below)); unpaused = tt } })
 
 pub begins_anew : SendersBeginAnew
-begins_anew options first size queued below fit queues none = anew_runs options first size queued below false fit queues (subst (directions.NoneInFlight first below.queue.is_interleaved) (sym none) tt) (λ is. absurd (cc))
+begins_anew options first size queued below fit queues none =
+    anew_runs options first size queued below (record { from_zero = false; keeps_all = false }) fit queues (subst (directions.NoneInFlight first below.queue.is_interleaved) (sym none) tt) (record { zero = λ is. absurd (cc); all = λ is. absurd (cc) })
 
 pub senders_go_on : SendersGoOn
-senders_go_on options first size direction e input o run small same fits performed refuses opens few may turn =
-    sender_becomes options first size direction e input o run small same fits performed refuses opens few (turns_are_actions e input o may turn)
+senders_go_on options first size direction e input o run small same fits performed refuses drops opens few may turn =
+    sender_becomes options first size direction e input o run small same fits performed refuses drops opens few (turns_are_actions e input o may turn)
 
 pub receivers_go_on : ReceiversGoOn
 receivers_go_on is_known options first size direction transfer e input o run known was newest fits small may turn =

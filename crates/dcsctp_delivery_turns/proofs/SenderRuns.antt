@@ -1,6 +1,6 @@
 -- A turn, as what it does to runs of the direction on which the socket sends.
 use Rattle.dcsctp_delivery_directions.specs.Directions as directions
-use Rattle.std.proofs.Common.{◌≡◌, ◌<◌, ◌^◌, ℕ, Bool, true, Option, None, Some, List, [], ◌∷◌, ◌++◌, length, refl, sym, ◌∙◌, ap, subst, inr, arith}
+use Rattle.std.proofs.Common.{◌≡◌, ◌<◌, ◌^◌, ℕ, Option, None, Some, List, [], ◌∷◌, ◌++◌, length, refl, sym, ◌∙◌, ap, subst, inr, arith}
 use Rattle.std.specs.List.{AllByRecursion}
 use Rattle.dcsctp_spec_lemmas.specs.types.declared.options.Options.{Options}
 use Rattle.dcsctp_spec_lemmas.specs.spec.endpoint.Endpoint.{Endpoint}
@@ -10,17 +10,18 @@ use Rattle.dcsctp_spec_lemmas.specs.spec.Packet.{Emission}
 use Rattle.dcsctp_spec_lemmas.specs.spec.endpoint.Turn.{Input}
 use Rattle.dcsctp_spec_lemmas.specs.spec.queues.Transfer.{EndpointQueues}
 use Rattle.dcsctp_delivery_sending.specs.Log.{Fits, Message}
-use Rattle.dcsctp_delivery_turns.specs.Actions.{ledger_of, Inside, inside, Made, MakesAlso, came_by, queued_after, read_after, peer_tag, opening_queues, Becomes, goes_on, works_resets, renews, ends, begins, NoEnd}
+use Rattle.dcsctp_delivery_turns.specs.Actions.{ledger_of, Inside, inside, Made, MakesAlso, came_by, queued_after, read_after, peer_tag, opening_queues, Becomes, resets_streams, goes_on, pauses, prepared_inside, works_resets, renews, ends, begins, NoEnd}
 use Rattle.dcsctp_delivery_sending.specs.Queueing.{QueueWaits}
 use Rattle.dcsctp_delivery_turns.specs.Addressed.{AreAddressed}
 use Rattle.dcsctp_spec_lemmas.specs.spec.association.Effect.{identity_in}
 use Rattle.dcsctp_spec_lemmas.specs.types.queues.Messages.{MessageContent}
-use Rattle.dcsctp_delivery_turns.specs.Runs.{sender_at, IsBetween, as_it_was, once_renewed, OpensSmall, EndsPerformed, RefusesNone, SenderTurns, run_goes_on, run_ends, run_begins}
-use Rattle.dcsctp_delivery_directions.specs.Directions.{Asking, nothing_asked, asking_renewed, Direction, DirectionRun, IsAwaited, BeginsAtZero}
-use Rattle.dcsctp_delivery_turns.proofs.Sides.{steps_go_on, actions_send}
+use Rattle.dcsctp_delivery_turns.specs.Runs.{sender_at, IsBetween, as_it_was, once_renewed, OpensSmall, EndsPerformed, RefusesNone, MayDrop, SenderTurns, run_goes_on, run_ends, run_begins}
+use Rattle.dcsctp_delivery_directions.specs.Directions.{Asking, nothing_asked, asking_renewed, Direction, Beginning, BeginsAs, DirectionRun, IsAwaited}
+use Rattle.dcsctp_delivery_turns.proofs.Sides.{one_step, steps_go_on, actions_send}
 use Rattle.dcsctp_spec_lemmas.specs.spec.Reconfiguration.{RequestedReset}
 use Rattle.dcsctp_spec_lemmas.specs.spec.association.FlushChanges.{reset_request}
 use Rattle.dcsctp_delivery_turns.specs.Asking.{Own, own_of, AsksFit, AskingGrows}
+use Rattle.dcsctp_delivery_sending.proofs.Prepared.{preparing_kind}
 use Rattle.dcsctp_delivery_turns.proofs.Numbering.{actions_kind}
 use Rattle.dcsctp_delivery_turns.proofs.Fronts.{is_asking, own_renews, sending_by, front_sends}
 use Rattle.dcsctp_delivery_directions.proofs.Directions.{direction_queues}
@@ -29,7 +30,7 @@ use Rattle.dcsctp_delivery_turns.proofs.Begun.{grows_not}
 use Rattle.dcsctp_delivery_turns.proofs.Beginnings.{input_more, nothing_fits, begun_queues, begun_kind}
 
 module _ (options : Options) (first size : ℕ) (direction : Direction) (e : Endpoint) (input : Input) (o : Outcome) (run : DirectionRun options first size direction) (small : first < 2 ^ 32) (same : direction.queues ≡ e.queues)
-    (fits : AsksFit first (own_of e) direction.asking) (performed : EndsPerformed e o direction.asking) (refuses : RefusesNone e o) (opens : OpensSmall e input o) (few : length (queued_after e input direction.queued) < 2 ^ 64) where
+    (fits : AsksFit first (own_of e) direction.asking) (performed : EndsPerformed e o direction.asking) (refuses : RefusesNone e o) (drops : MayDrop input direction.beginning) (opens : OpensSmall e input o) (few : length (queued_after e input direction.queued) < 2 ^ 64) where
   both : QueueWaits direction.queued direction.queues.queue × AllByRecursion Fits direction.queued
   both = direction_queues options first size direction run small (let more = input_more e input direction.queued in omega (arith, few, more))
 
@@ -43,7 +44,7 @@ module _ (options : Options) (first size : ℕ) (direction : Direction) (e : End
       → (acknowledged : ℕ) × DirectionRun options first size (after_turn last.queues acknowledged made.asking)
   moved old asking start last made =
       let sends = actions_send (came_by input) (peer_tag e.core) (ledger_of direction.queued old.queues direction.sent [] asking)
-      (ledger_of (queued_after e input direction.queued) last.queues (direction.sent ++ packets_in o.events) (read_after e input []) made.asking) direction.acknowledged direction.tracker direction.reassembly direction.read direction.from_zero made.actions in
+      (ledger_of (queued_after e input direction.queued) last.queues (direction.sent ++ packets_in o.events) (read_after e input []) made.asking) direction.acknowledged direction.tracker direction.reassembly direction.read direction.beginning made.actions in
       (sends.later, steps_go_on options first size (sending_by direction old asking) (after_turn last.queues sends.later made.asking) start sends.steps)
 
   starts : DirectionRun options first size (sending_by direction (inside e) direction.asking)
@@ -63,8 +64,12 @@ module _ (options : Options) (first size : ℕ) (direction : Direction) (e : End
       run_goes_on linked (addressed (peer_tag e.core) worked asking first (inside o.after) _ _ (makes direction.queued [] [] first asking fit))
       (actions_kind (came_by input) (peer_tag e.core) _ _ made.actions ∙ kind) after.0 asking made.asking between made.grows made.fits after.1
 
-  pub sender_becomes : Becomes (came_by input) (peer_tag e.core) (queued_after e input) (read_after e input) e o → SenderTurns options first size direction e input o
+  pub sender_becomes : Becomes (resets_streams input) (came_by input) (peer_tag e.core) (queued_after e input) (read_after e input) e o → SenderTurns options first size direction e input o
   sender_becomes (goes_on calm linked makes) = goes_further linked (inside e) direction.asking as_it_was refl fits starts makes
+  sender_becomes (pauses resets calm linked ids small' makes) =
+      goes_further linked (prepared_inside ids (inside e)) direction.asking as_it_was (preparing_kind ids e.queues.queue) fits
+      (steps_go_on options first size (sending_by direction (inside e) direction.asking) (sending_by direction (prepared_inside ids (inside e)) direction.asking) starts
+      (one_step (sending_by direction (inside e) direction.asking) _ (directions.prepares ids small' (drops resets)))) makes
   sender_becomes (works_resets linked between worked own peer makes) =
       let front = front_sends (came_by input) first direction o.effects (inside e) between worked own peer fits performed refuses in
       goes_further linked worked front.asking front.between front.kind front.fits
@@ -101,13 +106,13 @@ module _ (options : Options) (first size : ℕ) (direction : Direction) (e : End
       started : RequestedReset → Inside
       started reset = record { queues = opening_queues e o begun; own = Some (record { number = None; next = begun.my.first_tsn; again = reset }) }
 
-      later : (other : Options) (room : ℕ) (awaiting : Direction) (queued : List Message) (from_zero : Bool) → QueueWaits queued e.queues.queue → AllByRecursion Fits queued → DirectionRun other begun.my.first_tsn room awaiting → IsAwaited awaiting
-          → (from_zero ≡ true → BeginsAtZero begun.queue) → (acknowledged : ℕ) × (asking : Asking) × AskingGrows nothing_asked asking × AsksFit begun.my.first_tsn (own_of o.after) asking
-          × DirectionRun other begun.my.first_tsn room (record (sender_at awaiting queued o.after.queues acknowledged (packets_in o.events) asking) { from_zero = from_zero })
-      later other room awaiting queued from_zero shown fit waits awaited zeros =
-          let there : Direction = record awaiting { from_zero = from_zero } in
+      later : (other : Options) (room : ℕ) (awaiting : Direction) (queued : List Message) (beginning : Beginning) → QueueWaits queued e.queues.queue → AllByRecursion Fits queued → DirectionRun other begun.my.first_tsn room awaiting → IsAwaited awaiting
+          → BeginsAs beginning begun.queue → (acknowledged : ℕ) × (asking : Asking) × AskingGrows nothing_asked asking × AsksFit begun.my.first_tsn (own_of o.after) asking
+          × DirectionRun other begun.my.first_tsn room (record (sender_at awaiting queued o.after.queues acknowledged (packets_in o.events) asking) { beginning = beginning })
+      later other room awaiting queued beginning shown fit waits awaited zeros =
+          let there : Direction = record awaiting { beginning = beginning } in
           let start : DirectionRun other begun.my.first_tsn room (sender_at there queued (opening_queues e o begun) there.acknowledged there.sent there.asking) =
-          directions.starts awaiting queued (opening_queues e o begun) from_zero waits awaited fit (begun_queues e o begun queued shown) (refl, refl, sym (begun_kind e o begun)) zeros in
+          directions.starts awaiting queued (opening_queues e o begun) beginning waits awaited fit (begun_queues e o begun queued shown) (refl, refl, sym (begun_kind e o begun)) zeros in
           let numbered : DirectionRun other begun.my.first_tsn room (sender_at there queued (opening_queues e o begun) 0 there.sent there.asking) =
           subst (λ (g : ℕ). DirectionRun other begun.my.first_tsn room (sender_at there queued (opening_queues e o begun) g there.sent there.asking)) awaited.acknowledged start in
           let unsent : DirectionRun other begun.my.first_tsn room (sender_at there queued (opening_queues e o begun) 0 [] there.asking) =
@@ -116,7 +121,7 @@ module _ (options : Options) (first size : ℕ) (direction : Direction) (e : End
           subst (λ (a : Asking). DirectionRun other begun.my.first_tsn room (sender_at there queued (opening_queues e o begun) 0 [] a)) awaited.asking unsent in
           let made = makes queued [] [] begun.my.first_tsn nothing_asked (nothing_fits begun.my.first_tsn again (opens begun opening linked)) in
           let sends = actions_send (came_by input) begun.held.peer.tag (ledger_of queued (opening_queues e o begun) [] [] nothing_asked) (ledger_of queued o.after.queues (packets_in o.events) [] made.asking) 0
-          awaiting.tracker awaiting.reassembly awaiting.read from_zero made.actions in (
+          awaiting.tracker awaiting.reassembly awaiting.read beginning made.actions in (
             sends.later,
             made.asking,
             made.grows,

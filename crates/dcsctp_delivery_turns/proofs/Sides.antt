@@ -1,6 +1,6 @@
 -- The actions of a socket, as steps of its two directions.
 use Rattle.dcsctp_delivery_directions.specs.Directions as directions
-use Rattle.std.proofs.Common.{◌≡◌, ℕ, Bool, ◌+◌, Option, Some, List, refl, sym, ◌∙◌, ap, subst}
+use Rattle.std.proofs.Common.{◌≡◌, ℕ, ◌+◌, Option, Some, List, refl, sym, ◌∙◌, ap, subst}
 use Rattle.dcsctp_spec_lemmas.specs.wire.Content.{data_chunk, i_data_chunk, forward_tsn_chunk, i_forward_tsn_chunk}
 use Rattle.dcsctp_spec_lemmas.specs.types.declared.options.Options.{Options}
 use Rattle.dcsctp_spec_lemmas.specs.spec.Packet.{Content}
@@ -11,9 +11,9 @@ use Rattle.dcsctp_spec_lemmas.specs.spec.queues.Tracker.{TrackerState}
 use Rattle.dcsctp_spec_lemmas.specs.spec.queues.Transfer.{Transfer, EndpointQueues}
 use Rattle.dcsctp_spec_lemmas.specs.spec.endpoint.FlushOutcomes.{first_ask, packets_allowed}
 use Rattle.dcsctp_spec_lemmas.specs.spec.endpoint.TransferMoves.{timed_by, lost_all}
-use Rattle.dcsctp_delivery_turns.specs.Actions.{Ledger, Action, queues, sets, prepares, flushes, resends, resends_nothing, speaks, asks_again, acknowledges, loses, receives, receives_interleaved, forwards, forwards_interleaved, tracks, takes, Actions, nothing, further}
+use Rattle.dcsctp_delivery_turns.specs.Actions.{Ledger, Action, queues, sets, flushes, resends, resends_nothing, speaks, asks_again, acknowledges, loses, receives, receives_interleaved, forwards, forwards_interleaved, tracks, takes, Actions, nothing, further}
 use Rattle.dcsctp_delivery_turns.specs.Sides.{DirectionSteps, stays, moves, sending, SendingSteps, WasIn, WasSent, receiving, ReceivingSteps}
-use Rattle.dcsctp_delivery_directions.specs.Directions.{Direction, DirectionStep, DirectionRun, goes_on}
+use Rattle.dcsctp_delivery_directions.specs.Directions.{Direction, Beginning, DirectionStep, DirectionRun, goes_on}
 use Rattle.dcsctp_spec_lemmas.specs.spec.queues.Arrivals.{data_arrival, i_data_arrival, skipped_in, messages_skipped_in}
 use Rattle.dcsctp_delivery_turns.specs.PeerRequests.{SameWaits}
 use Rattle.dcsctp_delivery_turns.proofs.Waiting.{same_waits, waits_by, waits_then, receives_wait, moves_wait}
@@ -32,14 +32,13 @@ one_step old new step = moves old new stays step
 
 -- ---- the direction on which it sends
 
-module _ (came : Option Content) (to : ℕ) (tracker : TrackerState) (reassembly : ReassemblyState) (read : List MessageContent) (from_zero : Bool) where
-  by : (old new : Ledger) (acknowledged later : ℕ) → DirectionStep (sending old acknowledged tracker reassembly read from_zero) (sending new later tracker reassembly read from_zero) → SendingSteps old new acknowledged tracker reassembly read from_zero
-  by old new acknowledged later step = record { later = later; steps = one_step (sending old acknowledged tracker reassembly read from_zero) (sending new later tracker reassembly read from_zero) step }
+module _ (came : Option Content) (to : ℕ) (tracker : TrackerState) (reassembly : ReassemblyState) (read : List MessageContent) (beginning : Beginning) where
+  by : (old new : Ledger) (acknowledged later : ℕ) → DirectionStep (sending old acknowledged tracker reassembly read beginning) (sending new later tracker reassembly read beginning) → SendingSteps old new acknowledged tracker reassembly read beginning
+  by old new acknowledged later step = record { later = later; steps = one_step (sending old acknowledged tracker reassembly read beginning) (sending new later tracker reassembly read beginning) step }
 
-  action_sends : (old new : Ledger) (acknowledged : ℕ) → Action came to old new → SendingSteps old new acknowledged tracker reassembly read from_zero
+  action_sends : (old new : Ledger) (acknowledged : ℕ) → Action came to old new → SendingSteps old new acknowledged tracker reassembly read beginning
   action_sends old _ acknowledged (queues now message fits some) = by old _ acknowledged acknowledged (directions.queues now message fits some)
   action_sends old _ acknowledged (sets setting small) = by old _ acknowledged acknowledged (directions.sets setting small)
-  action_sends old _ acknowledged (prepares ids small) = by old _ acknowledged acknowledged (directions.prepares ids small)
   action_sends old _ acknowledged (flushes e draft answers same at tag no_data no_end allowed) = by old _ acknowledged acknowledged (directions.flushes e draft answers same no_data allowed)
   action_sends old _ acknowledged (resends now room transfer left tsns chunks emission tag known sends are contents) =
       by old _ acknowledged acknowledged (directions.resends now room transfer left tsns chunks emission known sends are contents)
@@ -56,19 +55,19 @@ module _ (came : Option Content) (to : ℕ) (tracker : TrackerState) (reassembly
   action_sends old _ acknowledged (tracks transfer tracked known cumulative ranges) = by old _ acknowledged acknowledged (directions.turns_aside transfer _ known refl)
   action_sends old _ acknowledged (takes transfer message messages known ready) = by old _ acknowledged acknowledged (directions.turns_aside transfer _ known refl)
 
-  all_send : (old new : Ledger) (acknowledged : ℕ) → Actions came to old new → SendingSteps old new acknowledged tracker reassembly read from_zero
+  all_send : (old new : Ledger) (acknowledged : ℕ) → Actions came to old new → SendingSteps old new acknowledged tracker reassembly read beginning
   all_send old _ acknowledged nothing = record { later = acknowledged; steps = stays }
   all_send old _ acknowledged (further between new first last) =
       let before = all_send old between acknowledged first in
       let after = action_sends between new before.later last in
       record {
         later = after.later;
-        steps = all_steps (sending old acknowledged tracker reassembly read from_zero) (sending between before.later tracker reassembly read from_zero) (sending new after.later tracker reassembly read from_zero) before.steps after.steps;
+        steps = all_steps (sending old acknowledged tracker reassembly read beginning) (sending between before.later tracker reassembly read beginning) (sending new after.later tracker reassembly read beginning) before.steps after.steps;
       }
 
-pub actions_send : (came : Option Content) (to : ℕ) (old new : Ledger) (acknowledged : ℕ) (tracker : TrackerState) (reassembly : ReassemblyState) (read : List MessageContent) (from_zero : Bool) → Actions came to old new
-    → SendingSteps old new acknowledged tracker reassembly read from_zero
-actions_send came to old new acknowledged tracker reassembly read from_zero actions = all_send came to tracker reassembly read from_zero old new acknowledged actions
+pub actions_send : (came : Option Content) (to : ℕ) (old new : Ledger) (acknowledged : ℕ) (tracker : TrackerState) (reassembly : ReassemblyState) (read : List MessageContent) (beginning : Beginning) → Actions came to old new
+    → SendingSteps old new acknowledged tracker reassembly read beginning
+actions_send came to old new acknowledged tracker reassembly read beginning actions = all_send came to tracker reassembly read beginning old new acknowledged actions
 
 -- ---- the direction on which it receives
 
@@ -95,7 +94,6 @@ module _ (came : Option Content) (to : ℕ) (direction : Direction) (was : WasSe
   action_receives : (old new : Ledger) (transfer : Transfer) → old.queues.transfer ≡ Some transfer → Action came to old new → ReceivingSteps direction transfer old new
   action_receives old _ transfer is (queues now message fits some) = alike_receives old _ transfer transfer is refl (alike transfer)
   action_receives old _ transfer is (sets setting small) = alike_receives old _ transfer transfer is refl (alike transfer)
-  action_receives old _ transfer is (prepares ids small) = alike_receives old _ transfer transfer is refl (alike transfer)
   action_receives old _ transfer is (speaks emission no_data) = alike_receives old _ transfer transfer is refl (alike transfer)
   action_receives old _ transfer is (asks_again emission begun tag has contents) = alike_receives old _ transfer transfer is refl (alike transfer)
   action_receives old _ transfer is (flushes e draft answers same at tag no_data no_end allowed) =

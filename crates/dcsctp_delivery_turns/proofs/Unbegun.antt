@@ -1,5 +1,5 @@
 -- A socket that has had no association has begun no message.
-use Rattle.std.proofs.Common.{◌≡◌, ◌==◌, ℕ, Bool, true, false, ◌%◌, ◌^◌, Option, None, Some, List, [], ◌∷◌, refl, sym, ◌∙◌, ap, subst, inl, inr}
+use Rattle.std.proofs.Common.{◌≡◌, ◌==◌, ℕ, Bool, true, false, ◌<◌, ◌%◌, ◌^◌, Option, None, Some, List, [], ◌∷◌, map, refl, sym, ◌∙◌, ap, arith, subst, inl, inr}
 use Rattle.std.specs.Prelude.{if◌then◌else◌}
 use Rattle.dcsctp_spec_lemmas.specs.types.declared.sending.UnderWay.{UnderWay}
 use Rattle.dcsctp_spec_lemmas.specs.types.queues.SendStreams.{Stream, unused, next_numbers, with_message, begun_anew}
@@ -19,10 +19,14 @@ use Rattle.dcsctp_spec_lemmas.specs.spec.queues.Transfer.{Transfer, EndpointQueu
 use Rattle.dcsctp_delivery_sending.specs.Numbers.{stream_named}
 use Rattle.dcsctp_delivery_sending.proofs.Packets.{out_below}
 use Rattle.dcsctp_delivery_sending.proofs.StreamsNamed.{found_mapped, found_used}
-use Rattle.dcsctp_delivery_directions.specs.Directions.{BeginsAtZero}
-use Rattle.dcsctp_delivery_turns.specs.Asking.{own_in, own_of, AsksFit}
-use Rattle.dcsctp_delivery_turns.specs.Actions.{Ledger, Action, queues, sets, prepares, flushes, resends, resends_nothing, speaks, asks_again, acknowledges, loses, receives, receives_interleaved, forwards, forwards_interleaved, tracks, takes, Actions, nothing, further, came_by, peer_tag, queued_after, read_after, Inside, inside, MakesAlso, OwnEnds, unended, committed, rolled_back, PeerResets, unreset, absent, deferred, reset_now, Begun, Becomes, goes_on, works_resets, renews, ends, begins}
-use Rattle.dcsctp_delivery_turns.specs.Unbegun.{IsAtZero, UnbegunTurns, stays_unbegun, begins_first, StaysAtZero, UnbegunBeginsAtZero, FreshIsAtZero}
+use Rattle.dcsctp_delivery_directions.specs.Directions.{BeginsAtZero, AllWait}
+use Rattle.dcsctp_delivery_sending.specs.Losing.{StillWaits}
+use Rattle.dcsctp_delivery_sending.proofs.OpenStreams.{open_mapped, queueing_open, setting_open}
+use Rattle.dcsctp_delivery_sending.proofs.StillWaiting.{waits_mapped, queued_waits, queueing_waits, setting_waits}
+use Rattle.dcsctp_delivery_turns.specs.Asking.{Own, own_in, own_of, AsksFit}
+use Rattle.dcsctp_delivery_turns.specs.Actions.{Ledger, Action, queues, sets, flushes, resends, resends_nothing, speaks, asks_again, acknowledges, loses, receives, receives_interleaved, forwards, forwards_interleaved, tracks, takes, Actions, nothing, further, came_by, peer_tag, queued_after, read_after, Inside, inside, MakesAlso, OwnEnds, unended, committed, rolled_back, PeerResets, unreset, absent, deferred, reset_now, Begun, Becomes, resets_streams, goes_on, pauses, prepared_inside, works_resets, renews, ends, begins}
+use Rattle.dcsctp_delivery_turns.specs.Unbegun.{IsAtZero, UnbegunTurns, stays_unbegun, begins_first, StaysAtZero, UnbegunBeginsAtZero, UnbegunBeginsWaiting, FreshIsAtZero}
+use Rattle.dcsctp_spec_lemmas.proofs.MarkedItemLemmas.{le_or_lt}
 use Rattle.dcsctp_delivery_turns.proofs.Beginnings.{unlinked_fits}
 use Rattle.dcsctp_delivery_turns.proofs.Turns.{turns_are_actions}
 
@@ -122,20 +126,45 @@ flush_still _ _ _ _ _ none (after_packet ask more e draft answer answers does so
 
 -- ---- actions without an association
 
--- There is no transfer layer, and the queue is at 0.
-record IsUnbegun (below : EndpointQueues) : Type 0 where
+-- There is no transfer layer, the queue is at 0, and on this premise all that was queued waits.
+record IsUnbegun (kept : Type 0) (below : EndpointQueues) : Type 0 where
   none : below.transfer ≡ None
   zero : IsAtZero below.queue
+  all : kept → AllWait below.queue
 
-clash : {A : Type 0} (below : EndpointQueues) (transfer : Transfer) → below.transfer ≡ Some transfer → IsUnbegun below → A
+-- What is queued waits besides.
+all_queued : (now : ℕ) (sending : Sending) (queue : SendQueueState) → AllWait queue → AllWait (sending_queued now sending queue)
+all_queued now sending queue all =
+    record {
+      waits = λ place below. elim (le_or_lt queue.next_message_id place) [
+        | inl after ↦
+            let last : place ≡ queue.next_message_id = omega (arith, below, after) in
+            subst (StillWaits (sending_queued now sending queue).streams) (sym last) (queued_waits now sending queue)
+        | inr before ↦ queueing_waits now sending queue place (all.waits place before)
+      ];
+      unpaused = queueing_open now sending queue all.unpaused;
+    }
+
+all_set : (setting : Setting) (queue : SendQueueState) → AllWait queue → AllWait (set_in_queue setting queue)
+all_set setting queue all =
+    record {
+      waits = λ place below. setting_waits setting queue place (all.waits place (same_next_id setting below));
+      unpaused = setting_open setting queue all.unpaused;
+    }
+  where
+    same_next_id : (setting : Setting) {place : ℕ} → place < (set_in_queue setting queue).next_message_id → place < queue.next_message_id
+    same_next_id (stream_priority id priority) below = below
+    same_next_id (stream_low_threshold id bytes) below = below
+    same_next_id (longest_message bytes) below = below
+
+clash : {A kept : Type 0} (below : EndpointQueues) (transfer : Transfer) → below.transfer ≡ Some transfer → IsUnbegun kept below → A
 clash below transfer known unbegun = absurd (let both : Some transfer ≡ None = sym known ∙ unbegun.none in cc)
 
-action_unbegun : (came : Option Content) (to : ℕ) (old new : Ledger) → Action came to old new → IsUnbegun old.queues → IsUnbegun new.queues
-action_unbegun came to old _ (queues now sending fit some) u = record { none = u.none; zero = zero_queued now sending old.queues.queue u.zero }
-action_unbegun came to old _ (sets setting small) u = record { none = u.none; zero = zero_set setting old.queues.queue u.zero }
-action_unbegun came to old _ (prepares ids small) u = record { none = u.none; zero = zero_prepared ids old.queues.queue u.zero }
+action_unbegun : {kept : Type 0} (came : Option Content) (to : ℕ) (old new : Ledger) → Action came to old new → IsUnbegun kept old.queues → IsUnbegun kept new.queues
+action_unbegun came to old _ (queues now sending fit some) u = record { none = u.none; zero = zero_queued now sending old.queues.queue u.zero; all = λ k. all_queued now sending old.queues.queue (u.all k) }
+action_unbegun came to old _ (sets setting small) u = record { none = u.none; zero = zero_set setting old.queues.queue u.zero; all = λ k. all_set setting old.queues.queue (u.all k) }
 action_unbegun came to old _ (flushes e draft answers same at tag no_data no_end allowed) u =
-    subst IsUnbegun (sym (flush_still first_ask (packets_allowed e.options.max_burst e.core) e draft answers (ap (λ (b : EndpointQueues). b.transfer) same ∙ u.none) allowed ∙ same)) u
+    subst (IsUnbegun _) (sym (flush_still first_ask (packets_allowed e.options.max_burst e.core) e draft answers (ap (λ (b : EndpointQueues). b.transfer) same ∙ u.none) allowed ∙ same)) u
 action_unbegun came to old _ (resends now room transfer left tsns chunks emission tag known does are contents) u = clash old.queues transfer known u
 action_unbegun came to old _ (resends_nothing now room transfer left tsns known does) u = clash old.queues transfer known u
 action_unbegun came to old _ (speaks emission no_data) u = u
@@ -149,7 +178,7 @@ action_unbegun came to old _ (forwards_interleaved tsn streams transfer new is k
 action_unbegun came to old _ (tracks transfer tracked known cumulative ranges) u = clash old.queues transfer known u
 action_unbegun came to old _ (takes transfer message messages known ready) u = clash old.queues transfer known u
 
-actions_unbegun : (came : Option Content) (to : ℕ) (old new : Ledger) → Actions came to old new → IsUnbegun old.queues → IsUnbegun new.queues
+actions_unbegun : {kept : Type 0} (came : Option Content) (to : ℕ) (old new : Ledger) → Actions came to old new → IsUnbegun kept old.queues → IsUnbegun kept new.queues
 actions_unbegun came to old _ nothing u = u
 actions_unbegun came to old _ (further between new first last) u = action_unbegun came to between new last (actions_unbegun came to old between first u)
 
@@ -162,16 +191,25 @@ own_none (cookie_wait my) request none = refl
 own_none (cookie_echoed my held cookie) request none = absurd (cc)
 own_none (open_in phase my held) request none = absurd (cc)
 
-module _ (e : Endpoint) (input : Input) (o : Outcome) (unlinked : identity_in e.core ≡ None) (start : IsUnbegun e.queues) where
+module _ (e : Endpoint) (input : Input) (o : Outcome) (unlinked : identity_in e.core ≡ None) (none : e.queues.transfer ≡ None) (zero : IsAtZero e.queues.queue) where
+  abbrev Kept : Type 0
+  Kept = (resets_streams input ≡ false) × AllWait e.queues.queue
+
+  start : IsUnbegun Kept e.queues
+  start = record { none = none; zero = zero; all = λ kept. kept.1 }
+
   own_is : own_of e ≡ None
   own_is = own_none e.core e.outstanding unlinked
 
   -- what is made of such a queue is one
-  makes_unbegun : (old last : Inside) → old ≡ inside e → MakesAlso (came_by input) (peer_tag e.core) (queued_after e input) (read_after e input) old (packets_in o.events) last → IsUnbegun last.queues
-  makes_unbegun old last is makes =
+  makes_from : (old last : Inside) → IsUnbegun Kept old.queues → old.own ≡ own_of e → MakesAlso (came_by input) (peer_tag e.core) (queued_after e input) (read_after e input) old (packets_in o.events) last → IsUnbegun Kept last.queues
+  makes_from old last u is makes =
       let first = unlinked_fits e.core e.outstanding unlinked in
-      let made = makes [] [] [] first.first first.asking (subst (λ (i : Inside). AsksFit first.first i.own first.asking) (sym is) first.fits) in
-      actions_unbegun (came_by input) (peer_tag e.core) _ _ made.actions (subst (λ (i : Inside). IsUnbegun i.queues) (sym is) start)
+      let made = makes [] [] [] first.first first.asking (subst (λ (own : Option Own). AsksFit first.first own first.asking) (sym is) first.fits) in
+      actions_unbegun (came_by input) (peer_tag e.core) _ _ made.actions u
+
+  makes_unbegun : (old last : Inside) → old ≡ inside e → MakesAlso (came_by input) (peer_tag e.core) (queued_after e input) (read_after e input) old (packets_in o.events) last → IsUnbegun Kept last.queues
+  makes_unbegun old last is makes = makes_from old last (subst (λ (i : Inside). IsUnbegun Kept i.queues) (sym is) start) (ap (λ (i : Inside). i.own) is) makes
 
   -- no request of our own has ended
   own_stays : (old between : Inside) → old.own ≡ None → OwnEnds o.effects old between → between ≡ old
@@ -180,30 +218,33 @@ module _ (e : Endpoint) (input : Input) (o : Outcome) (unlinked : identity_in e.
   own_stays old _ none (rolled_back refused own is) = absurd (let both : Some own ≡ None = sym is ∙ none in cc)
 
   -- and none of the peer is performed
-  peer_stays : (between worked : Inside) → IsUnbegun between.queues → PeerResets (came_by input) o.effects between worked → worked ≡ between
+  peer_stays : (between worked : Inside) → IsUnbegun Kept between.queues → PeerResets (came_by input) o.effects between worked → worked ≡ between
   peer_stays between _ u (unreset has_not) = refl
   peer_stays between _ u (absent none) = refl
-  peer_stays between _ u (deferred has_not transfer last_tsn streams known) = clash between.queues transfer known u
+  peer_stays between _ u (deferred has_not parameters reset came_is wants transfer last_tsn streams known) = clash between.queues transfer known u
   peer_stays between _ u (reset_now has parameters reset came requested transfer reassembly known reached does) = clash between.queues transfer known u
 
-  unbegun_becomes : Becomes (came_by input) (peer_tag e.core) (queued_after e input) (read_after e input) e o → UnbegunTurns e input o
+  unbegun_becomes : Becomes (resets_streams input) (came_by input) (peer_tag e.core) (queued_after e input) (read_after e input) e o → UnbegunTurns e input o
   unbegun_becomes (goes_on calm same makes) =
       let left = makes_unbegun (inside e) (inside o.after) refl makes in
-      stays_unbegun (same ∙ unlinked) left.none left.zero
+      stays_unbegun (same ∙ unlinked) left.none left.zero left.all
+  unbegun_becomes (pauses resets calm same ids small makes) =
+      let left = makes_from (prepared_inside ids (inside e)) (inside o.after) (record { none = none; zero = zero_prepared ids e.queues.queue zero; all = λ kept. absurd (let clash : true ≡ false = sym resets ∙ kept.0 in cc) }) refl makes in
+      stays_unbegun (same ∙ unlinked) left.none left.zero left.all
   unbegun_becomes (works_resets same between worked own peer makes) =
       let first : between ≡ inside e = own_stays (inside e) between own_is own in
-      let second : worked ≡ between = peer_stays between worked (subst (λ (i : Inside). IsUnbegun i.queues) (sym first) start) peer in
+      let second : worked ≡ between = peer_stays between worked (subst (λ (i : Inside). IsUnbegun Kept i.queues) (sym first) start) peer in
       let left = makes_unbegun worked (inside o.after) (second ∙ first) makes in
-      stays_unbegun (same ∙ unlinked) left.none left.zero
+      stays_unbegun (same ∙ unlinked) left.none left.zero left.all
   unbegun_becomes (renews calm same alike unread own number emission is of left packets tag contents) = absurd (let both : Some own ≡ None = sym is ∙ own_is in cc)
-  unbegun_becomes (ends none unread last kept makes is) =
+  unbegun_becomes (ends none' unread last kept makes is) =
       let left = makes_unbegun (inside e) last refl makes in
-      stays_unbegun none (ap (λ (b : EndpointQueues). b.transfer) is) (subst (λ (b : EndpointQueues). IsAtZero b.queue) (sym is) left.zero)
+      stays_unbegun none' (ap (λ (b : EndpointQueues). b.transfer) is) (subst (λ (b : EndpointQueues). IsAtZero b.queue) (sym is) left.zero) (λ kept. subst (λ (b : EndpointQueues). AllWait b.queue) (sym is) (left.all kept))
   unbegun_becomes (begins begun opening linked alike unread again makes) = begins_first begun opening linked
 
 pub stays_at_zero : StaysAtZero
 stays_at_zero e input o unlinked none zero may turn =
-    unbegun_becomes e input o unlinked (record { none = none; zero = zero }) (turns_are_actions e input o may turn)
+    unbegun_becomes e input o unlinked none zero (turns_are_actions e input o may turn)
 
 -- ---- the queue of an association that begins
 
@@ -246,8 +287,33 @@ zero_begins queue zero =
     record {
       rest = λ u waiting is front. absurd (let both : None ≡ Some u = sym zero.idle ∙ is in cc);
       zero = λ id. ap (λ (p : ℕ × ℕ). p.1 % 2 ^ 32) (zero.ordered id);
+      ssn = λ id. ap (λ (p : ℕ × ℕ). p.0) (zero.ordered id);
     }
 
 pub unbegun_begins_at_zero : UnbegunBeginsAtZero
-unbegun_begins_at_zero e o begun zero =
-    let left = begun_is_at_zero e o begun zero in (zero_begins begun.queue left, λ id. ap (λ (p : ℕ × ℕ). p.0) (left.ordered id))
+unbegun_begins_at_zero e o begun zero = zero_begins begun.queue (begun_is_at_zero e o begun zero)
+
+-- ---- what waits is kept
+
+all_numbered : (enabled : Bool) (queue : SendQueueState) → IsAtZero queue → AllWait queue → AllWait (numbered_for enabled queue)
+all_numbered enabled queue zero all = subst AllWait (sym (numbered_idle enabled queue zero.idle)) (record { waits = all.waits; unpaused = all.unpaused })
+
+all_restarted : (queue : SendQueueState) → IsAtZero queue → AllWait queue → AllWait (queue_restarted queue)
+all_restarted queue zero all = go queue.under_way zero.idle
+  where
+    go : (under_way : Option UnderWay) → under_way ≡ None → AllWait (record (put_back under_way queue) { streams = map begun_anew (put_back under_way queue).streams })
+    go None is =
+        record {
+          waits = λ place below. waits_mapped begun_anew (λ s w has. has) queue.streams place (all.waits place below);
+          unpaused = open_mapped begun_anew (λ s before. refl) queue.streams all.unpaused;
+        }
+    go (Some under_way) is = absurd (cc)
+
+pub unbegun_begins_waiting : UnbegunBeginsWaiting
+unbegun_begins_waiting e o begun zero all =
+    elim begun.keeps [
+      | inl is ↦ subst AllWait (sym is.0) (all_numbered begun.held.capabilities.message_interleaving e.queues.queue zero all)
+      | inr is ↦
+          subst AllWait (sym is)
+          (all_numbered begun.held.capabilities.message_interleaving (queue_restarted e.queues.queue) (zero_restarted e.queues.queue zero) (all_restarted e.queues.queue zero all))
+    ]

@@ -71,7 +71,6 @@ pub data Action (came : Option Content) (to : ℕ) (old : Ledger) : Ledger → T
   queues : (now : ℕ) (sending : Sending) → Fits (message_of sending) → 0 < length sending.message.payload
       → Action came to old (record old { queued = message_of sending ∷ old.queued; queues = record old.queues { queue = sending_queued now sending old.queues.queue } })
   sets : (setting : Setting) → SettingFits setting → Action came to old (record old { queues = record old.queues { queue = set_in_queue setting old.queues.queue } })
-  prepares : (ids : List ℕ) → AllByRecursion (λ id. id < 2 ^ 16) ids → Action came to old (record old { queues = record old.queues { queue = prepared_all ids old.queues.queue } })
   flushes : (e : Endpoint) (draft : Emission) (answers : List Answer) → e.queues ≡ old.queues → IsPeerTag e.core to → draft.packet.tag ≡ to → NoData draft.packet.contents → NoEnd draft.packet.contents → FlushAnswers e draft answers
       → Action came to old (record old { queues = (flush_of e draft answers).after.queues; sent = old.sent ++ packets_in (flush_of e draft answers).events; asking = asking_with (reset_begun_by answers) old.asking })
   resends : (now room : ℕ) (transfer : Transfer) (left : RetransmissionState) (tsns : List ℕ) (chunks : List Plain) (emission : Emission) → emission.packet.tag ≡ to → old.queues.transfer ≡ Some transfer
@@ -194,7 +193,7 @@ pub data PeerResets (came : Option Content) (happened : List Effect) (old : Insi
   unreset : has_reset happened ≡ false → PeerResets came happened old old
   -- There is nothing below the association.
   absent : old.queues.transfer ≡ None → PeerResets came happened old old
-  deferred : has_reset happened ≡ false → (transfer : Transfer) (last_tsn : ℕ) (streams : List ℕ) → old.queues.transfer ≡ Some transfer
+  deferred : has_reset happened ≡ false → (parameters : List ResetParameter) (reset : RequestedReset) → came ≡ Some (re_config parameters) → requested_in parameters ≡ Some reset → (transfer : Transfer) (last_tsn : ℕ) (streams : List ℕ) → old.queues.transfer ≡ Some transfer
       → PeerResets came happened old (record old { queues = queues_with_transfer (record transfer { reassembly = deferring last_tsn streams transfer.reassembly }) old.queues })
   reset_now : has_reset happened ≡ true → (parameters : List ResetParameter) (reset : RequestedReset) → came ≡ Some (re_config parameters) → requested_in parameters ≡ Some reset
       → (transfer : Transfer) (reassembly : ReassemblyState) → old.queues.transfer ≡ Some transfer → is_reset_reached reset transfer.tracker ≡ true → EndsDeferral reset.streams transfer.reassembly reassembly
@@ -229,21 +228,33 @@ IsOpening (Some (init_ack theirs cookie)) = Unit {0}
 IsOpening (Some (cookie_echo cookie)) = Unit {0}
 IsOpening came = ⊥
 
--- What becomes of a socket's association in a turn. It continues, or there is none and none begins. Or our request continues
--- under the next number, in a packet of its own, and nothing else happens. Or the association ends after its last packets, and no
--- request of ours begins or ends before. Or another one begins, and takes its place.
-pub data Becomes (came : Option Content) (to : ℕ) (adds : List Message → List Message) (taken : List MessageContent → List MessageContent) (e : Endpoint) (o : Outcome) : Type 0 where
-  goes_on : IsCalm came → identity_in o.after.core ≡ identity_in e.core → MakesAlso came to adds taken (inside e) (packets_in o.events) (inside o.after) → Becomes came to adds taken e o
+-- does the user reset streams by it?
+abbrev pub resets_streams : Input → Bool
+resets_streams (user_resets ids) = true
+resets_streams input = false
+
+-- once these streams are prepared to be reset
+abbrev pub prepared_inside : List ℕ → Inside → Inside
+prepared_inside ids inside = record inside { queues = record inside.queues { queue = prepared_all ids inside.queues.queue } }
+
+-- What becomes of a socket's association in a turn. It continues, or there is none and none begins. It also continues where the
+-- user resets streams: these are prepared first. Or our request continues under the next number, in a packet of its own, and
+-- nothing else happens. Or the association ends after its last packets, and no request of ours begins or ends before. Or another
+-- one begins, and takes its place.
+pub data Becomes (resets : Bool) (came : Option Content) (to : ℕ) (adds : List Message → List Message) (taken : List MessageContent → List MessageContent) (e : Endpoint) (o : Outcome) : Type 0 where
+  goes_on : IsCalm came → identity_in o.after.core ≡ identity_in e.core → MakesAlso came to adds taken (inside e) (packets_in o.events) (inside o.after) → Becomes resets came to adds taken e o
+  pauses : resets ≡ true → IsCalm came → identity_in o.after.core ≡ identity_in e.core → (ids : List ℕ) → AllByRecursion (λ id. id < 2 ^ 16) ids
+      → MakesAlso came to adds taken (prepared_inside ids (inside e)) (packets_in o.events) (inside o.after) → Becomes resets came to adds taken e o
   works_resets : identity_in o.after.core ≡ identity_in e.core → (between worked : Inside) → OwnEnds o.effects (inside e) between → PeerResets came o.effects between worked
-      → MakesAlso came to adds taken worked (packets_in o.events) (inside o.after) → Becomes came to adds taken e o
+      → MakesAlso came to adds taken worked (packets_in o.events) (inside o.after) → Becomes resets came to adds taken e o
   renews : IsCalm came → identity_in o.after.core ≡ identity_in e.core → ((queued : List Message) → adds queued ≡ queued) → ((read : List MessageContent) → taken read ≡ read)
       → (own : Own) (number : ℕ) (emission : Emission) → own_of e ≡ Some own → own.number ≡ Some number → inside o.after ≡ record { queues = e.queues; own = Some (renewed_own own) } → packets_in o.events ≡ emission ∷ []
-      → emission.packet.tag ≡ to → emission.packet.contents ≡ reset_request own.next own.again ∷ [] → Becomes came to adds taken e o
+      → emission.packet.tag ≡ to → emission.packet.contents ≡ reset_request own.next own.again ∷ [] → Becomes resets came to adds taken e o
   ends : identity_in o.after.core ≡ None → ((read : List MessageContent) → taken read ≡ read) → (last : Inside) → last.own ≡ own_of e → MakesAlso came to adds taken (inside e) (packets_in o.events) last
-      → o.after.queues ≡ record last.queues { transfer = None } → Becomes came to adds taken e o
+      → o.after.queues ≡ record last.queues { transfer = None } → Becomes resets came to adds taken e o
   begins : (begun : Begun e o) → IsOpening came → identity_in o.after.core ≡ Some (identity_of begun.my begun.held) → ((queued : List Message) → adds queued ≡ queued) → ((read : List MessageContent) → taken read ≡ read)
       → (again : RequestedReset) → MakesPackets came begun.held.peer.tag (record { queues = opening_queues e o begun; own = Some (record { number = None; next = begun.my.first_tsn; again = again }) }) (packets_in o.events) (inside o.after)
-      → Becomes came to adds taken e o
+      → Becomes resets came to adds taken e o
 
 -- The messages of a call and the streams that it names fit their fields, as those in memory do; no snapshot is restored; and a request to reset streams is
 -- sent again by its timer alone, under its number or the next one.
@@ -258,4 +269,4 @@ IsCall input = Unit {0}
 
 -- This holds for each turn.
 abbrev pub TurnsAreActions : Type 0
-TurnsAreActions = (e : Endpoint) (input : Input) (o : Outcome) → IsCall input → Turn e input o → Becomes (came_by input) (peer_tag e.core) (queued_after e input) (read_after e input) e o
+TurnsAreActions = (e : Endpoint) (input : Input) (o : Outcome) → IsCall input → Turn e input o → Becomes (resets_streams input) (came_by input) (peer_tag e.core) (queued_after e input) (read_after e input) e o

@@ -14,7 +14,7 @@ use Rattle.dcsctp_spec_lemmas.specs.spec.queues.Tracker.{new_tracker}
 use Rattle.dcsctp_spec_lemmas.specs.spec.queues.Transfer.{Transfer, EndpointQueues}
 use Rattle.std.specs.List.{AllByRecursion}
 use Rattle.dcsctp_delivery_sending.specs.Log.{Fits, Message}
-use Rattle.dcsctp_delivery_turns.specs.Actions.{peer_tag, came_by, queued_after, read_after, Begun, begun_transfer, IsOpening, IsCall, IsCalm, has_refused}
+use Rattle.dcsctp_delivery_turns.specs.Actions.{peer_tag, came_by, queued_after, read_after, Begun, begun_transfer, IsOpening, resets_streams, IsCall, IsCalm, has_refused}
 use Rattle.dcsctp_spec_lemmas.specs.spec.Packet.{Content, re_config}
 use Rattle.dcsctp_spec_lemmas.specs.spec.Reconfiguration.{RequestedReset, ResetParameter}
 use Rattle.dcsctp_spec_lemmas.specs.spec.association.Effect.{Effect}
@@ -26,15 +26,15 @@ use Rattle.dcsctp_delivery_turns.specs.Asking.{own_of, AsksFit, SomeFit, AskingG
 use Rattle.dcsctp_delivery_turns.specs.Addressed.{AreAddressed}
 use Rattle.dcsctp_delivery_sending.specs.Queueing.{QueueWaits}
 use Rattle.dcsctp_delivery_turns.specs.Sides.{WasSent, receiving}
-use Rattle.dcsctp_delivery_directions.specs.Directions.{Direction, Asking, nothing_asked, asking_renewed, all_ended, DirectionRun, IsAwaited, BeginsAtZero}
+use Rattle.dcsctp_delivery_directions.specs.Directions.{Direction, Beginning, BeginsAs, Asking, nothing_asked, asking_renewed, all_ended, DirectionRun, IsAwaited}
 
 -- the direction, with this at its sender
 abbrev pub sender_at : Direction → List Message → EndpointQueues → ℕ → List Emission → Asking → Direction
 sender_at direction queued sender_queues acknowledged sent asking = record direction { queued = queued; queues = sender_queues; acknowledged = acknowledged; sent = sent; asking = asking }
 
 -- a direction on which nothing was received yet
-abbrev pub new_direction : Options → ℕ → ℕ → List Message → EndpointQueues → ℕ → List Emission → Bool → Direction
-new_direction options first size queued sender_queues acknowledged sent from_zero =
+abbrev pub new_direction : Options → ℕ → ℕ → List Message → EndpointQueues → ℕ → List Emission → Beginning → Direction
+new_direction options first size queued sender_queues acknowledged sent beginning =
     record {
       queued = queued;
       queues = sender_queues;
@@ -44,7 +44,7 @@ new_direction options first size queued sender_queues acknowledged sent from_zer
       reassembly = new_reassembly size;
       read = [];
       asking = nothing_asked;
-      from_zero = from_zero;
+      beginning = beginning;
     }
 
 -- What was begun: as it was, or once our request has ended or continues under the next number.
@@ -69,9 +69,9 @@ pub data SenderTurns (options : Options) (first size : ℕ) (direction : Directi
   run_begins : (begun : Begun e o) → IsOpening (came_by input) → identity_in o.after.core ≡ Some (identity_of begun.my begun.held) → AreAddressed begun.held.peer.tag (packets_in o.events) → o.after.queues.queue.is_interleaved ≡ begun.held.capabilities.message_interleaving
       → queued_after e input direction.queued ≡ direction.queued
       → QueueWaits direction.queued e.queues.queue → AllByRecursion Fits direction.queued
-      → ((other : Options) (room : ℕ) (awaiting : Direction) (queued : List Message) (from_zero : Bool) → QueueWaits queued e.queues.queue → AllByRecursion Fits queued → DirectionRun other begun.my.first_tsn room awaiting → IsAwaited awaiting
-      → (from_zero ≡ true → BeginsAtZero begun.queue) → (acknowledged : ℕ) × (asking : Asking) × AskingGrows nothing_asked asking × AsksFit begun.my.first_tsn (own_of o.after) asking
-      × DirectionRun other begun.my.first_tsn room (record (sender_at awaiting queued o.after.queues acknowledged (packets_in o.events) asking) { from_zero = from_zero }))
+      → ((other : Options) (room : ℕ) (awaiting : Direction) (queued : List Message) (beginning : Beginning) → QueueWaits queued e.queues.queue → AllByRecursion Fits queued → DirectionRun other begun.my.first_tsn room awaiting → IsAwaited awaiting
+      → BeginsAs beginning begun.queue → (acknowledged : ℕ) × (asking : Asking) × AskingGrows nothing_asked asking × AsksFit begun.my.first_tsn (own_of o.after) asking
+      × DirectionRun other begun.my.first_tsn room (record (sender_at awaiting queued o.after.queues acknowledged (packets_in o.events) asking) { beginning = beginning }))
       → SenderTurns options first size direction e input o
 
 -- Where the turn ends a request as performed, the receiver has performed the newest one, with interleaving.
@@ -82,6 +82,10 @@ EndsPerformed e o asking = has_completed o.effects ≡ true → e.queues.queue.i
 abbrev pub RefusesNone : Endpoint → Outcome → Type 0
 RefusesNone e o = e.queues.queue.is_interleaved ≡ true → has_refused o.effects ≡ false
 
+-- If the user resets streams by it, messages may be dropped.
+abbrev pub MayDrop : Input → Beginning → Type 0
+MayDrop input beginning = resets_streams input ≡ true → beginning.keeps_all ≡ false
+
 -- If an association begins in this turn, its own first TSN has 32 bits.
 abbrev pub OpensSmall : Endpoint → Input → Outcome → Type 0
 OpensSmall e input o = (begun : Begun e o) → IsOpening (came_by input) → identity_in o.after.core ≡ Some (identity_of begun.my begun.held) → begun.my.first_tsn < 2 ^ 32
@@ -90,19 +94,20 @@ OpensSmall e input o = (begun : Begun e o) → IsOpening (came_by input) → ide
 abbrev pub SendersGoOn : Type 0
 SendersGoOn =
     (options : Options) (first size : ℕ) (direction : Direction) (e : Endpoint) (input : Input) (o : Outcome) → DirectionRun options first size direction → first < 2 ^ 32 → direction.queues ≡ e.queues
-    → AsksFit first (own_of e) direction.asking → EndsPerformed e o direction.asking → RefusesNone e o → OpensSmall e input o
+    → AsksFit first (own_of e) direction.asking → EndsPerformed e o direction.asking → RefusesNone e o → MayDrop input direction.beginning → OpensSmall e input o
     → length (queued_after e input direction.queued) < 2 ^ 64 → IsCall input → Turn e input o → SenderTurns options first size direction e input o
 
--- A run begins where the socket was just made, with number 0 on each stream,
+-- A run begins where the socket was just made, with number 0 on each stream and nothing queued,
 abbrev pub SendersBegin : Type 0
 SendersBegin =
-    (mine options : Options) (first size : ℕ) → DirectionRun options first size (new_direction options first size [] (record { queue = empty_queue mine; transfer = None }) 0 [] true)
+    (mine options : Options) (first size : ℕ) (keeps_all : Bool)
+    → DirectionRun options first size (new_direction options first size [] (record { queue = empty_queue mine; transfer = None }) 0 [] (record { from_zero = true; keeps_all = keeps_all }))
 
 -- and where its association has ended.
 abbrev pub SendersBeginAnew : Type 0
 SendersBeginAnew =
     (options : Options) (first size : ℕ) (queued : List Message) (sender_queues : EndpointQueues) → AllByRecursion Fits queued → QueueWaits queued sender_queues.queue → sender_queues.transfer ≡ None
-    → DirectionRun options first size (new_direction options first size queued sender_queues 0 [] false)
+    → DirectionRun options first size (new_direction options first size queued sender_queues 0 [] (record { from_zero = false; keeps_all = false }))
 
 -- An association begins, and what its receiver does in the same turn are steps of a run. It waits for no reset.
 pub record OpensAssociation (e : Endpoint) (input : Input) (o : Outcome) : Type 0 where

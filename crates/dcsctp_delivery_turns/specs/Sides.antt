@@ -1,6 +1,6 @@
 -- The actions of a socket (specs/Actions) as steps of two directions: the one on which it sends,
 -- and the one on which it receives.
-use Rattle.std.specs.Prelude.{◌≡◌, ◌⊎◌, ℕ, Bool, Option, Some, List}
+use Rattle.std.specs.Prelude.{◌≡◌, ◌⊎◌, ℕ, Option, Some, List}
 use Rattle.dcsctp_spec_lemmas.specs.wire.Content.{ChunkContent, data_chunk, i_data_chunk, forward_tsn_chunk, i_forward_tsn_chunk}
 use Rattle.dcsctp_spec_lemmas.specs.types.declared.options.Options.{Options}
 use Rattle.dcsctp_spec_lemmas.specs.spec.Packet.{Content, re_config, unworked, plain, Emission}
@@ -13,7 +13,7 @@ use Rattle.dcsctp_delivery_sending.specs.Flushes.{NoRequests}
 use Rattle.dcsctp_delivery_turns.specs.Actions.{Ledger, Actions}
 use Rattle.dcsctp_delivery_turns.specs.PeerRequests.{SameWaits}
 use Rattle.dcsctp_delivery_sending.specs.Places.{HasEntry}
-use Rattle.dcsctp_delivery_directions.specs.Directions.{Direction, DirectionStep, DirectionRun}
+use Rattle.dcsctp_delivery_directions.specs.Directions.{Direction, Beginning, DirectionStep, DirectionRun}
 
 -- one step after another
 pub data DirectionSteps (old : Direction) : Direction → Type 0 where
@@ -27,20 +27,20 @@ StepsGoOn = (options : Options) (first size : ℕ) (old new : Direction) → Dir
 -- ---- the direction on which it sends
 
 -- the direction, with what the other side has received, and whether the socket began with number 0 on each stream
-abbrev pub sending : Ledger → ℕ → TrackerState → ReassemblyState → List MessageContent → Bool → Direction
-sending own acknowledged tracker reassembly read from_zero =
-    record { queued = own.queued; queues = own.queues; acknowledged = acknowledged; sent = own.sent; tracker = tracker; reassembly = reassembly; read = read; asking = own.asking; from_zero = from_zero }
+abbrev pub sending : Ledger → ℕ → TrackerState → ReassemblyState → List MessageContent → Beginning → Direction
+sending own acknowledged tracker reassembly read beginning =
+    record { queued = own.queued; queues = own.queues; acknowledged = acknowledged; sent = own.sent; tracker = tracker; reassembly = reassembly; read = read; asking = own.asking; beginning = beginning }
 
 -- The socket comes there by steps; more TSNs may have been acknowledged.
-pub record SendingSteps (old new : Ledger) (acknowledged : ℕ) (tracker : TrackerState) (reassembly : ReassemblyState) (read : List MessageContent) (from_zero : Bool) : Type 0 where
+pub record SendingSteps (old new : Ledger) (acknowledged : ℕ) (tracker : TrackerState) (reassembly : ReassemblyState) (read : List MessageContent) (beginning : Beginning) : Type 0 where
   pub later : ℕ
-  pub steps : DirectionSteps (sending old acknowledged tracker reassembly read from_zero) (sending new later tracker reassembly read from_zero)
+  pub steps : DirectionSteps (sending old acknowledged tracker reassembly read beginning) (sending new later tracker reassembly read beginning)
 
 -- Whatever is received, the actions of a socket are steps of the direction on which it sends.
 abbrev pub ActionsSend : Type 0
 ActionsSend =
-    (came : Option Content) (to : ℕ) (old new : Ledger) (acknowledged : ℕ) (tracker : TrackerState) (reassembly : ReassemblyState) (read : List MessageContent) (from_zero : Bool) → Actions came to old new
-    → SendingSteps old new acknowledged tracker reassembly read from_zero
+    (came : Option Content) (to : ℕ) (old new : Ledger) (acknowledged : ℕ) (tracker : TrackerState) (reassembly : ReassemblyState) (read : List MessageContent) (beginning : Beginning) → Actions came to old new
+    → SendingSteps old new acknowledged tracker reassembly read beginning
 
 -- ---- the direction on which it receives
 

@@ -9,8 +9,8 @@ use Rattle.dcsctp_spec_lemmas.specs.spec.endpoint.Outcome.{Outcome}
 use Rattle.dcsctp_spec_lemmas.specs.spec.endpoint.Turn.{Input, Turn}
 use Rattle.dcsctp_spec_lemmas.specs.spec.queues.SendQueue.{SendQueueState, empty_queue}
 use Rattle.dcsctp_delivery_sending.specs.Numbers.{stream_named}
-use Rattle.dcsctp_delivery_directions.specs.Directions.{BeginsAtZero}
-use Rattle.dcsctp_delivery_turns.specs.Actions.{came_by, Begun, IsOpening, IsCall}
+use Rattle.dcsctp_delivery_directions.specs.Directions.{BeginsAtZero, AllWait}
+use Rattle.dcsctp_delivery_turns.specs.Actions.{came_by, Begun, IsOpening, resets_streams, IsCall}
 
 -- No message is under way, and the next one of each stream, ordered or not, has SSN 0 and MID 0.
 pub record IsAtZero (queue : SendQueueState) : Type 0 where
@@ -18,9 +18,14 @@ pub record IsAtZero (queue : SendQueueState) : Type 0 where
   pub ordered : (id : ℕ) → next_numbers false (stream_named id queue.streams) ≡ (0, 0)
   pub unordered : (id : ℕ) → next_numbers true (stream_named id queue.streams) ≡ (0, 0)
 
+-- All that was ever queued waits after the turn, and no stream is to be reset, if it was so before, unless the user resets streams
+-- by it.
+abbrev pub StaysWaiting : Endpoint → Input → Outcome → Type 0
+StaysWaiting e input o = (resets_streams input ≡ false) × AllWait e.queues.queue → AllWait o.after.queues.queue
+
 -- There is still no association, and the queue is still at 0; or an association begins in this turn.
 pub data UnbegunTurns (e : Endpoint) (input : Input) (o : Outcome) : Type 0 where
-  stays_unbegun : identity_in o.after.core ≡ None → o.after.queues.transfer ≡ None → IsAtZero o.after.queues.queue → UnbegunTurns e input o
+  stays_unbegun : identity_in o.after.core ≡ None → o.after.queues.transfer ≡ None → IsAtZero o.after.queues.queue → StaysWaiting e input o → UnbegunTurns e input o
   begins_first : (begun : Begun e o) → IsOpening (came_by input) → identity_in o.after.core ≡ Some (identity_of begun.my begun.held) → UnbegunTurns e input o
 
 -- This holds for each turn of a socket without an association.
@@ -31,8 +36,12 @@ StaysAtZero =
 -- An association that begins with such a queue begins with number 0 on each stream, and with SSN 0.
 abbrev pub UnbegunBeginsAtZero : Type 0
 UnbegunBeginsAtZero =
-    (e : Endpoint) (o : Outcome) (begun : Begun e o) → IsAtZero e.queues.queue
-    → BeginsAtZero begun.queue × ((id : ℕ) → (stream_named id begun.queue.streams).next_ssn ≡ 0)
+    (e : Endpoint) (o : Outcome) (begun : Begun e o) → IsAtZero e.queues.queue → BeginsAtZero begun.queue
+
+-- And all that waits is kept, with no stream to be reset.
+abbrev pub UnbegunBeginsWaiting : Type 0
+UnbegunBeginsWaiting =
+    (e : Endpoint) (o : Outcome) (begun : Begun e o) → IsAtZero e.queues.queue → AllWait e.queues.queue → AllWait begun.queue
 
 -- A socket that was just made has such a queue.
 abbrev pub FreshIsAtZero : Type 0

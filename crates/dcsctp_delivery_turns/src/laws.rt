@@ -7,7 +7,7 @@ ghost use Rattle.dcsctp_delivery_turns.specs.PeerRequests.{CalmAsksNothing, Ends
 ghost use Rattle.dcsctp_delivery_turns.specs.Runs.{ReceiversBegin, ReceiversGoOn, SendersBegin, SendersBeginAnew, SendersGoOn};
 ghost use Rattle.dcsctp_delivery_turns.specs.Sides.{StepsGoOn, ActionsSend, ActionsReceive};
 ghost use Rattle.dcsctp_delivery_turns.specs.Tags.{TagsAreOwn, EchoesBearOwnTag, FlushesGoToPeer};
-ghost use Rattle.dcsctp_delivery_turns.specs.Unbegun.{FreshIsAtZero, StaysAtZero, UnbegunBeginsAtZero};
+ghost use Rattle.dcsctp_delivery_turns.specs.Unbegun.{FreshIsAtZero, StaysAtZero, UnbegunBeginsAtZero, UnbegunBeginsWaiting};
 
 /// A flush goes to the peer's tag, and a packet with data is handled only under our own tag (RFC 9260, sections 5.2.4
 /// and 8.5).
@@ -63,9 +63,10 @@ pub fn peers_requests_turn()
 
 /// A socket that has had no association has begun no message: each stream is at number 0, whatever is queued, until the
 /// first association begins, and so that one begins with number 0 on each stream (RFC 9260, section 6.5), with
-/// `follow_rfc` or without.
+/// `follow_rfc` or without. All that was queued waits for it, unless the user resets streams before.
 pub fn unbegun_numbers_stay()
     ensures made { FreshIsAtZero }
     ensures stays { StaysAtZero }
     ensures begins { UnbegunBeginsAtZero }
+    ensures kept { UnbegunBeginsWaiting }
 {}

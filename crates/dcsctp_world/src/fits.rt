@@ -1,6 +1,6 @@
 //! The messages that an act hands over, and the streams that it names, fit the fields of a chunk, by their types.
 
-ghost use Rattle.std.specs.Prelude.{◌<◌, ◌^◌, map};
+ghost use Rattle.std.specs.Prelude.{◌<◌, ◌^◌, length, map};
 ghost use Rattle.std.specs.List.{AllByRecursion};
 ghost use Rattle.dcsctp_core.specs.types.Schedule.{act_content, call_content};
 ghost use Rattle.dcsctp_core.specs.types.Ids.{stream_numbers};
@@ -19,6 +19,11 @@ fn bytes_fit(bytes: &[u8])
     }
 }
 
+// No object in memory has 2^63 bytes.
+fn length_fits(bytes: &[u8])
+    ensures { length bytes.now < 2 ^ 63 }
+{}
+
 // A number of two bytes is one.
 fn stream_fits(stream_id: u16)
     ensures { stream_id < 2 ^ 16 }
@@ -35,6 +40,7 @@ fn message_fits(message: &Message)
     stream_fits(message.stream_id.0);
     protocol_fits(message.ppid.0);
     bytes_fit(&message.payload);
+    length_fits(&message.payload);
 }
 
 fn messages_fit(messages: &[Message])

@@ -241,9 +241,16 @@ impl<R: Rng + Drop> World<R> {
     /// or be made of parts of two: a COOKIE ECHO that is delivered again once its association has ended makes another
     /// one under the same tags, for as long as its cookie lives.
     ///
-    /// The ordered messages of a stream that are read in one association, or after it has ended, were sent in the order
-    /// of reading, across resets of the stream (RFC 9260, section 6.6). For that messages interleave, and the sender has
-    /// `follow_rfc` or no other association.
+    /// In one association, or after it has ended, the ordered messages of a stream are read in the order in which they
+    /// were sent (RFC 9260, section 6.6). That has two more premises. The sender has `follow_rfc`, or had no other
+    /// association. And one of two holds. In this association messages interleave; then streams may be reset. Or no
+    /// message that the sender ever sent, on any stream, has a lifetime or a limit on retransmissions, and it sent no
+    /// request to reset streams to the peer's verification tag.
+    ///
+    /// None is missing before one that was read, if the sender had one association, no message that it ever sent has
+    /// such a limit, and its user never called `reset_streams`, for any stream, refused calls included. Then what was
+    /// read of a stream's ordered messages is a prefix of what was sent on it. From the first such message or call on,
+    /// this is promised of no stream.
     ///
     /// The rest holds whatever comes from outside. In one lifetime an association connects at most once, and
     /// the numbers of requests to reset streams go up by one. Each request that was accepted is performed at

@@ -4,5 +4,5 @@ use Rattle.dcsctp_delivery_order.proofs.laws.read_is_in_order.Goals as goal
 pub returns-clause-ordered : goal.returns-clause-ordered
 returns-clause-ordered c = read_is_in_order
 
-pub returns-clause-front : goal.returns-clause-front
-returns-clause-front c = read_is_front
+pub returns-clause-without_gaps : goal.returns-clause-without_gaps
+returns-clause-without_gaps c = read_is_front

@@ -1,4 +1,4 @@
-use Rattle.dcsctp_delivery_turns.proofs.Unbegun.{fresh_is_at_zero, stays_at_zero, unbegun_begins_at_zero}
+use Rattle.dcsctp_delivery_turns.proofs.Unbegun.{fresh_is_at_zero, stays_at_zero, unbegun_begins_at_zero, unbegun_begins_waiting}
 use Rattle.dcsctp_delivery_turns.proofs.laws.unbegun_numbers_stay.Goals as goal
 
 pub returns-clause-made : goal.returns-clause-made
@@ -9,3 +9,6 @@ returns-clause-stays c = stays_at_zero
 
 pub returns-clause-begins : goal.returns-clause-begins
 returns-clause-begins c = unbegun_begins_at_zero
+
+pub returns-clause-kept : goal.returns-clause-kept
+returns-clause-kept c = unbegun_begins_waiting

@@ -1,0 +1,48 @@
+-- A sender that keeps all that was queued pauses no stream, and begins no reset.
+use Rattle.std.proofs.Common.{◌≡◌, true, false, [], ◌∷◌, sym, ◌∙◌, ap, subst}
+use Rattle.std.specs.Prelude.{Option, None}
+use Rattle.dcsctp_spec.specs.endpoint.BegunResets.{BegunReset}
+use Rattle.dcsctp_spec.specs.endpoint.FlushOutcomes.{first_ask, packets_allowed}
+use Rattle.dcsctp_spec.specs.queues.Transfer.{EndpointQueues}
+use Rattle.dcsctp_delivery_sending.specs.Flushes.{reset_begun_by}
+use Rattle.dcsctp_delivery_sending.specs.Losing.{AreOpen}
+use Rattle.dcsctp_delivery_sending.proofs.OpenStreams.{queueing_open, setting_open, committing_open, rolling_back_open, flush_open, flush_asks_none}
+use Rattle.dcsctp_delivery_directions.specs.Directions.{Direction, asking_with, DirectionStep, queues, sets, prepares, commits, rolls_back, flushes, resends, resends_nothing, speaks, asks_again, renews, turns_aside, acknowledges, loses, receives, forwards, receives_interleaved, forwards_interleaved, tracks, defers, performs, performs_earlier, resets, takes}
+
+-- No stream is to be reset, and none ever was.
+pub record IsUnpaused (direction : Direction) : Type 0 where
+  pub unpaused : AreOpen direction.queues.queue.streams
+  pub unasked : direction.asking.requests ≡ []
+
+-- This stays so, where the sender keeps all.
+pub stays_unpaused : (old direction : Direction) → DirectionStep old direction → old.beginning.keeps_all ≡ true → IsUnpaused old → IsUnpaused direction
+stays_unpaused old _ (queues now sending fits some) keeps u = record { unpaused = queueing_open now sending old.queues.queue u.unpaused; unasked = u.unasked }
+stays_unpaused old _ (sets setting fits) keeps u = record { unpaused = setting_open setting old.queues.queue u.unpaused; unasked = u.unasked }
+stays_unpaused old _ (prepares ids fit dropped) keeps u = absurd (let no : true ≡ false = sym keeps ∙ dropped in cc)
+stays_unpaused old _ (commits go_on) keeps u = record { unpaused = committing_open old.queues.queue u.unpaused; unasked = u.unasked }
+stays_unpaused old _ (rolls_back unmixed) keeps u = record { unpaused = rolling_back_open old.queues.queue u.unpaused; unasked = u.unasked }
+stays_unpaused old _ (flushes e draft answers same no_data allowed) keeps u =
+    let before : AreOpen e.queues.queue.streams = subst (λ (b : EndpointQueues). AreOpen b.queue.streams) (sym same) u.unpaused in
+    let none : reset_begun_by answers ≡ None = flush_asks_none first_ask (packets_allowed e.options.max_burst e.core) e draft answers allowed before in
+    record {
+      unpaused = flush_open first_ask (packets_allowed e.options.max_burst e.core) e draft answers allowed before;
+      unasked = ap (λ (begun : Option BegunReset). (asking_with begun old.asking).requests) none ∙ u.unasked;
+    }
+stays_unpaused old _ (resends now room transfer left tsns chunks emission known sends are contents) keeps u = record { unpaused = u.unpaused; unasked = u.unasked }
+stays_unpaused old _ (resends_nothing now room transfer left tsns known sends) keeps u = record { unpaused = u.unpaused; unasked = u.unasked }
+stays_unpaused old _ (speaks emission no_data) keeps u = record { unpaused = u.unpaused; unasked = u.unasked }
+stays_unpaused old _ (asks_again emission begun was contents) keeps u = record { unpaused = u.unpaused; unasked = u.unasked }
+stays_unpaused old _ (renews emission newest earlier number asks out contents) keeps u = absurd (let some : newest ∷ earlier ≡ [] = sym asks ∙ u.unasked in cc)
+stays_unpaused old _ (turns_aside transfer new known same) keeps u = record { unpaused = u.unpaused; unasked = u.unasked }
+stays_unpaused old _ (acknowledges now sack transfer new known valid does) keeps u = record { unpaused = u.unpaused; unasked = u.unasked }
+stays_unpaused old _ (loses now transfer known) keeps u = record { unpaused = u.unpaused; unasked = u.unasked }
+stays_unpaused old _ (receives emission chunk theirs new was holds some same same' does) keeps u = record { unpaused = u.unpaused; unasked = u.unasked }
+stays_unpaused old _ (forwards emission tsn streams theirs new was holds same same' does) keeps u = record { unpaused = u.unpaused; unasked = u.unasked }
+stays_unpaused old _ (receives_interleaved emission chunk theirs new was holds some same same' does) keeps u = record { unpaused = u.unpaused; unasked = u.unasked }
+stays_unpaused old _ (forwards_interleaved emission tsn streams theirs new was holds same same' does) keeps u = record { unpaused = u.unpaused; unasked = u.unasked }
+stays_unpaused old _ (tracks new cumulative ranges) keeps u = record { unpaused = u.unpaused; unasked = u.unasked }
+stays_unpaused old _ (defers last_tsn streams some) keeps u = record { unpaused = u.unpaused; unasked = u.unasked }
+stays_unpaused old _ (performs newest earlier new asks unknown reached own leaves) keeps u = record { unpaused = u.unpaused; unasked = u.unasked }
+stays_unpaused old _ (resets streams new unmixed some leaves) keeps u = record { unpaused = u.unpaused; unasked = u.unasked }
+stays_unpaused old _ (performs_earlier newest earlier new asks unknown reached own leaves) keeps u = record { unpaused = u.unpaused; unasked = u.unasked }
+stays_unpaused old _ (takes message messages ready) keeps u = record { unpaused = u.unpaused; unasked = u.unasked }

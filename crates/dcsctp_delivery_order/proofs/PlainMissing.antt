@@ -1,0 +1,322 @@
+-- Without interleaving a TSN of the next message is missing, if a later message of its stream was
+-- begun: with all of them it would be whole, or was abandoned.
+use Rattle.std.proofs.Common.{◌≡◌, ℕ, zero, suc, true, false, ◌<◌, ◌≤◌, ◌+◌, ◌-◌, ◌^◌, List, [], ◌∷◌, length, refl, sym, ◌∙◌, ap, arith, subst, inl, inr}
+use Rattle.std.specs.Prelude.{Some}
+use Rattle.std.proofs.lemmas.Bool.{eqb-true, eq-eqb}
+use Rattle.std.proofs.lemmas.Bool.Decides.{eqb_tells, leb_tells}
+use Rattle.dcsctp_spec_lemmas.specs.spec.queues.Numbers.{fragment_place}
+use Rattle.dcsctp_spec_lemmas.specs.spec.queues.Runs.{RunModel, WholeModel}
+use Rattle.dcsctp_spec_lemmas.specs.spec.queues.IncomingStreams.{StreamModel, is_number_waiting}
+use Rattle.dcsctp_delivery_sending.specs.Places.{HasEntry, at_place}
+use Rattle.dcsctp_delivery_sending.specs.Log.{Message, Piece, Slot, History, Cut, is_beginning, is_end}
+use Rattle.dcsctp_delivery_sending.specs.Turns.{turn_at}
+use Rattle.dcsctp_delivery_receiving.specs.Rows.{IsPieceRow, AreRows}
+use Rattle.dcsctp_delivery_receiving.specs.Ready.{IsOn, ordered_base}
+use Rattle.dcsctp_delivery_receiving.proofs.Chaining.{placed_plain}
+use Rattle.dcsctp_delivery_order.specs.Rising.{AscendFrom}
+use Rattle.dcsctp_delivery_order.specs.Runs.{place_after, LieApart, HeldAs, SpansMessage}
+use Rattle.dcsctp_delivery_order.specs.Plain.{number_at, CountsPlain, CarriesOrdered, IsNumberedRun, IsHeldOrWaits}
+use Rattle.dcsctp_delivery_order.proofs.Held.{one_is_missing}
+use Rattle.dcsctp_delivery_order.proofs.PlainTurns.{turn_inside, IsFirstAt, one_first}
+use Rattle.dcsctp_delivery_order.proofs.PlainRows.{ContinuesAt, RowOf, some_turn, row_of, one_beginning}
+
+-- what waits has numbers from this one on
+pub none_below : (from number : ℕ) (waiting : List WholeModel) → AscendFrom from waiting → number < from → is_number_waiting number waiting ≡ false
+none_below from number [] up less = refl
+none_below from number (w ∷ waiting) up less =
+    elim (eqb_tells w.number number) [
+      | inl e ↦ absurd (let same : w.number ≡ number = e.1 in let low = up.0 in omega (arith, same, low, less))
+      | inr e ↦ rw e.0 (none_below (w.number + 1) number waiting up.2 (let low = up.0 in omega (arith, low, less)))
+    ]
+
+pub row_in : (log : List Slot) (got : List ℕ) (base : ℕ → ℕ) (Named : Piece → ℕ → Type 0) (run : RunModel) (runs : List RunModel) → AreRows log got base Named runs → HasEntry run runs → IsPieceRow log got base Named run
+row_in log got base Named run [] are has = absurd has
+row_in log got base Named run (r ∷ runs) are has =
+    elim has [
+      | inl e ↦ subst (λ (x : RunModel). IsPieceRow log got base Named x) (sym e) are.0
+      | inr t ↦ row_in log got base Named run runs are.1 t
+    ]
+
+module _ (queued : List Message) (history : History) (cut : Cut queued history.log) (counts : CountsPlain history) where
+  -- pieces of one message say so
+  one_text : (m n : ℕ) (f g : Piece) → at_place m history.log ≡ Some (Some f) → at_place n history.log ≡ Some (Some g) → f.place ≡ g.place → f.message ≡ g.message
+  one_text m n f g at at' same =
+      let both : Some f.message ≡ Some g.message = sym (cut.pieces m f at).at ∙ ap (λ (k : ℕ). at_place k queued) same ∙ (cut.pieces n g at').at in
+      cc
+
+  one_piece : (m n : ℕ) (f g : Piece) → at_place m history.log ≡ Some (Some f) → at_place n history.log ≡ Some (Some g) → m ≡ n → f ≡ g
+  one_piece m n f g at at' same = (let both : Some (Some f) ≡ Some (Some g) = sym at ∙ ap (λ (k : ℕ). at_place k history.log) same ∙ at' in cc)
+
+  module _ (id b : ℕ) (first : IsFirstAt history.log id b) where
+    head : Piece
+    head = first.piece
+
+    -- The message goes on up to this TSN.
+    GoesUpTo : ℕ → Type 0
+    GoesUpTo j = (k : ℕ) → b < k → k < j → ContinuesAt history.log first.piece.place k
+
+    -- After its pieces comes one that begins another message.
+    record Row (end : ℕ) : Type 0 where
+      last : ℕ
+      from : b ≤ last
+      to : last < end
+      goes : GoesUpTo (last + 1)
+      next : Piece
+      at : at_place (last + 1) history.log ≡ Some (Some next)
+      start : next.start ≡ 0
+
+    module _ (end : ℕ) (later : IsFirstAt history.log id end) (all : (m : ℕ) → b ≤ m → m < end → (f : Piece) × (at_place m history.log ≡ Some (Some f))) where
+      continues : (i : ℕ) (g : Piece) → b ≤ i → GoesUpTo (i + 1) → at_place (i + 1) history.log ≡ Some (Some g) → 0 < g.start → ContinuesAt history.log first.piece.place (i + 1)
+      unfolding GoesUpTo
+      continues i g low goes at inside =
+          let before = cut.rows (i + 1) g (omega arith) at inside in
+          let here : before.earlier ≡ i = (let is = before.is in omega (arith, is)) in
+          let place : before.before.place ≡ first.piece.place = elim (eqb_tells i b) [
+            | inl e ↦ ap (λ (x : Piece). x.place) (one_piece before.earlier b before.before first.piece before.at first.is.at (here ∙ e.1))
+            | inr e ↦
+                (let ne : i ≡ b → ⊥ = e.1 in
+                let c = goes i (omega (arith, low, ne)) (omega arith) in
+                ap (λ (x : Piece). x.place) (one_piece before.earlier i before.before c.piece before.at c.at here) ∙ c.is)
+          ] in
+          record { piece = g; at = at; inside = inside; is = sym before.place ∙ place }
+
+      find : (d i : ℕ) → b ≤ i → i + 1 + d ≡ end → GoesUpTo (i + 1) → Row end
+      unfolding GoesUpTo
+      find zero i low is goes =
+          record { last = i; from = low; to = omega (arith, is); goes = goes; next = later.piece; at = ap (λ (k : ℕ). at_place k history.log) (let same : i + 1 ≡ end = omega (arith, is) in same) ∙ later.is.at; start = later.start }
+      find (suc d) i low is goes =
+          let (g, at) = all (i + 1) (omega (arith, low)) (omega (arith, is)) in
+          elim (eqb_tells g.start 0) [
+            | inl e ↦ record { last = i; from = low; to = omega (arith, is); goes = goes; next = g; at = at; start = e.1 }
+            | inr e ↦
+                (let ne : g.start ≡ 0 → ⊥ = e.1 in
+                let c = continues i g low goes at (omega (arith, ne)) in
+                find d (i + 1) (omega (arith, low)) (omega (arith, is))
+                (λ k from to. elim (eqb_tells k (i + 1)) [
+                  | inl t ↦ subst (λ (j : ℕ). ContinuesAt history.log first.piece.place j) (sym t.1) c
+                  | inr t ↦ (let apart : k ≡ i + 1 → ⊥ = t.1 in goes k from (omega (arith, to, apart)))
+                ]))
+          ]
+
+      row : b < end → Row end
+      unfolding GoesUpTo
+      row less = find (end - (b + 1)) b (omega arith) (omega (arith, less)) (λ k from to. absurd (omega (arith, from, to)))
+
+    -- ---- its parts
+
+    record PartAt (k : ℕ) : Type 0 where
+      piece : Piece
+      is : CarriesOrdered history.log id k piece
+      place : piece.place ≡ first.piece.place
+      turn : turn_at id k history.log ≡ turn_at id b history.log
+
+    module _ (end : ℕ) (r : Row end) where
+      part_at : (d : ℕ) → b + d ≤ r.last → PartAt (b + d)
+      unfolding GoesUpTo
+      part_at zero up = (let same : b ≡ b + 0 = omega arith in subst PartAt same (record { piece = first.piece; is = first.is; place = refl; turn = refl }))
+      part_at (suc d) up =
+          let before = part_at d (omega (arith, up)) in
+          let here : b + d + 1 ≡ b + suc d = omega arith in
+          let c = r.goes (b + d + 1) (omega arith) (omega (arith, up)) in
+          let text = one_text (b + d + 1) b c.piece first.piece c.at first.is.at c.is in
+          subst PartAt here
+          (record {
+            piece = c.piece;
+            is = record { at = c.at; stream = ap (λ (m : Message). m.stream) text ∙ first.is.stream; ordered = ap (λ (m : Message). m.is_unordered) text ∙ first.is.ordered };
+            place = c.is;
+            turn = turn_inside id (b + d) c.piece history.log c.at c.inside ∙ before.turn;
+          })
+
+      part : (k : ℕ) → b ≤ k → k ≤ r.last → PartAt k
+      part k low up = (let same : b + (k - b) ≡ k = omega (arith, low) in subst PartAt same (part_at (k - b) (omega (arith, low, up))))
+
+      -- the last one ends it
+      last_part : PartAt r.last
+      last_part = part r.last r.from (omega arith)
+
+      ended : is_end last_part.piece ≡ true
+      ended = counts.closes r.last last_part.piece r.next last_part.is.at r.at r.start
+
+      -- a row that begins with it is of it, and ends with it
+      of_first : (k : ℕ) (f : Piece) → (row' : RowOf history.log id f.place k) → row'.from ≡ b → f.place ≡ first.piece.place
+      of_first k f row' same = sym row'.is ∙ ap (λ (x : Piece). x.place) (one_piece row'.from b row'.first.piece first.piece row'.first.is.at first.is.at same)
+
+      within : (k : ℕ) (f : Piece) → (row' : RowOf history.log id f.place k) → row'.from ≡ b → k ≤ r.last
+      within k f row' same = elim (leb_tells k r.last) [
+        | inl e ↦ e.1
+        | inr e ↦
+            absurd
+            (let more : r.last < k = e.1 in
+            let low = r.from in
+            let c = row'.inside (r.last + 1) (omega (arith, low, same)) (omega (arith, more)) in
+            let one = one_piece (r.last + 1) (r.last + 1) c.piece r.next c.at r.at refl in
+            let start : c.piece.start ≡ 0 = ap (λ (x : Piece). x.start) one ∙ r.start in
+            let inside = c.inside in
+            omega (arith, start, inside))
+      ]
+
+      first_at : (k : ℕ) (f : Piece) → (row' : RowOf history.log id f.place k) → turn_at id k history.log ≡ turn_at id b history.log → row'.from ≡ b
+      first_at k f row' turn = one_first history.log id row'.from b row'.first first (row'.turn ∙ turn)
+
+      -- rows of one message begin at one TSN
+      rows_agree : (k m : ℕ) (f g : Piece) (one : RowOf history.log id f.place k) (other : RowOf history.log id g.place m) → g.place ≡ f.place → other.from ≡ one.from
+      rows_agree k m f g one other same = one_beginning queued history cut counts id other.from one.from other.first one.first (other.is ∙ same ∙ sym one.is)
+
+      -- ---- a run of it
+
+      module _ (got : List ℕ) (base : ℕ) (stream : StreamModel) (rows : AreRows history.log got (ordered_base base) (IsOn history id) stream.ordered)
+          (runs : (run : RunModel) → HasEntry run stream.ordered → IsNumberedRun history.log base id run) (number_is : number_at id b history.log ≡ stream.next) where
+        -- It lies where the row says.
+        record RunAt (run : RunModel) : Type 0 where
+          offset : ℕ
+          its : Piece
+          is : CarriesOrdered history.log id offset its
+          last_offset : ℕ
+          last : Piece
+          at_last : at_place last_offset history.log ≡ Some (Some last)
+          text : last.message ≡ first.piece.message
+          low : b ≤ offset
+          up : last_offset ≤ r.last
+          turn : turn_at id offset history.log ≡ turn_at id b history.log
+          begins_at : run.first ≡ fragment_place stream.next base + offset
+          ends_at : place_after run ≡ fragment_place stream.next base + last_offset + 1
+          beginning : run.has_beginning ≡ is_beginning its
+          end' : run.has_end ≡ is_end last
+          last_from : b ≤ last_offset
+
+        begins_with : (m k : ℕ) → m ≡ k → k ≡ b → m ≡ b
+        begins_with m k same is = same ∙ is
+
+        place_so : (place number offset : ℕ) → place ≡ fragment_place number base + offset → number ≡ stream.next → place ≡ fragment_place stream.next base + offset
+        place_so place number offset is named = is ∙ ap (λ (k : ℕ). fragment_place k base + offset) named
+
+        turn_of : (k : ℕ) (f : Piece) → CarriesOrdered history.log id k f → number_at id k history.log ≡ stream.next → turn_at id k history.log ≡ turn_at id b history.log
+        turn_of k f is number =
+            let some = some_turn queued history cut counts id k f is in
+            let some_b = some_turn queued history cut counts id b first.piece first.is in
+            omega (arith, number, number_is, some, some_b)
+
+        run_at : (run : RunModel) → HasEntry run stream.ordered → run.number ≡ stream.next → RunAt run
+        run_at run has named =
+            let w = row_in history.log got (ordered_base base) (IsOn history id) run stream.ordered rows has in
+            let n = runs run has in
+            let place : run.first ≡ fragment_place run.number base + w.offset = placed_plain (ordered_base base) w.offset w.head run.number run.first (counts.kinds w.offset w.head w.at_head) w.first in
+            let same : n.offset ≡ w.offset = (let other = n.first in omega (arith, place, other)) in
+            let one : n.piece ≡ w.head = one_piece n.offset w.offset n.piece w.head n.is.at w.at_head same in
+            let is : CarriesOrdered history.log id w.offset w.head = record { at = w.at_head; stream = ap (λ (x : Piece). x.message.stream) (sym one) ∙ n.is.stream; ordered = ap (λ (x : Piece). x.message.is_unordered) (sym one) ∙ n.is.ordered } in
+            let is_last : CarriesOrdered history.log id w.last_offset w.last = record { at = w.at_last; stream = ap (λ (m : Message). m.stream) w.message ∙ is.stream; ordered = ap (λ (m : Message). m.is_unordered) w.message ∙ is.ordered } in
+            let turn : turn_at id w.offset history.log ≡ turn_at id b history.log =
+            turn_of w.offset w.head is (ap (λ (k : ℕ). number_at id k history.log) (sym same) ∙ sym n.number ∙ named) in
+            let one_row = row_of queued history cut counts id w.offset w.head is in
+            let last_row = row_of queued history cut counts id w.last_offset w.last is_last in
+            let from : one_row.from ≡ b = first_at w.offset w.head one_row turn in
+            let both_rows : last_row.from ≡ one_row.from = rows_agree w.offset w.last_offset w.head w.last one_row last_row w.place in
+            let first_place : w.head.place ≡ first.piece.place = of_first w.offset w.head one_row from in
+            record {
+              offset = w.offset;
+              its = w.head;
+              is = is;
+              last_offset = w.last_offset;
+              last = w.last;
+              at_last = w.at_last;
+              text = w.message ∙ one_text w.offset b w.head first.piece w.at_head first.is.at first_place;
+              low = (let up = one_row.up_to in omega (arith, up, from));
+              up = within w.last_offset w.last last_row (begins_with last_row.from one_row.from both_rows from);
+              turn = turn;
+              begins_at = place_so run.first run.number w.offset place named;
+              ends_at = (let ends = w.ends in let at = place_so run.first run.number w.offset place named in omega (arith, ends, at));
+              beginning = w.beginning;
+              end' = w.end;
+              last_from = (let up = last_row.up_to in omega (arith, up, from, both_rows));
+            }
+
+        -- one that ends the message ends where that does
+        at_end : (run : RunModel) → (x : RunAt run) → is_end x.last ≡ true → x.last_offset ≡ r.last
+        unfolding GoesUpTo
+        at_end run x e =
+            elim (leb_tells r.last x.last_offset) [
+              | inl t ↦ (let down : r.last ≤ x.last_offset = t.1 in let up = x.up in omega (arith, down, up))
+              | inr t ↦
+                  absurd
+                  (let less : x.last_offset < r.last = t.1 in
+                  let low = x.last_from in
+                  let c = r.goes (x.last_offset + 1) (omega (arith, low)) (omega (arith, less)) in
+                  let before = cut.rows (x.last_offset + 1) c.piece (omega arith) c.at c.inside in
+                  let one : before.before ≡ x.last = one_piece before.earlier x.last_offset before.before x.last before.at x.at_last (let is = before.is in omega (arith, is)) in
+                  let stop : x.last.start + x.last.size ≡ length x.last.message.payload = eqb-true (x.last.start + x.last.size) (length x.last.message.payload) e in
+                  let start : x.last.start + x.last.size ≡ c.piece.start = ap (λ (y : Piece). y.start + y.size) (sym one) ∙ before.start in
+                  let text : x.last.message ≡ c.piece.message = x.text ∙ sym (one_text (x.last_offset + 1) b c.piece first.piece c.at first.is.at c.is) in
+                  let sizes : length x.last.message.payload ≡ length c.piece.message.payload = ap (λ (m : Message). length m.payload) text in
+                  let of = cut.pieces (x.last_offset + 1) c.piece c.at in
+                  let some = of.some in
+                  let inside = of.within in
+                  omega (arith, stop, start, sizes, some, inside))
+            ]
+
+        spans : SpansMessage stream.ordered stream.next (fragment_place stream.next base + b) (fragment_place stream.next base + r.last)
+        spans =
+            record {
+              begins = λ run has named e. (
+                  let x = run_at run has named in
+                  let start : x.its.start ≡ 0 = eqb-true x.its.start 0 (sym x.beginning ∙ e) in
+                  let same : x.offset ≡ b = one_first history.log id x.offset b (record { piece = x.its; is = x.is; start = start }) first x.turn in
+                  x.begins_at ∙ ap (λ (k : ℕ). fragment_place stream.next base + k) same
+                  );
+              ends = λ run has named e. (
+                  let x = run_at run has named in
+                  let same = at_end run x (sym x.end' ∙ e) in
+                  x.ends_at ∙ ap (λ (k : ℕ). fragment_place stream.next base + k + 1) same
+                  );
+              begun = λ run has named low up. (
+                  let x = run_at run has named in
+                  let at = x.begins_at in
+                  let from = x.low in
+                  let same : x.offset ≡ b = omega (arith, at, from, low) in
+                  let one = one_piece x.offset b x.its first.piece x.is.at first.is.at same in
+                  x.beginning ∙ eq-eqb x.its.start 0 (ap (λ (y : Piece). y.start) one ∙ first.start)
+                  );
+              ended = λ run has named low up. (
+                  let x = run_at run has named in
+                  let at = x.ends_at in
+                  let high = x.up in
+                  let same : x.last_offset ≡ r.last = omega (arith, at, high, up) in
+                  let one = one_piece x.last_offset r.last x.last last_part.piece x.at_last last_part.is.at same in
+                  x.end' ∙ ap is_end one ∙ ended
+                  );
+            }
+
+        -- all parts are held then, and the message would be whole
+        not_all : LieApart 0 stream.ordered → AscendFrom (stream.next + 1) stream.waiting
+            → ((n : ℕ) (f : Piece) → CarriesOrdered history.log id n f → HasEntry n got → stream.next ≤ number_at id n history.log → IsHeldOrWaits history.log base id stream n)
+            → ((k : ℕ) → b ≤ k → k ≤ r.last → HasEntry k got) → ⊥
+        not_all apart waits held all =
+            one_is_missing stream.ordered stream.next (fragment_place stream.next base + b) (fragment_place stream.next base + r.last) apart spans (let low = r.from in omega (arith, low))
+            (λ place low up. (
+            let k : ℕ = place - fragment_place stream.next base in
+            let from : b ≤ place - fragment_place stream.next base = omega (arith, low) in
+            let to : place - fragment_place stream.next base ≤ r.last = omega (arith, up) in
+            let at : fragment_place stream.next base + (place - fragment_place stream.next base) ≡ place = omega (arith, low) in
+            let p = part (place - fragment_place stream.next base) from to in
+            let number : number_at id (place - fragment_place stream.next base) history.log ≡ stream.next = ap (λ (t : ℕ). 2 ^ 32 + t - 1) p.turn ∙ number_is in
+            elim (held (place - fragment_place stream.next base) p.piece p.is (all (place - fragment_place stream.next base) from to) (omega (arith, number))) [
+              | inl h ↦
+                  subst (λ (q : ℕ). HeldAs stream.ordered q stream.next) at
+                  (subst (λ (j : ℕ). HeldAs stream.ordered (fragment_place j base + (place - fragment_place stream.next base)) j) number h)
+              | inr w ↦
+                  absurd
+                  (let here : is_number_waiting stream.next stream.waiting ≡ true = subst (λ (j : ℕ). is_number_waiting j stream.waiting ≡ true) number w in
+                  let clash : true ≡ false = sym here ∙ none_below (stream.next + 1) stream.next stream.waiting waits (omega arith) in
+                  cc)
+            ]
+            ))
+
+    -- So not all TSNs up to a later message were handled.
+    pub incomplete : (end : ℕ) (later : IsFirstAt history.log id end) (got : List ℕ) (base : ℕ) (stream : StreamModel) → b < end
+        → AreRows history.log got (ordered_base base) (IsOn history id) stream.ordered → ((run : RunModel) → HasEntry run stream.ordered → IsNumberedRun history.log base id run)
+        → number_at id b history.log ≡ stream.next → LieApart 0 stream.ordered → AscendFrom (stream.next + 1) stream.waiting
+        → ((n : ℕ) (f : Piece) → CarriesOrdered history.log id n f → HasEntry n got → stream.next ≤ number_at id n history.log → IsHeldOrWaits history.log base id stream n)
+        → ((k : ℕ) → HasEntry k got → (f : Piece) × (at_place k history.log ≡ Some (Some f)))
+        → ((k : ℕ) → b ≤ k → k < end → HasEntry k got) → ⊥
+    incomplete end later got base stream less rows runs number apart waits held pieces all =
+        let r = row end later (λ m low up. pieces m (all m low up)) less in
+        not_all end r got base stream rows runs number apart waits held (λ k low up. all k low (let to = r.to in omega (arith, to, up)))

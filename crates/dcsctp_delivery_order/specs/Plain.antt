@@ -1,0 +1,86 @@
+-- A stream without interleaving: the sender's numbers of its ordered messages are counts, which the
+-- log has, and the receiver reads them right (RFC 9260, section 6.6).
+use Rattle.std.specs.Prelude.{◌≡◌, ◌⊎◌, ◌<◌, ◌≤◌, ◌+◌, ◌-◌, ◌^◌, if◌then◌else◌, ℕ, false, true, None, Some, List, [], ◌∷◌, ◌++◌, length}
+use Rattle.dcsctp_spec_lemmas.specs.types.queues.Messages.{MessageContent}
+use Rattle.dcsctp_spec_lemmas.specs.spec.queues.Numbers.{fragment_place}
+use Rattle.dcsctp_spec_lemmas.specs.spec.queues.Runs.{RunModel}
+use Rattle.dcsctp_spec_lemmas.specs.spec.queues.IncomingStreams.{StreamModel, is_number_waiting}
+use Rattle.dcsctp_spec_lemmas.specs.spec.queues.Incoming.{IncomingModel, stream_on}
+use Rattle.dcsctp_delivery_sending.specs.Places.{HasEntry, at_place}
+use Rattle.dcsctp_delivery_sending.specs.Log.{Message, Piece, Slot, History, is_end}
+use Rattle.dcsctp_delivery_sending.specs.Numbers.{AreOfKind}
+use Rattle.dcsctp_delivery_sending.specs.Turns.{begun_on, turn_at, IsSsnOfTurn}
+use Rattle.dcsctp_delivery_receiving.specs.Ready.{HoldsAll}
+use Rattle.dcsctp_delivery_order.specs.Runs.{LieApart, HeldAs}
+use Rattle.dcsctp_delivery_order.specs.Order.{StreamInOrder, AreFilled}
+
+-- ---- numbers without wrap
+
+-- The piece, with the number of its message if that is ordered and was begun as the last of so many of its stream.
+abbrev pub turned_piece : Piece → ℕ → Piece
+turned_piece piece turn = record piece { mid = if piece.message.is_unordered then 0 else turn - 1 }
+
+abbrev pub turned_slot : Slot → List Slot → Slot
+turned_slot None earlier = None
+turned_slot (Some piece) earlier = Some (turned_piece piece (begun_on piece.message.stream (Some piece ∷ earlier)))
+
+abbrev pub turned : List Slot → List Slot
+turned [] = []
+turned (slot ∷ earlier) = turned_slot slot earlier ∷ turned earlier
+
+-- the history with such numbers, from 0 on
+abbrev pub with_turns : History → History
+with_turns history = record { log = turned history.log; marks = []; floors = λ id is_unordered. 0 }
+
+-- the receiver's number of the message of a TSN: it counts from 2^32 on
+abbrev pub number_at : ℕ → ℕ → List Slot → ℕ
+number_at id n log = 2 ^ 32 + turn_at id n log - 1
+
+-- The log is one of DATA, in which SSNs count the ordered messages of each stream from 0 on, and a message is begun only once
+-- the one before has ended, or is abandoned. Fewer than 2^31 TSNs were assigned.
+pub record CountsPlain (history : History) : Type 0 where
+  pub kinds : AreOfKind false history.log
+  pub sent : (n : ℕ) (f : Piece) → at_place n history.log ≡ Some (Some f) → f.message.is_unordered ≡ false → IsSsnOfTurn f.ssn (turn_at f.message.stream n history.log)
+  pub closes : (n : ℕ) (f g : Piece) → at_place n history.log ≡ Some (Some f) → at_place (n + 1) history.log ≡ Some (Some g) → g.start ≡ 0 → is_end f ≡ true
+  pub few : length history.log < 2 ^ 31
+
+-- ---- what a receiver has of a stream
+
+-- The TSN carries a piece of an ordered message of the stream.
+pub record CarriesOrdered (log : List Slot) (id n : ℕ) (piece : Piece) : Type 0 where
+  pub at : at_place n log ≡ Some (Some piece)
+  pub stream : piece.message.stream ≡ id
+  pub ordered : piece.message.is_unordered ≡ false
+
+-- A run has the number of the message of its first part, and begins at that part's place.
+pub record IsNumberedRun (log : List Slot) (base id : ℕ) (run : RunModel) : Type 0 where
+  pub offset : ℕ
+  pub piece : Piece
+  pub is : CarriesOrdered log id offset piece
+  pub number : run.number ≡ number_at id offset log
+  pub first : run.first ≡ fragment_place run.number base + offset
+
+-- The part of a TSN is held, or its whole message waits.
+abbrev pub IsHeldOrWaits : List Slot → ℕ → ℕ → StreamModel → ℕ → Type 0
+IsHeldOrWaits log base id stream n =
+    HeldAs stream.ordered (fragment_place (number_at id n log) base + n) (number_at id n log) ⊎ (is_number_waiting (number_at id n log) stream.waiting ≡ true)
+
+-- The stream is in order, without a gap. Its runs lie apart. Each part that was handled is held, or its message is whole. `base`
+-- is the number that the reassembly queue has for the first TSN.
+pub record PlainStream (queued : List Message) (history : History) (got : List ℕ) (base id : ℕ) (all waits : List ℕ) (stream : StreamModel) : Type 0 where
+  pub order : StreamInOrder queued (with_turns history) id all waits stream
+  pub filled : AreFilled (with_turns history) id all stream.next
+  pub from : 2 ^ 32 ≤ stream.next
+  pub apart : LieApart 0 stream.ordered
+  pub runs : (run : RunModel) → HasEntry run stream.ordered → IsNumberedRun history.log base id run
+  pub held : (n : ℕ) (f : Piece) → CarriesOrdered history.log id n f → HasEntry n got → stream.next ≤ number_at id n history.log → IsHeldOrWaits history.log base id stream n
+
+-- ---- what a receiver has of all streams
+
+-- All that is held was queued, and each stream is in order.
+pub record HoldsPlain (queued : List Message) (history : History) (got : List ℕ) (base : ℕ) (read : List ℕ) (streams : ℕ → StreamModel) (unordered : List RunModel) (ready : List MessageContent) : Type 0 where
+  pub holds : HoldsAll queued history got base read streams unordered ready
+  pub order : (id : ℕ) → PlainStream queued history got base id (read ++ holds.places) (holds.waits id) (streams id)
+
+abbrev pub IncomingPlain : List Message → History → List ℕ → ℕ → List ℕ → IncomingModel → Type 0
+IncomingPlain queued history got base read incoming = HoldsPlain queued history got base read (λ id. stream_on id incoming.streams) incoming.unordered incoming.ready

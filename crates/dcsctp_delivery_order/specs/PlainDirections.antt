@@ -1,0 +1,27 @@
+-- Order over one direction of an association without interleaving: ordered messages of a stream are
+-- read in the order in which they were queued (RFC 9260, section 6.6).
+use Rattle.std.specs.Prelude.{◌≡◌, ◌<◌, ◌≤◌, ◌^◌, ℕ, true, false, [], length}
+use Rattle.dcsctp_spec_lemmas.specs.types.declared.options.Options.{Options}
+use Rattle.dcsctp_delivery_sending.specs.Losing.{AreUnlimited}
+use Rattle.dcsctp_delivery_directions.specs.Forwards.{NoneForwards}
+use Rattle.dcsctp_delivery_directions.specs.Directions.{Direction, DirectionRun, assigned}
+use Rattle.dcsctp_delivery_order.specs.Delivered.{DeliveredInOrder, DeliveredWithoutGaps}
+
+-- Without interleaving each message that was read was queued, none twice, and the ordered ones of each stream in the order of
+-- reading. This holds where the sender began with number 0 on each stream, has begun no request to reset streams, and skips
+-- nothing, if fewer than 2^31 TSNs were assigned. Stream sequence numbers have 16 bits: a receiver takes TSNs up to 65,535 ahead,
+-- and each message has one at least.
+abbrev pub PlainDirectionsDeliverInOrder : Type 0
+PlainDirectionsDeliverInOrder =
+    (options : Options) (first size : ℕ) (direction : Direction) → DirectionRun options first size direction
+    → first < 2 ^ 32 → assigned direction < 2 ^ 31 → length direction.queued < 2 ^ 64 → size ≤ 2 ^ 63 → direction.queues.queue.is_interleaved ≡ false
+    → direction.beginning.from_zero ≡ true → direction.asking.requests ≡ [] → NoneForwards direction.sent → DeliveredInOrder direction.queued direction.read
+
+-- What was read of each stream's ordered messages is a prefix of what was queued, if besides no message may be abandoned (it
+-- has no lifetime, and no limit on retransmissions), and the sender began with all that was queued before and drops nothing for a
+-- reset of a stream. Then it skips nothing.
+abbrev pub PlainDirectionsDeliverWithoutGaps : Type 0
+PlainDirectionsDeliverWithoutGaps =
+    (options : Options) (first size : ℕ) (direction : Direction) → DirectionRun options first size direction
+    → first < 2 ^ 32 → assigned direction < 2 ^ 31 → length direction.queued < 2 ^ 64 → size ≤ 2 ^ 63 → direction.queues.queue.is_interleaved ≡ false
+    → direction.beginning.from_zero ≡ true → direction.beginning.keeps_all ≡ true → AreUnlimited direction.queued → DeliveredWithoutGaps direction.queued direction.read
