@@ -1,6 +1,6 @@
 -- What was read in one association, in the order in which it was queued.
 use Rattle.std.proofs.Common.{◌≡◌, ◌≢◌, ℕ, ◌<◌, ◌≤◌, ◌^◌, ◌+◌, Some, List, [], ◌∷◌, length, true, false, refl, sym, ◌∙◌, ap, arith, subst, inl, inr}
-use Rattle.std.specs.Prelude.{Bool}
+use Rattle.std.specs.Prelude.{◌⊎◌, Bool}
 use Rattle.dcsctp_spec_lemmas.specs.types.declared.options.Options.{Options}
 use Rattle.dcsctp_spec_lemmas.specs.types.queues.Messages.{MessageContent}
 use Rattle.dcsctp_spec_lemmas.specs.spec.endpoint.Endpoint.{Endpoint}
@@ -24,6 +24,9 @@ use Rattle.dcsctp_delivery_order.specs.Queue.{IsOrderedOn, ComeInOrder}
 use Rattle.dcsctp_delivery_order.proofs.Directions.{directions_deliver_in_order}
 use Rattle.dcsctp_delivery_order.proofs.PlainDirections.{plain_directions_deliver_in_order}
 use Rattle.dcsctp_delivery_order.proofs.Front.{directions_deliver_without_gaps}
+use Rattle.dcsctp_delivery_order.proofs.FewDirections.{plain_few_deliver_in_order}
+use Rattle.dcsctp_delivery_order.specs.PlainDirections.{FewOnEachStream}
+use Rattle.dcsctp_delivery_associations.proofs.FewMarks.{few_marks}
 use Rattle.dcsctp_delivery_order.proofs.PlainFront.{plain_directions_deliver_without_gaps}
 use Rattle.dcsctp_delivery_associations.specs.Ends.{ReceivingEnd, joined, Ends, HadKind, IsOnlyTag, BeginsAnew, Awaits, Between}
 use Rattle.dcsctp_delivery_associations.specs.InOrder.{Interleaves}
@@ -183,39 +186,47 @@ module _ (options : Options) (ends : Ends) (e : Endpoint) (queued : List Message
     by_begun : {P : Type 0} → (with_tag tag reading.reads ≡ [] → P) → (tag ≢ 0 → HadKind past tag (ends.sends tag).queues.queue.is_interleaved → P) → P
     by_begun none had = elim (decide tag 0) [ inl zero ↦ none (none_at_zero zero) | inr some ↦ elim (h.sender.kinds tag some) [ inl waits ↦ none (none_awaited waits) | inr kind ↦ had some kind ] ]
 
-  pub ends_deliver_in_order : (tag : ℕ) → BeginsAnew e past tag → Interleaves true past tag → DeliveredInOrder queued (with_tag tag reading.reads)
+  pub ends_deliver_in_order : (tag : ℕ) → BeginsAnew e past tag → Interleaves past tag → DeliveredInOrder queued (with_tag tag reading.reads)
   ends_deliver_in_order tag anew interleaves =
       by_begun tag (nothing_in_order queued (with_tag tag reading.reads))
       (λ some had. in_order_so tag
       (directions_deliver_in_order options (ends.firsts tag) options.max_receiver_window_buffer_size (own tag) (h.runs tag) (h.small tag) (little tag) (short tag)
       (sym had.kind_is ∙ interleaves had.link had.held had.tag_is) (h.numbered tag some anew)))
 
-  module _ (window : options.max_receiver_window_buffer_size < 2 ^ 32) (are : AreUnlimited queued) where
+  module _ (window : options.max_receiver_window_buffer_size < 2 ^ 32) where
     room : options.max_receiver_window_buffer_size ≤ 2 ^ 63
     room = omega (arith, window)
 
-    unlimited : (tag : ℕ) → AreUnlimited (ends.sends tag).queued
-    unlimited tag = unlimited_marks (ends.sends tag).queued queued (h.sender.marks tag) are
+    unlimited : AreUnlimited queued → (tag : ℕ) → AreUnlimited (ends.sends tag).queued
+    unlimited are tag = unlimited_marks (ends.sends tag).queued queued (h.sender.marks tag) are
 
-    pub ends_deliver_data_in_order : (tag : ℕ) → BeginsAnew e past tag → Interleaves false past tag → requests_to tag packets ≡ 0 → DeliveredInOrder queued (with_tag tag reading.reads)
-    ends_deliver_data_in_order tag anew kind none =
+    -- Stream sequence numbers are read right, since none is skipped, or there are few.
+    own_data : (tag : ℕ) (kind : Bool) → (ends.sends tag).queues.queue.is_interleaved ≡ kind → (ends.sends tag).beginning.from_zero ≡ true → (ends.sends tag).asking.requests ≡ [] → AreUnlimited queued ⊎ FewOnEachStream queued
+        → DeliveredInOrder (ends.sends tag).queued (ends.gets tag).read
+    own_data tag true is from none which = directions_deliver_in_order options (ends.firsts tag) options.max_receiver_window_buffer_size (own tag) (h.runs tag) (h.small tag) (little tag) (short tag) is from
+    own_data tag false is from none (inl are) =
+        plain_directions_deliver_in_order options (ends.firsts tag) options.max_receiver_window_buffer_size (own tag) (h.runs tag) (h.small tag) (little tag) (short tag) room is from none
+        (unlimited_forward_nothing options (ends.firsts tag) options.max_receiver_window_buffer_size (own tag) (h.runs tag) (h.small tag) (short tag) (unlimited are tag))
+    own_data tag false is from none (inr few) =
+        plain_few_deliver_in_order options (ends.firsts tag) options.max_receiver_window_buffer_size (own tag) (h.runs tag) (h.small tag) (little tag) (short tag) is from none
+        (few_marks queued (ends.sends tag).queued (h.sender.short tag) (h.sender.marks tag) few)
+
+    pub ends_deliver_data_in_order : AreUnlimited queued ⊎ FewOnEachStream queued → (tag : ℕ) → BeginsAnew e past tag → requests_to tag packets ≡ 0 → DeliveredInOrder queued (with_tag tag reading.reads)
+    ends_deliver_data_in_order which tag anew none =
         by_begun tag (nothing_in_order queued (with_tag tag reading.reads))
-        (λ some had. in_order_so tag
-        (plain_directions_deliver_in_order options (ends.firsts tag) options.max_receiver_window_buffer_size (own tag) (h.runs tag) (h.small tag) (little tag) (short tag) room
-        (sym had.kind_is ∙ kind had.link had.held had.tag_is) (h.numbered tag some anew) (unasked tag none)
-        (unlimited_forward_nothing options (ends.firsts tag) options.max_receiver_window_buffer_size (own tag) (h.runs tag) (h.small tag) (short tag) (unlimited tag))))
+        (λ some had. in_order_so tag (own_data tag (ends.sends tag).queues.queue.is_interleaved refl (h.numbered tag some anew) (unasked tag none) which))
 
     -- Either way of numbering leaves no gap.
-    own_front : (tag : ℕ) → tag ≢ 0 → ends.never_resets ≡ true → IsOnlyTag past tag → (kind : Bool) → (ends.sends tag).queues.queue.is_interleaved ≡ kind
+    own_front : AreUnlimited queued → (tag : ℕ) → tag ≢ 0 → ends.never_resets ≡ true → IsOnlyTag past tag → (kind : Bool) → (ends.sends tag).queues.queue.is_interleaved ≡ kind
         → DeliveredWithoutGaps (ends.sends tag).queued (ends.gets tag).read
-    own_front tag some never only true is =
+    own_front are tag some never only true is =
         directions_deliver_without_gaps options (ends.firsts tag) options.max_receiver_window_buffer_size (own tag) (h.runs tag) (h.small tag) (little tag) (short tag) is
-        (h.numbered tag some (inr only)) (h.kept tag some never only) (unlimited tag)
-    own_front tag some never only false is =
+        (h.numbered tag some (inr only)) (h.kept tag some never only) (unlimited are tag)
+    own_front are tag some never only false is =
         plain_directions_deliver_without_gaps options (ends.firsts tag) options.max_receiver_window_buffer_size (own tag) (h.runs tag) (h.small tag) (little tag) (short tag) room is
-        (h.numbered tag some (inr only)) (h.kept tag some never only) (unlimited tag)
+        (h.numbered tag some (inr only)) (h.kept tag some never only) (unlimited are tag)
 
-    pub ends_deliver_without_gaps : ends.never_resets ≡ true → (tag : ℕ) → IsOnlyTag past tag → DeliveredWithoutGaps queued (with_tag tag reading.reads)
-    ends_deliver_without_gaps never tag only =
+    pub ends_deliver_without_gaps : AreUnlimited queued → ends.never_resets ≡ true → (tag : ℕ) → IsOnlyTag past tag → DeliveredWithoutGaps queued (with_tag tag reading.reads)
+    ends_deliver_without_gaps are never tag only =
         by_begun tag (nothing_before queued (with_tag tag reading.reads))
-        (λ some had. front_so tag (own_front tag some never only (ends.sends tag).queues.queue.is_interleaved refl))
+        (λ some had. front_so tag (own_front are tag some never only (ends.sends tag).queues.queue.is_interleaved refl))

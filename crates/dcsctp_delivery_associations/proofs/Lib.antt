@@ -28,4 +28,5 @@ pub mod ReceiverBegins
 pub mod ReceiverRests
 pub mod ReceiverTurns
 pub mod Delivers
+pub mod FewMarks
 pub mod InOrder

@@ -1,6 +1,6 @@
 -- What a user reads in one association comes in the order in which it was queued, stream by stream,
 -- and without gaps where nothing may be left out (RFC 9260, section 6.6).
-use Rattle.std.specs.Prelude.{◌≡◌, ◌<◌, ◌^◌, ℕ, Bool, true, false, List, length}
+use Rattle.std.specs.Prelude.{◌≡◌, ◌⊎◌, ◌<◌, ◌^◌, ℕ, true, List, length}
 use Rattle.dcsctp_spec_lemmas.specs.types.declared.options.Options.{Options}
 use Rattle.dcsctp_spec_lemmas.specs.spec.endpoint.Endpoint.{Endpoint}
 use Rattle.dcsctp_spec_lemmas.specs.spec.Packet.{Emission}
@@ -10,27 +10,29 @@ use Rattle.dcsctp_delivery_sending.specs.Log.{Message}
 use Rattle.dcsctp_delivery_sending.specs.ChunkCounts.{chunks_to}
 use Rattle.dcsctp_delivery_sending.specs.Losing.{AreUnlimited}
 use Rattle.dcsctp_delivery_directions.specs.Requests.{requests_to}
+use Rattle.dcsctp_delivery_order.specs.PlainDirections.{FewOnEachStream}
 use Rattle.dcsctp_delivery_order.specs.Delivered.{DeliveredInOrder, DeliveredWithoutGaps}
 use Rattle.dcsctp_delivery_associations.specs.Ends.{Ends, IsOnlyTag, BeginsAnew, Between}
 use Rattle.dcsctp_delivery_associations.specs.Reads.{Reading, with_tag}
 
--- In the association of the sender whose peer has this tag messages interleave (RFC 8260), or don't.
-abbrev pub Interleaves : Bool → List Effect → ℕ → Type 0
-Interleaves is_interleaved past tag = (link : AssociationIdentity) → HasEffect (holds link) past → link.peer.tag ≡ tag → link.capabilities.message_interleaving ≡ is_interleaved
+-- In the association of the sender whose peer has this tag messages interleave (RFC 8260).
+abbrev pub Interleaves : List Effect → ℕ → Type 0
+Interleaves past tag = (link : AssociationIdentity) → HasEffect (holds link) past → link.peer.tag ≡ tag → link.capabilities.message_interleaving ≡ true
 
 -- Where messages interleave this holds if the numbers of each stream begin at 0, across resets of streams.
 abbrev pub EndsDeliverInOrder : Type 0
 EndsDeliverInOrder =
     (options : Options) (ends : Ends) (e : Endpoint) (queued : List Message) (past : List Effect) (packets : List Emission) (other : Endpoint) (their_past : List Effect) (reading : Reading)
     → Between options ends e queued past packets other their_past reading → length queued < 2 ^ 64 → ((tag : ℕ) → chunks_to tag packets < 2 ^ 30)
-    → (tag : ℕ) → BeginsAnew e past tag → Interleaves true past tag → DeliveredInOrder queued (with_tag tag reading.reads)
+    → (tag : ℕ) → BeginsAnew e past tag → Interleaves past tag → DeliveredInOrder queued (with_tag tag reading.reads)
 
--- Where they don't, it holds if besides no message may be abandoned, and no request to reset streams was sent there.
+-- Also where they don't it holds, if besides no message may be abandoned, or few ordered ones were queued on each stream; and no
+-- request to reset streams was sent there.
 abbrev pub EndsDeliverDataInOrder : Type 0
 EndsDeliverDataInOrder =
     (options : Options) (ends : Ends) (e : Endpoint) (queued : List Message) (past : List Effect) (packets : List Emission) (other : Endpoint) (their_past : List Effect) (reading : Reading)
     → Between options ends e queued past packets other their_past reading → length queued < 2 ^ 64 → ((tag : ℕ) → chunks_to tag packets < 2 ^ 30) → options.max_receiver_window_buffer_size < 2 ^ 32
-    → AreUnlimited queued → (tag : ℕ) → BeginsAnew e past tag → Interleaves false past tag → requests_to tag packets ≡ 0 → DeliveredInOrder queued (with_tag tag reading.reads)
+    → AreUnlimited queued ⊎ FewOnEachStream queued → (tag : ℕ) → BeginsAnew e past tag → requests_to tag packets ≡ 0 → DeliveredInOrder queued (with_tag tag reading.reads)
 
 -- What was read of a stream's ordered messages is a prefix of what was queued, if no message may be abandoned, no stream is
 -- reset, and the association is the only one.

@@ -29,7 +29,7 @@ pub fn ends_deliver()
 
 /// What was read in one association comes in the order in which it was queued, stream by stream: so the ordered
 /// messages do, where the numbers of each stream begin at 0. Without interleaving it takes that no message may be
-/// abandoned, and that no request to reset streams was sent.
+/// abandoned, or that few ordered ones were queued on each stream, and that no request to reset streams was sent.
 pub fn ends_deliver_in_order()
     ensures interleaved { EndsDeliverInOrder }
     ensures plain { EndsDeliverDataInOrder }

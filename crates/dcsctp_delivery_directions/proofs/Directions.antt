@@ -40,6 +40,12 @@ module _ (first : ℕ) (direction : Direction) (small : first < 2 ^ 32) (zero_go
         named = λ k item at. absurd (nothing_at k item (ap (λ (l : List Item). slice_get l k) (sym is.1) ∙ at));
         splits = λ mark has. absurd has;
         abandoned = λ k item at. absurd (nothing_at k item (ap (λ (l : List Item). slice_get l k) (sym is.1) ∙ at));
+        whole = λ kind none. record {
+          closed = λ k item at. absurd (nothing_at k item (ap (λ (l : List Item). slice_get l k) (sym is.1) ∙ at));
+          joined = λ k item next at. absurd (nothing_at k item (ap (λ (l : List Item). slice_get l k) (sym is.1) ∙ at));
+          together = λ k item at. absurd (nothing_at k item (ap (λ (l : List Item). slice_get l k) (sym is.1) ∙ at));
+          begins = λ k item at. absurd (nothing_at k item (ap (λ (l : List Item). slice_get l k) (sym is.1) ∙ at));
+        };
       }
     where
       nothing_at : (k : ℕ) (item : Item) → slice_get [] k ≡ Some item → ⊥
@@ -48,7 +54,7 @@ module _ (first : ℕ) (direction : Direction) (small : first < 2 ^ 32) (zero_go
 
   pub begun_pends : (transfer : Option Transfer) → PendsWhere anew transfer
   begun_pends None = tt
-  begun_pends (Some transfer) = λ mark has. absurd has
+  begun_pends (Some transfer) = record { next = λ mark has. absurd has; none = λ begun none. refl }
 
   pub begun_kind : (is_interleaved : Bool) (transfer : Option Transfer) → NoneInFlight first is_interleaved transfer → IsOfKind is_interleaved transfer
   begun_kind is_interleaved None is = tt

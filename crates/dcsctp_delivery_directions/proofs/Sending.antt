@@ -166,7 +166,7 @@ module _ (first : ℕ) (old : Direction) (s : Stands first old) where
 
   -- the new state pends as that did
   pub pends_as : (transfer : Transfer) (begun : Bool) → old.queues.transfer ≡ Some transfer → begun ≡ transfer.retransmission.reset_begun → Pends s.history begun
-  pends_as transfer begun known same mark has at = same ∙ known_pends transfer known mark has at
+  pends_as transfer begun known same = subst (λ (b : Bool). Pends s.history b) (sym same) (known_pends transfer known)
 
   unfoldable pub stepped_turns_aside : (transfer new : Transfer) → old.queues.transfer ≡ Some transfer → new.retransmission ≡ transfer.retransmission → Stands first (record old { queues = record old.queues { transfer = Some new } })
   stepped_turns_aside transfer new known same =

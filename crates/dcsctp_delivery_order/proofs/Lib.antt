@@ -31,8 +31,17 @@ pub mod Beginning
 pub mod FrontReceived
 pub mod PlainReceived
 pub mod PlainGrowing
+pub mod FewGrowing
 pub mod PlainSteps
 pub mod PlainDirections
+pub mod FewDirections
+pub mod FewTurns
+pub mod FewStreams
+pub mod FewLeaving
+pub mod FewReady
+pub mod FewSkipping
+pub mod FewReceived
+pub mod FewEntries
 pub mod PlainFront
 pub mod Directions
 pub mod FrontSteps

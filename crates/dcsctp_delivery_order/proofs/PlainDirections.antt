@@ -256,7 +256,7 @@ run_plain options first size _ small few (starts old queued below beginning run 
 
 -- ---- what was read
 
-in_order_front : (queued : List Message) (id : ℕ) (xs ys : List ℕ) → ComeInOrder queued id (xs ++ ys) → ComeInOrder queued id xs
+pub in_order_front : (queued : List Message) (id : ℕ) (xs ys : List ℕ) → ComeInOrder queued id (xs ++ ys) → ComeInOrder queued id xs
 in_order_front queued id [] ys are = tt
 in_order_front queued id (x ∷ xs) ys are = (λ later has on on'. are.0 later (among later xs has) on on', in_order_front queued id xs ys are.1)
   where

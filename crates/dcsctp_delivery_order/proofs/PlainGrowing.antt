@@ -43,7 +43,7 @@ pub record TakesPlain (queued : List Message) (history : History) (first : ℕ) 
   pub fresh : HasEntry place read → ⊥
   pub received : HasReceivedPlain queued history first (read ++ place ∷ []) tracker (record incoming { ready = messages })
 
-not_twice : (p : ℕ) (xs ys : List ℕ) → AreDistinct (xs ++ (p ∷ ys)) → HasEntry p xs → ⊥
+pub not_twice : (p : ℕ) (xs ys : List ℕ) → AreDistinct (xs ++ (p ∷ ys)) → HasEntry p xs → ⊥
 not_twice p [] ys distinct h = h
 not_twice p (x ∷ xs) ys distinct h =
     elim h [
@@ -201,7 +201,7 @@ module _ (queued : List Message) (history : History) (empty : history.log ≡ []
   nowhere : (n : ℕ) (slot : Slot) → at_place n history.log ≡ Some slot → ⊥
   nowhere n slot at = (let none : at_place n [] ≡ Some slot = subst (λ (l : List Slot). at_place n l ≡ Some slot) empty at in absurd (cc))
 
-  waits_none : (got : List ℕ) (id : ℕ) (waits : List ℕ) (waiting : List WholeModel) → WaitQueued queued history got id waits waiting → (next : ℕ) → AreReadAs (with_turns history) id waits waiting × AscendFrom next waiting
+  pub waits_none : (got : List ℕ) (id : ℕ) (waits : List ℕ) (waiting : List WholeModel) → WaitQueued queued history got id waits waiting → (next : ℕ) → AreReadAs (with_turns history) id waits waiting × AscendFrom next waiting
   waits_none got id [] [] wait next = (tt, tt)
   waits_none got id [] (w ∷ waiting) wait next = absurd wait
   waits_none got id (p ∷ waits) [] wait next = absurd wait
@@ -215,11 +215,11 @@ module _ (queued : List Message) (history : History) (empty : history.log ≡ []
   apart_none [] none = tt
   apart_none (r ∷ runs) none = absurd (none r (inl refl))
 
-  in_order_none : (id : ℕ) (places : List ℕ) → ((p : ℕ) → HasEntry p places → ⊥) → ComeInOrder queued id places
+  pub in_order_none : (id : ℕ) (places : List ℕ) → ((p : ℕ) → HasEntry p places → ⊥) → ComeInOrder queued id places
   in_order_none id [] none = tt
   in_order_none id (p ∷ places) none = absurd (none p (inl refl))
 
-  is_first : (next : ℕ) → IsNear (next + 1) next → next ≡ 2 ^ 32
+  pub is_first : (next : ℕ) → IsNear (next + 1) next → next ≡ 2 ^ 32
   is_first next (fresh e) = e
   is_first next (near base same small low high) = absurd (omega (arith, same, low, high))
 

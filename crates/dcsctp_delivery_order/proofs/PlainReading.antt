@@ -19,10 +19,10 @@ use Rattle.dcsctp_delivery_order.proofs.PlainTurns.{turn_up, turn_few, first_abo
 use Rattle.dcsctp_delivery_order.proofs.PlainRows.{some_turn, sent_as, one_message}
 use Rattle.dcsctp_delivery_order.proofs.PlainMissing.{incomplete}
 
-from_exact : (next number : ℕ) → next ≤ number → number < next + 2 ^ 16 → number + 1 < 2 ^ 64 → short_number_from next (number % 2 ^ 16) ≡ number
+pub from_exact : (next number : ℕ) → next ≤ number → number < next + 2 ^ 16 → number + 1 < 2 ^ 64 → short_number_from next (number % 2 ^ 16) ≡ number
 from_exact next number low high small = grind (arith, nat_tests)
 
-ssn_agrees : (ssn turn number : ℕ) → 0 < turn → (ssn + 1) % 2 ^ 16 ≡ turn % 2 ^ 16 → number + 1 ≡ 2 ^ 32 + turn → ssn % 2 ^ 16 ≡ number % 2 ^ 16
+pub ssn_agrees : (ssn turn number : ℕ) → 0 < turn → (ssn + 1) % 2 ^ 16 ≡ turn % 2 ^ 16 → number + 1 ≡ 2 ^ 32 + turn → ssn % 2 ^ 16 ≡ number % 2 ^ 16
 ssn_agrees ssn turn number some is of = omega (arith, some, is, of)
 
 module _ (queued : List Message) (history : History) (cut : Cut queued history.log) (counts : CountsPlain history) where
@@ -47,7 +47,7 @@ module _ (queued : List Message) (history : History) (cut : Cut queued history.l
       (omega (arith, some), omega (arith, some, few, below, all))
 
   -- no message that waits has the number of one that doesn't
-  none_waits : (id n : ℕ) (f : Piece) → CarriesOrdered history.log id n f → (waits : List ℕ) (waiting : List WholeModel) → AreReadAs (with_turns history) id waits waiting → (HasEntry f.place waits → ⊥)
+  pub none_waits : (id n : ℕ) (f : Piece) → CarriesOrdered history.log id n f → (waits : List ℕ) (waiting : List WholeModel) → AreReadAs (with_turns history) id waits waiting → (HasEntry f.place waits → ⊥)
       → is_number_waiting (number_at id n history.log) waiting ≡ false
   none_waits id n f is [] [] are fresh = refl
   none_waits id n f is [] (w ∷ waiting) are fresh = absurd are

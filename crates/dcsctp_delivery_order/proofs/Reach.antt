@@ -7,7 +7,7 @@ use Rattle.dcsctp_delivery_order.specs.Reach.{TakesTurns, HasTurns, FewFrom}
 from_exact : (next number : ℕ) → next ≤ number → number < next + 2 ^ 16 → number + 1 < 2 ^ 64 → short_number_from next (number % 2 ^ 16) ≡ number
 from_exact next number low high small = grind (arith, nat_tests)
 
-near_exact : (next number : ℕ) → number < next + 2 ^ 15 → next ≤ number + 2 ^ 15 → number + 1 < 2 ^ 64 → 2 ^ 16 ≤ next → short_number_near next (number % 2 ^ 16) ≡ number
+pub near_exact : (next number : ℕ) → number < next + 2 ^ 15 → next ≤ number + 2 ^ 15 → number + 1 < 2 ^ 64 → 2 ^ 16 ≤ next → short_number_near next (number % 2 ^ 16) ≡ number
 near_exact next number low high small room = grind (arith, nat_tests)
 
 -- it agrees with the number of the sender

@@ -1,7 +1,8 @@
 -- Order over one direction of an association without interleaving: ordered messages of a stream are
 -- read in the order in which they were queued (RFC 9260, section 6.6).
-use Rattle.std.specs.Prelude.{◌≡◌, ◌<◌, ◌≤◌, ◌^◌, ℕ, true, false, [], length}
+use Rattle.std.specs.Prelude.{◌≡◌, ◌==◌, ◌&&◌, ◌<◌, ◌≤◌, ◌^◌, not, ℕ, suc, true, false, List, [], ◌∷◌, length, if◌then◌else◌}
 use Rattle.dcsctp_spec_lemmas.specs.types.declared.options.Options.{Options}
+use Rattle.dcsctp_delivery_sending.specs.Log.{Message}
 use Rattle.dcsctp_delivery_sending.specs.Losing.{AreUnlimited}
 use Rattle.dcsctp_delivery_directions.specs.Forwards.{NoneForwards}
 use Rattle.dcsctp_delivery_directions.specs.Directions.{Direction, DirectionRun, assigned}
@@ -25,3 +26,23 @@ PlainDirectionsDeliverWithoutGaps =
     (options : Options) (first size : ℕ) (direction : Direction) → DirectionRun options first size direction
     → first < 2 ^ 32 → assigned direction < 2 ^ 31 → length direction.queued < 2 ^ 64 → size ≤ 2 ^ 63 → direction.queues.queue.is_interleaved ≡ false
     → direction.beginning.from_zero ≡ true → direction.beginning.keeps_all ≡ true → AreUnlimited direction.queued → DeliveredWithoutGaps direction.queued direction.read
+
+-- ---- few messages on each stream
+
+-- how many ordered messages of the stream these are
+abbrev pub ordered_on : ℕ → List Message → ℕ
+ordered_on id [] = 0
+ordered_on id (message ∷ earlier) = if (message.stream == id) && not message.is_unordered then suc (ordered_on id earlier) else ordered_on id earlier
+
+-- Each stream has fewer than 2^15.
+abbrev pub FewOnEachStream : List Message → Type 0
+FewOnEachStream queued = (id : ℕ) → ordered_on id queued < 2 ^ 15
+
+-- Ordered messages are read in order also where TSNs are passed with a FORWARD-TSN (RFC 3758), if few were queued on each stream.
+-- A receiver reads the stream sequence number of a FORWARD-TSN as the number nearest to its next one. That is right while fewer
+-- than 2^15 messages lie between.
+abbrev pub PlainFewDeliverInOrder : Type 0
+PlainFewDeliverInOrder =
+    (options : Options) (first size : ℕ) (direction : Direction) → DirectionRun options first size direction
+    → first < 2 ^ 32 → assigned direction < 2 ^ 31 → length direction.queued < 2 ^ 64 → direction.queues.queue.is_interleaved ≡ false
+    → direction.beginning.from_zero ≡ true → direction.asking.requests ≡ [] → FewOnEachStream direction.queued → DeliveredInOrder direction.queued direction.read

@@ -5,7 +5,7 @@ ghost use Rattle.dcsctp_delivery_order.specs.Directions.{DirectionsDeliverWithou
 ghost use Rattle.dcsctp_delivery_order.specs.Gaps.{FilledLeavesNoGap, NewStreamsAreFilled, RowsFill};
 ghost use Rattle.dcsctp_delivery_order.specs.Incoming.{BeginningInOrder, GrowingInOrder, OrderedWasRead, ReadyInOrder, ResettingInOrder, SkippingInOrder, TakingInOrder};
 ghost use Rattle.dcsctp_delivery_order.specs.Order.{NewStreamsInOrder, OthersStayInOrder, PartsStayInOrder, ResetsComeBetween, ResetsStayInOrder, SkipsStayInOrder};
-ghost use Rattle.dcsctp_delivery_order.specs.PlainDirections.{PlainDirectionsDeliverWithoutGaps, PlainDirectionsDeliverInOrder};
+ghost use Rattle.dcsctp_delivery_order.specs.PlainDirections.{PlainDirectionsDeliverWithoutGaps, PlainDirectionsDeliverInOrder, PlainFewDeliverInOrder};
 ghost use Rattle.dcsctp_delivery_order.specs.Queue.{HandingFollows};
 ghost use Rattle.dcsctp_delivery_order.specs.Reach.{SkippedSsnsAreReadRight, SsnsAreReadRight};
 ghost use Rattle.dcsctp_delivery_order.specs.Reading.{MidsAreReadRight, NumbersAreFresh, PartsStayInReach, SkipsStayInReach};
@@ -13,8 +13,8 @@ ghost use Rattle.dcsctp_delivery_order.specs.Runs.{OneIsMissing, PartsLeaveHeld,
 ghost use Rattle.dcsctp_delivery_order.specs.Sending.{HandingLosesNone, LosingNoneSendsInTurn};
 ghost use Rattle.dcsctp_delivery_order.specs.Rising.{PartsDeliverRows, SkipsDeliverRising, StreamsDeliverRising, StreamsDeliverRows};
 
-/// What the receiver makes ready on a stream are messages with rising numbers. A skip goes forward only, and without one
-/// the numbers are in a row.
+/// What the receiver makes ready on a stream are messages with rising numbers. A skip goes forward only, and without
+/// one the numbers are in a row.
 pub fn streams_deliver_rising()
     ensures parts { PartsDeliverRows }
     ensures skips { SkipsDeliverRising }
@@ -103,20 +103,26 @@ pub fn directions_deliver_in_order()
 {}
 
 /// What is read of each stream's ordered messages is a prefix of what was queued: none is left out before another. This
-/// is shown with interleaving, where no message may be abandoned, and the sender begins with number 0 on each stream, keeps
-/// all that was queued, and begins no reset.
+/// is shown with interleaving, where no message may be abandoned, and the sender begins with number 0 on each stream,
+/// keeps all that was queued, and begins no reset.
 pub fn directions_deliver_without_gaps()
     ensures { DirectionsDeliverWithoutGaps }
 {}
 
-/// Ordered messages are read in order without interleaving too, where the sender begins no reset and passes no TSNs with a
-/// FORWARD-TSN. Stream sequence numbers are read right within the window of TSNs, though they have 16 bits.
+/// Ordered messages are read in order without interleaving too, where the sender begins no reset and passes no TSNs
+/// with a FORWARD-TSN. Stream sequence numbers are read right within the window of TSNs, though they have 16 bits.
 pub fn plain_directions_deliver_in_order()
     ensures { PlainDirectionsDeliverInOrder }
 {}
 
-/// Where no message has a limit either, and the sender keeps all that was queued, none is left out: what is read of each
-/// stream's ordered messages is a prefix of what was queued.
+/// They are read in order also where the sender passes TSNs with a FORWARD-TSN, if fewer than 2^15 ordered messages are
+/// queued on each stream: then their stream sequence numbers don't repeat within the half of 16 bits.
+pub fn plain_few_deliver_in_order()
+    ensures { PlainFewDeliverInOrder }
+{}
+
+/// Where no message has a limit either, and the sender keeps all that was queued, none is left out: what is read of
+/// each stream's ordered messages is a prefix of what was queued.
 pub fn plain_directions_deliver_without_gaps()
     ensures { PlainDirectionsDeliverWithoutGaps }
 {}

@@ -1,5 +1,5 @@
 -- What a SACK and the retransmission timer leave in flight.
-use Rattle.std.proofs.Common.{◌≡◌, ℕ, zero, suc, Bool, true, false, ◌+◌, ◌-◌, ◌≤◌, List, [], ◌∷◌, length, drop, refl, sym, ◌∙◌, ap, arith, subst}
+use Rattle.std.proofs.Common.{◌≡◌, ℕ, zero, suc, Bool, true, false, ◌+◌, ◌-◌, ◌≤◌, List, [], ◌∷◌, length, drop, refl, sym, ◌∙◌, ap, arith, subst, inl, inr}
 use Rattle.std.specs.Prelude.{Option, slice_get, nat_lt, if◌then◌else◌}
 use Rattle.std.specs.Option.{option_map}
 use Rattle.std.proofs.lemmas.Bool.Decides.{nat_tests}
@@ -11,8 +11,9 @@ use Rattle.dcsctp_spec.specs.queues.Items.{Item, marked_items, changed_between}
 use Rattle.dcsctp_spec.specs.queues.Outstanding.{OutstandingState, acknowledged_count, reported, tsn_at}
 use Rattle.dcsctp_spec.specs.queues.Retransmission.{RetransmissionState, with_items, outstanding_count, after_expiry}
 use Rattle.dcsctp_delivery_sending.specs.Log.{History}
+use Rattle.dcsctp_delivery_sending.specs.Places.{at_place}
 use Rattle.dcsctp_delivery_sending.specs.Stages.{SaysAt, IsNamedFragment, Bears}
-use Rattle.dcsctp_delivery_sending.proofs.Limits.{losing_leaves, missing_leaves, acknowledging_leaves}
+use Rattle.dcsctp_delivery_sending.proofs.Limits.{losing_leaves, missing_leaves, acknowledging_leaves, acknowledging_keeps, missing_keeps, losing_keeps}
 use Rattle.dcsctp_delivery_sending.proofs.Stages.{changed_length, bears_changed}
 
 -- with these items
@@ -23,15 +24,15 @@ reported_bear : (history : History) (first acknowledged count : ℕ) (blocks : L
 reported_bear history first acknowledged count [] outstanding b = b
 reported_bear history first acknowledged count (block ∷ blocks) outstanding b =
     reported_bear history first acknowledged count blocks (record outstanding { items = changed_between Acknowledge (count + block.start - 1) (count + block.end) outstanding.items })
-    (bears_changed history first acknowledged Acknowledge (count + block.start - 1) (count + block.end) outstanding acknowledging_leaves b)
+    (bears_changed history first acknowledged Acknowledge (count + block.start - 1) (count + block.end) outstanding acknowledging_leaves (λ k item at from below. acknowledging_keeps item.progress) b)
 
 covered_bear : (history : History) (first acknowledged count : ℕ) (blocks : List GapAckBlock) (outstanding : OutstandingState) → Bears history first acknowledged outstanding → Having history first acknowledged outstanding (covered count blocks outstanding.items)
 covered_bear history first acknowledged count blocks outstanding b =
-    reported_bear history first acknowledged count blocks (record outstanding { items = changed_between Acknowledge 0 count outstanding.items }) (bears_changed history first acknowledged Acknowledge 0 count outstanding acknowledging_leaves b)
+    reported_bear history first acknowledged count blocks (record outstanding { items = changed_between Acknowledge 0 count outstanding.items }) (bears_changed history first acknowledged Acknowledge 0 count outstanding acknowledging_leaves (λ k item at from below. acknowledging_keeps item.progress) b)
 
 missed_bear : (history : History) (first acknowledged count limit : ℕ) (newest : Option ℕ) (state : RetransmissionState) → Bears history first acknowledged state.outstanding → Bears history first acknowledged (missed_until count limit newest state).outstanding
 missed_bear history first acknowledged count limit newest state b =
-    go (nat_lt (marked_items state.outstanding.items) (marked_items (changed_between (Miss newest) count limit state.outstanding.items))) (bears_changed history first acknowledged (Miss newest) count limit state.outstanding (missing_leaves newest) b)
+    go (nat_lt (marked_items state.outstanding.items) (marked_items (changed_between (Miss newest) count limit state.outstanding.items))) (bears_changed history first acknowledged (Miss newest) count limit state.outstanding (missing_leaves newest) (λ k item at from below. missing_keeps newest item.progress) b)
   where
     items : List Item
     items = changed_between (Miss newest) count limit state.outstanding.items
@@ -71,6 +72,19 @@ first_bear history first acknowledged count state le b =
       splits = λ mark has k item at is. (
           let same : acknowledged + (count + k) ≡ mark.bound = omega (arith, is) in
           b.splits mark has (count + k) item (sym (dropped_at count k (count + k) state.outstanding.items refl) ∙ at) same
+          );
+      whole = λ kind none. (
+          let w = b.whole kind none in
+          let front : (k : ℕ) → slice_get (drop count state.outstanding.items) k ≡ slice_get state.outstanding.items (count + k) = λ k. dropped_at count k (count + k) state.outstanding.items refl in
+          record {
+            closed = λ k item at none'. w.closed (count + k) item (sym (front k) ∙ at) (ap (λ (n : ℕ). at_place n history.log) (omega arith) ∙ none');
+            joined = λ k item next at at' unended. w.joined (count + k) item next (sym (front k) ∙ at) (ap (λ (n : ℕ). slice_get state.outstanding.items n) (omega arith) ∙ sym (front (k + 1)) ∙ at') unended;
+            together = λ k item at is unended. elim (w.together (count + k) item (sym (front k) ∙ at) is unended) [
+              | inl next ↦ inl (next.0, front (k + 1) ∙ ap (λ (n : ℕ). slice_get state.outstanding.items n) (omega arith) ∙ next.1, next.2)
+              | inr last ↦ inr (omega (arith, last))
+            ];
+            begins = λ k item at is. (let zero_at = w.begins (count + k) item (sym (front k) ∙ at) is in omega (arith, zero_at));
+          }
           );
     }
 
@@ -154,4 +168,4 @@ pub lost_pends : (now : ℕ) (state : RetransmissionState) → (after_expiry now
 lost_pends now state = refl
 
 pub lost_bear : (history : History) (first acknowledged now : ℕ) (state : RetransmissionState) → Bears history first acknowledged state.outstanding → Bears history first acknowledged (after_expiry now state).outstanding
-lost_bear history first acknowledged now state b = bears_changed history first acknowledged Mark 0 (outstanding_count state) state.outstanding losing_leaves b
+lost_bear history first acknowledged now state b = bears_changed history first acknowledged Mark 0 (outstanding_count state) state.outstanding losing_leaves (λ k item at from below. losing_keeps item.progress) b

@@ -38,6 +38,8 @@ named_marked history begun ids own part below n =
       stream = n.stream;
       unordered = n.unordered;
       mid = n.mid;
+      ssn = n.ssn;
+      up_to = n.up_to;
       limits = n.limits;
     }
 
@@ -58,12 +60,13 @@ bears_marked history first acknowledged (Some begun) ids state b =
         | inr old ↦ b.splits mark old k item at is
       ];
       abandoned = b.abandoned;
+      whole = λ kind none. absurd (cc);
     }
 
 -- What is sent next says so.
 pub pends_marked : (history : History) (begun : Option BegunReset) (ids : List ℕ) (state : RetransmissionState) → Pends history state.reset_begun → Pends (with_mark begun ids (length history.log) history) (retransmission_begun begun state).reset_begun
 pends_marked history None ids state pends = pends
-pends_marked history (Some begun) ids state pends = λ mark has is. refl
+pends_marked history (Some begun) ids state pends = record { next = λ mark has is. refl; none = λ is none. absurd (cc) }
 
 -- ---- the new mark
 

@@ -1,18 +1,20 @@
 -- The entries of a FORWARD-TSN or I-FORWARD-TSN name messages of the log.
 use Rattle.std.proofs.Common.{◌≡◌, ◌==◌, ℕ, zero, suc, Bool, true, false, ◌<◌, ◌+◌, ◌-◌, ◌≤◌, ◌%◌, ◌^◌, List, [], ◌∷◌, length, take, refl, sym, ◌∙◌, ap, arith, subst, inl, inr}
-use Rattle.std.specs.Prelude.{◌&&◌, ◌||◌, not, Option, None, Some, slice_get, if◌then◌else◌}
+use Rattle.std.specs.Prelude.{◌⊎◌, ◌&&◌, ◌||◌, not, Option, None, Some, slice_get, if◌then◌else◌}
 use Rattle.std.specs.Option.{option_map, option_or}
 use Rattle.std.proofs.lemmas.Bool.{eqb-true, eq-eqb}
 use Rattle.std.proofs.lemmas.Bool.Decides.{eqb_tells, leb_tells}
 use Rattle.dcsctp_spec.specs.types.queues.Progress.{is_abandoned}
 use Rattle.dcsctp_spec.specs.queues.Outstanding.{OutstandingState}
 use Rattle.dcsctp_spec.specs.queues.Items.{Item}
-use Rattle.dcsctp_spec.specs.queues.Skipping.{is_row_continued, is_same_stream, last_on, last_listed, entry_for, NoneTwice, skipped_number}
-use Rattle.dcsctp_delivery_sending.specs.Places.{HasEntry}
-use Rattle.dcsctp_delivery_sending.specs.Log.{Mark, History}
+use Rattle.dcsctp_spec.specs.queues.Skipping.{is_row_continued, is_same_stream, last_on, last_listed, entry_for, NoneTwice, skipped_number, IsSkippedRow}
+use Rattle.dcsctp_delivery_sending.specs.Places.{HasEntry, at_place}
+use Rattle.dcsctp_delivery_sending.specs.Log.{Message, Slot, Mark, History, Cut, IsEndSlot}
 use Rattle.dcsctp_delivery_sending.specs.Numbers.{AreOfKind}
-use Rattle.dcsctp_delivery_sending.specs.Stages.{IsNamedFragment, Bears}
+use Rattle.dcsctp_delivery_sending.specs.Stages.{SaysSlot, SaysAt, IsNamedFragment, Bears}
+use Rattle.dcsctp_spec.specs.queues.Sending.{Fragment}
 use Rattle.dcsctp_delivery_sending.specs.Flushes.{IsEntry, AreForwardEntries}
+use Rattle.dcsctp_delivery_sending.proofs.Stages.{item_at, item_below}
 
 same_kind : (a b : Bool) → (if a then b else not b) ≡ true → a ≡ b
 same_kind true b e = sym e
@@ -23,12 +25,6 @@ both : (x y : Bool) → (x && y) ≡ true → (x ≡ true) × (y ≡ true)
 both true true e = (refl, refl)
 both true false e = absurd (cc)
 both false y e = absurd (cc)
-
--- the item at a place within a row
-item_at : (place : ℕ) (items : List Item) → place < length items → (item : Item) × (slice_get items place ≡ Some item)
-item_at place [] below = absurd (omega arith)
-item_at zero (item ∷ items) below = (item, refl)
-item_at (suc place) (i ∷ items) below = item_at place items (omega arith)
 
 -- It doesn't begin after a reset unless it is the first.
 begins_none : (place : ℕ) (item : Item) → 0 < place → is_row_continued place item ≡ true → item.begins_after_reset ≡ true → ⊥
@@ -48,6 +44,7 @@ module _ (history : History) (first : ℕ) where
     stream : entry.0.0 ≡ item.fragment.stream
     unordered : entry.0.1 ≡ item.fragment.is_unordered
     number : entry.1 ≡ skipped_number outstanding.is_interleaved item
+    listed : outstanding.is_interleaved ≡ false → entry.0.1 ≡ false
 
   -- No reset of the stream lies between an item of the row and its end, where the row would have ended.
   not_split : (acknowledged count : ℕ) (outstanding : OutstandingState) → Bears history first acknowledged outstanding → count ≤ length outstanding.items → ((place : ℕ) (item : Item) → place < count → slice_get outstanding.items place ≡ Some item → is_row_continued place item ≡ true)
@@ -63,9 +60,112 @@ module _ (history : History) (first : ℕ) where
             absurd (begins_none (mark.bound - acknowledged) item (omega arith) (each (mark.bound - acknowledged) item inner at) (b.splits mark has (mark.bound - acknowledged) item at here)))
       ]
 
+  -- No piece of a message in the row comes after its last TSN.
+  abbrev pub ClosesRow : ℕ → ℕ → OutstandingState → Type 0
+  ClosesRow acknowledged count outstanding =
+      outstanding.is_interleaved ≡ false → history.marks ≡ [] → 0 < count → (slot : Slot) × (at_place (acknowledged + count - 1) history.log ≡ Some slot) × (IsEndSlot slot ⊎ (2 ^ 31 ≤ acknowledged + count + 1))
+
+  last_there : (stream : ℕ) (unordered : Bool) (items : List Item) (place : ℕ) (item : Item) → slice_get items place ≡ Some item → stream ≡ item.fragment.stream → unordered ≡ item.fragment.is_unordered → last_on stream unordered items ≡ None → ⊥
+  last_there stream unordered [] zero item at same kind none = absurd (cc)
+  last_there stream unordered [] (suc place) item at same kind none = absurd (cc)
+  last_there stream unordered (i ∷ items) zero item at same kind none = go (last_on stream unordered items) none
+    where
+      is : is_same_stream stream unordered i.fragment.stream i.fragment.is_unordered ≡ true
+      is =
+          let one : i ≡ item = cc in
+          subst (λ (x : Item). is_same_stream stream unordered x.fragment.stream x.fragment.is_unordered ≡ true) (sym one)
+          (subst (λ (k : ℕ). is_same_stream k unordered item.fragment.stream item.fragment.is_unordered ≡ true) (sym same)
+          (subst (λ (c : Bool). is_same_stream item.fragment.stream c item.fragment.stream item.fragment.is_unordered ≡ true) (sym kind) (itself item.fragment.stream item.fragment.is_unordered)))
+        where
+          itself : (s : ℕ) (u : Bool) → is_same_stream s u s u ≡ true
+          itself s true = rw (eq-eqb s s refl) refl
+          itself s false = rw (eq-eqb s s refl) refl
+
+      go : (o : Option Item) → option_or o (if is_same_stream stream unordered i.fragment.stream i.fragment.is_unordered then Some i else None) ≡ None → ⊥
+      go (Some x) e = absurd (cc)
+      go None e = (let e' : ◌≡◌ {A = Option Item} (Some i) None = subst (λ (c : Bool). (if c then Some i else None) ≡ None) is e in absurd (cc))
+  last_there stream unordered (i ∷ items) (suc place) item at same kind none =
+      go (last_on stream unordered items) (λ e. last_there stream unordered items place item at same kind e) none
+    where
+      go : (o : Option Item) → (o ≡ None → ⊥) → option_or o (if is_same_stream stream unordered i.fragment.stream i.fragment.is_unordered then Some i else None) ≡ None → ⊥
+      go (Some x) some e = absurd (cc)
+      go None some e = some refl
+
+  in_front : (count place : ℕ) (items : List Item) (item : Item) → place < count → slice_get items place ≡ Some item → slice_get (take count items) place ≡ Some item
+  in_front zero place items item below at = absurd (omega (arith, below))
+  in_front (suc count) zero [] item below at = at
+  in_front (suc count) (suc place) [] item below at = at
+  in_front (suc count) zero (i ∷ items) item below at = at
+  in_front (suc count) (suc place) (i ∷ items) item below at = in_front count place items item (omega (arith, below)) at
+
+  end_said : (part : Fragment) (slot : Slot) → SaysSlot part slot → part.is_end ≡ true → IsEndSlot slot
+  end_said part None says is = tt
+  end_said part (Some piece) says is = sym says.end ∙ is
+
+  -- fragments of one message are of one stream
+  one_of : (queued : List Message) → Cut queued history.log → (own other : ℕ) (part part' : Fragment) → IsNamedFragment history own part → IsNamedFragment history other part' → part.message_id ≡ part'.message_id
+      → (part.stream ≡ part'.stream) × (part.is_unordered ≡ part'.is_unordered)
+  one_of queued cut own other part part' n n' same =
+      let both_at : Some n.piece.message ≡ Some n'.piece.message = sym (cut.pieces n.number n.piece n.at).at ∙ ap (λ (k : ℕ). at_place k queued) (sym n.of ∙ same ∙ n'.of) ∙ (cut.pieces n'.number n'.piece n'.at).at in
+      let one : n.piece.message ≡ n'.piece.message = cc in
+      (n.stream ∙ ap (λ (m : Message). m.stream) one ∙ sym n'.stream, n.unordered ∙ ap (λ (m : Message). m.is_unordered) one ∙ sym n'.unordered)
+
+  pub row_closes : (queued : List Message) → Cut queued history.log → (acknowledged limit entries count : ℕ) (outstanding : OutstandingState) → Bears history first acknowledged outstanding → IsSkippedRow outstanding.is_interleaved limit entries count outstanding.items
+      → ClosesRow acknowledged count outstanding
+  row_closes queued cut acknowledged limit entries count outstanding b row plain none some =
+      let within = row.within in
+      let (item, at) = item_at (count - 1) outstanding.items (omega (arith, within, some)) in
+      let says = b.items (count - 1) item at in
+      let here : acknowledged + (count - 1) ≡ acknowledged + count - 1 = omega (arith, some) in
+      (says.slot, ap (λ (n : ℕ). at_place n history.log) (sym here) ∙ says.at, go item at says item.fragment.is_end refl)
+    where
+      next_is : count - 1 + 1 ≡ count
+      next_is = omega (arith, some)
+
+      continued : (a c d : Bool) → (a && (c || not d)) ≡ false → a ≡ true → c ≡ false → d ≡ true
+      continued true false true e is is' = refl
+      continued true false false e is is' = absurd (cc)
+      continued true true d e is is' = absurd (cc)
+      continued false c d e is is' = absurd (cc)
+
+      not_zero : (count == 0) ≡ false
+      not_zero = elim (eqb_tells count 0) [ inl e ↦ absurd (let zero_is : count ≡ 0 = e.1 in omega (arith, zero_is, some)) | inr e ↦ e.0 ]
+
+      stops : (item next : Item) → slice_get outstanding.items (count - 1) ≡ Some item → slice_get outstanding.items count ≡ Some next → is_abandoned next.progress.state ≡ true → item.fragment.is_end ≡ false → ⊥
+      stops item next at at' abandoned unended =
+          let w = b.whole plain none in
+          elim row.ends [
+            | inl last ↦ (let below = item_below outstanding.items count next at' in omega (arith, below, last))
+            | inr s ↦
+                (let both_at : Some s.item ≡ Some next = sym s.at ∙ at' in
+                let same : s.item ≡ next = cc in
+                elim s.why [
+                  | inl e ↦
+                      (let begins = continued (is_abandoned s.item.progress.state) (count == 0) s.item.begins_after_reset e (ap (λ (x : Item). is_abandoned x.progress.state) same ∙ abandoned) not_zero in
+                      let first_of_all = w.begins count s.item s.at begins in
+                      omega (arith, first_of_all, some))
+                  | inr full ↦
+                      (let joined = w.joined (count - 1) item s.item at (ap (λ (n : ℕ). slice_get outstanding.items n) next_is ∙ s.at) unended in
+                      let one = one_of queued cut (acknowledged + count) (acknowledged + (count - 1)) s.item.fragment item.fragment (b.named count s.item s.at) (b.named (count - 1) item at) joined in
+                      last_there s.item.fragment.stream s.item.fragment.is_unordered (take count outstanding.items) (count - 1) item (in_front count (count - 1) outstanding.items item (omega (arith, some)) at) one.0 one.1 full.is_new)
+                ])
+          ]
+
+      go : (item : Item) → slice_get outstanding.items (count - 1) ≡ Some item → (says : SaysAt history.log (acknowledged + (count - 1)) item.fragment) → (end : Bool) → item.fragment.is_end ≡ end
+          → IsEndSlot says.slot ⊎ (2 ^ 31 ≤ acknowledged + count + 1)
+      go item at says true is = inl (end_said item.fragment says.slot says.says is)
+      go item at says false is =
+          let w = b.whole plain none in
+          let on = row.each (count - 1) item (omega (arith, some)) at in
+          let abandoned = (both (is_abandoned item.progress.state) (((count - 1) == 0) || not item.begins_after_reset) on).0 in
+          elim (w.together (count - 1) item at abandoned is) [
+            | inl next ↦ absurd (stops item next.0 at (ap (λ (n : ℕ). slice_get outstanding.items n) (sym next_is) ∙ next.1) next.2 is)
+            | inr last ↦ inr (omega (arith, last, some))
+          ]
+
   of_item : (acknowledged count : ℕ) (outstanding : OutstandingState) (entry : (ℕ × Bool) × ℕ) → AreOfKind outstanding.is_interleaved history.log → Bears history first acknowledged outstanding → count ≤ length outstanding.items
-      → ((place : ℕ) (item : Item) → place < count → slice_get outstanding.items place ≡ Some item → is_row_continued place item ≡ true) → OfItem count outstanding entry → IsEntry outstanding.is_interleaved history (acknowledged + count) entry
-  of_item acknowledged count outstanding entry kinds b within each of =
+      → ((place : ℕ) (item : Item) → place < count → slice_get outstanding.items place ≡ Some item → is_row_continued place item ≡ true) → ClosesRow acknowledged count outstanding → OfItem count outstanding entry → IsEntry outstanding.is_interleaved history (acknowledged + count) entry
+  of_item acknowledged count outstanding entry kinds b within each closes of =
       let named : IsNamedFragment history (acknowledged + of.place) of.item.fragment = b.named of.place of.item of.at in
       record {
         number = named.number;
@@ -76,6 +176,14 @@ module _ (history : History) (first : ℕ) where
         stream = of.stream ∙ named.stream;
         unordered = of.unordered ∙ named.unordered;
         mid = λ interleaved. ap (λ (k : ℕ). k % 2 ^ 32) (of.number ∙ ap (λ (b' : Bool). skipped_number b' of.item) interleaved) ∙ named.mid;
+        ordered = of.listed;
+        ssn = λ plain. of.number ∙ ap (λ (b' : Bool). skipped_number b' of.item) plain ∙ named.ssn;
+        over = λ plain none. (
+            let (slot, at_slot, ends) = closes plain none (let inside = of.within in omega (arith, inside)) in
+            let inside = of.within in
+            let up = named.up_to in
+            record { offset = acknowledged + count - 1; slot = slot; from = omega (arith, inside, up); to = omega (arith, inside); at = at_slot; ends = elim ends [ inl e ↦ inl e | inr e ↦ inr (omega (arith, e)) ] }
+            );
       }
 
   -- the last item of a stream is one of the row
@@ -100,7 +208,7 @@ module _ (history : History) (first : ℕ) where
 
   listed_item : (outstanding : OutstandingState) (count : ℕ) (entry : (ℕ × Bool) × ℕ) → Some entry.1 ≡ option_map (skipped_number outstanding.is_interleaved) (last_listed outstanding.is_interleaved entry.0.0 entry.0.1 (take count outstanding.items))
       → OfItem count outstanding entry
-  listed_item outstanding count entry is = go (outstanding.is_interleaved || not entry.0.1) is
+  listed_item outstanding count entry is = go (outstanding.is_interleaved || not entry.0.1) refl is
     where
       among : (k place : ℕ) (items : List Item) (item : Item) → slice_get (take k items) place ≡ Some item → slice_get items place ≡ Some item
       among zero zero items item at = absurd (cc)
@@ -116,25 +224,30 @@ module _ (history : History) (first : ℕ) where
       before (suc k) zero (i ∷ items) item at = omega arith
       before (suc k) (suc place) (i ∷ items) item at = omega (arith, before k place items item at)
 
-      found : (o : Option Item) → last_on entry.0.0 entry.0.1 (take count outstanding.items) ≡ o → Some entry.1 ≡ option_map (skipped_number outstanding.is_interleaved) o → OfItem count outstanding entry
-      found None e same = absurd (cc)
-      found (Some item) e same =
+      found : (outstanding.is_interleaved ≡ false → entry.0.1 ≡ false) → (o : Option Item) → last_on entry.0.0 entry.0.1 (take count outstanding.items) ≡ o → Some entry.1 ≡ option_map (skipped_number outstanding.is_interleaved) o → OfItem count outstanding entry
+      found listed None e same = absurd (cc)
+      found listed (Some item) e same =
           let (place, at, stream, unordered) = found_last entry.0.0 entry.0.1 (take count outstanding.items) item e in
-          record { place = place; item = item; at = among count place outstanding.items item at; within = before count place outstanding.items item at; stream = stream; unordered = unordered; number = cc }
+          record { place = place; item = item; at = among count place outstanding.items item at; within = before count place outstanding.items item at; stream = stream; unordered = unordered; number = cc; listed = listed }
 
-      go : (b : Bool) → Some entry.1 ≡ option_map (skipped_number outstanding.is_interleaved) (if b then last_on entry.0.0 entry.0.1 (take count outstanding.items) else None) → OfItem count outstanding entry
-      go false same = absurd (cc)
-      go true same = found (last_on entry.0.0 entry.0.1 (take count outstanding.items)) refl same
+      ordered : (a c : Bool) → (a || not c) ≡ true → a ≡ false → c ≡ false
+      ordered true c e plain = absurd (cc)
+      ordered false true e plain = absurd (cc)
+      ordered false false e plain = refl
+
+      go : (b : Bool) → (outstanding.is_interleaved || not entry.0.1) ≡ b → Some entry.1 ≡ option_map (skipped_number outstanding.is_interleaved) (if b then last_on entry.0.0 entry.0.1 (take count outstanding.items) else None) → OfItem count outstanding entry
+      go false is_listed same = absurd (cc)
+      go true is_listed same = found (ordered outstanding.is_interleaved entry.0.1 is_listed) (last_on entry.0.0 entry.0.1 (take count outstanding.items)) refl same
 
   -- so each entry does
   pub listed_entries : (acknowledged count : ℕ) (outstanding : OutstandingState) → AreOfKind outstanding.is_interleaved history.log → Bears history first acknowledged outstanding → count ≤ length outstanding.items
-      → ((place : ℕ) (item : Item) → place < count → slice_get outstanding.items place ≡ Some item → is_row_continued place item ≡ true) → (all entries : List ((ℕ × Bool) × ℕ))
+      → ((place : ℕ) (item : Item) → place < count → slice_get outstanding.items place ≡ Some item → is_row_continued place item ≡ true) → ClosesRow acknowledged count outstanding → (all entries : List ((ℕ × Bool) × ℕ))
       → ((stream : ℕ) (unordered : Bool) → entry_for stream unordered all ≡ option_map (skipped_number outstanding.is_interleaved) (last_listed outstanding.is_interleaved stream unordered (take count outstanding.items)))
       → ((entry : (ℕ × Bool) × ℕ) → HasEntry entry entries → entry_for entry.0.0 entry.0.1 all ≡ Some entry.1) → AreForwardEntries outstanding.is_interleaved history (acknowledged + count) entries
-  listed_entries acknowledged count outstanding kinds b within each all [] lists found = tt
-  listed_entries acknowledged count outstanding kinds b within each all (entry ∷ entries) lists found = (
-    of_item acknowledged count outstanding entry kinds b within each (listed_item outstanding count entry (sym (found entry (inl refl)) ∙ lists entry.0.0 entry.0.1)),
-    listed_entries acknowledged count outstanding kinds b within each all entries lists (λ other has. found other (inr has)),
+  listed_entries acknowledged count outstanding kinds b within each closes all [] lists found = tt
+  listed_entries acknowledged count outstanding kinds b within each closes all (entry ∷ entries) lists found = (
+    of_item acknowledged count outstanding entry kinds b within each closes (listed_item outstanding count entry (sym (found entry (inl refl)) ∙ lists entry.0.0 entry.0.1)),
+    listed_entries acknowledged count outstanding kinds b within each closes all entries lists (λ other has. found other (inr has)),
   )
 
 -- an entry of a list in which no stream has two is the one that is found

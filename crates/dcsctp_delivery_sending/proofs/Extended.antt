@@ -107,6 +107,10 @@ module _ (old new : History) (extends : Extends old new) (first : ℕ) where
       let both : Some slot ≡ Some (Some f) = sym (extends.at n slot at) ∙ at' in
       kind f (at ∙ both)
 
+  none_before : (marks : List Mark) → ((mark : Mark) → HasEntry mark marks → HasEntry mark new.marks) → new.marks ≡ [] → marks ≡ []
+  none_before [] among none = refl
+  none_before (mark ∷ marks) among none = absurd (let has : HasEntry mark [] = subst (λ (l : List Mark). HasEntry mark l) none (among mark (inl refl)) in has)
+
   entries_later : (is_interleaved : Bool) (passed : ℕ) (entries : List ((ℕ × Bool) × ℕ)) → passed ≤ length old.log → AreForwardEntries is_interleaved old passed entries → AreForwardEntries is_interleaved new passed entries
   entries_later is_interleaved passed [] below names = tt
   entries_later is_interleaved passed (entry ∷ entries) below names = (
@@ -125,6 +129,12 @@ module _ (old new : History) (extends : Extends old new) (first : ℕ) where
       stream = names.0.stream;
       unordered = names.0.unordered;
       mid = names.0.mid;
+      ordered = names.0.ordered;
+      ssn = names.0.ssn;
+      over = λ kind none. (
+          let o = names.0.over kind (none_before old.marks extends.marks none) in
+          record { offset = o.offset; slot = o.slot; from = o.from; to = o.to; at = extends.at o.offset o.slot o.at; ends = o.ends }
+          );
     },
     entries_later is_interleaved passed entries below names.1,
   )

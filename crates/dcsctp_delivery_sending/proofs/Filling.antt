@@ -1,15 +1,17 @@
 -- What a packet is filled with.
 use Rattle.std.proofs.Common.{◌≡◌, ℕ, Bool, true, false, ◌<◌, ◌+◌, ◌-◌, ◌≤◌, ◌^◌, List, [], ◌∷◌, ◌++◌, length, refl, sym, ◌∙◌, ap, arith, subst, inl, inr}
-use Rattle.std.specs.Prelude.{Option, None, Some, nat_lt, min, if◌then◌else◌}
+use Rattle.std.specs.Prelude.{Option, None, Some, nat_lt, min, if◌then◌else◌, slice_get}
 use Rattle.std.proofs.lemmas.Bool.Decides.{nat_tests}
 use Rattle.dcsctp_spec.specs.types.declared.progress.Change.TheVariants.{SendAgain}
 use Rattle.dcsctp_spec.specs.types.declared.sending.UnderWay.{UnderWay}
 use Rattle.dcsctp_spec.specs.queues.AtOnce.{empty_stage, SendsAtOnce}
 use Rattle.dcsctp_spec.specs.queues.Filling.{Stage, SendsMarked, payload_room, SendsNew, FindsNone, StepAgain, MayAdd, StepNew, StageSteps, none, more, resent_packet_counted, FillsPacket}
+use Rattle.dcsctp_spec.specs.types.queues.Progress.{is_abandoned}
+use Rattle.dcsctp_spec.specs.queues.Items.{Item}
 use Rattle.dcsctp_spec.specs.queues.Outstanding.{OutstandingState, header, header_of, next_tsn}
 use Rattle.dcsctp_spec.specs.queues.Retransmission.{RetransmissionState, counted_again}
 use Rattle.dcsctp_spec.specs.queues.SendQueue.{SendQueueState}
-use Rattle.dcsctp_delivery_sending.specs.Log.{Message, Piece, Cut, History, log_extended, with_slot}
+use Rattle.dcsctp_delivery_sending.specs.Log.{Message, Piece, Cut, History, log_extended, with_slot, Slot}
 use Rattle.dcsctp_delivery_sending.specs.Places.{at_place}
 use Rattle.dcsctp_delivery_sending.specs.Pieces.{HoldsQueued}
 use Rattle.dcsctp_delivery_sending.specs.Numbers.{stream_named, is_handed_out, IsCurrent, AreKept, Numbered}
@@ -20,8 +22,9 @@ use Rattle.dcsctp_delivery_sending.proofs.Discarding.{drops_keep_under_way, take
 use Rattle.dcsctp_delivery_sending.proofs.Places.{at_new, at_cases}
 use Rattle.dcsctp_delivery_sending.proofs.Numbers.{NumbersStay, numbered_stay, numbers_dropped, kind_dropped}
 use Rattle.dcsctp_delivery_sending.proofs.Streams.{drops_hold}
-use Rattle.dcsctp_delivery_sending.proofs.Limits.{sending_leaves, new_limited}
-use Rattle.dcsctp_delivery_sending.proofs.Stages.{bears_grown, cut_more, bears_changed}
+use Rattle.dcsctp_delivery_sending.proofs.Limits.{sending_leaves, new_limited, marked_kept}
+use Rattle.dcsctp_delivery_sending.proofs.Stages.{whole_grown, bears_grown, cut_more, bears_changed}
+use Rattle.dcsctp_delivery_sending.proofs.Whole.{continues}
 use Rattle.dcsctp_delivery_sending.proofs.GivingUp.{ended, grown_twice, gives_up_ends}
 use Rattle.dcsctp_delivery_sending.proofs.Pauses.{StaysPaused, again_paused, anew_paused, steps_paused, kept_later, kept_both, current_both}
 
@@ -47,7 +50,14 @@ marked_stays queued history first acknowledged now old new stands sends =
     (record {
       queue_holds = stands.queue_holds;
       cut = stands.cut;
-      bears = bears_changed history first acknowledged (SendAgain (next_tsn old.queue.outstanding)) sends.place (sends.place + 1) old.queue.outstanding (sending_leaves (next_tsn old.queue.outstanding)) stands.bears;
+      bears = bears_changed history first acknowledged (SendAgain (next_tsn old.queue.outstanding)) sends.place (sends.place + 1) old.queue.outstanding (sending_leaves (next_tsn old.queue.outstanding))
+          (λ k item at from below is. (
+          let m = sends.next.marked in
+          let here : k ≡ sends.place = omega (arith, from, below) in
+          let both : Some m.item ≡ Some item = sym m.at ∙ ap (λ (n : ℕ). slice_get old.queue.outstanding.items n) (sym here) ∙ at in
+          let same : m.item ≡ item = cc in
+          marked_kept m.item.progress.state m.is (ap (λ (x : Item). is_abandoned x.progress.state) same ∙ is)
+          )) stands.bears;
       pends = stands.pends;
       marks = stands.marks;
       numbers = stands.numbers;
@@ -95,9 +105,14 @@ new_stays queued history first acknowledged now old new stands may sends =
               stream = handed.says.stream;
               unordered = handed.says.unordered;
               mid = handed.says.mid;
+              ssn = handed.says.ssn;
+              up_to = omega arith;
               limits = handed.says.limits;
-            }) (new_limited sends.item sends.is_fresh.progress) (subst (λ (b : Bool). Pends history b) (sym sends.begins) stands.pends));
-        pends = pends_later (Some handed.piece) history first old.waiting.under_way new.queue.reset_begun stands.marks;
+            }) (new_limited sends.item sends.is_fresh.progress) (subst (λ (b : Bool). Pends history b) (sym sends.begins) stands.pends)
+            (λ plain none. whole_grown history.log acknowledged (Some handed.piece) sends.item old.queue.outstanding.items stands.bears.count (stands.bears.whole plain none)
+            (continues queued history first acknowledged old.queue.outstanding stands.bears plain none sends.item.fragment new.waiting handed (kept ∙ sym stands.kind ∙ plain)) (λ e. absurd (cc))
+            (λ is unended. new_limited sends.item sends.is_fresh.progress is) (λ begins. ap (λ (l : List Slot). length l) (stands.pends.none (sym sends.begins ∙ begins) none))));
+        pends = pends_later (Some handed.piece) history first old.waiting.under_way new.queue.reset_begun stands.marks (λ begun none. (let clash : true ≡ false = sym begun ∙ ap (λ (s : Stage). s.queue.reset_begun) sends.is in absurd (cc)));
         marks = marks_more queued history first old.waiting.under_way new.waiting.under_way sends.item.fragment new.waiting handed stands.cut
             (takes_on queued history now (payload_room (header old.queue.outstanding) old.room) old.waiting new.waiting old.told new.told sends.item.fragment handed sends.takes) stands.marks;
         numbers = handed.numbers;

@@ -21,7 +21,8 @@ use Rattle.dcsctp_delivery_sending.proofs.Marks.{pends_later, marks_none, named_
 use Rattle.dcsctp_delivery_sending.proofs.Discarding.{discards_numbered, discards_hold}
 use Rattle.dcsctp_delivery_sending.proofs.Places.{at_either}
 use Rattle.dcsctp_delivery_sending.proofs.Limits.{limited_due, limited_same, limited_stays, limited_more}
-use Rattle.dcsctp_delivery_sending.proofs.Stages.{with_none, at_last, bears_grown, bears_abandoned, cut_none}
+use Rattle.dcsctp_delivery_sending.proofs.Stages.{with_none, at_last, whole_grown, bears_grown, bears_abandoned, cut_none}
+use Rattle.dcsctp_delivery_sending.proofs.Whole.{IsTail, tail_of, given_whole}
 
 -- More TSNs may have been assigned that carry no piece.
 pub record Ends (queued : List Message) (history : History) (first acknowledged : ℕ) (new : Stage) : Type 0 where
@@ -43,8 +44,8 @@ pub grown_twice : (newest newer : List Slot) (history : History) → log_extende
 grown_twice newest newer history = ap (λ (l : List Slot). record history { log = l }) (append_twice newest newer history.log)
 
 -- what waits of a message is dropped
-drops_rest_ends : (queued : List Message) (history : History) (first acknowledged own now : ℕ) (last : Item) (old new : Stage) → Stands queued history first acknowledged old → IsNamedFragment history own last.fragment → IsOfLimited history.log last.fragment → DropsRestAt now last old new → Ends queued history first acknowledged new
-drops_rest_ends queued history first acknowledged own now last old new stands named limited drops =
+drops_rest_ends : (queued : List Message) (history : History) (first acknowledged own now : ℕ) (last : Item) (old new : Stage) → Stands queued history first acknowledged old → IsNamedFragment history own last.fragment → IsOfLimited history.log last.fragment → IsTail history last old → DropsRestAt now last old new → Ends queued history first acknowledged new
+drops_rest_ends queued history first acknowledged own now last old new stands named limited tail drops =
     subst (λ (s : Stage). Ends queued history first acknowledged s) (sym drops.is) (go drops.drops.is_dropped drops.drops.drops drops.drops.ends)
   where
     go : (dropped : Bool) → DiscardsNamed old.waiting last.fragment.stream last.fragment.message_id old.told dropped new.waiting new.told → EndsDropped now old.queue.reset_begun last old.queue.outstanding drops.outstanding dropped
@@ -61,8 +62,13 @@ drops_rest_ends queued history first acknowledged own now last old new stands na
                 (subst (λ (f : Fragment). IsNamedFragment (with_slot None history) (length history.log) f) (sym ends.is_end.is)
                 (named_end history own last.fragment named (end_whole queued history first own old.waiting new.waiting last.fragment old.told new.told stands.queue_holds stands.marks discards named)))
                 (λ is. limited_stays None history.log ends.item.fragment (limited_same history.log ends.item.fragment last.fragment (ap (λ (f : Fragment). f.message_id) ends.is_end.is) limited))
-                (subst (λ (b : Bool). Pends history b) (sym ends.is_end.begins_after_reset) stands.pends));
-            pends = pends_later None history first old.waiting.under_way old.queue.reset_begun stands.marks;
+                (subst (λ (b : Bool). Pends history b) (sym ends.is_end.begins_after_reset) stands.pends)
+                (λ plain none. whole_grown history.log acknowledged None ends.item old.queue.outstanding.items stands.bears.count (stands.bears.whole plain none)
+                (λ k item at is_last unended. ap (λ (f : Fragment). f.message_id) ends.is_end.is ∙ tail plain none k item at is_last unended) (λ e. ap (λ (f : Fragment). f.is_end) ends.is_end.is)
+                (λ is unended. (let clash : true ≡ false = sym (ap (λ (f : Fragment). f.is_end) ends.is_end.is) ∙ unended in absurd (cc)))
+                (λ begins. ap (λ (l : List Slot). length l) (stands.pends.none (sym ends.is_end.begins_after_reset ∙ begins) none))));
+            pends = pends_later None history first old.waiting.under_way old.queue.reset_begun stands.marks
+                (λ begun none. (let gone : at_place named.number [] ≡ Some (Some named.piece) = subst (λ (l : List Slot). at_place named.number l ≡ Some (Some named.piece)) (stands.pends.none begun none) named.at in absurd (cc)));
             marks = subst (λ (u : Option UnderWay). AreMarks (with_slot None history) first u) (sym (ap (λ (w : SendQueueState). w.under_way) discards.left)) (marks_none history first old.waiting.under_way stands.marks);
             numbers = discards_numbered history old.waiting new.waiting last.fragment.stream last.fragment.message_id old.told new.told stands.numbers discards;
             kind = ap (λ (o : OutstandingState). o.is_interleaved) ends.grows ∙ stands.kind ∙ sym (ap (λ (w : SendQueueState). w.is_interleaved) discards.left);
@@ -80,12 +86,12 @@ drops_rest_ends queued history first acknowledged own now last old new stands na
           kind = ap (λ (o : OutstandingState). o.is_interleaved) ends ∙ stands.kind ∙ sym (ap (λ (w : SendQueueState). w.is_interleaved) discards.1);
         })
 
-closes_end : (queued : List Message) (history : History) (first acknowledged own now : ℕ) (last : Item) (old new : Stage) (is_end : Bool) → Stands queued history first acknowledged old → IsNamedFragment history own last.fragment → IsOfLimited history.log last.fragment → ClosesMessage now last old new is_end → Ends queued history first acknowledged new
-closes_end queued history first acknowledged own now last old new true stands named limited closes =
+closes_end : (queued : List Message) (history : History) (first acknowledged own now : ℕ) (last : Item) (old new : Stage) (is_end : Bool) → Stands queued history first acknowledged old → IsNamedFragment history own last.fragment → IsOfLimited history.log last.fragment → (is_end ≡ false → IsTail history last old) → ClosesMessage now last old new is_end → Ends queued history first acknowledged new
+closes_end queued history first acknowledged own now last old new true stands named limited tail closes =
     end queued history first acknowledged new (subst (λ (s : Stage). Stands queued history first acknowledged s) (sym closes) (record { queue_holds = stands.queue_holds; cut = stands.cut; bears = stands.bears; pends = stands.pends; marks = stands.marks; numbers = stands.numbers; kind = stands.kind }))
-closes_end queued history first acknowledged own now last old new false stands named limited closes =
+closes_end queued history first acknowledged own now last old new false stands named limited tail closes =
     elim closes [
-      | inl e ↦ drops_rest_ends queued history first acknowledged own now last old new stands named limited e.1
+      | inl e ↦ drops_rest_ends queued history first acknowledged own now last old new stands named limited (tail refl) e.1
       | inr e ↦ end queued history first acknowledged new (subst (λ (s : Stage). Stands queued history first acknowledged s) (sym e.1) stands)
     ]
 
@@ -116,7 +122,7 @@ gives_up_ends queued history first acknowledged now place old new stands item at
     let within = ends.within in
     let of_last : IsOfLimited history.log gives.last.fragment =
     limited_same history.log gives.last.fragment item.fragment (ends.same gives.last_place gives.last item (omega (arith, to)) (omega arith) gives.at at) limited in
-    let closed = closes_end queued history first acknowledged (acknowledged + gives.last_place) now gives.last old gives.closed gives.last.fragment.is_end stands (stands.bears.named gives.last_place gives.last gives.at) of_last gives.closes in
+    let closed = closes_end queued history first acknowledged (acknowledged + gives.last_place) now gives.last old gives.closed gives.last.fragment.is_end stands (stands.bears.named gives.last_place gives.last gives.at) of_last (λ unended. tail_of history first acknowledged place gives.start gives.last_place old gives.last stands.bears gives.message gives.at unended) gives.closes in
     record {
       more = closed.more;
       none = closed.none;
@@ -132,7 +138,9 @@ gives_up_ends queued history first acknowledged now place old new stands item at
                   | inl low ↦ begins.same k other item from low.1 before at
                   | inr high ↦ ends.same k other item (let past = high.1 in omega (arith, past)) below before at
                 ]) limited)
-                ));
+                ))
+                (λ plain none. given_whole queued history first acknowledged now place old new stands gives plain none (closed.more ++ history.log)
+                (λ k other below there. closes_items now k gives.last other old gives.closed gives.last.fragment.is_end below gives.closes there) (closed.stands.bears.whole plain none));
             pends = closed.stands.pends;
             marks = closed.stands.marks;
             numbers = closed.stands.numbers;

@@ -17,6 +17,7 @@ pub mod Begun
 pub mod Pieces
 pub mod Discarding
 pub mod Marks
+pub mod Whole
 pub mod GivingUp
 pub mod Filling
 pub mod WhatWaits

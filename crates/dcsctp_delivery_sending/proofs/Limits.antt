@@ -74,6 +74,48 @@ acknowledging_leaves progress is = one progress.state is
     one Acknowledged is = is
     one Abandoned is = is
 
+-- A change leaves what was abandoned so.
+abbrev pub Keeps : Change → Type 0
+Keeps change = (progress : Progress) → is_abandoned progress.state ≡ true → is_abandoned (progress_changed change progress).state ≡ true
+
+pub missing_keeps : (newest : Option ℕ) → Keeps (Miss newest)
+missing_keeps newest progress is = told (tells_of progress.sent_before newest)
+  where
+    one : (state : ItemState) → is_abandoned state ≡ true → is_abandoned progress.state ≡ true → is_abandoned (missed state progress).state ≡ true
+    one InFlight same is' = absurd (cc)
+    one Marked same is' = is'
+    one Acknowledged same is' = is'
+    one Abandoned same is' = is'
+
+    told : (tells : Bool) → is_abandoned (missed_where tells progress).state ≡ true
+    told true = one progress.state is is
+    told false = is
+
+pub losing_keeps : Keeps Mark
+losing_keeps progress is = one progress.state is
+  where
+    one : (state : ItemState) → is_abandoned state ≡ true → is_abandoned (marked_lost state progress).state ≡ true
+    one InFlight same = absurd (cc)
+    one Marked same = is
+    one Acknowledged same = is
+    one Abandoned same = is
+
+pub acknowledging_keeps : Keeps Acknowledge
+acknowledging_keeps progress is = one progress.state is
+  where
+    one : (state : ItemState) → is_abandoned state ≡ true → is_abandoned (acknowledged state progress).state ≡ true
+    one InFlight same = absurd (cc)
+    one Marked same = absurd (cc)
+    one Acknowledged same = is
+    one Abandoned same = is
+
+-- What waits to be sent again isn't abandoned.
+pub marked_kept : {A : Type 0} (state : ItemState) → is_marked state ≡ true → is_abandoned state ≡ true → A
+marked_kept InFlight is is' = absurd (cc)
+marked_kept Marked is is' = absurd (cc)
+marked_kept Acknowledged is is' = absurd (cc)
+marked_kept Abandoned is is' = absurd (cc)
+
 -- What was just sent isn't abandoned.
 pub new_limited : {A : Type 0} (item : Item) → item.progress ≡ just_sent → is_abandoned item.progress.state ≡ true → A
 new_limited item fresh is = absurd (let clash : false ≡ true = sym (ap (λ (p : Progress). is_abandoned p.state) fresh) ∙ is in cc)

@@ -13,13 +13,17 @@ use Rattle.dcsctp_delivery_sending.specs.Places.{HasEntry, at_place}
 use Rattle.dcsctp_delivery_sending.specs.Log.{Message, Piece, Slot, Cut, Mark, History, Resets, with_slot}
 use Rattle.dcsctp_delivery_sending.specs.Pieces.{IsGoing, HoldsQueued, HandsOutPiece}
 use Rattle.dcsctp_delivery_sending.specs.Stages.{IsNamedFragment, Pends, IsMark, AreMarks}
-use Rattle.dcsctp_delivery_sending.proofs.Places.{decide, at_cases, at_stays}
+use Rattle.dcsctp_delivery_sending.proofs.Places.{decide, at_below, at_cases, at_stays}
 use Rattle.dcsctp_delivery_sending.proofs.Streams.{newest_at}
 use Rattle.dcsctp_delivery_sending.proofs.Stages.{with_none}
 
 -- Once one more TSN is assigned, no reset comes after all TSNs.
-pub pends_later : (slot : Slot) (history : History) (first : ℕ) (under_way : Option UnderWay) (reset_begun : Bool) → AreMarks history first under_way → Pends (with_slot slot history) reset_begun
-pends_later slot history first under_way reset_begun marks mark has is = let within : mark.bound ≤ length history.log = (marks mark has).within in absurd (omega (arith, is))
+pub pends_later : (slot : Slot) (history : History) (first : ℕ) (under_way : Option UnderWay) (reset_begun : Bool) → AreMarks history first under_way → (reset_begun ≡ true → history.marks ≡ [] → ⊥) → Pends (with_slot slot history) reset_begun
+pends_later slot history first under_way reset_begun marks over =
+    record {
+      next = λ mark has is. (let within : mark.bound ≤ length history.log = (marks mark has).within in absurd (omega (arith, is)));
+      none = λ begun none. absurd (over begun none);
+    }
 
 -- ---- the end of a message that is abandoned
 
@@ -48,6 +52,8 @@ named_end history own part n whole =
       stream = n.stream;
       unordered = n.unordered;
       mid = n.mid;
+      ssn = n.ssn;
+      up_to = (let below = at_below n.number (Some n.piece) history.log n.at in omega (arith, below));
       limits = n.limits;
     }
 

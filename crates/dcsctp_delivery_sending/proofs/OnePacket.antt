@@ -10,7 +10,7 @@ use Rattle.dcsctp_spec.specs.queues.SendQueue.{SendQueueState}
 use Rattle.dcsctp_spec.specs.queues.Transfer.{Transfer, EndpointQueues, may_give, is_idle}
 use Rattle.dcsctp_spec.specs.endpoint.BegunResets.{streams_within, request_contents, queue_requesting, retransmission_begun}
 use Rattle.dcsctp_spec.specs.endpoint.FlushOutcomes.{filling_event, Answer, answer_contents, filled, asked, Ask, room_in, GivesUpWhere, may_forward, FillsWhere, Gives, GivesWhere, IsAnswerOfQueues, IsFlushAnswer, stage_of, nothing_waits}
-use Rattle.dcsctp_delivery_sending.specs.Log.{Message, Slot, History, log_extended, with_mark}
+use Rattle.dcsctp_delivery_sending.specs.Log.{Message, Slot, History, log_extended, with_mark, Cut}
 use Rattle.dcsctp_delivery_sending.specs.Stages.{Bears, Stands, Stays}
 use Rattle.dcsctp_delivery_sending.specs.Flushes.{NamedBy, AreHandedFor, SayAll, InFlight, PendsWhere, QueuesFollowLog, SendsLogged}
 use Rattle.dcsctp_delivery_sending.proofs.BegunMarks.{bears_marked, pends_marked, marks_marked}
@@ -32,10 +32,10 @@ gives_up_where : (queued : List Message) (history : History) (first acknowledged
 gives_up_where queued history first acknowledged now room false transfer old new next chunks stands gives = end queued history first acknowledged new (subst (λ (s : Stage). Stands queued history first acknowledged s) (sym gives.0) stands)
 gives_up_where queued history first acknowledged now room true transfer old new next chunks stands gives = give_up_all_ends queued history first acknowledged now old new stands gives.0
 
-forwards_where : (history : History) (first acknowledged now room : ℕ) (b : Bool) (transfer : Transfer) (old new : Stage) (next : Option ℕ) (chunks : List Plain) → AreOfKind new.queue.outstanding.is_interleaved history.log → Bears history first acknowledged new.queue.outstanding → GivesUpWhere b now transfer room old new next chunks
+forwards_where : (queued : List Message) (history : History) → Cut queued history.log → (first acknowledged now room : ℕ) (b : Bool) (transfer : Transfer) (old new : Stage) (next : Option ℕ) (chunks : List Plain) → AreOfKind new.queue.outstanding.is_interleaved history.log → Bears history first acknowledged new.queue.outstanding → GivesUpWhere b now transfer room old new next chunks
     → SayAll history first (plain_contents chunks)
-forwards_where history first acknowledged now room false transfer old new next chunks kinds bears gives = subst (λ (l : List Plain). SayAll history first (plain_contents l)) (sym gives.2) tt
-forwards_where history first acknowledged now room true transfer old new next chunks kinds bears gives = said_forwards history first acknowledged _ now transfer room new.queue next chunks kinds bears (λ made. made) gives.1
+forwards_where queued history cut first acknowledged now room false transfer old new next chunks kinds bears gives = subst (λ (l : List Plain). SayAll history first (plain_contents l)) (sym gives.2) tt
+forwards_where queued history cut first acknowledged now room true transfer old new next chunks kinds bears gives = said_forwards history first queued cut acknowledged _ now transfer room new.queue next chunks kinds bears (λ made. made) gives.1
 
 fills_where : (queued : List Message) (history : History) (first acknowledged now : ℕ) (b : Bool) (old new : Stage) → Stands queued history first acknowledged old → FillsWhere b now old new → Stays queued history first acknowledged new
 fills_where queued history first acknowledged now true old new stands fills = fills_stay queued history first acknowledged now old new stands fills
@@ -125,7 +125,7 @@ module _ (queued : List Message) (history : History) (first acknowledged : ℕ) 
       subst (λ (h : History). SayAll h first (plain_contents gives.forwards)) (sym same)
       (all_later (log_extended gave.more history) (log_extended full.more noted)
       (extends_then (log_extended gave.more history) noted (log_extended full.more noted) (extends_marked answer.begun ids bound (log_extended gave.more history) (omega arith)) (extends_grown full.more noted)) first (plain_contents gives.forwards)
-      (forwards_where (log_extended gave.more history) first acknowledged e.moment _ _ transfer _ gives.gave_up gives.next gives.forwards (kinds_of gave.stands.numbers gave.stands.kind) gave.stands.bears gives.gives_up))
+      (forwards_where queued (log_extended gave.more history) gave.stands.cut first acknowledged e.moment _ _ transfer _ gives.gave_up gives.next gives.forwards (kinds_of gave.stands.numbers gave.stands.kind) gave.stands.bears gives.gives_up))
 
   all_said : SayAll all first (answer_contents answer)
   unfolding all

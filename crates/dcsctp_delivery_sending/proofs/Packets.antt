@@ -17,13 +17,13 @@ use Rattle.dcsctp_spec.specs.queues.Transfer.{Transfer}
 use Rattle.dcsctp_spec.specs.queues.Tracker.{TrackerState}
 use Rattle.dcsctp_spec.specs.endpoint.BegunResets.{BegunReset, request_contents}
 use Rattle.dcsctp_spec.specs.endpoint.FlushOutcomes.{FillingEvent, amount_is_low, total_amount_is_low, message_is_sent, message_may_have_expired, message_has_expired, message_ends, filling_event, goes_out, where_fits, own_sack, Acknowledges, ForwardsWhere}
-use Rattle.dcsctp_delivery_sending.specs.Log.{Slot, History, log_extended, with_mark}
+use Rattle.dcsctp_delivery_sending.specs.Log.{Slot, History, log_extended, with_mark, Message, Cut}
 use Rattle.dcsctp_delivery_sending.specs.Numbers.{AreOfKind}
 use Rattle.dcsctp_delivery_sending.specs.Stages.{Bears, IsOfLimited, IsOfLog, AreOfLog}
 use Rattle.dcsctp_delivery_sending.specs.Flushes.{AreBegun, NoRequests, IsPassed, AreForwardEntries, HasLimited, SaysPlain, NoPlain, NoContent, NoData, SaysContent, SayAll, PacketsSay}
 pub use Rattle.dcsctp_delivery_sending.proofs.Extended.{at_more}
 use Rattle.dcsctp_delivery_sending.proofs.Extended.{extends_grown, packets_later}
-use Rattle.dcsctp_delivery_sending.proofs.Entries.{listed_entries, entry_found}
+use Rattle.dcsctp_delivery_sending.proofs.Entries.{row_closes, listed_entries, entry_found}
 
 pub packets_more : (more : List Slot) (history : History) (first : ℕ) (emissions : List Emission) → PacketsSay history first emissions → PacketsSay (log_extended more history) first emissions
 packets_more more history first emissions say = packets_later history (log_extended more history) (extends_grown more history) first emissions say
@@ -92,16 +92,16 @@ module _ (history : History) (first : ℕ) where
   passed_by acknowledged count outstanding b within =
       record { passed = acknowledged + count; below = omega (arith, b.count, within); is = (let at = b.tsn in grind (arith, at)) }
 
-  pub said_forwards : (acknowledged : ℕ) (made : Bool) (now : ℕ) (transfer : Transfer) (room : ℕ) (state : RetransmissionState) (next : Option ℕ) (chunks : List Plain) → AreOfKind state.outstanding.is_interleaved history.log → Bears history first acknowledged state.outstanding
+  pub said_forwards : (queued : List Message) → Cut queued history.log → (acknowledged : ℕ) (made : Bool) (now : ℕ) (transfer : Transfer) (room : ℕ) (state : RetransmissionState) (next : Option ℕ) (chunks : List Plain) → AreOfKind state.outstanding.is_interleaved history.log → Bears history first acknowledged state.outstanding
       → (made ≡ true → is_first_abandoned state.outstanding.items ≡ true) → ForwardsWhere made now transfer room state next chunks
       → SayAll history first (plain_contents chunks)
   unfolding passed_by
-  said_forwards acknowledged false now transfer room state next chunks kinds b abandoned forwards = subst (λ (l : List Plain). SayAll history first (plain_contents l)) (sym forwards.1) tt
-  said_forwards acknowledged true now transfer room state next chunks kinds b abandoned forwards =
+  said_forwards queued cut acknowledged false now transfer room state next chunks kinds b abandoned forwards = subst (λ (l : List Plain). SayAll history first (plain_contents l)) (sym forwards.1) tt
+  said_forwards queued cut acknowledged true now transfer room state next chunks kinds b abandoned forwards =
       let (chunk, says, is) = forwards.1 in
       subst (λ (l : List Plain). SayAll history first (plain_contents l)) (sym is)
       (said_fitting room (unworked chunk) (subst (λ (c : ChunkContent). SaysPlain history first (unworked c)) (sym says.is) (said_forward state.outstanding.is_interleaved _ says.entries (passed_by acknowledged says.count state.outstanding b says.row.within)
-      (listed_entries history first acknowledged says.count state.outstanding kinds b says.row.within says.row.each says.entries says.entries says.lists.numbers (entry_found says.entries says.lists.none_twice))
+      (listed_entries history first acknowledged says.count state.outstanding kinds b says.row.within says.row.each (row_closes history first queued cut acknowledged _ _ says.count state.outstanding b says.row) says.entries says.entries says.lists.numbers (entry_found says.entries says.lists.none_twice))
       (first_limited acknowledged state.outstanding b (abandoned refl)))))
 
   pub said_request : (begun : Option BegunReset) (ids : List ℕ) (bound : ℕ) → SayAll (with_mark begun ids bound history) first (request_contents begun)

@@ -33,6 +33,8 @@ module _ (history : History) (number : ℕ) (renewed : Mark) (known : HasEntry r
         stream = n.stream;
         unordered = n.unordered;
         mid = n.mid;
+        ssn = n.ssn;
+        up_to = n.up_to;
         limits = n.limits;
       }
 
@@ -45,6 +47,7 @@ module _ (history : History) (number : ℕ) (renewed : Mark) (known : HasEntry r
         named = λ k item at. named_renewed (acknowledged + k) item.fragment (b.named k item at);
         splits = of_each (λ mark. (k : ℕ) (item : Item) → slice_get outstanding.items k ≡ Some item → acknowledged + k ≡ mark.bound → item.begins_after_reset ≡ true) (λ is. is) b.splits;
         abandoned = b.abandoned;
+        whole = λ kind none. absurd (cc);
       }
 
   flight_renewed : (first acknowledged : ℕ) (transfer : Option Transfer) → InFlight history first acknowledged transfer → InFlight now first acknowledged transfer
@@ -53,7 +56,7 @@ module _ (history : History) (number : ℕ) (renewed : Mark) (known : HasEntry r
 
   pends_renewed : (transfer : Option Transfer) → PendsWhere history transfer → PendsWhere now transfer
   pends_renewed None pends = tt
-  pends_renewed (Some transfer) pends = of_each (λ mark. mark.bound ≡ length history.log → transfer.retransmission.reset_begun ≡ true) (λ is. is) pends
+  pends_renewed (Some transfer) pends = record { next = of_each (λ mark. mark.bound ≡ length history.log → transfer.retransmission.reset_begun ≡ true) (λ is. is) pends.next; none = λ begun none. absurd (cc) }
 
   marks_renewed : (first : ℕ) (under_way : Option UnderWay) → AreMarks history first under_way → AreMarks now first under_way
   marks_renewed first under_way marks = of_each (IsMark now first under_way) (λ m. record { within = m.within; last = m.last; fields = m.fields; sides = m.sides; going = m.going })

@@ -17,7 +17,7 @@ use Rattle.dcsctp_spec.specs.queues.Skipping.{entry_bytes}
 use Rattle.std.specs.List.{flat_map}
 use Rattle.dcsctp_spec.specs.queues.Transfer.{Transfer, EndpointQueues}
 use Rattle.dcsctp_spec.specs.endpoint.FlushOutcomes.{Answer, FlushAnswers, flush_of}
-use Rattle.dcsctp_delivery_sending.specs.Log.{Message, Piece, Slot, Cut, History, log_extended, with_mark, Mark, Resets}
+use Rattle.dcsctp_delivery_sending.specs.Log.{Message, Piece, Slot, IsEndSlot, Cut, History, log_extended, with_mark, Mark, Resets}
 use Rattle.dcsctp_delivery_sending.specs.Places.{HasEntry, at_place}
 use Rattle.dcsctp_delivery_sending.specs.Numbers.{stream_named, is_handed_out, AreCurrent, AreKept, Numbered, KindAt, IsOfKind}
 use Rattle.dcsctp_delivery_sending.specs.Pieces.{HoldsQueued}
@@ -47,7 +47,18 @@ pub record IsPassed (log : List Slot) (first tsn : ℕ) : Type 0 where
   pub below : passed ≤ length log
   pub is : tsn ≡ (first + passed + (2 ^ 32 - 1)) % 2 ^ 32
 
--- The entry names the stream of a piece of the log, which was sent as the chunk's kind is; with interleaving also its message.
+-- No piece of the message of the one TSN comes after another, which is one of those passed. It ends there, or that is the last
+-- TSN of 2^31 - 1.
+pub record EndsWithin (log : List Slot) (number passed : ℕ) : Type 0 where
+  pub offset : ℕ
+  pub slot : Slot
+  pub from : number ≤ offset
+  pub to : offset < passed
+  pub at : at_place offset log ≡ Some slot
+  pub ends : IsEndSlot slot ⊎ (2 ^ 31 ≤ offset + 2)
+
+-- The entry names a message of a piece of the log, which was sent as the chunk's kind is. Without interleaving it is an ordered
+-- one, of which all TSNs are passed, if no reset was begun.
 pub record IsEntry (is_interleaved : Bool) (history : History) (passed : ℕ) (entry : (ℕ × Bool) × ℕ) : Type 0 where
   pub number : ℕ
   pub piece : Piece
@@ -58,6 +69,9 @@ pub record IsEntry (is_interleaved : Bool) (history : History) (passed : ℕ) (e
   pub stream : entry.0.0 ≡ piece.message.stream
   pub unordered : entry.0.1 ≡ piece.message.is_unordered
   pub mid : is_interleaved ≡ true → entry.1 % 2 ^ 32 ≡ piece.mid % 2 ^ 32
+  pub ordered : is_interleaved ≡ false → entry.0.1 ≡ false
+  pub ssn : is_interleaved ≡ false → entry.1 ≡ piece.ssn
+  pub over : is_interleaved ≡ false → history.marks ≡ [] → EndsWithin history.log number passed
 
 -- Each does.
 abbrev pub AreForwardEntries : Bool → History → ℕ → List ((ℕ × Bool) × ℕ) → Type 0

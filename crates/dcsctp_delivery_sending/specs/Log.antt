@@ -45,6 +45,11 @@ is_beginning piece = piece.start == 0
 abbrev pub is_end : Piece → Bool
 is_end piece = (piece.start + piece.size) == length piece.message.payload
 
+-- No piece of its message comes after the slot, without interleaving.
+abbrev pub IsEndSlot : Slot → Type 0
+IsEndSlot None = Unit {0}
+IsEndSlot (Some piece) = is_end piece ≡ true
+
 abbrev pub piece_bytes : Piece → List ℕ
 piece_bytes piece = take piece.size (drop piece.start piece.message.payload)
 

@@ -1,5 +1,5 @@
 -- What is in flight carries what the log has, while packets are filled (RFC 9260, section 6.1).
-use Rattle.std.specs.Prelude.{◌≡◌, ◌<◌, ◌≤◌, ◌+◌, ◌-◌, ◌%◌, ◌^◌, ℕ, Bool, true, Option, None, Some, List, [], ◌∷◌, ◌++◌, length, map, slice_get}
+use Rattle.std.specs.Prelude.{◌≡◌, ◌⊎◌, ◌<◌, ◌≤◌, ◌+◌, ◌-◌, ◌%◌, ◌^◌, ℕ, Bool, true, false, Option, None, Some, List, [], ◌∷◌, ◌++◌, length, map, slice_get}
 use Rattle.dcsctp_spec.specs.Packet.{Plain, unworked}
 use Rattle.dcsctp_spec.specs.queues.Chunks.{AreChunksOfTsns, chunk_said}
 use Rattle.dcsctp_spec.specs.queues.Abandoning.{GivesUpAll}
@@ -31,6 +31,8 @@ pub record IsNamedFragment (history : History) (own : ℕ) (part : Fragment) : T
   pub stream : part.stream ≡ piece.message.stream
   pub unordered : part.is_unordered ≡ piece.message.is_unordered
   pub mid : part.mid % 2 ^ 32 ≡ piece.mid % 2 ^ 32
+  pub ssn : part.ssn ≡ piece.ssn
+  pub up_to : number ≤ own
   pub limits : LimitedWhere piece.message.is_limited part.expires_at part.max_retransmissions
 
 -- The fragment is of the message of a piece of the log, and that may be abandoned (RFC 3758).
@@ -47,6 +49,18 @@ pub record SaysAt (log : List Slot) (number : ℕ) (part : Fragment) : Type 0 wh
   pub at : at_place number log ≡ Some slot
   pub says : SaysSlot part slot
 
+-- The item at this place was abandoned.
+abbrev pub IsAbandonedAt : List Item → ℕ → Type 0
+IsAbandonedAt items place = (item : Item) × (slice_get items place ≡ Some item) × (is_abandoned item.progress.state ≡ true)
+
+-- Without interleaving the items of a message follow one another, up to its end. They are abandoned together, unless there are no
+-- TSNs left for the end. No reset was begun between them.
+pub record AreMessagesWhole (log : List Slot) (acknowledged : ℕ) (items : List Item) : Type 0 where
+  pub closed : (k : ℕ) (item : Item) → slice_get items k ≡ Some item → at_place (acknowledged + k) log ≡ Some None → item.fragment.is_end ≡ true
+  pub joined : (k : ℕ) (item next : Item) → slice_get items k ≡ Some item → slice_get items (k + 1) ≡ Some next → item.fragment.is_end ≡ false → next.fragment.message_id ≡ item.fragment.message_id
+  pub together : (k : ℕ) (item : Item) → slice_get items k ≡ Some item → is_abandoned item.progress.state ≡ true → item.fragment.is_end ≡ false → IsAbandonedAt items (k + 1) ⊎ (2 ^ 31 ≤ acknowledged + k + 2)
+  pub begins : (k : ℕ) (item : Item) → slice_get items k ≡ Some item → item.begins_after_reset ≡ true → acknowledged + k ≡ 0
+
 -- The items in flight are those of the newest TSNs. `first` is the first TSN of the association, and `acknowledged` how many were
 -- acknowledged cumulatively. The first item after a reset that was begun says so. Only messages with limits are abandoned.
 pub record Bears (history : History) (first acknowledged : ℕ) (outstanding : OutstandingState) : Type 0 where
@@ -57,10 +71,12 @@ pub record Bears (history : History) (first acknowledged : ℕ) (outstanding : O
   pub splits : (mark : Mark) → HasEntry mark history.marks → (k : ℕ) (item : Item) → slice_get outstanding.items k ≡ Some item → acknowledged + k ≡ mark.bound
       → item.begins_after_reset ≡ true
   pub abandoned : (k : ℕ) (item : Item) → slice_get outstanding.items k ≡ Some item → is_abandoned item.progress.state ≡ true → IsOfLimited history.log item.fragment
+  pub whole : outstanding.is_interleaved ≡ false → history.marks ≡ [] → AreMessagesWhole history.log acknowledged outstanding.items
 
--- What was in flight when a reset was begun lies before it. The next item will say so.
-abbrev pub Pends : History → Bool → Type 0
-Pends history reset_begun = (mark : Mark) → HasEntry mark history.marks → mark.bound ≡ length history.log → reset_begun ≡ true
+-- What was in flight when a reset was begun lies before it. The next item will say so, and only then.
+pub record Pends (history : History) (reset_begun : Bool) : Type 0 where
+  pub next : (mark : Mark) → HasEntry mark history.marks → mark.bound ≡ length history.log → reset_begun ≡ true
+  pub none : reset_begun ≡ true → history.marks ≡ [] → history.log ≡ []
 
 -- The reset that was begun names the last TSN that was assigned before it, and the fields of its streams. A message of these
 -- streams is wholly before it, or wholly after it.

@@ -29,7 +29,7 @@ use Rattle.dcsctp_delivery_sending.specs.Places as places
 use Rattle.dcsctp_delivery_directions.specs.Directions.{Delivered}
 use Rattle.dcsctp_delivery_associations.specs.Reads.{nothing_read, messages_of}
 use Rattle.dcsctp_delivery_sockets.specs.Echoes.{GoesToMaker}
-use Rattle.dcsctp_delivery_sockets.specs.Ordered.{AllowsOrder, IsDeliveredInOrder, read_under, AllowsNoGaps, IsDeliveredWithoutGaps, SendsReliableData}
+use Rattle.dcsctp_delivery_sockets.specs.Ordered.{AllowsOrder, IsDeliveredInOrder, read_under, AllowsNoGaps, IsDeliveredWithoutGaps, AllowsDataOrder}
 use Rattle.dcsctp_delivery_sockets.specs.UserMessages.{messages_sent_in, sendings_in, read_of, IsDelivered}
 use Rattle.dcsctp_delivery_sockets.specs.Delivery.{FitsStep, AreInMemory, MatchByTags, SendsLittle, TurnsAllowDelivery, Delivers, SocketsDeliver}
 use Rattle.dcsctp_delivery_associations.proofs.Delivers.{ends_begin, ends_deliver}
@@ -41,6 +41,10 @@ use Rattle.dcsctp_delivery_order.specs.Delivered.{DeliveredInOrder}
 use Rattle.dcsctp_delivery_associations.specs.InOrder.{Interleaves}
 use Rattle.dcsctp_delivery_associations.specs.Ends.{BeginsAnew}
 use Rattle.dcsctp_spec_lemmas.specs.spec.endpoint.MessageOutcomes.{Sending}
+use Rattle.dcsctp_delivery_order.specs.PlainDirections.{FewOnEachStream}
+use Rattle.dcsctp_delivery_sending.specs.Losing.{AreUnlimited}
+use Rattle.dcsctp_delivery_sockets.specs.Ordered.{SetsNoLimits, SendsFew}
+use Rattle.dcsctp_delivery_sockets.proofs.FewSent.{few_queued_on}
 use Rattle.dcsctp_delivery_associations.proofs.InOrder.{ends_deliver_in_order, ends_deliver_data_in_order, ends_deliver_without_gaps}
 use Rattle.dcsctp_delivery_sockets.proofs.Calls.{AreCalls, call_without, call_is, input_is}
 use Rattle.dcsctp_delivery_sockets.proofs.Echoes.{echoes_go_to_makers}
@@ -227,14 +231,18 @@ module _ (never_resets : Bool) (mine theirs : Options) (turns others : List Tran
   sent_same : SaysSame (λ sending. sending) (queued_of mine turns) sent_all
   sent_same = turns_same (λ sending. sending) (fresh_endpoint mine) turns [] [] (nothing_same (λ sending. sending))
 
-  by_order : (tag : ℕ) → BeginsAnew (endpoint_after mine turns) (noted_past turns) tag → Interleaves true (noted_past turns) tag ⊎ SendsReliableData mine turns tag
+  unambiguous_so : SetsNoLimits mine turns ⊎ SendsFew mine turns → AreUnlimited (queued_of mine turns) ⊎ FewOnEachStream (queued_of mine turns)
+  unambiguous_so (inl unlimited) = inl (are_unlimited (queued_of mine turns) sent_all sent_same unlimited)
+  unambiguous_so (inr few) = inr (few_queued_on (queued_of mine turns) sent_all sent_same few)
+
+  by_order : (tag : ℕ) → BeginsAnew (endpoint_after mine turns) (noted_past turns) tag → Interleaves (noted_past turns) tag ⊎ AllowsDataOrder mine turns tag
       → DeliveredInOrder (queued_of mine turns) (read_under tag theirs others)
   by_order tag anew (inl interleaves) =
       ends_deliver_in_order theirs h.ends (endpoint_after mine turns) (queued_of mine turns) (noted_past turns) (packets_of turns) (endpoint_after theirs others) (noted_past others) (reading_of theirs others) h.between
       (few_queued mine turns little) little.chunks tag anew interleaves
-  by_order tag anew (inr reliable) =
+  by_order tag anew (inr sends) =
       ends_deliver_data_in_order theirs h.ends (endpoint_after mine turns) (queued_of mine turns) (noted_past turns) (packets_of turns) (endpoint_after theirs others) (noted_past others) (reading_of theirs others) h.between
-      (few_queued mine turns little) little.chunks window (are_unlimited (queued_of mine turns) sent_all sent_same reliable.unlimited) tag anew reliable.not_interleaved reliable.no_requests
+      (few_queued mine turns little) little.chunks window (unambiguous_so sends.unambiguous) tag anew sends.no_requests
 
   one_in_order : (endpoint_after mine turns).options.follow_rfc ≡ mine.follow_rfc → (tag : ℕ) → AllowsOrder mine turns tag → IsDeliveredInOrder sent_all (read_under tag theirs others)
   one_in_order rules tag allows =

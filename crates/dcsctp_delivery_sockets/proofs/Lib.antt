@@ -9,4 +9,5 @@ pub mod NewLinks
 pub mod Performed
 pub mod Known
 pub mod Stands
+pub mod FewSent
 pub mod Delivery

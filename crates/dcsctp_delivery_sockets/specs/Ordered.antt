@@ -1,6 +1,6 @@
 -- What a user reads in one association comes in the order in which the other user sent it, stream by
 -- stream, and without gaps where nothing may be left out (RFC 9260, section 6.6).
-use Rattle.std.specs.Prelude.{◌≡◌, ◌⊎◌, ◌<◌, ℕ, true, false, Some, List, [], ◌∷◌, map, slice_get}
+use Rattle.std.specs.Prelude.{◌≡◌, ◌⊎◌, ◌<◌, ℕ, true, false, Some, List, [], ◌∷◌, map, slice_get, ◌==◌, ◌&&◌, ◌^◌, not, suc, if◌then◌else◌}
 use Rattle.dcsctp_spec_lemmas.specs.types.declared.options.Options.{Options}
 use Rattle.dcsctp_spec_lemmas.specs.spec.endpoint.CallTurns.{Transition, events_of}
 use Rattle.dcsctp_spec_lemmas.specs.spec.endpoint.Endpoint.{fresh_endpoint}
@@ -58,19 +58,28 @@ read_under tag options turns = with_tag tag (reading_through (fresh_endpoint opt
 abbrev pub SetsNoLimits : Options → List Transition → Type 0
 SetsNoLimits options turns = AllByRecursion (λ sending. has_limits sending.options ≡ false) (sendings_in (fresh_endpoint options) turns)
 
--- In the association whose peer has this tag messages go in DATA, not in I-DATA. No message may be abandoned, and no request to
--- reset streams was sent there (RFC 6525).
-pub record SendsReliableData (options : Options) (turns : List Transition) (tag : ℕ) : Type 0 where
-  pub not_interleaved : Interleaves false (noted_past turns) tag
-  pub unlimited : SetsNoLimits options turns
+-- how many of these are ordered messages of the stream
+abbrev pub ordered_sent : ℕ → List Sending → ℕ
+ordered_sent stream [] = 0
+ordered_sent stream (sending ∷ sendings) =
+    if (sending.message.stream == stream) && not sending.options.unordered then suc (ordered_sent stream sendings) else ordered_sent stream sendings
+
+-- Fewer than 2^15 ordered messages were sent on each stream, so that a stream sequence number is never ambiguous.
+abbrev pub SendsFew : Options → List Transition → Type 0
+SendsFew options turns = (stream : ℕ) → ordered_sent stream (sendings_in (fresh_endpoint options) turns) < 2 ^ 15
+
+-- DATA comes in order in the association whose peer has this tag: no message may be abandoned, or few are ordered, and no request
+-- to reset streams was sent there (RFC 6525).
+pub record AllowsDataOrder (options : Options) (turns : List Transition) (tag : ℕ) : Type 0 where
+  pub unambiguous : SetsNoLimits options turns ⊎ SendsFew options turns
   pub no_requests : requests_to tag (packets_in (events_of turns)) ≡ 0
 
 -- All that order asks of the sender and its association whose peer has this tag, beside what delivery asks. It follows the RFC,
 -- or had no other association, so that the numbers of each stream begin at 0 (RFC 9260, section 6.5). And messages interleave
--- (RFC 8260), or it sends reliable data.
+-- (RFC 8260), or DATA comes in order there, too.
 pub record AllowsOrder (options : Options) (turns : List Transition) (tag : ℕ) : Type 0 where
   pub starts_at_zero : (options.follow_rfc ≡ true) ⊎ IsOnlyTag (noted_past turns) tag
-  pub numbering : Interleaves true (noted_past turns) tag ⊎ SendsReliableData options turns tag
+  pub numbering : Interleaves (noted_past turns) tag ⊎ AllowsDataOrder options turns tag
 
 -- All that it takes for nothing to be missing: the association is the sender's only one, no message may be abandoned, and its user
 -- has never called `reset_streams`. A call that is refused counts.

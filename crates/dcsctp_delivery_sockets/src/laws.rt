@@ -48,9 +48,9 @@ pub fn acts_keep_ends()
 /// fewer than 2^32 - 1 requests to reset streams go to each, each counted as often as it is sent, a side sends fewer
 /// than 2^64 messages, and none of these requests fails in an association with interleaving (RFC 8260). The ordered
 /// messages of a stream that are read in one association come in the order in which they were sent, where the sender
-/// follows the RFC or has no other association, and messages interleave, across resets of the stream, or none may be
-/// abandoned and no request to reset streams was sent. Where the sender has one association, no message may be
-/// abandoned and its user never resets streams, they are a prefix of what was sent.
+/// follows the RFC or has no other association, and messages interleave, across resets of the stream, or no request to
+/// reset streams was sent, and no message may be abandoned or few are ordered. Where the sender has one association, no
+/// message may be abandoned and its user never resets streams, they are a prefix of what was sent.
 pub fn sockets_deliver()
     ensures { SocketsDeliver }
 {

@@ -243,9 +243,9 @@ impl<R: Rng + Drop> World<R> {
     ///
     /// In one association, or after it has ended, the ordered messages of a stream are read in the order in which they
     /// were sent (RFC 9260, section 6.6). That has two more premises. The sender has `follow_rfc`, or had no other
-    /// association. And one of two holds. In this association messages interleave; then streams may be reset. Or no
-    /// message that the sender ever sent, on any stream, has a lifetime or a limit on retransmissions, and it sent no
-    /// request to reset streams to the peer's verification tag.
+    /// association. And one of two holds. In this association messages interleave; then streams may be reset. Or the
+    /// sender sent no request to reset streams to the peer's verification tag, and of the messages that it ever sent, on
+    /// any stream, none has a lifetime or a limit on retransmissions, or fewer than 2^15 on each stream are ordered.
     ///
     /// None is missing before one that was read, if the sender had one association, no message that it ever sent has
     /// such a limit, and its user never called `reset_streams`, for any stream, refused calls included. Then what was

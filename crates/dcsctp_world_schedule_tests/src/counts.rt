@@ -15,10 +15,12 @@ pub struct Counts {
     pub incoming: u32,
 
     /// In how many schedules each verification tag served one association up to the end; how many messages were read
-    /// while it was so; and how many of these once a reset of streams had been performed.
+    /// while it was so; how many of these once a reset of streams had been performed; and how many in the first
+    /// association of both sides.
     pub served: u32,
     pub read: u32,
     pub read_after_reset: u32,
+    pub in_order: u32,
 }
 
 fn one_more(count: &mut u32) {
@@ -43,6 +45,7 @@ impl Counts {
             served: 0,
             read: 0,
             read_after_reset: 0,
+            in_order: 0,
         }
     }
 
@@ -51,6 +54,7 @@ impl Counts {
         self.served = self.served.saturating_add(u32::from(delivery.serves));
         add(&mut self.read, delivery.read);
         add(&mut self.read_after_reset, delivery.read_after_reset);
+        add(&mut self.in_order, delivery.in_order);
     }
 
     /// Counts an event. Is it a connection or an end?
@@ -82,7 +86,8 @@ impl Counts {
             least.served <= self.served,
             least.read <= self.read,
             least.read_after_reset <= self.read_after_reset,
+            least.in_order <= self.in_order,
         ];
-        assert!(rt; enough == [true; 9], "{name}: {self:?}");
+        assert!(rt; enough == [true; 10], "{name}: {self:?}");
     }
 }

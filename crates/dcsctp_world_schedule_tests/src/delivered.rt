@@ -2,7 +2,7 @@
 //! while each verification tag serves one association.
 
 use crate::counter::Counter;
-use crate::steps::other;
+use crate::steps::{ORDERED, other};
 use crate::view::{Schedule, View};
 use dcsctp_world::socket::{Association, Message, Pair};
 use dcsctp_world::{Side, World};
@@ -85,13 +85,51 @@ fn is_delivered(rt: &impl Abort, view: &View<'_>) {
     }
 }
 
+// At which place was it sent?
+fn place_of(message: &Message, sent: &[Message]) -> usize {
+    sent.iter()
+        .position(|one| one == message)
+        .unwrap_or(usize::MAX)
+}
+
+// Was it sent after each of these that is on its stream, if both are ordered?
+fn follows_all(message: &Message, earlier: &[Message], sent: &[Message]) -> bool {
+    let place = place_of(message, sent);
+    for before in earlier {
+        let are_ordered = message.ppid == ORDERED && before.ppid == ORDERED;
+        let is_behind = place_of(before, sent) < place;
+        if are_ordered && before.stream_id == message.stream_id && !is_behind {
+            return false;
+        }
+    }
+    true
+}
+
+// The ordered messages of each stream were read in the order in which they were sent.
+fn is_in_order(rt: &impl Abort, view: &View<'_>) {
+    let read = view.world.read(view.side);
+    let sent = view.world.sent(other(view.side));
+    for (at, message) in read.iter().enumerate() {
+        let earlier = read.get(..at).unwrap_or(&[]);
+        let follows = follows_all(message, earlier, sent);
+        view.holds(rt, "it comes out of order", follows);
+    }
+}
+
+// Has each side had one association at most?
+fn is_only(rt: &impl Abort, alloc: Global, world: &World<Counter>) -> bool {
+    begun(rt, alloc, world, Side::A).len() <= 1 && begun(rt, alloc, world, Side::B).len() <= 1
+}
+
 /// Whether each verification tag has served one association so far in a schedule, how many messages were read while it
-/// was so, and how many of these were read once a reset of streams had been performed.
+/// was so, how many of these were read once a reset of streams had been performed, and how many while each side had had
+/// no other association: these come in order.
 #[derive(Drop)]
 pub struct Delivery {
     pub serves: bool,
     pub read: usize,
     pub read_after_reset: usize,
+    pub in_order: usize,
 }
 
 impl Delivery {
@@ -101,6 +139,7 @@ impl Delivery {
             serves: true,
             read: 0,
             read_after_reset: 0,
+            in_order: 0,
         }
     }
 
@@ -124,10 +163,16 @@ impl Delivery {
             world,
             side: Side::A,
         };
-        is_delivered(rt, &view);
-        view.side = Side::B;
-        is_delivered(rt, &view);
+        let is_only = is_only(rt, alloc, world);
+        for side in [Side::A, Side::B] {
+            view.side = side;
+            is_delivered(rt, &view);
+            if is_only {
+                is_in_order(rt, &view);
+            }
+        }
         self.read = read;
+        self.in_order = self.in_order.saturating_add(usize::from(is_only));
         self.read_after_reset = self.read_after_reset.saturating_add(usize::from(was_reset));
     }
 }

@@ -29,6 +29,7 @@ const LEAST: Counts = Counts {
     served: 50,
     read: 400,
     read_after_reset: 200,
+    in_order: 200,
 };
 
 // The words of a side. In every second schedule the numbers are near the greatest, so that they wrap. In every

@@ -47,14 +47,33 @@ fn message(rt: &impl Abort, alloc: Global, drawing: &mut Drawing) -> Message {
     Message::new(drawing.stream(), PpId(number), bytes)
 }
 
+/// The protocol identifier of the ordered messages.
+pub const ORDERED: PpId = PpId(0);
+
+// The one that says whether a message is ordered.
+fn identifier(options: &SendOptions) -> PpId {
+    if options.unordered { PpId(1) } else { ORDERED }
+}
+
+// One message.
+fn sending_one(rt: &impl Abort, alloc: Global, drawing: &mut Drawing) -> Call {
+    let mut one = message(rt, alloc, drawing);
+    let options = options(drawing);
+    one.ppid = identifier(&options);
+    Call::Send(one, options)
+}
+
 // Two messages at once.
 fn sending_two(rt: &impl Abort, alloc: Global, drawing: &mut Drawing) -> Call {
     let mut messages = Vec::new(alloc);
-    let first = message(rt, alloc, drawing);
+    let mut first = message(rt, alloc, drawing);
+    let mut second = message(rt, alloc, drawing);
+    let options = options(drawing);
+    first.ppid = identifier(&options);
+    second.ppid = identifier(&options);
     messages.push(first).expect(rt, "no list");
-    let second = message(rt, alloc, drawing);
     messages.push(second).expect(rt, "no list");
-    Call::SendMany(messages, options(drawing))
+    Call::SendMany(messages, options)
 }
 
 // One to three streams are reset.
@@ -72,7 +91,7 @@ fn call(rt: &impl Abort, alloc: Global, drawing: &mut Drawing) -> Call {
         7 => Call::Close,
         8 => Call::Shutdown,
         9..=15 => resetting(rt, alloc, drawing),
-        16..=25 => Call::Send(message(rt, alloc, drawing), options(drawing)),
+        16..=25 => sending_one(rt, alloc, drawing),
         26 => sending_two(rt, alloc, drawing),
         27..=31 => Call::GetNextMessage,
         32..=38 => Call::AdvanceTime(drawing.later()),
