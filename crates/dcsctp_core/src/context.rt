@@ -432,7 +432,7 @@ impl<R: Rng> Context<R> {
     }
 
     /// Ends the association: with OnClosed if the error is `NoError`, else with OnAborted and this text. A
-    /// closed socket is unchanged. The count of errors stays (docs/DECISIONS.md, The count of errors). With
+    /// closed socket is unchanged. The count of errors stays (docs/design/decisions.md, The count of errors). With
     /// `Options::follow_rfc` the messages that are ready can still be taken until the next one begins.
     ///
     /// `Err`: an allocation failed, and nothing has changed.

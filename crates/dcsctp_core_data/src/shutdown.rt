@@ -75,7 +75,7 @@ fn acknowledge_and_receive<R: Rng>(
 /// Handles a SHUTDOWN. It counts while an association is open, and is answered by SHUTDOWN ACK. That is sent
 /// at once if a SHUTDOWN or a SHUTDOWN ACK was sent, else once all that was sent is acknowledged. With
 /// `Options::follow_rfc` its cumulative TSN ack acknowledges, as that of a SACK does (RFC 9260, section 9.2);
-/// else it isn't used (docs/DECISIONS.md, Shutdown).
+/// else it isn't used (docs/design/decisions.md, Shutdown).
 ///
 /// `Err`: an allocation failed; the first of its events may already have been added.
 pub fn handle_shutdown<R: Rng>(

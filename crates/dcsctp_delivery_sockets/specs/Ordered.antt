@@ -68,15 +68,15 @@ ordered_sent stream (sending ∷ sendings) =
 abbrev pub SendsFew : Options → List Transition → Type 0
 SendsFew options turns = (stream : ℕ) → ordered_sent stream (sendings_in (fresh_endpoint options) turns) < 2 ^ 15
 
--- DATA comes in order in the association whose peer has this tag: no message may be abandoned, or few are ordered, and no request
--- to reset streams was sent there (RFC 6525).
+-- What order asks of DATA in the association whose peer has this tag. Either no message may be abandoned, or few ordered ones are
+-- sent on each stream. And no request to reset streams was sent there (RFC 6525).
 pub record AllowsDataOrder (options : Options) (turns : List Transition) (tag : ℕ) : Type 0 where
   pub unambiguous : SetsNoLimits options turns ⊎ SendsFew options turns
   pub no_requests : requests_to tag (packets_in (events_of turns)) ≡ 0
 
 -- All that order asks of the sender and its association whose peer has this tag, beside what delivery asks. It follows the RFC,
--- or had no other association, so that the numbers of each stream begin at 0 (RFC 9260, section 6.5). And messages interleave
--- (RFC 8260), or DATA comes in order there, too.
+-- or had no other association, so that the numbers of each stream begin at 0 (RFC 9260, section 6.5). And either messages interleave
+-- (RFC 8260), or what order asks of DATA is so (`AllowsDataOrder`).
 pub record AllowsOrder (options : Options) (turns : List Transition) (tag : ℕ) : Type 0 where
   pub starts_at_zero : (options.follow_rfc ≡ true) ⊎ IsOnlyTag (noted_past turns) tag
   pub numbering : Interleaves (noted_past turns) tag ⊎ AllowsDataOrder options turns tag

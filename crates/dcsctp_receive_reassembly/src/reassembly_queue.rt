@@ -193,7 +193,7 @@ impl ReassemblyQueue {
     /// Adds data whose TSN is new. Messages that are whole now become ready to be taken. An unordered one
     /// does at once, an ordered one when all before it on its stream did (RFC 9260, sections 6.5, 6.6 and
     /// 6.9). Unlike RFC 9260, section 6.6, an ordered one also does at once if a message of its number waits
-    /// already (docs/DECISIONS.md, A repeated number doesn't wait).
+    /// already (docs/design/decisions.md, A repeated number doesn't wait).
     ///
     /// The payload of a message of one chunk is kept as it is; that of a longer one is joined by one copy.
     /// Parts of one message have TSNs in a row from B to E (DATA), or fragment numbers in a row (RFC 8260,

@@ -122,8 +122,8 @@ pub struct Options {
     /// Allows a handover while data is outstanding.
     pub enable_handover_with_outstanding_data: bool,
 
-    /// Follows the RFCs where the port, dcsctp 0.1.16, doesn't. docs/DIFFERENCES.md has a row for each rule
-    /// that it changes.
+    /// Follows the RFCs where upstream, dcsctp 0.1.16, doesn't. docs/design/differences.md has a row for each
+    /// rule that it changes.
     pub follow_rfc: bool,
 }
 

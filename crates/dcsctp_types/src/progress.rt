@@ -109,7 +109,7 @@ fn has_come_to(newest: u32, tsn: u32) -> bool
 
 // Can a SACK show whether an item is missing? For one that was sent again, it can if it acknowledges a TSN
 // that was sent after it. Unlike RFC 9260, section 7.2.4, such an item may be sent again fast once more
-// (docs/DECISIONS.md, Lost again).
+// (docs/design/decisions.md, Lost again).
 fn tells_of(sent_before: Option<u32>, newest: Option<u32>) -> bool
     ensures { result ≡ tells_of sent_before newest }
 {

@@ -245,7 +245,7 @@ impl<R: Rng + Drop> World<R> {
     /// were sent (RFC 9260, section 6.6). That has two more premises. The sender has `follow_rfc`, or had no other
     /// association. And one of two holds. In this association messages interleave; then streams may be reset. Or the
     /// sender sent no request to reset streams to the peer's verification tag, and of the messages that it ever sent, on
-    /// any stream, none has a lifetime or a limit on retransmissions, or fewer than 2^15 on each stream are ordered.
+    /// any stream, either none has a lifetime or a limit on retransmissions, or fewer than 2^15 on each stream are ordered.
     ///
     /// None is missing before one that was read, if the sender had one association, no message that it ever sent has
     /// such a limit, and its user never called `reset_streams`, for any stream, refused calls included. Then what was

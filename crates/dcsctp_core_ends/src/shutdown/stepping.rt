@@ -18,7 +18,7 @@ use std::time::Duration;
 
 // T2-shutdown, started now with this retransmission timeout. Each wait is twice the last one, without a
 // limit; the options say how often a packet is sent again. Unlike RFC 9260, section 9.2,
-// `t2_shutdown_timeout` is not used (docs/DECISIONS.md, Shutdown).
+// `t2_shutdown_timeout` is not used (docs/design/decisions.md, Shutdown).
 fn started_t2(options: &Options, rto: Duration, now: SocketTime) -> ShutdownState
     ensures { result.t2_shutdown.running ≡ started now (t2_settings options.now (as_nanos rto)) }
 {
@@ -70,7 +70,7 @@ fn waits_for_queue<R: Rng>(context: &Context<R>) -> bool
 
 /// Continues a shutdown that is under way, if all that was sent is acknowledged or abandoned. SHUTDOWN is
 /// sent if the user asked for it, SHUTDOWN ACK if the peer did. With `Options::follow_rfc` what waits in the
-/// queue and can be sent goes first; else it isn't looked at (docs/DECISIONS.md, Shutdown).
+/// queue and can be sent goes first; else it isn't looked at (docs/design/decisions.md, Shutdown).
 ///
 /// `Err`: an allocation failed; nothing has changed.
 pub fn step_shutdown<R: Rng>(context: &mut Context<R>) -> Result<(), AllocError>
