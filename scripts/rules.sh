@@ -1,5 +1,5 @@
 #!/usr/bin/env bash
-# Prints the table of docs/MEASUREMENTS.md that compares sockets without and with the option `follow_rfc`, as the
+# Prints the table of docs/figures.md that compares sockets without and with the option `follow_rfc`, as the
 # program crates/dcsctp_bench tries each rule with ten seeds. BENCH names another build of the program. With `--check`
 # it fails if that file has another table, and with `--write` it puts the table there.
 set -euo pipefail

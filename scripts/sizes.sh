@@ -1,5 +1,5 @@
 #!/usr/bin/env bash
-# Prints the table of sizes in docs/MEASUREMENTS.md: for each crate the lines that are neither blank nor a comment
+# Prints the table of sizes in docs/figures.md: for each crate the lines that are neither blank nor a comment
 # (contracts count as code), and the wrong bodies. Crates come in the order of crates.txt, those of tests as one row.
 # With `--check` it fails if that file has another table, and with `--write` it puts the table there.
 set -euo pipefail

@@ -1,4 +1,4 @@
-# A table of docs/MEASUREMENTS.md that a script counts; sourced by these scripts. The file's table is the one whose first
+# A table of docs/figures.md that a script counts; sourced by these scripts. The file's table is the one whose first
 # line is the same.
 
 # replaced FILE TEXT: the file with this table in place of its own.
@@ -8,7 +8,7 @@ replaced() {
 
 # keep_table NAME TEXT [--check | --write]: prints the table, fails if the file has another one, or puts it there.
 keep_table() {
-    local file=docs/MEASUREMENTS.md text
+    local file=docs/figures.md text
     text=$(replaced "$file" "$2")
     case ${3:-} in
         --check)

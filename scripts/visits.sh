@@ -1,5 +1,5 @@
 #!/usr/bin/env bash
-# Prints the table of changes in docs/MEASUREMENTS.md: how many crates are checked again after a change in a crate of
+# Prints the table of changes in docs/figures.md: how many crates are checked again after a change in a crate of
 # types, definitions, theorems or delivery, and how many visits of crates the sums of `rt` take. Before each check `rt`
 # sums the sources of all libraries below, again along every path of crates.txt.
 # With `--check` it fails if that file has another table, and with `--write` it puts the table there.
