@@ -30,14 +30,17 @@ number() {
     values complete "$1" | wc -l
 }
 
-# spread FORM UNIT: the least of the values that come, the median and the greatest, by their unit; a dash if there is
-# none.
+# spread FORM UNIT: the least of the values that come, the median and the greatest, by their unit; one of them if they
+# are the same, and a dash if there is none.
 spread() {
     awk -v form="$1" -v unit="$2" '{ all[NR] = $1 / unit }
         END {
             if (NR == 0) { print "-"; exit }
             median = (all[int((NR + 1) / 2)] + all[int(NR / 2) + 1]) / 2
-            printf form " / " form " / " form "\n", all[1], median, all[NR]
+            least = sprintf(form, all[1])
+            most = sprintf(form, all[NR])
+            if (least == most) print least
+            else print least "/" sprintf(form, median) "/" most
         }'
 }
 
@@ -76,30 +79,38 @@ shown() {
     esac
 }
 
-# rows TEXT RULE LOSSES [WORD..]: a line of the table for each loss.
+# rows RULE SETTING LOSSES [WORD..]: lines of the table, one for losses in a row with which the same is shown.
 rows() {
-    local loss off on
+    local loss percent off on same='' losses=''
     for loss in $3; do
-        off=$(shown "$2" "$(runs "$2" off "$loss" "${@:4}")")
-        on=$(shown "$2" "$(runs "$2" on "$loss" "${@:4}")")
-        printf '| `%s` %s | %s %% | %s | %s |\n' "$2" "$1" "$(awk -v loss="$loss" 'BEGIN { print loss / 10 }')" "$off" "$on"
+        off=$(shown "$1" "$(runs "$1" off "$loss" "${@:4}")")
+        on=$(shown "$1" "$(runs "$1" on "$loss" "${@:4}")")
+        percent=$(awk -v loss="$loss" 'BEGIN { print loss / 10 }')
+        if [ "$same" = "$off | $on" ]; then
+            losses+=", $percent"
+        else
+            [ -z "$same" ] || printf '| `%s`%s | %s %% | %s |\n' "$1" "$2" "$losses" "$same"
+            losses=$percent
+            same="$off | $on"
+        fi
     done
+    printf '| `%s`%s | %s %% | %s |\n' "$1" "$2" "$losses" "$same"
 }
 
 # The table.
 table() {
     echo '| Tried | Loss | Off | On |'
     echo '|---|---|---|---|'
-    rows '(131,072): runs aborted; stalled for ten minutes; seconds until a new message' readers '0 10 50' window=131072
-    rows '(default): the same' readers '0 10 50'
-    rows '(20,000): runs stalled; seconds until all arrived' windows '10 50 100' window=20000
-    rows '(default): runs closed at both ends; messages that arrived, of 200' shutdown '0 10 50'
-    rows '(5,000): the same' shutdown '0 10 50' window=5000
-    rows '(default): seconds for 5 MiB' bulk '0 10 100'
-    rows '(default): messages that arrived, of five' reconnects 0
-    rows '(default): resets that ended in five minutes, of 200' closes '10 50 200'
-    rows '(default): the same' keeps '10 50 200'
-    rows '(default): messages in 30 s, of one stream; of the other' equals 10
+    rows readers ' (131,072)' '0 10 50' window=131072
+    rows readers '' '0 10 50'
+    rows windows ' (20,000)' '10 50 100' window=20000
+    rows shutdown '' '0 10 50'
+    rows shutdown ' (5,000)' '0 10 50' window=5000
+    rows bulk '' '0 10 100'
+    rows reconnects '' 0
+    rows closes '' '10 50 200'
+    rows keeps '' '10 50 200'
+    rows equals '' 10
 }
 
 keep_table rules "$(table)" "$@"

@@ -1,7 +1,7 @@
 #!/usr/bin/env bash
-# Prints the table of sizes in docs/figures.md: for each crate the lines that are neither blank nor a comment
-# (contracts count as code), and the wrong bodies. Crates come in the order of crates.txt, those of tests as one row.
-# With `--check` it fails if that file has another table, and with `--write` it puts the table there.
+# Prints the table of sizes in docs/figures.md: for each layer of crates.txt the lines that are neither blank nor a
+# comment (contracts count as code), and the wrong bodies: edits in must-fail/ and attacks/. With `--check` it fails if
+# that file has another table, and with `--write` it puts the table there.
 set -euo pipefail
 shopt -s inherit_errexit
 cd "$(dirname "$0")/.."
@@ -26,33 +26,40 @@ row() {
     printf '\n'
 }
 
-# The table.
+# The table: a row for each layer of crates.txt, as its comments name them.
 table() {
-    echo '| Crate | Code | Tests | Definitions | Proofs | Edits | Attacks |'
-    echo '|---|---|---|---|---|---|---|'
-    all=(0 0 0 0 0 0)
-    tests=(0 0 0 0 0 0)
-    crates_of_tests=0
-    for crate in $(sed -n 's/^\([a-z_]*\)[ a-z]*:.*/\1/p' crates.txt); do
-        folder=crates/$crate
-        code=$(lines rt "$folder/src")
-        specs=$(lines antt "$folder/specs")
-        proofs=$(lines antt "$folder/proofs")
-        sizes=("$code" 0 "$specs" "$proofs" "$(edits "$folder/must-fail")" "$(edits "attacks/$crate")")
-        if [[ $crate == *_tests || $crate == *_testing ]]; then
-            sizes[0]=0
-            sizes[1]=$code
-            crates_of_tests=$((crates_of_tests + 1))
-            for i in "${!sizes[@]}"; do tests[i]=$((tests[i] + sizes[i])); done
-        else
-            row "\`$crate\`" "${sizes[@]}"
+    local line layer='' crate folder definitions=0 i
+    local -a layers=() sizes all=(0 0 0 0)
+    local -A counts=()
+    while read -r line; do
+        if [[ $line =~ ^'# '([A-Za-z ]+)[:,.] ]]; then
+            layer=${BASH_REMATCH[1]}
+            continue
         fi
-        for i in "${!sizes[@]}"; do all[i]=$((all[i] + sizes[i])); done
+        [[ $line =~ ^([a-z_]+)[\ a-z]*: ]] || continue
+        crate=${BASH_REMATCH[1]}
+        folder=crates/$crate
+        sizes=("$(lines rt "$folder/src")" "$(lines antt "$folder/specs")" "$(lines antt "$folder/proofs")"
+            $(($(edits "$folder/must-fail") + $(edits "attacks/$crate"))))
+        [ -n "${counts[$layer,0]:-}" ] || layers+=("$layer")
+        for i in "${!sizes[@]}"; do counts[$layer,$i]=$((${counts[$layer,$i]:-0} + sizes[i])); done
+    done <crates.txt
+    echo '| Layer | Code | Definitions | Proofs | Edits |'
+    echo '|---|---|---|---|---|'
+    for layer in "${layers[@]}"; do
+        sizes=()
+        for i in "${!all[@]}"; do
+            sizes[i]=${counts[$layer,$i]}
+            all[i]=$((all[i] + sizes[i]))
+        done
+        row "$layer" "${sizes[@]}"
     done
-    row "the $crates_of_tests crates of tests" "${tests[@]}"
-    definitions=$(edits attacks/definitions)
-    all[5]=$((all[5] + definitions))
-    row "all, with $definitions attacks on definitions" "${all[@]}"
+    # Attacks on definitions are in folders of attacks/ that are named after no crate.
+    for folder in attacks/*/; do
+        [ -d "crates/$(basename "$folder")" ] || definitions=$((definitions + $(edits "$folder")))
+    done
+    all[3]=$((all[3] + definitions))
+    row "All, with $definitions on definitions" "${all[@]}"
 }
 
 keep_table sizes "$(table)" "$@"
