@@ -1,17 +1,12 @@
-# The C library. docs/C.md says how to use it.
+# All that is done here by one command. `make` alone prints what there is.
 #
-#     make            builds out/libdcsctp.a and .so.0: rt proves crates/dcsctp_c and all below it
-#     make unproved   builds out/unproved/libdcsctp-unproved.a and .so.0, without proofs
-#     make check      checks it, by what is installed here: valgrind, sanitizers, cmake, cffi, and for
-#                     the bindings cargo, python3, a C++ compiler and go
-#     make check-browser   has a page in Chromium use it; isn't part of check (examples/browser)
-#     make install    copies it to PREFIX (/usr/local) and LIBDIR (PREFIX/lib), below DESTDIR
-#     make uninstall  removes what install has copied
-#     make dist       packs it with the bindings into out/dcsctp-VERSION-linux-x86_64-v2.tar.gz
-#     make clean
+# There are two builds of the library, and neither stands in for the other. `make prove` makes the proved one, and
+# `make unproved` the other, dcsctp-unproved, in out/unproved. Each target takes the proved one where it was made, else
+# the other; with the goal `unproved` before it, as in `make unproved install`, always the other. Only `make prove`
+# starts proofs.
 #
-# check, install and dist are of what was built last. ARCHIVE=FILE takes an archive that rt has built, and
-# KIT=FOLDER the kit's folder.
+# PREFIX (/usr/local), LIBDIR (PREFIX/lib) and DESTDIR say where to install. ARCHIVE=FILE takes an archive that rt has
+# built, and KIT=FOLDER the kit.
 
 PREFIX ?= /usr/local
 LIBDIR ?= $(PREFIX)/lib
@@ -23,20 +18,26 @@ READELF ?= readelf
 CFLAGS ?= -O2 -g
 KIT ?= $(shell dirname "$$(dirname "$$(readlink -f "$$(command -v rt)")")")
 
-BUILT = crates/dcsctp_c/out/libdcsctp_c.a
-UNPROVED = out/unproved/libdcsctp_c-unproved.a
+# ---- Which build ------------------------------------------------------------------------------
+
+PROVED_ARCHIVE = crates/dcsctp_c/out/libdcsctp_c.a
+UNPROVED_ARCHIVE = out/unproved/libdcsctp_c-unproved.a
 ifndef ARCHIVE
 ifneq ($(filter unproved,$(MAKECMDGOALS)),)
-ARCHIVE := $(UNPROVED)
-else ifneq ($(filter check% install dist,$(MAKECMDGOALS)),)
-ARCHIVE := $(shell ls -t $(BUILT) $(UNPROVED) 2>/dev/null | head -1)
+ARCHIVE := $(UNPROVED_ARCHIVE)
+else ifneq ($(filter prove,$(MAKECMDGOALS))$(wildcard $(PROVED_ARCHIVE)),)
+ARCHIVE := $(PROVED_ARCHIVE)
+else ifneq ($(filter demo test,$(MAKECMDGOALS))$(wildcard $(UNPROVED_ARCHIVE)),)
+ARCHIVE := $(UNPROVED_ARCHIVE)
+else
+ARCHIVE := no-library
 endif
 endif
-ARCHIVE := $(or $(ARCHIVE),$(BUILT))
 export ARCHIVE
 
 # What isn't proved has another name, in another folder.
 MARK := $(findstring -unproved,$(notdir $(ARCHIVE)))
+KIND := $(if $(MARK),unproved,proved)
 NAME = dcsctp$(MARK)
 OUT ?= out$(MARK:-%=/%)
 LIBRARY = $(OUT)/lib$(NAME).a
@@ -51,18 +52,53 @@ EXAMPLES = two_sockets file_transfer channels server load
 WARNINGS = -Wall -Wextra -Wshadow -pedantic -Werror
 COMPILE = $(CC) -std=c11 $(WARNINGS) $(CFLAGS) -Iinclude
 
-all unproved: $(LIBRARY) $(SHARED) $(PACKAGE)
+help:
+	@echo "make demo              two sockets over a link that loses a packet    2 min, without proofs"
+	@echo "make test              all tests                                      10 min, without proofs"
+	@echo "make unproved          the C library without proofs                   1 min"
+	@echo "make unproved install  copies it to PREFIX=$(PREFIX)"
+	@echo "make prove             proves and tests all, builds the C library     an hour or more"
+	@echo "make install           copies the proved library to PREFIX"
+	@echo "make uninstall         removes what either has copied"
+	@echo "make check             checks the library, also by valgrind           5 min"
+	@echo "make dist              packs the library with bindings and examples"
+	@echo "make reference         pages of all contracts and definitions         10 s, into out/reference"
+	@echo "make doc               pages of C, Rust and Python, too               1 min, into out/doc"
+	@echo "make check-browser     a page in Chromium uses data channels          1 min"
+	@echo "make clean             removes out/"
+	@echo
+	@echo "Targets take the proved library where 'make prove' has built it, else the other;"
+	@echo "'make unproved TARGET' always takes the other. Only 'make prove' starts proofs."
 
 # ---- The library ------------------------------------------------------------------------------
 
-SOURCES := $(shell find crates -name out -prune -o -name '*.rt' -print)
-$(BUILT): $(SOURCES)
-	rm -f $(BUILT:.a=.verdict)
-	cd crates/dcsctp_c && rt lib
-	touch $@
+all unproved: $(LIBRARY) $(SHARED) $(PACKAGE)
 
-$(UNPROVED): $(SOURCES) crates.txt scripts/unproved.sh
-	KIT=$(KIT) bash scripts/unproved.sh $@
+SOURCES := $(shell find crates -name out -prune -o -name '*.rt' -print)
+prove:
+	KIT=$(KIT) bash scripts/prove.sh
+	@$(MAKE) -s --no-print-directory all
+
+# (where prove is a goal, too, it has been made by now)
+$(PROVED_ARCHIVE): $(if $(filter prove,$(MAKECMDGOALS)),,$(SOURCES) crates.txt)
+	@[ -n "$(filter prove,$(MAKECMDGOALS))" ] || { echo "make: sources are newer than the proved library." \
+	    "'make prove' proves it again (an hour or more);"; echo "make: 'make unproved $(MAKECMDGOALS)' does it without" \
+	    "proofs (a minute)."; exit 2; } >&2
+
+$(UNPROVED_ARCHIVE): $(SOURCES) crates.txt scripts/unproved.sh
+	KIT=$(KIT) bash scripts/unproved.sh library $@
+
+no-library:
+	@{ echo "make: no library has been built here."; \
+	echo "make: 'make unproved $(MAKECMDGOALS)' builds it without proofs first (a minute)."; \
+	echo "make: 'make prove $(MAKECMDGOALS)' proves and tests all first (an hour or more)."; exit 2; } >&2
+
+# What the tests take beside the library: programs and tests in Rattle.
+RATTLE_PROGRAMS = $(if $(MARK),out/unproved/dcsctp_run out/unproved/dcsctp_socket_script out/unproved/rattle_tests)
+out/unproved/rattle_tests: $(SOURCES) crates.txt scripts/unproved.sh
+	KIT=$(KIT) bash scripts/unproved.sh tests $@
+out/unproved/dcsctp_%: $(SOURCES) crates.txt scripts/unproved.sh
+	KIT=$(KIT) bash scripts/unproved.sh program dcsctp_$* $@
 
 # One object: what rt built, the kit's three functions over malloc, and what libgcc has of 128 bits.
 # Only dcsctp_* can be seen from outside.
@@ -82,12 +118,12 @@ $(SHARED): $(LIBRARY) packaging/exports.map
 	    -Wl,--whole-archive $< -Wl,--no-whole-archive -o $@
 
 # (made again each time, since PREFIX and LIBDIR may be others)
-PROVED = $(if $(MARK),built without proofs,proved in Rattle)
+HOW = $(if $(MARK),built without proofs,proved in Rattle)
 TO_PREFIX = $(shell realpath -ms --relative-to=$(LIBDIR)/pkgconfig $(or $(PREFIX),/))
 $(OUT)/$(NAME)%: packaging/dcsctp%.in include/dcsctp.h FORCE
 	@mkdir -p $(OUT)
 	@sed -e 's|@NAME@|$(NAME)|' -e 's|@VERSION@|$(VERSION)|' -e 's|@MARK@|$(MARK)|' \
-	    -e 's|@PROVED@|$(PROVED)|' -e 's|@TO_PREFIX@|$(TO_PREFIX)|' $< >$@
+	    -e 's|@PROVED@|$(HOW)|' -e 's|@TO_PREFIX@|$(TO_PREFIX)|' $< >$@
 
 # ---- Packages ---------------------------------------------------------------------------------
 
@@ -101,6 +137,9 @@ install: all
 	ln -sf $(notdir $(SHARED)) $(LIB_TO)/lib$(NAME).so
 	install -m 644 $(OUT)/$(NAME).pc $(LIB_TO)/pkgconfig/
 	install -m 644 $(OUT)/$(NAME)Config.cmake $(OUT)/$(NAME)ConfigVersion.cmake $(LIB_TO)/cmake/$(NAME)/
+	@echo "Installed $(NAME) $(VERSION), $(HOW), to $(DESTDIR)$(PREFIX). To compile a program:"
+	@echo "    export PKG_CONFIG_PATH=$(DESTDIR)$(LIBDIR)/pkgconfig LD_LIBRARY_PATH=$(DESTDIR)$(LIBDIR)"
+	@echo "    cc program.c \$$(pkg-config --cflags --libs $(NAME))"
 
 NAMES = dcsctp dcsctp-unproved
 uninstall:
@@ -108,22 +147,28 @@ uninstall:
 	    $(foreach it,.a .so .so.0,$(NAMES:%=$(LIB_TO)/lib%$(it)))
 	rm -rf $(NAMES:%=$(LIB_TO)/cmake/%)
 
-# The same bytes from the same files, wherever it is packed.
-BINDINGS = $(shell find bindings \( -name target -o -name __pycache__ \) -prune -o -type f -print)
+# The libraries, the header, the bindings, and the documents and examples, whose .c and .h files users copy. The same bytes
+# from the same files, wherever it is packed.
+PACKED = $(shell find bindings docs examples \( -name target -o -name __pycache__ -o -name '*.script*' \) -prune -o \
+    -type f -print)
 DIST = dcsctp-$(VERSION)$(MARK)-linux-x86_64-v2
 TAR = tar --sort=name --owner=0 --group=0 --numeric-owner --mtime=@0
 dist: all
 	rm -rf $(OUT)/$(DIST)
-	$(MAKE) -s install DESTDIR=$(abspath $(OUT)/$(DIST)) PREFIX= LIBDIR=/lib
-	install -m 644 LICENSE NOTICE $(OUT)/$(DIST)/
-	cp --parents $(BINDINGS) $(OUT)/$(DIST)/
-	chmod -R u=rwX,go=rX $(OUT)/$(DIST)/bindings
+	$(MAKE) -s install DESTDIR=$(abspath $(OUT)/$(DIST)) PREFIX= LIBDIR=/lib >/dev/null
+	install -m 644 LICENSE NOTICE CHANGELOG.md SECURITY.md $(OUT)/$(DIST)/
+	cp --parents $(PACKED) $(OUT)/$(DIST)/
+	chmod -R u=rwX,go=rX $(OUT)/$(DIST)
 	KIT=$(KIT) bash scripts/verdict.sh $(OUT)/$(DIST) >$(OUT)/VERDICT
 	mv $(OUT)/VERDICT $(OUT)/$(DIST)/
 	$(TAR) -C $(OUT) -c $(DIST) | gzip -n9 >$(OUT)/$(DIST).tar.gz
+	@echo "Packed $(OUT)/$(DIST).tar.gz, $(HOW)"
 
 clean:
-	rm -rf $(OUT)
+	rm -rf out
+
+reference:
+	python3 scripts/reference.py
 
 # ---- Programs ---------------------------------------------------------------------------------
 
@@ -139,12 +184,25 @@ $(OUT)/examples/%: examples/c/%.c include/dcsctp.h $(LIBRARY)
 	@mkdir -p $(OUT)/examples
 	$(COMPILE) $(filter %.c,$^) $(LIBRARY) -o $@
 
+c-programs: $(TESTS:%=$(OUT)/tests/%) $(EXAMPLES:%=$(OUT)/examples/%)
+examples: $(EXAMPLES:%=$(OUT)/examples/%)
+	@printf 'built %s\n' $^
+
 # Data channels and deadlines are files that users copy.
 $(OUT)/tests/channels $(OUT)/examples/channels: examples/c/data_channel.c examples/c/data_channel.h
 $(OUT)/tests/deadlines $(OUT)/examples/server $(OUT)/examples/load: examples/c/deadlines.c \
     examples/c/deadlines.h
 
 # ---- Checks -----------------------------------------------------------------------------------
+
+# Each thing that was checked is a line `check: ..`, and each that can't be is a line `skipped: ..`, with what to install.
+
+# What the tests need is built side by side.
+JOBS = $(shell nproc)
+test:
+	@printf '%s\n' $(RATTLE_PROGRAMS) $(filter-out $(PROVED_ARCHIVE),$(ARCHIVE)) | \
+	    xargs -r -P $(JOBS) -n 1 $(MAKE) -s --no-print-directory
+	@OUT=$(OUT) TESTS='$(TESTS)' bash scripts/test.sh $(KIND)
 
 check: check-header check-symbols check-tests check-cpp check-cffi check-examples check-install check-dist \
     check-valgrind check-sanitizers check-bindings check-rust
@@ -160,8 +218,10 @@ check-header:
 	@if command -v $(CXX) >/dev/null; then set -e; \
 	echo '#include <dcsctp.h>' | $(CXX) -std=c++11 $(WARNINGS) -Iinclude -fsyntax-only -x c++ -; \
 	$(CXX) -std=c++11 -Wall -Wextra -Iinclude -c -o /dev/null -x c++ $(WARNED); \
-	else echo "check: no C++ compiler, so the header isn't checked in C++"; fi
+	echo "check: dcsctp.h in C++"; \
+	else echo "skipped: dcsctp.h in C++: no $(CXX) (apt install g++)"; fi
 	! grep -n '.\{101\}' include/dcsctp.h
+	@echo "check: dcsctp.h in C"
 
 # What is exported is what is declared, and nothing is needed but these functions of the C library. In the
 # shared library each call has the version of the series.
@@ -182,24 +242,26 @@ check-symbols: $(LIBRARY) $(SHARED)
 	! grep -vxE '$(NEEDED)' $(OUT)/needed
 	$(READELF) -d $(SHARED) | sed -n 's/.*(\(NEEDED\|SONAME\)).*\[\(.*\)\]/\2/p' | sort | tr '\n' ' ' | \
 	    grep -qx 'libc.so.6 $(notdir $(SHARED)) '
+	@echo "check: the symbols of both libraries"
 
 check-tests: $(TESTS:%=$(OUT)/tests/%)
-	for it in $^; do $$it || exit 1; done
+	@for it in $^; do $$it || exit 1; echo "check: $$it"; done
 
 check-cpp: $(LIBRARY)
 	@mkdir -p $(OUT)/tests
 	@if command -v $(CXX) >/dev/null; then set -e; \
 	$(CXX) -std=c++11 $(WARNINGS) $(CFLAGS) -Iinclude tests/c/in_cpp.cpp $(LIBRARY) -o $(OUT)/tests/in_cpp; \
-	$(OUT)/tests/in_cpp; \
-	else echo "check: no C++ compiler, so nothing is run in C++"; fi
+	$(OUT)/tests/in_cpp; echo "check: calls in C++"; \
+	else echo "skipped: calls in C++: no $(CXX) (apt install g++)"; fi
 
 # What the preprocessor leaves of the header, for tools that read declarations alone. Python's cffi is one.
 check-cffi: check-symbols
 	$(CC) -E -P -DDCSCTP_DECLARATIONS include/dcsctp.h >$(OUT)/declarations
 	! grep -nE '#|__|static|inline|"' $(OUT)/declarations
-	@if python3 -c 'import cffi' 2>/dev/null; then set -e; echo "check: cffi"; \
-	python3 tests/c/declared.py $(OUT)/declarations $(SHARED); \
-	else echo "check: no cffi, so it doesn't read the header"; fi
+	@echo "check: the declarations alone"
+	@if python3 -c 'import cffi' 2>/dev/null; then set -e; \
+	python3 tests/c/declared.py $(OUT)/declarations $(SHARED); echo "check: cffi"; \
+	else echo "skipped: cffi reads dcsctp.h: no cffi (apt install python3-cffi)"; fi
 
 # The examples, the file transfer with 20 of 1,000 packets lost in each direction, and the server with 100
 # associations. README has the loop of the first.
@@ -207,18 +269,22 @@ check-examples: $(EXAMPLES:%=$(OUT)/examples/%)
 	sed -n '/^static int drain/,/^}/p' examples/c/two_sockets.c >$(OUT)/drain
 	sed -n '/^```c$$/,/^```$$/p' README.md | sed '1d; $$d' | diff - $(OUT)/drain
 	$(OUT)/examples/two_sockets | diff examples/c/two_sockets.stdout -
+	@echo "check: two_sockets"
 	$(OUT)/examples/channels | diff examples/c/channels.stdout -
+	@echo "check: channels"
 	@if command -v $(CXX) >/dev/null; then set -e; \
 	$(CXX) -std=c++11 $(WARNINGS) $(CFLAGS) -Iinclude -x c++ examples/c/two_sockets.c -x none \
 	    $(LIBRARY) -o $(OUT)/examples/in_cpp; \
 	$(OUT)/examples/in_cpp | diff examples/c/two_sockets.stdout -; \
 	$(CXX) -std=c++11 $(WARNINGS) $(CFLAGS) -Iinclude -x c++ examples/c/channels.c \
 	    examples/c/data_channel.c -x none $(LIBRARY) -o $(OUT)/examples/in_cpp; \
-	$(OUT)/examples/in_cpp | diff examples/c/channels.stdout -; \
-	else echo "check: no C++ compiler, so nothing is linked in C++"; fi
+	$(OUT)/examples/in_cpp | diff examples/c/channels.stdout -; echo "check: two_sockets and channels in C++"; \
+	else echo "skipped: examples in C++: no $(CXX) (apt install g++)"; fi
 	timeout 120 $(OUT)/examples/file_transfer 2>/dev/null
 	timeout 120 $(OUT)/examples/file_transfer --loss 20 2>/dev/null
+	@echo "check: file_transfer"
 	timeout 120 bash scripts/try-server.sh $(OUT)/examples
+	@echo "check: server and load"
 
 # A caller finds both libraries where they were installed, also in a folder of the machine's kind, and where
 # what was packed has been unpacked elsewhere. What was installed can be removed.
@@ -231,12 +297,13 @@ check-install: all
 	$(FOUND) $(NAME) $(VERSION) $(STAGE)$(PREFIX) lib/x86_64-linux-gnu
 	$(MAKE) -s uninstall $(STAGED)
 	find $(STAGE) -not -type d | diff /dev/null -
+	@echo "check: installed, used and removed"
 
 check-dist: dist
-	@set -e; folder=$$(mktemp -d); trap 'rm -rf "$$folder"' EXIT; echo "check: $(OUT)/$(DIST).tar.gz"; \
+	@set -e; folder=$$(mktemp -d); trap 'rm -rf "$$folder"' EXIT; \
 	tar -C "$$folder" -xzf $(OUT)/$(DIST).tar.gz; \
 	(cd "$$folder/$(DIST)" && grep -E '^[0-9a-f]{64}  ' VERDICT | sha256sum -c --quiet); \
-	$(FOUND) $(NAME) $(VERSION) "$$folder/$(DIST)" lib
+	$(FOUND) $(NAME) $(VERSION) "$$folder/$(DIST)" lib; echo "check: $(OUT)/$(DIST).tar.gz"
 
 # Leaks count. A child ends by _exit, so what can still be reached there doesn't.
 VALGRIND = valgrind -q --leak-check=full --errors-for-leak-kinds=definite,possible \
@@ -252,7 +319,7 @@ check-valgrind: $(TESTS:%=$(OUT)/tests/%) $(EXAMPLES:%=$(OUT)/examples/%)
 	    --trace-children=yes $(OUT)/examples/file_transfer --loss 20 include/dcsctp.h >/dev/null; \
 	echo "check: valgrind $(OUT)/examples/server"; \
 	timeout 300 bash scripts/try-server.sh $(OUT)/examples $(VALGRIND); \
-	else echo "check: no valgrind, so nothing is run under it"; fi
+	else echo "skipped: all under valgrind: no valgrind (apt install valgrind)"; fi
 
 SANITIZE = -fsanitize=address,undefined -fno-sanitize-recover=all
 check-sanitizers: $(LIBRARY)
@@ -261,25 +328,25 @@ check-sanitizers: $(LIBRARY)
 	    -o $(OUT)/sanitize/try 2>/dev/null && $(OUT)/sanitize/try; \
 	then echo "check: $(SANITIZE)"; $(MAKE) -s OUT=$(OUT)/sanitize LIBRARY=$(LIBRARY) \
 	    CFLAGS='-O1 -g $(SANITIZE)' check-tests check-examples; \
-	else echo "check: no sanitizers, so nothing is run under them"; fi
+	else echo "skipped: all under sanitizers: $(CC) has none (apt install gcc)"; fi
 
 # What is packed is enough for each binding.
 check-bindings: dist
 	CXX='$(CXX)' bash scripts/bindings.sh $(OUT)/$(DIST).tar.gz $(NAME)
 
 check-rust: $(LIBRARY)
-	@if command -v cargo >/dev/null; then set -e; cd examples/rust; echo "check: cargo"; \
+	@if command -v cargo >/dev/null; then set -e; cd examples/rust; \
 	export DCSCTP_LIB_DIR=$(abspath $(OUT)) DCSCTP_LIB_NAME=$(NAME) \
 	    CARGO_TARGET_DIR=$(abspath $(OUT)/cargo); \
 	timeout 120 cargo run --offline --quiet --release 2>/dev/null; \
-	timeout 120 cargo run --offline --quiet --release -- --loss 20 2>/dev/null; \
-	else echo "check: no cargo, so the Rust example isn't tried"; fi
+	timeout 120 cargo run --offline --quiet --release -- --loss 20 2>/dev/null; echo "check: examples/rust"; \
+	else echo "skipped: examples/rust: no cargo (apt install cargo)"; fi
 
 check-browser: $(SHARED)
 	CC='$(CC)' bash scripts/browser.sh $(SHARED) $(OUT)/browser
 
 # (dist and install write the same files)
 .NOTPARALLEL:
-.PHONY: FORCE all unproved install uninstall dist clean check check-header check-symbols check-tests \
+.PHONY: FORCE help reference all unproved prove no-library test examples c-programs install uninstall dist clean check check-header check-symbols check-tests \
     check-cpp check-cffi check-examples check-install check-dist check-valgrind check-sanitizers \
     check-bindings check-rust check-browser

@@ -4,7 +4,7 @@
 set -u
 cd "$(dirname "$0")/.."
 files=$(git ls-files -- '*.rt' '*.antt' '*.md')
-known='9260|6525|3758|8260|9653|8831|8832|6458'
+known='9260|6525|3758|8260|9653|8831|8832|6458|5681'
 bad=$(grep -nE 'RFC' $files \
     | sed -E "s/RFC ($known)(, (sections?|appendix) [0-9A-Z][0-9.]*((,| and| to) [0-9A-Z][0-9.]*)*)?//g" \
     | grep -E 'RFC *-?[0-9]')

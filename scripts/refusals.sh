@@ -6,24 +6,18 @@
 #     once for each of its allocations, which is refused with all after it
 #     once so that all are refused between its marks, where it does what takes no memory; there may be none
 #
-# `rt try --test --fail-alloc N` does the first for one N, and builds the tests again each time; here they are what
-# `rt test` built, and the malloc of tests/refuse.c comes before theirs. Needs a C compiler. Usage:
-# scripts/refusals.sh [PROGRAM ..], where each PROGRAM is another build of tests.
+# `rt try --test --fail-alloc N` does the first for one N, and builds the tests again each time; here they are built once,
+# and the malloc of tests/refuse.c comes before theirs. Needs a C compiler.
+#
+#     scripts/refusals.sh PROGRAM ..       each PROGRAM is a build of tests; of one that has others too, ONLY says which
+#                                          tests are run, as a regular expression
 set -euo pipefail
 shopt -s inherit_errexit
 cd "$(dirname "$0")/.."
 ulimit -c 0
 unset REFUSED REFUSED_ON MARKED
+[ $# -gt 0 ] || { sed -n '/^# *scripts/s/^# *//p' "$0" >&2; exit 2; }
 programs=("$@")
-is_built() {
-    [ -x "$1" ] && [ -z "$(find crates -name '*.rt' -newer "$1" -print -quit)" ]
-}
-if [ $# -eq 0 ]; then
-    for crate in dcsctp_socket_refusal_tests dcsctp_world_refusal_tests; do
-        programs+=("$PWD/crates/$crate/out/${crate}_tests")
-        is_built "${programs[-1]}" || (cd "crates/$crate" && rt test) >&2
-    done
-fi
 folder=$(mktemp -d)
 trap 'rm -rf "$folder"' EXIT
 cc -O1 -Wall -shared -fPIC -o "$folder/refuse.so" tests/refuse.c
@@ -85,15 +79,17 @@ each() {
     [ "$count" -gt 0 ] && [ "$breaks" -eq 0 ]
 }
 
+passed=0
 failed=0
 all_spans=0
 for program in "${programs[@]}"; do
     export program
-    tests=$("$program" --list | sed -n 's/: test$//p')
+    tests=$("$program" --list | sed -n 's/: test$//p' | grep -E "${ONLY:-}") || true
     [ -n "$tests" ] || { echo "refusals: $program has no test"; exit 1; }
     for test in $tests; do
-        each "$test" || failed=1
+        if each "$test"; then passed=$((passed + 1)); else failed=$((failed + 1)); fi
     done
 done
 [ "$all_spans" -gt 0 ] || { echo "refusals: no test has a span"; exit 1; }
-exit $failed
+echo "refusals: $passed passed, $failed failed"
+[ "$failed" = 0 ]

@@ -96,7 +96,9 @@ awk -v due="$due" '
     $1 == "refused" { scripts++; count += $2 }
     $1 == "wrong" { wrong++ }
     END {
-        printf "script-refusals: %d of %d scripts, %d allocations refused alone and with all after them, %d runs wrong\n", scripts, due, count, wrong
-        exit !(scripts == due && count > 0 && wrong == 0)
+        printf "script-refusals: %d allocations refused alone and with all after them, %d runs wrong\n", count, wrong
+        failed = due - scripts + wrong
+        printf "script-refusals: %d passed, %d failed\n", (failed ? 0 : due), failed
+        exit !(failed == 0 && count > 0)
     }
 ' "$folder/results"

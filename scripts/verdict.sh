@@ -1,6 +1,6 @@
 #!/usr/bin/env bash
 # Prints the file VERDICT of a folder that `make dist` packs: the commit, the kit by its line with the logic's sum, what
-# the gate and the archive's own proof said last, and the checksums of the files.
+# `make prove` said last of all crates and of the archive, and the checksums of the files.
 #
 #     scripts/verdict.sh FOLDER           ARCHIVE is what rt has built, and KIT the kit's folder
 set -euo pipefail
@@ -20,13 +20,13 @@ echo
 if [[ $ARCHIVE == *-unproved.a ]]; then
     echo "Nothing of this library is proved. scripts/unproved.sh has built it, to try or to change it."
 else
-    # .ci/run writes the commit, and then what rt ci says.
-    if [ -z "$state" ] && [ "$(head -1 out/gate.log 2>/dev/null)" = "$commit" ]; then
-        echo "The gate (.ci/run) said last of the proofs:"
+    # scripts/prove.sh writes the commit, and what rt ci says last.
+    if [ -z "$state" ] && [ "$(head -n 1 out/prove.said 2>/dev/null)" = "$commit" ]; then
+        echo "The proof of all crates (rt ci) said last:"
         echo
-        tail -n +2 out/gate.log | tail -2
+        tail -n +2 out/prove.said
     else
-        echo "The gate (.ci/run) was not run on this commit here."
+        echo "All crates were not proved on this commit here."
     fi
     if [ -e "${ARCHIVE%.a}.verdict" ]; then
         echo

@@ -23,7 +23,7 @@ INDEX = '''<h2>How to read it</h2>
 <li>Or begin at a section of a standard, and go to the definition that states it. Or at a wrong body, and go to the clause that
     refuses it.</li>
 </ul>
-<p>The promises in plain words, their premises, and what they don't say, are in <a href="../../docs">docs</a>.</p>
+<p>The promises in plain words, their premises, and what they don't say, are in <a href="../../docs/proof/promises.md">docs/proof/promises.md</a>.</p>
 <h2>Crates, lowest first</h2>
 '''
 ATTACKS = '''{first} Those in <code>must-fail</code> are tried at each run of the gate. Those in <code>attacks</code> are tried by
