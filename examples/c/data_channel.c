@@ -284,7 +284,8 @@ static int32_t accept_open(struct data_channels *all, uint16_t id,
     return result;
 }
 
-/* The peer knows a channel: it has sent an ACK or a message on it. */
+/* The peer knows a channel: it has sent an ACK or a message on it. That counts on a channel that is
+ * closing, too: it wasn't refused. */
 static void hear(struct data_channel *channel) {
     if (channel->is_heard)
         return;
@@ -298,7 +299,7 @@ static int32_t handle_control(struct data_channels *all, uint16_t id, size_t len
     struct data_channel *channel = data_channels_find(all, id);
     struct data_channel_settings settings;
     if (length > 0 && all->buffer[0] == ACK) {
-        if (channel && !channel->is_closing)
+        if (channel)
             hear(channel);
         return DCSCTP_OK;
     }
@@ -324,8 +325,7 @@ static int32_t handle_message(struct data_channels *all, const dcsctp_message *m
     if (!channel || (ppid != STRING && ppid != BINARY && ppid != STRING_EMPTY &&
                      ppid != BINARY_EMPTY))
         return refuse(all, message->stream_id);
-    if (!channel->is_closing)
-        hear(channel);
+    hear(channel);
     if (!channel->is_closing)
         all->calls->message(all->user, channel, ppid == STRING || ppid == STRING_EMPTY,
                             all->buffer, ppid == STRING || ppid == BINARY ? length : 0);
@@ -412,7 +412,8 @@ static int32_t take_all(struct data_channels *all) {
     return result < 0 ? result : DCSCTP_OK;
 }
 
-/* Sends what was put off: ACKs, and resets of channels that are closing. Returns how many. */
+/* Sends what was put off: ACKs, and then resets of channels that are closing. A reset without an
+ * ACK would refuse the channel. Returns how many. */
 static int32_t send_late(struct data_channels *all) {
     int32_t sent = 0;
     for (size_t i = 0; i < all->capacity; i++) {
@@ -420,12 +421,11 @@ static int32_t send_late(struct data_channels *all) {
         int32_t result = DCSCTP_OK;
         if (!channel->is_used)
             continue;
-        if (channel->is_closing && channel->outgoing == NOT_RESET)
-            result = try_reset(channel);
-        else if (channel->owes_ack && !channel->is_closing) {
+        if (channel->owes_ack) {
             result = send_ack(channel);
             sent += !channel->owes_ack;
-        }
+        } else if (channel->is_closing && channel->outgoing == NOT_RESET)
+            result = try_reset(channel);
         if (result < 0)
             return result;
         sent += result;

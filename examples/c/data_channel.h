@@ -136,8 +136,9 @@ struct data_channel *data_channels_find(struct data_channels *all, uint32_t stre
 int32_t data_channel_send_text(struct data_channel *channel, const char *text, size_t length);
 int32_t data_channel_send_binary(struct data_channel *channel, const uint8_t *bytes, size_t length);
 
-/* Closes a channel once all that was sent has arrived. What comes on it from now on is dropped.
- * `closed` follows when the peer has closed it, too. Then its id is free. */
+/* Closes a channel once all that was sent has arrived. Messages that come on it from now on are
+ * dropped. `closed` follows when the peer has closed it, too. Then its id is free. If the peer
+ * knows the channel, `opened` comes before `closed`, even if you close at once. */
 void data_channel_close(struct data_channel *channel);
 
 #ifdef __cplusplus

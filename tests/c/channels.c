@@ -417,6 +417,34 @@ static void ack_waits_for_room(void) {
     end_both();
 }
 
+/* It is sent before the reset, also if the peer has closed the channel by then: else that would be
+ * refused. */
+static void ack_comes_before_the_reset(void) {
+    static const uint8_t open[] = {3, 0, 1, 0, 0, 0, 0, 0, 0, 0, 0, 0};
+    const struct chunk ack = {DATA, WHOLE, 1, 50, 1, {2}};
+    const dcsctp_send_options how = DCSCTP_SEND_INIT;
+    const uint16_t stream = 1;
+    dcsctp_options options = quiet_options();
+    options.max_send_buffer_size = 2000;
+    connect_both(&options, 1);
+    b.is_losing = 1;
+    EQUAL("full", send_bytes(&a.end, 0, 30000), 0);
+    b.is_losing = 0;
+    EQUAL("OPEN", dcsctp_send(&b.end.socket, 1, 50, open, 12, &how), 0);
+    run(&b);
+    EQUAL("reset", dcsctp_reset_streams(&b.end.socket, &stream, 1), 0);
+    run(&b);
+    run(&a);
+    EQUAL("opened", a.peer_opened, 1);
+    EQUAL("no room", a.channel->owes_ack, 1);
+    EQUAL("no reset yet", count_of(&a, RECONFIG), 0);
+    pass_time(5 * SECONDS);
+    sent("ACK", &a, ack);
+    EQUAL("the reset is last", a.chunks[a.chunk_count - 1].type, RECONFIG);
+    EQUAL("of its stream", last_of(&a, RECONFIG).stream, 1);
+    end_both();
+}
+
 /* A channel is refused by a reset in place of an ACK. */
 static void refused_channel_is_closed(void) {
     const uint16_t stream = 0;
@@ -430,6 +458,38 @@ static void refused_channel_is_closed(void) {
     EQUAL("closed", a.closed, 1);
     EQUAL("its id is free", open_channel(&a, 0, 0)->id, 0);
     end_both();
+}
+
+/* What is opened and closed at once isn't refused: the ACK comes on a channel that is closing. A
+ * message says as much, and is dropped. */
+static void channel_that_is_closed_at_once_was_opened(void) {
+    connect_both(NULL, 0);
+    struct data_channel *channel = open_channel(&a, 0, 0);
+    EQUAL("send", data_channel_send_text(channel, "all", 3), 0);
+    data_channel_close(channel);
+    pass_time(SECONDS);
+    EQUAL("opened by the peer", b.peer_opened, 1);
+    EQUAL("the message has come", b.messages, 1);
+    EQUAL("opened", a.opened, 1);
+    EQUAL("closed", a.closed, 1);
+    EQUAL("closed", b.closed, 1);
+    end_both();
+    for (int is_ack = 0; is_ack < 2; is_ack++) {
+        const uint16_t stream = 0;
+        connect_both(NULL, 1);
+        data_channel_close(open_channel(&a, 0, 0));
+        pass_time(SECONDS);
+        EQUAL("not yet", a.opened, 0);
+        send_raw(&b, 0, is_ack ? 50 : 51, is_ack ? "\2" : "x", 1);
+        EQUAL("opened", a.opened, 1);
+        EQUAL("the message is dropped", a.messages, 0);
+        EQUAL("not closed before the peer", a.closed, 0);
+        EQUAL("reset", dcsctp_reset_streams(&b.end.socket, &stream, 1), 0);
+        pass_time(SECONDS);
+        EQUAL("opened once", a.opened, 1);
+        EQUAL("closed", a.closed, 1);
+        end_both();
+    }
 }
 
 /* ---- Messages ------------------------------------------------------------------------------- */
@@ -798,7 +858,8 @@ static void loss_changes_nothing(uint32_t loss) {
         }
         EQUAL("closed at A", a.closed, i);
         EQUAL("closed at B", b.closed, i);
-        EQUAL("opened", a.peer_opened + b.peer_opened, i);
+        EQUAL("opened by the peer", a.peer_opened + b.peer_opened, i);
+        EQUAL("opened", a.opened + b.opened, i);
         EQUAL("read", other->messages, messages + 1);
     }
     end_both();
@@ -828,7 +889,9 @@ int main(void) {
     open_without_room_is_refused();
     ack_of_four_bytes_is_one();
     ack_waits_for_room();
+    ack_comes_before_the_reset();
     refused_channel_is_closed();
+    channel_that_is_closed_at_once_was_opened();
     messages_have_the_ppids_of_the_standard();
     wrong_message_closes_the_channel();
     messages_before_the_ack_are_ordered();
