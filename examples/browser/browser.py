@@ -1,14 +1,16 @@
 #!/usr/bin/env python3
 """A page in headless Chromium has data channels to this program, whose SCTP is the C library.
 
-    browser.py CHANNELS SCREENSHOT [PAGE]        run by scripts/browser.sh, which makes CHANNELS
+    browser.py CHANNELS SCREENSHOT [--pcap FILE] [PAGE]      run by scripts/browser.sh, which makes CHANNELS
 
 ICE and DTLS are aiortc's. Its own SCTP is replaced by `Transport` below. The page, index.html, sends
 what comes back, and closes and opens channels. It shows what it did, and reports it here in the end.
-The program exits with 0 only if the page and it saw all that they should. With PAGE it serves that
-file in place of index.html, and judges nothing.
+The program exits with 0 only if the page and it saw all that they should. FILE gets the packets of
+SCTP, without DTLS, and Wireshark opens it. With PAGE it serves that file in place of index.html, and
+judges nothing.
 """
 
+import argparse
 import asyncio
 import http.server
 import json
@@ -66,8 +68,8 @@ class Transport:
     port = 5000
     _outbound_streams_count = 65535
 
-    def __init__(self, transport, library, program):
-        self.transport, self.library, self.program = transport, library, program
+    def __init__(self, transport, library, program, pcap):
+        self.transport, self.library, self.program, self.pcap = transport, library, program, pcap
         self.end = self.timer = self.sender = None
         self.packets = asyncio.Queue()
 
@@ -86,6 +88,8 @@ class Transport:
             return
         is_client = self.transport._role == "client"
         self.end = dcsctp.End(self.library, self.program, is_client, port)
+        if self.pcap:
+            self.end.record(self.pcap)
         self.program.begin(self)
         self.sender = asyncio.ensure_future(self.send_packets())
         self.transport._register_data_receiver(self)
@@ -166,7 +170,7 @@ class Program:
         elif is_text and data == b"end, please":
             self.end.abort()
         elif id not in self.ours:
-            # (a page that sends more at once would need to wait: docs/CHANNELS.md)
+            # (a page that sends more at once would need to wait: docs/guide/channels.md)
             self.end.send(id, is_text, data)
 
     def closed(self, id):
@@ -262,12 +266,14 @@ def judge(program, steps):
     return wrong + [f"failed: {failure}" for failure in program.failures]
 
 
-async def main(channels, screenshot, page=None):
+async def main(channels, screenshot, page, pcap):
     """Runs the page of the example and judges it, or runs another one."""
+    if pcap:
+        open(pcap, "wb").close()  # fails now if it can't be written
     loop = asyncio.get_running_loop()
     library, program = dcsctp.load(os.path.abspath(channels)), Program()
     aiortc.rtcpeerconnection.RTCSctpTransport = lambda transport: Transport(
-        transport, library, program
+        transport, library, program, pcap
     )
     peer = RTCPeerConnection(RTCConfiguration(iceServers=[]))
 
@@ -297,4 +303,9 @@ async def main(channels, screenshot, page=None):
 
 
 if __name__ == "__main__":
-    sys.exit(asyncio.run(main(*sys.argv[1:])))
+    parser = argparse.ArgumentParser()
+    parser.add_argument("--pcap")
+    parser.add_argument("channels")
+    parser.add_argument("screenshot")
+    parser.add_argument("page", nargs="?")
+    sys.exit(asyncio.run(main(**vars(parser.parse_intermixed_args()))))

@@ -4,10 +4,12 @@
  */
 #define _GNU_SOURCE
 #include "../c/data_channel.h"
+#include "../c/trace.h"
 
 #include <stdlib.h>
 #include <string.h>
 #include <sys/random.h>
+#include <time.h>
 
 /* What Python gets. `bytes` are there until it returns. */
 struct channel_calls {
@@ -26,11 +28,24 @@ struct end {
     struct data_channels channels;
     struct data_channel records[16];
     uint8_t buffer[262144];
+    FILE *pcap; /* where packets go, or NULL */
 };
+
+/* Writes a packet to the file for Wireshark, if there is one, with the time of day. If that fails,
+ * channels_destroy says so. */
+static void record(struct end *end, const uint8_t *packet, size_t length) {
+    struct timespec time = {0, 0};
+    clock_gettime(CLOCK_REALTIME, &time);
+    if (end->pcap)
+        dcsctp_pcap_packet(end->pcap,
+                           (uint64_t)time.tv_sec * 1000000000u + (uint64_t)time.tv_nsec, packet,
+                           length);
+}
 
 /* ---- What Python gets ----------------------------------------------------------------------- */
 
 static void send_packet(void *user, const uint8_t *packet, size_t length) {
+    record((struct end *)user, packet, length);
     ((struct end *)user)->calls.send_packet(packet, length);
 }
 
@@ -90,6 +105,13 @@ struct end *channels_create(const struct channel_calls *calls, int is_dtls_clien
     return NULL;
 }
 
+/* Writes all packets to a file from now on: what goes into DTLS, and what comes out of it. Returns
+ * 1, or 0 if the file can't be written. */
+int channels_record(struct end *end, const char *path) {
+    end->pcap = dcsctp_pcap_open(path);
+    return end->pcap != NULL;
+}
+
 int32_t channels_connect(struct end *end) {
     return dcsctp_connect(&end->socket);
 }
@@ -102,6 +124,8 @@ int32_t channels_abort(struct end *end) {
 /* Sets the time, hands in a packet, unless it is empty, and takes all there is. */
 int32_t channels_run(struct end *end, uint64_t now, const uint8_t *packet, size_t length) {
     int32_t result = dcsctp_advance_time(&end->socket, now);
+    if (length > 0)
+        record(end, packet, length);
     if (result == DCSCTP_OK && length > 0)
         result = dcsctp_handle_input(&end->socket, packet, length);
     return result == DCSCTP_OK ? data_channels_run(&end->channels, now) : result;
@@ -147,7 +171,10 @@ uint32_t channels_peer(struct end *end) {
     return dcsctp_get_metrics(&end->socket, &metrics) == 1 ? metrics.peer_implementation : 0;
 }
 
-void channels_destroy(struct end *end) {
+/* Returns 1, or 0 if not all packets were written to the file. */
+int channels_destroy(struct end *end) {
+    const int is_written = !end->pcap || dcsctp_pcap_close(end->pcap) == 0;
     dcsctp_destroy(&end->socket);
     free(end);
+    return is_written;
 }

@@ -1,6 +1,7 @@
 """The C library and its data channels, by ctypes over channels.c."""
 
 import ctypes
+import os
 import time
 
 BYTES = ctypes.POINTER(ctypes.c_uint8)
@@ -25,6 +26,7 @@ def load(path):
     end = ctypes.c_void_p
     for name, result, *takes in [
         ("create", end, ctypes.POINTER(Calls), ctypes.c_int, ctypes.c_uint16, MOMENT),
+        ("record", ctypes.c_int, end, ctypes.c_char_p),
         ("connect", ctypes.c_int32, end),
         ("abort", ctypes.c_int32, end),
         ("run", ctypes.c_int32, end, MOMENT, ctypes.c_char_p, SIZE),
@@ -33,7 +35,7 @@ def load(path):
         ("send", ctypes.c_int32, end, NUMBER, ctypes.c_int, ctypes.c_char_p, SIZE),
         ("close", None, end, NUMBER),
         ("peer", NUMBER, end),
-        ("destroy", None, end),
+        ("destroy", ctypes.c_int, end),
     ]:
         function = getattr(library, "channels_" + name)
         function.restype, function.argtypes = result, takes
@@ -86,6 +88,12 @@ class End:
 
         return call
 
+    def record(self, path):
+        """Writes all packets to a file for Wireshark from now on."""
+        if not self.library.channels_record(self.at, os.fsencode(path)):
+            raise OSError(f"{path} can't be written")
+        self.path = path
+
     def connect(self):
         check(self.library.channels_connect(self.at))
 
@@ -114,5 +122,6 @@ class End:
         return self.library.channels_peer(self.at)
 
     def destroy(self):
-        self.library.channels_destroy(self.at)
-        self.at = None
+        is_written, self.at = self.library.channels_destroy(self.at), None
+        if not is_written:
+            raise OSError(f"{self.path} can't be written")

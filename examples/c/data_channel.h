@@ -1,6 +1,6 @@
 /*
  * Data channels over a dcsctp_socket (RFC 8831 and RFC 8832). Copy this file and data_channel.c
- * into your program. channels.c shows how they are used, and docs/CHANNELS.md says more.
+ * into your program. channels.c shows how they are used, and docs/guide/channels.md says more.
  *
  *     while (data_channels_run(&channels, moment) == DCSCTP_OK) {
  *         dcsctp_poll_timeout(&socket, &deadline);

@@ -1,13 +1,16 @@
 /*
  * Sends a file between two processes, over UDP on loopback.
  *
- *     file_transfer [--loss N] [FILE]
+ *     file_transfer [--loss N] [--pcap PCAP] [FILE]
  *
  * Without FILE it is 10 MB. Of a thousand packets N are lost, in both directions. The parent sends,
  * and shuts the association down once all is delivered; the child receives. In the end the parent
- * compares what the child has received.
+ * compares what the child has received. PCAP gets all packets that the parent sends, also those
+ * that are lost then, and all that it receives. Wireshark opens it.
  */
 #define _GNU_SOURCE
+#include "trace.h"
+
 #include <dcsctp.h>
 
 #include <arpa/inet.h>
@@ -31,6 +34,7 @@ struct end {
     int fd;
     long loss;              /* so many of a thousand packets are lost */
     FILE *out;              /* where messages go */
+    FILE *pcap;             /* where packets go, or NULL */
     uint64_t packets, lost; /* packets that were sent, and those that were lost on purpose */
     int connected, delivered, closed, aborted;
 };
@@ -72,12 +76,24 @@ static void create(struct end *end, int fd, long loss, FILE *out) {
     check("create", dcsctp_create(&end->socket, &options, seed, now()));
 }
 
+/* Writes a packet to the file for Wireshark, if there is one, with the time of day. */
+static void record(const struct end *end, const uint8_t *packet, size_t length) {
+    struct timespec time;
+    if (!end->pcap)
+        return;
+    if (clock_gettime(CLOCK_REALTIME, &time) != 0 ||
+        dcsctp_pcap_packet(end->pcap, (uint64_t)time.tv_sec * 1000000000u + (uint64_t)time.tv_nsec,
+                           packet, length) != 0)
+        fail("pcap");
+}
+
 /* Sends a packet, or loses it. What the system doesn't send is lost, too. */
 static void send_packet(struct end *end) {
     uint8_t packet[1500];
     size_t length;
     check("event_bytes", dcsctp_event_bytes(&end->socket, packet, sizeof packet, &length));
     end->packets++;
+    record(end, packet, length);
     if (random() % 1000 < end->loss)
         end->lost++;
     else if (send(end->fd, packet, length, 0) < 0 && errno != ECONNREFUSED && errno != ENOBUFS)
@@ -155,6 +171,7 @@ static void turn(struct end *end, int longest) {
     check("advance_time", dcsctp_advance_time(&end->socket, now()));
     drain(end);
     while ((length = recv(end->fd, packet, sizeof packet, MSG_DONTWAIT)) >= 0) {
+        record(end, packet, (size_t)length);
         check("handle_input", dcsctp_handle_input(&end->socket, packet, (size_t)length));
         drain(end);
     }
@@ -227,11 +244,12 @@ static void send_all(struct end *end, FILE *in, long size) {
 
 /* Sends a file, and ends the association. Then it answers the peer until that has ended, too: the
  * last packet may be lost. */
-static int send_file(int fd, long loss, FILE *in, long size, pid_t peer) {
+static int send_file(int fd, long loss, FILE *pcap, FILE *in, long size, pid_t peer) {
     static struct end end;
     int status = 1;
     pid_t gone;
     create(&end, fd, loss, NULL);
+    end.pcap = pcap;
     send_all(&end, in, size);
     check("shutdown", dcsctp_shutdown(&end.socket));
     drain(&end);
@@ -294,17 +312,21 @@ static void open_sockets(int fds[2]) {
 }
 
 static int usage(void) {
-    fprintf(stderr, "usage: file_transfer [--loss N] [FILE]\n");
+    fprintf(stderr, "usage: file_transfer [--loss N] [--pcap PCAP] [FILE]\n");
     return 2;
 }
 
 int main(int argc, char **argv) {
     int fds[2], at = 1;
     long loss = 0;
-    if (argc > at + 1 && strcmp(argv[at], "--loss") == 0) {
-        loss = strtol(argv[at + 1], NULL, 10);
-        at += 2;
-    }
+    const char *path = NULL;
+    for (; argc > at + 1; at += 2)
+        if (strcmp(argv[at], "--loss") == 0)
+            loss = strtol(argv[at + 1], NULL, 10);
+        else if (strcmp(argv[at], "--pcap") == 0)
+            path = argv[at + 1];
+        else
+            return usage();
     if (argc > at + 1 || loss < 0 || loss > 500)
         return usage();
     FILE *in = argc > at ? fopen(argv[at], "rb") : made_file(), *out = tmpfile();
@@ -322,7 +344,12 @@ int main(int argc, char **argv) {
     close(fds[child == 0 ? 0 : 1]);
     if (child == 0)
         _exit(receive_file(fds[1], loss, out, parent));
-    int failed = send_file(fds[0], loss, in, size, child);
+    FILE *pcap = path ? dcsctp_pcap_open(path) : NULL;
+    if (path && !pcap)
+        fail(path);
+    int failed = send_file(fds[0], loss, pcap, in, size, child);
+    if (pcap && dcsctp_pcap_close(pcap) != 0)
+        fail(path);
     if (!failed && differ(in, out)) {
         fprintf(stderr, "file_transfer: the files differ\n");
         failed = 1;

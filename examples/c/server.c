@@ -1,11 +1,12 @@
 /*
  * A server with many associations on one UDP port, in one thread. It sends each message back.
  *
- *     server [PORT [ASSOCIATIONS [SECONDS]]]
+ *     server [--pcap FILE] [PORT [ASSOCIATIONS [SECONDS]]]
  *
  * It listens on 127.0.0.1, at a free port if PORT is 0, and takes 1,000 associations at once. Every
  * SECONDS it prints what they cost. SIGTERM or SIGINT ends all in an orderly way; those that
- * haven't ended five seconds later are aborted. load.c is a client of it.
+ * haven't ended five seconds later are aborted. load.c is a client of it. FILE gets the packets of
+ * all associations, and Wireshark opens it.
  *
  * DTLS would be below each association, and it is missing here: so this server is for your own
  * machine. With DTLS an association is made where a handshake of DTLS has succeeded. Here any INIT
@@ -13,6 +14,7 @@
  */
 #define _GNU_SOURCE
 #include "deadlines.h"
+#include "trace.h"
 
 #include <dcsctp.h>
 
@@ -57,6 +59,7 @@ struct association {
 
 struct server {
     int udp, epoll, signals;
+    FILE *pcap; /* where packets go, or NULL */
     dcsctp_options options;
     struct association **table; /* lists by the hash of the peer's address */
     unsigned table_bits;
@@ -84,6 +87,17 @@ static uint64_t clock_now(void) {
 static void fill_random(void *bytes, size_t length) {
     if (getrandom(bytes, length, 0) != (ssize_t)length)
         fail("getrandom");
+}
+
+/* Writes a packet to the file for Wireshark, if there is one, with the time of day. */
+static void record(const struct server *server, const uint8_t *packet, size_t length) {
+    struct timespec time;
+    if (!server->pcap)
+        return;
+    if (clock_gettime(CLOCK_REALTIME, &time) != 0 ||
+        dcsctp_pcap_packet(server->pcap, (uint64_t)time.tv_sec * SECOND + (uint64_t)time.tv_nsec,
+                           packet, length) != 0)
+        fail("pcap");
 }
 
 /* ---- The table of associations -------------------------------------------------------------- */
@@ -151,11 +165,13 @@ static int32_t send_packet(struct server *server, struct association *it) {
     uint8_t packet[PACKET];
     size_t length;
     int32_t result = dcsctp_event_bytes(&it->socket, packet, sizeof packet, &length);
-    if (result == DCSCTP_OK &&
-        sendto(server->udp, packet, length, MSG_DONTWAIT, (struct sockaddr *)&it->peer,
+    if (result != DCSCTP_OK)
+        return result;
+    record(server, packet, length);
+    if (sendto(server->udp, packet, length, MSG_DONTWAIT, (struct sockaddr *)&it->peer,
                sizeof it->peer) >= 0)
         server->sent++;
-    return result;
+    return DCSCTP_OK;
 }
 
 static int32_t handle_event(struct server *server, struct association *it,
@@ -263,6 +279,7 @@ static void handle_packets(struct server *server) {
         if (length < 0)
             break;
         server->received++;
+        record(server, packet, (size_t)length);
         struct association *it = receiver_of(server, &peer, packet, (size_t)length);
         if (!it)
             continue;
@@ -461,18 +478,28 @@ static void run(struct server *server) {
 
 int main(int argc, char **argv) {
     static struct server server;
+    const char *path = NULL;
+    if (argc > 2 && strcmp(argv[1], "--pcap") == 0) {
+        path = argv[2];
+        argv += 2;
+        argc -= 2;
+    }
     const long port = argc > 1 ? strtol(argv[1], NULL, 10) : 5000;
     const long capacity = argc > 2 ? strtol(argv[2], NULL, 10) : 1000;
     const long seconds = argc > 3 ? strtol(argv[3], NULL, 10) : 0;
     if (argc > 4 || port < 0 || port > 65535 || capacity < 1 || capacity > 1000000 ||
         seconds < 0 || seconds > 86400) {
-        fprintf(stderr, "usage: server [PORT [ASSOCIATIONS [SECONDS]]]\n");
+        fprintf(stderr, "usage: server [--pcap FILE] [PORT [ASSOCIATIONS [SECONDS]]]\n");
         return 2;
     }
     setvbuf(stdout, NULL, _IOLBF, 0);
     create(&server, (size_t)capacity, (uint64_t)seconds * SECOND);
+    if (path && !(server.pcap = dcsctp_pcap_open(path)))
+        fail(path);
     open_files(&server, (uint16_t)port);
     run(&server);
+    if (server.pcap && dcsctp_pcap_close(server.pcap) != 0)
+        fail(path);
     printf("%llu associations made, %llu aborted, %llu failed, %llu refused; %llu messages\n",
            (unsigned long long)server.made, (unsigned long long)server.aborted,
            (unsigned long long)server.failed, (unsigned long long)server.refused,
