@@ -47,8 +47,8 @@ VERSION := $(shell awk '/define DCSCTP_VERSION_[MP]/ { v = v s $$3; s = "." } EN
     include/dcsctp.h)
 
 TESTS = names calls queries many options events ends kept handover refusals random threads channels \
-    deadlines
-EXAMPLES = two_sockets file_transfer channels server load
+    deadlines trace
+EXAMPLES = demo two_sockets file_transfer channels server load
 WARNINGS = -Wall -Wextra -Wshadow -pedantic -Werror
 COMPILE = $(CC) -std=c11 $(WARNINGS) $(CFLAGS) -Iinclude
 
@@ -188,10 +188,16 @@ c-programs: $(TESTS:%=$(OUT)/tests/%) $(EXAMPLES:%=$(OUT)/examples/%)
 examples: $(EXAMPLES:%=$(OUT)/examples/%)
 	@printf 'built %s\n' $^
 
-# Data channels and deadlines are files that users copy.
+# Data channels, deadlines and traces are files that users copy.
 $(OUT)/tests/channels $(OUT)/examples/channels: examples/c/data_channel.c examples/c/data_channel.h
 $(OUT)/tests/deadlines $(OUT)/examples/server $(OUT)/examples/load: examples/c/deadlines.c \
     examples/c/deadlines.h
+$(OUT)/tests/trace $(OUT)/examples/demo $(OUT)/examples/server $(OUT)/examples/file_transfer: \
+    examples/c/trace.c examples/c/trace.h
+
+# Two sockets over a link that loses a packet.
+demo: $(OUT)/examples/demo
+	@bash scripts/demo.sh $< out/demo.pcap
 
 # ---- Checks -----------------------------------------------------------------------------------
 
@@ -272,16 +278,23 @@ check-examples: $(EXAMPLES:%=$(OUT)/examples/%)
 	@echo "check: two_sockets"
 	$(OUT)/examples/channels | diff examples/c/channels.stdout -
 	@echo "check: channels"
+	$(OUT)/examples/demo $(OUT)/demo.pcap | diff examples/c/demo.stdout -
+	@bash scripts/demo.sh $(OUT)/examples/demo $(OUT)/demo.pcap >/dev/null
+	@echo "check: demo"
+	@command -v tshark >/dev/null || echo "skipped: demo.pcap in Wireshark: no tshark (apt install tshark)"
 	@if command -v $(CXX) >/dev/null; then set -e; \
 	$(CXX) -std=c++11 $(WARNINGS) $(CFLAGS) -Iinclude -x c++ examples/c/two_sockets.c -x none \
 	    $(LIBRARY) -o $(OUT)/examples/in_cpp; \
 	$(OUT)/examples/in_cpp | diff examples/c/two_sockets.stdout -; \
 	$(CXX) -std=c++11 $(WARNINGS) $(CFLAGS) -Iinclude -x c++ examples/c/channels.c \
 	    examples/c/data_channel.c -x none $(LIBRARY) -o $(OUT)/examples/in_cpp; \
-	$(OUT)/examples/in_cpp | diff examples/c/channels.stdout -; echo "check: two_sockets and channels in C++"; \
+	$(OUT)/examples/in_cpp | diff examples/c/channels.stdout -; \
+	$(CXX) -std=c++11 $(WARNINGS) $(CFLAGS) -Iinclude -x c++ examples/c/demo.c examples/c/trace.c \
+	    -x none $(LIBRARY) -o $(OUT)/examples/in_cpp; \
+	$(OUT)/examples/in_cpp $(OUT)/demo.pcap | diff examples/c/demo.stdout -; echo "check: examples in C++"; \
 	else echo "skipped: examples in C++: no $(CXX) (apt install g++)"; fi
 	timeout 120 $(OUT)/examples/file_transfer 2>/dev/null
-	timeout 120 $(OUT)/examples/file_transfer --loss 20 2>/dev/null
+	timeout 120 $(OUT)/examples/file_transfer --loss 20 --pcap $(OUT)/file_transfer.pcap 2>/dev/null
 	@echo "check: file_transfer"
 	timeout 120 bash scripts/try-server.sh $(OUT)/examples
 	@echo "check: server and load"
@@ -303,6 +316,7 @@ check-dist: dist
 	@set -e; folder=$$(mktemp -d); trap 'rm -rf "$$folder"' EXIT; \
 	tar -C "$$folder" -xzf $(OUT)/$(DIST).tar.gz; \
 	(cd "$$folder/$(DIST)" && grep -E '^[0-9a-f]{64}  ' VERDICT | sha256sum -c --quiet); \
+	bash scripts/links.sh "$$folder/$(DIST)"; \
 	$(FOUND) $(NAME) $(VERSION) "$$folder/$(DIST)" lib; echo "check: $(OUT)/$(DIST).tar.gz"
 
 # Leaks count. A child ends by _exit, so what can still be reached there doesn't.
@@ -311,7 +325,7 @@ VALGRIND = valgrind -q --leak-check=full --errors-for-leak-kinds=definite,possib
 check-valgrind: $(TESTS:%=$(OUT)/tests/%) $(EXAMPLES:%=$(OUT)/examples/%)
 	@if command -v valgrind >/dev/null; then set -e; \
 	for it in $(TESTS:%=$(OUT)/tests/%) $(OUT)/examples/two_sockets \
-	    $(OUT)/examples/channels; \
+	    $(OUT)/examples/channels $(OUT)/examples/demo; \
 	do echo "check: valgrind $$it"; $(VALGRIND) $$it >/dev/null; done; \
 	echo "check: helgrind $(OUT)/tests/threads"; \
 	valgrind -q --tool=helgrind --error-exitcode=9 $(OUT)/tests/threads >/dev/null; \
@@ -347,6 +361,6 @@ check-browser: $(SHARED)
 
 # (dist and install write the same files)
 .NOTPARALLEL:
-.PHONY: FORCE help reference all unproved prove no-library test examples c-programs install uninstall dist clean check check-header check-symbols check-tests \
+.PHONY: FORCE help demo reference all unproved prove no-library test examples c-programs install uninstall dist clean check check-header check-symbols check-tests \
     check-cpp check-cffi check-examples check-install check-dist check-valgrind check-sanitizers \
     check-bindings check-rust check-browser

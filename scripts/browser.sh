@@ -2,10 +2,11 @@
 # Has a page in headless Chromium use data channels to a program over the C library: examples/browser. It needs these
 # packages, by their names in apt: chromium, python3-aiortc. Where one isn't installed it says so, and that is all.
 #
-#     scripts/browser.sh LIBRARY FOLDER [PAGE]        LIBRARY is the shared one; FOLDER gets channels.so and
-#                                                     browser.png; PAGE is served in place of the example's
+#     scripts/browser.sh LIBRARY FOLDER [--pcap FILE] [PAGE]      LIBRARY is the shared one; FOLDER gets channels.so and
+#                                                                 browser.png; FILE gets the packets of SCTP; PAGE is
+#                                                                 served in place of the example's
 set -euo pipefail
-[ $# = 2 ] || [ $# = 3 ] || { sed -n '5s/^# *//p' "$0" >&2; exit 2; }
+[ $# -ge 2 ] && [ $# -le 5 ] || { sed -n '5,7s/^# *//p' "$0" >&2; exit 2; }
 cd "$(dirname "$0")/.."
 missing=''
 command -v chromium >/dev/null || missing+=' chromium'
@@ -17,5 +18,5 @@ python=python3
 mkdir -p "$2"
 library=$(realpath "$1")
 ${CC:-cc} -std=c11 -Wall -Wextra -Wshadow -pedantic -O2 -Iinclude -shared -fPIC examples/browser/channels.c \
-    examples/c/data_channel.c "$library" -Wl,-rpath,"$(dirname "$library")" -o "$2/channels.so"
+    examples/c/data_channel.c examples/c/trace.c "$library" -Wl,-rpath,"$(dirname "$library")" -o "$2/channels.so"
 PYTHONDONTWRITEBYTECODE=1 timeout 150 "$python" examples/browser/browser.py "$2/channels.so" "$2/browser.png" "${@:3}"
