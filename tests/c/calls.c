@@ -105,7 +105,7 @@ static void no_socket(void) {
     dcsctp_destroy(&end.socket);
 }
 
-/* A second socket is refused, and the first goes on. So does one that was moved. */
+/* A second socket is refused, and the first continues. So does one that was moved. */
 static void second_socket(void) {
     const dcsctp_options options = quiet_options();
     const uint8_t seed[32] = {9};
@@ -120,7 +120,7 @@ static void second_socket(void) {
     memset(&end, 0, sizeof end);
     EQUAL("no socket is left", dcsctp_state(&end.socket), DCSCTP_ERROR_NO_SOCKET);
     EQUAL("state", dcsctp_state(&moved.socket), DCSCTP_STATE_CONNECTING);
-    EQUAL("an INIT waits", take(&moved), DCSCTP_EVENT_SEND_PACKET);
+    EQUAL("an INIT is there", take(&moved), DCSCTP_EVENT_SEND_PACKET);
     dcsctp_destroy(&moved.socket);
 }
 
@@ -250,7 +250,7 @@ static void message_buffers(void) {
     destroy_pair(&pair);
 }
 
-/* A message is refused by the first reason that holds, and an event says the same. */
+/* A message is refused for the first reason that holds, and an event reports it, too. */
 static void refused_messages(void) {
     dcsctp_options options = quiet_options();
     dcsctp_send_options how = DCSCTP_SEND_INIT;
@@ -293,8 +293,8 @@ static void refused_messages(void) {
     destroy_pair(&pair);
 }
 
-/* How a message is sent is refused before all else where it has a bit without a meaning. Then nothing
- * changes: there is no event, nothing is counted, and nothing waits. */
+/* Send options with an unknown bit are refused before all else. Then nothing changes: there is no
+ * event, nothing is counted, and nothing is queued. */
 static void refused_send_options(void) {
     const dcsctp_options options = quiet_options();
     const dcsctp_send_options valid = {0, SECONDS, 0, 3, 0};
@@ -319,8 +319,8 @@ static void refused_send_options(void) {
     EQUAL("no event", take(end), DCSCTP_EVENT_NONE);
     const dcsctp_metrics after = metrics_of(end);
     EQUAL("nothing is counted", memcmp(&after, &before, sizeof after), 0);
-    EQUAL("nothing waits", dcsctp_buffered_amount(&end->socket, 1, &waiting), DCSCTP_OK);
-    EQUAL("nothing waits", waiting, 0);
+    EQUAL("nothing is queued", dcsctp_buffered_amount(&end->socket, 1, &waiting), DCSCTP_OK);
+    EQUAL("nothing is queued", waiting, 0);
     for (uint32_t known = 0; known < 8; known++) {
         dcsctp_send_options how = valid;
         how.flags = known;

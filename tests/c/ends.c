@@ -1,5 +1,5 @@
-/* How an association ends: how long a silent peer is waited for, which event says it, and what
- * becomes of messages that nobody has taken. */
+/* How an association ends: how long a silent peer is waited for, which event reports it, what a
+ * lost last packet does, and what happens to messages that nobody has taken. */
 #include "pair.h"
 
 static struct pair pair;
@@ -16,7 +16,7 @@ static uint64_t given_up(struct end *end, uint64_t now) {
         EQUAL("time", dcsctp_advance_time(&end->socket, now), DCSCTP_OK);
         carry(end, NULL);
     }
-    EQUAL("it is told", end->seen[DCSCTP_EVENT_ABORTED], 1);
+    EQUAL("it is reported", end->seen[DCSCTP_EVENT_ABORTED], 1);
     EQUAL("kind", end->last[DCSCTP_EVENT_ABORTED].error_kind, DCSCTP_KIND_TOO_MANY_RETRIES);
     EQUAL("by that alone", end->seen[DCSCTP_EVENT_CLOSED], 0);
     return now - begin;
@@ -56,7 +56,7 @@ static void idle(void) {
     EQUAL("11 HEARTBEAT and an ABORT", pair.a.packets - before, 12);
     destroy_pair(&pair);
     connect_pair(&pair, &quiet, &quiet);
-    EQUAL("without heartbeats it waits for ever",
+    EQUAL("without heartbeats it waits forever",
           until_deadline(&pair, &pair.a) == DCSCTP_NEVER, 1);
     destroy_pair(&pair);
 }
@@ -126,6 +126,131 @@ static void no_end_of_a_shutdown(void) {
     destroy_pair(&pair);
 }
 
+/* The other columns of the table at dcsctp_options: without heartbeats. */
+static void without_heartbeats(void) {
+    const dcsctp_options quiet = quiet_options();
+    create_pair(&pair, &quiet, &quiet);
+    EQUAL("connect", dcsctp_connect(&pair.a.socket), DCSCTP_OK);
+    EQUAL("no INIT ACK", given_up(&pair.a, BEGIN), 511 * SECONDS);
+    destroy_pair(&pair);
+    create_pair(&pair, &quiet, &quiet);
+    EQUAL("connect", dcsctp_connect(&pair.a.socket), DCSCTP_OK);
+    EQUAL("INIT", carry(&pair.a, &pair.b), 1);
+    EQUAL("INIT ACK", carry(&pair.b, &pair.a), 1);
+    EQUAL("no COOKIE ACK", given_up(&pair.a, BEGIN), 511 * SECONDS);
+    destroy_pair(&pair);
+    connect_pair(&pair, &quiet, &quiet);
+    EQUAL("send", send_bytes(&pair.a, 1, 10), DCSCTP_OK);
+    settle(&pair);
+    EQUAL("send", send_bytes(&pair.a, 1, 10), DCSCTP_OK);
+    EQUAL("at the least timeout", given_up(&pair.a, BEGIN), 400 * MILLISECONDS * ((1 << 11) - 1));
+    destroy_pair(&pair);
+}
+
+/* ---- The last packets ----------------------------------------------------------------------- */
+
+/* SHUTDOWN, SHUTDOWN ACK and SHUTDOWN COMPLETE (RFC 9260, section 9.2). The last one is lost, and
+ * the answers to the first repeats of SHUTDOWN ACK, too. A is closed, and answers each repeat
+ * (section 8.4). B is closed by the answer that arrives: 0.5, 1.5 and 3.5 s later, so within the
+ * 4 s for which dcsctp.h has A continue. */
+static void last_packet_is_lost(void) {
+    static const uint64_t later[] = {500, 1500, 3500};
+    for (uint32_t follow_rfc = 0; follow_rfc <= 1; follow_rfc++)
+        for (size_t lost = 0; lost < 3; lost++) {
+            dcsctp_options options = default_options();
+            options.follow_rfc = follow_rfc;
+            connect_pair(&pair, &options, &options);
+            EQUAL("shutdown", dcsctp_shutdown(&pair.a.socket), DCSCTP_OK);
+            EQUAL("SHUTDOWN", carry(&pair.a, &pair.b), 1);
+            EQUAL("SHUTDOWN ACK", carry(&pair.b, &pair.a), 1);
+            EQUAL("SHUTDOWN COMPLETE is lost", carry(&pair.a, NULL), 1);
+            EQUAL("A is over", pair.a.seen[DCSCTP_EVENT_CLOSED], 1);
+            for (size_t repeat = 0; repeat <= lost; repeat++) {
+                EQUAL("B waits", dcsctp_state(&pair.b.socket), DCSCTP_STATE_SHUTTING_DOWN);
+                pass(&pair, until_deadline(&pair, &pair.b));
+                EQUAL("when", pair.now - BEGIN, later[repeat] * MILLISECONDS);
+                EQUAL("SHUTDOWN ACK again", carry(&pair.b, &pair.a), 1);
+                EQUAL("an answer", carry(&pair.a, repeat < lost ? NULL : &pair.b), 1);
+            }
+            carry(&pair.b, NULL);
+            EQUAL("B is over", pair.b.seen[DCSCTP_EVENT_CLOSED], 1);
+            EQUAL("in good order", pair.b.seen[DCSCTP_EVENT_ABORTED], 0);
+            EQUAL("A has ended once", pair.a.seen[DCSCTP_EVENT_CLOSED], 1);
+            destroy_pair(&pair);
+        }
+}
+
+/* The same, but A has stopped. */
+static void first_to_close_has_stopped(void) {
+    const dcsctp_options options = default_options();
+    connect_pair(&pair, &options, &options);
+    EQUAL("shutdown", dcsctp_shutdown(&pair.a.socket), DCSCTP_OK);
+    EQUAL("SHUTDOWN", carry(&pair.a, &pair.b), 1);
+    EQUAL("SHUTDOWN ACK", carry(&pair.b, &pair.a), 1);
+    EQUAL("B is aborted", given_up(&pair.b, BEGIN), 330500 * MILLISECONDS);
+    destroy_pair(&pair);
+}
+
+/* A shutdown before the association is made. Until the INIT ACK comes it ends all at once, and the
+ * message that was queued is lost. After that it waits for the handshake, and with `follow_rfc` for
+ * the message. */
+static void shutdown_before_connected(uint32_t follow_rfc) {
+    dcsctp_options options = default_options();
+    options.follow_rfc = follow_rfc;
+    for (size_t packets = 0; packets <= 3; packets++) {
+        const int is_answered = packets >= 2;
+        create_pair(&pair, &options, &options);
+        EQUAL("send", send_bytes(&pair.a, 1, 10), DCSCTP_OK);
+        EQUAL("connect", dcsctp_connect(&pair.a.socket), DCSCTP_OK);
+        for (size_t i = 0; i < packets; i++)
+            EQUAL("a packet", i == 1 ? carry(&pair.b, &pair.a) : carry(&pair.a, &pair.b), 1);
+        EQUAL("shutdown", dcsctp_shutdown(&pair.a.socket), DCSCTP_OK);
+        EQUAL("A", dcsctp_state(&pair.a.socket),
+              is_answered ? DCSCTP_STATE_SHUTTING_DOWN : DCSCTP_STATE_CLOSED);
+        settle(&pair);
+        EQUAL("A was never connected", pair.a.seen[DCSCTP_EVENT_CONNECTED], 0);
+        EQUAL("A is closed", pair.a.seen[DCSCTP_EVENT_CLOSED], 1);
+        EQUAL("B", pair.b.seen[DCSCTP_EVENT_CONNECTED], is_answered);
+        EQUAL("the message", take_messages(&pair.b, 10), is_answered && follow_rfc);
+        destroy_pair(&pair);
+    }
+}
+
+/* ---- A reader that pauses ------------------------------------------------------------------- */
+
+/* B takes no messages for 15 minutes, so that its window is full. It answers each probe of A. The
+ * wait for the next probe doubles each time, past `rto_max`: only `max_timer_backoff_duration` caps
+ * it. Then B takes all, and the packet that reports it is lost. The probes came at 400 ms * (2^n - 1),
+ * at least, the last one before 15 minutes at 818.8 s, and so the next one at 1,638 s. */
+static void paused_reader(uint64_t cap) {
+    dcsctp_options options = quiet_options(), small = quiet_options();
+    uint64_t longest = 0;
+    small.max_receiver_window_buffer_size = 10000;
+    options.max_timer_backoff_duration = cap;
+    connect_pair(&pair, &options, &small);
+    for (int i = 0; i < 40; i++)
+        EQUAL("send", send_bytes(&pair.a, 1, 1000), DCSCTP_OK);
+    while (pair.now < BEGIN + 900 * SECONDS) {
+        settle(&pair);
+        const uint64_t of_a = until_deadline(&pair, &pair.a), of_b = until_deadline(&pair, &pair.b);
+        if (of_a != DCSCTP_NEVER && of_a > longest)
+            longest = of_a;
+        pass(&pair, of_a < of_b ? of_a : of_b);
+    }
+    EQUAL("still connected", dcsctp_state(&pair.a.socket), DCSCTP_STATE_CONNECTED);
+    EQUAL("the window was full", take_messages(&pair.b, 1000) < 40, 1);
+    pass(&pair, 0);
+    EQUAL("the window is reported, and that is lost", carry(&pair.b, NULL), 1);
+    if (cap == DCSCTP_NEVER) {
+        EQUAL("the longest wait", longest / SECONDS, 819);
+        EQUAL("until the next probe", until_deadline(&pair, &pair.a) > 600 * SECONDS, 1);
+    } else {
+        EQUAL("the longest wait", longest, cap);
+        EQUAL("until the next probe", until_deadline(&pair, &pair.a) <= cap, 1);
+    }
+    destroy_pair(&pair);
+}
+
 /* ---- Messages that nobody has taken --------------------------------------------------------- */
 
 static void a_closes(void) {
@@ -158,7 +283,7 @@ static void a_restarts(void) {
     EQUAL("another A", create(&pair.a, &options, 3, pair.now), DCSCTP_OK);
     EQUAL("connect", dcsctp_connect(&pair.a.socket), DCSCTP_OK);
     settle(&pair);
-    EQUAL("B is told", pair.b.seen[DCSCTP_EVENT_CONNECTION_RESTARTED], 1);
+    EQUAL("B gets an event", pair.b.seen[DCSCTP_EVENT_CONNECTION_RESTARTED], 1);
 }
 
 static size_t ready_count(struct end *end) {
@@ -167,8 +292,8 @@ static size_t ready_count(struct end *end) {
     return count;
 }
 
-/* Connects, and sends two messages to B, the second of which is `last` bytes long. A is told that
- * both were delivered. */
+/* Connects, and sends two messages to B, the second of which is `last` bytes long. A gets the event
+ * that both were delivered. */
 static void deliver_two(size_t last, uint32_t follow_rfc) {
     dcsctp_options options = quiet_options();
     const dcsctp_send_options how = {.lifecycle_id = 7};
@@ -185,7 +310,7 @@ static void deliver_two(size_t last, uint32_t follow_rfc) {
 }
 
 /* Of two messages one is taken, and the other isn't. That one is gone once the association has ended,
- * but by `follow_rfc` only once the peer began anew. The bytes of the first can still be copied. */
+ * but with `follow_rfc` only once the peer has begun another one. The bytes of the first can still be copied. */
 static void untaken_messages(uint32_t follow_rfc) {
     const struct {
         const char *name;
@@ -251,7 +376,13 @@ int main(void) {
     data_before_a_round_trip();
     data_after_a_round_trip();
     no_end_of_a_shutdown();
+    without_heartbeats();
+    last_packet_is_lost();
+    first_to_close_has_stopped();
+    paused_reader(DCSCTP_NEVER);
+    paused_reader(5 * SECONDS);
     for (uint32_t follow_rfc = 0; follow_rfc <= 1; follow_rfc++) {
+        shutdown_before_connected(follow_rfc);
         untaken_messages(follow_rfc);
         message_before_an_abort(follow_rfc);
     }

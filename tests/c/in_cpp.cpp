@@ -66,7 +66,9 @@ void no_sockets() {
 void one_socket() {
     Owner owner;
     dcsctp_options options;
-    const uint8_t seed[32] = {1}, bytes[] = {5};
+    uint8_t seed[32] = {1};
+    const uint8_t bytes[] = {5};
+    EQUAL("a seed", dcsctp_random_seed(seed), DCSCTP_OK);
     dcsctp_options_init(&options);
     EQUAL("size", options.size, sizeof options);
     EQUAL("create", dcsctp_create(&owner.socket, &options, seed, 0), DCSCTP_OK);

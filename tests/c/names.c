@@ -45,8 +45,10 @@ static void errors(void) {
         EQUAL(rows[i].text, rows[i].name, rows[i].number);
         says("an error", dcsctp_error_text((int32_t)rows[i].number), rows[i].text);
     }
+    EQUAL("no seed", DCSCTP_ERROR_NO_SEED, -1002);
     for (int32_t number = -(int32_t)COUNT(rows); number > -70000; number--)
-        says("an unknown error", dcsctp_error_text(number), "unknown");
+        says("an unknown error", dcsctp_error_text(number),
+             number == -1002 ? "the system has no random numbers" : "unknown");
     says("the least number", dcsctp_error_text(INT32_MIN), "unknown");
     for (int32_t number = 1; number < 70000; number++)
         says("no error", dcsctp_error_text(number), "no error");

@@ -1,5 +1,5 @@
-/* Each option: its default, that it is given back, and what it does. So a field that stood in the
- * place of another one would be found. And the metrics. */
+/* Each option: its default, that it is returned as it was set, and what it does. So two fields that
+ * were exchanged would be found. And the metrics. */
 #define _GNU_SOURCE
 #include "pair.h"
 
@@ -192,7 +192,7 @@ static void validity(void) {
 
 static struct pair pair;
 
-/* A struct of another size is refused, whatever else it has: only `size` is there, and behind it a page
+/* A struct of another size is refused, whatever else it has: only `size` is there, and after it a page
  * that can't be read. The options of the header that had no `size` had 208 bytes, and `mtu` came first. */
 static void other_sizes(void) {
     const struct {
@@ -432,7 +432,7 @@ static void streams(void) {
     destroy_pair(&pair);
 }
 
-/* The event comes where what waits was above the threshold. */
+/* The event comes if more than the threshold was queued. */
 static void total_threshold(void) {
     const struct {
         const char *name;
@@ -469,7 +469,7 @@ static void congestion(void) {
     EQUAL("cwnd_mtus_initial", metrics_of(&pair.a).cwnd_bytes, 10000);
     EQUAL("send", send_bytes(&pair.a, 1, 10), DCSCTP_OK);
     EQUAL("lost", carry(&pair.a, NULL), 1);
-    /* three gaps are told, and the loss halves the window (RFC 9260, section 7.2.4): to half of it,
+    /* three gaps are reported, and the loss halves the window (RFC 9260, section 7.2.4): to half of it,
      * or to the least */
     for (int i = 0; i < 3; i++) {
         EQUAL("no loss yet", metrics_of(&pair.a).cwnd_bytes, 10000);
@@ -681,7 +681,7 @@ static void handover(void) {
     }
 }
 
-/* A shutdown sends first what waits (RFC 9260, section 9.2), where any number but 0 says so. */
+/* A shutdown first sends queued messages (RFC 9260, section 9.2), if the switch isn't 0. */
 static void following(void) {
     dcsctp_options options = quiet_options();
     options.max_burst = 1;
@@ -724,7 +724,7 @@ static int connects(const dcsctp_options *of_a, const dcsctp_options *of_b) {
         EQUAL("at B", take_messages(&pair.b, 10), 1);
         EQUAL("at A", take_messages(&pair.a, 10), 1);
     } else {
-        EQUAL("A is told", pair.a.seen[DCSCTP_EVENT_ABORTED], 1);
+        EQUAL("A gets an event", pair.a.seen[DCSCTP_EVENT_ABORTED], 1);
         EQUAL("kind", pair.a.last[DCSCTP_EVENT_ABORTED].error_kind, DCSCTP_KIND_TOO_MANY_RETRIES);
         EQUAL("after so long", pair.now - BEGIN, 511 * SECONDS);
     }
@@ -804,7 +804,7 @@ static void counts(void) {
     EQUAL("messages in", b.rx_messages_count, 3);
     EQUAL("none sent again", a.rtx_packets_count, 0);
     EQUAL("none sent again", a.rtx_bytes_count, 0);
-    EQUAL("all of B's window, less what waits there", a.peer_rwnd_bytes <= 5242880 - 2030, 1);
+    EQUAL("all of B's window, less what it holds", a.peer_rwnd_bytes <= 5242880 - 2030, 1);
     EQUAL("reserved", a.reserved, 0);
     pass(&pair, 1 * SECONDS);
     settle(&pair);

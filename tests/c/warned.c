@@ -10,6 +10,7 @@ static void results(dcsctp_socket *socket, const dcsctp_options *options, uint8_
     uint64_t moment;
     dcsctp_event event;
     dcsctp_message message;
+    dcsctp_random_seed(bytes);                                      /* warned */
     dcsctp_create(socket, options, bytes, 0);                       /* warned */
     dcsctp_connect(socket);                                         /* warned */
     dcsctp_shutdown(socket);                                        /* warned */
