@@ -1,6 +1,6 @@
 #!/usr/bin/env bash
-# Tries the bindings in a package of `make dist`, which is unpacked elsewhere: their tests, their programs, which have
-# to print bindings/expected.txt, and what bindings/README.md shows. What isn't installed here is left out.
+# Tries the bindings in a package of `make dist`, which is unpacked elsewhere: their tests, their programs, which must
+# print bindings/expected.txt, and what bindings/README.md shows. A tool that isn't installed is named, and left out.
 #
 #     scripts/bindings.sh PACKAGE NAME        PACKAGE: a .tar.gz; NAME: dcsctp or dcsctp-unproved
 set -euo pipefail
@@ -11,13 +11,13 @@ folder=$(mktemp -d)
 trap 'rm -rf "$folder"' EXIT
 tar -xzf "$1" -C "$folder" --strip-components=1 --touch
 bindings=$folder/bindings
-# Whoever installs a package has none of these.
+# A user who installs a package has none of these.
 unset DCSCTP_LIB_DIR DCSCTP_LIB_NAME DCSCTP_LIBRARY
 
-# has COMMAND WHAT: is it installed? Else it says what isn't tried.
+# has COMMAND LANGUAGE PACKAGE: is it installed? Otherwise it names the package of Debian that has it.
 has() {
     command -v "$1" >/dev/null && return
-    echo "check: no $1, so the binding for $2 isn't tried"
+    echo "skipped: the binding for $2: no $1 (apt install $3)"
     return 1
 }
 
@@ -50,20 +50,33 @@ try_rust() {
     under_valgrind tours "$CARGO_TARGET_DIR/debug/examples/tour"
     { echo "//! Shown." && shown rust; } >dcsctp/examples/shown.rs
     says_hello cargo run --offline --quiet --example shown
+    rm dcsctp/examples/shown.rs
+    packaged
 }
 
-command -v valgrind >/dev/null || echo "check: no valgrind, so no binding is run under it"
-if has cargo Rust; then
-    echo "check: bindings/rust"
+# packaged: both crates can be packed. Cargo warns of nothing but the missing repository. (Before 1.84 it packs no two
+# crates of which one needs the other.)
+packaged() {
+    local version
+    version=$(cargo --version | cut -d ' ' -f 2)
+    [ "$(printf '%s\n' 1.84 "$version" | sort -V | head -1)" = 1.84 ] || return 0
+    DCSCTP_LIB_DIR=$folder/lib DCSCTP_LIB_NAME=$name cargo package --offline --workspace >"$folder/log" 2>&1 ||
+        { cat "$folder/log" >&2; return 1; }
+    ! grep '^warning' "$folder/log" | grep -v 'manifest has no documentation, homepage or repository$'
+}
+
+command -v valgrind >/dev/null || echo "skipped: bindings under valgrind: no valgrind (apt install valgrind)"
+if has cargo Rust cargo; then
     (try_rust)
+    echo "check: bindings/rust"
 fi
-if has python3 Python; then
-    echo "check: bindings/python"
+if has python3 Python python3; then
     export PYTHONDONTWRITEBYTECODE=1
     (cd "$bindings/python" && timeout 300 python3 -m unittest -q 2>"$folder/log" || { cat "$folder/log" >&2; exit 1; })
     tours python3 "$bindings/python/tour.py"
     shown python >"$bindings/python/shown.py"
     says_hello python3 "$bindings/python/shown.py"
+    echo "check: bindings/python"
 fi
 
 # try_cpp COMPILER..: it compiles without warnings, and without exceptions.
@@ -85,9 +98,9 @@ try_cpp() {
 }
 
 read -ra compile <<<"${CXX:-c++}"
-if has "${compile[0]}" C++; then
-    echo "check: bindings/cpp"
+if has "${compile[0]}" C++ g++; then
     try_cpp "${compile[@]}"
+    echo "check: bindings/cpp"
 fi
 
 try_go() {
@@ -103,13 +116,14 @@ try_go() {
     # (in a module of its own, as of a user)
     mkdir "$folder/shown-go"
     cd "$folder/shown-go"
-    { printf 'package main\n\nimport (\n\t"dcsctp"\n\t"fmt"\n\t"log"\n)\n\n' && shown go; } >main.go
+    shown go >main.go
     go mod init shown 2>"$folder/log"
-    go mod edit -require dcsctp@v0.0.0 -replace "dcsctp=$bindings/go"
+    go mod edit -replace "dcsctp=$bindings/go"
+    go get "${tags[@]}" dcsctp 2>"$folder/log" || { cat "$folder/log" >&2; return 1; }
     says_hello go run "${tags[@]}" .
 }
 
-if has go Go && has pkg-config Go; then
-    echo "check: bindings/go"
+if has go Go golang-go && has pkg-config Go pkg-config; then
     (try_go)
+    echo "check: bindings/go"
 fi

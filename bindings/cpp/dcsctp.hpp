@@ -2,38 +2,45 @@
 // destructor frees it. dcsctp.h describes each call, its errors and its rules.
 //
 //     dcsctp::socket socket;
-//     dcsctp::event event;                                     // taken again and again, so it keeps its memory
+//     dcsctp::event event;                                     // reused, so it keeps its memory
 //     dcsctp::message message;
+//     auto stop = dcsctp::nanoseconds::max();
 //     dcsctp::error error = socket.create(dcsctp::options(), now());
 //     if (error == dcsctp::error::ok)
 //         error = socket.connect();
-//     while (error == dcsctp::error::ok) {
+//     while (error == dcsctp::error::ok && now() < stop) {
 //         while (socket.poll_event(event))
 //             if (event.kind == dcsctp::event_kind::send_packet)
 //                 send(fd, event.bytes.data(), event.bytes.size(), 0);
+//             else if (event.kind == dcsctp::event_kind::closed)
+//                 stop = now() + std::chrono::seconds(4);      // the last packet may be lost
+//             else if (event.kind == dcsctp::event_kind::aborted)
+//                 stop = now();
 //         while (socket.get_next_message(message))
 //             use(message.stream_id, message.ppid, message.payload);
-//         wait_until_readable(fd, socket.poll_timeout());
+//         wait_until_readable(fd, std::min(stop, socket.poll_timeout().value_or(stop)));
 //         error = socket.advance_time(now());
 //         if (error == dcsctp::error::ok && (n = recv(fd, packet, sizeof packet, MSG_DONTWAIT)) >= 0)
 //             error = socket.handle_input({packet, static_cast<std::size_t>(n)});
 //     }
 //
-// Errors are codes, not exceptions: programs around WebRTC are often built without these, and a full send buffer is no
-// surprise. A compiler warns of one that is ignored. Each is a std::error_code, too, for those who throw it:
+// After `closed` continue for 4 s: dcsctp.h says why. Wait for `connected` before you call `shutdown`: until the peer has
+// answered the first INIT it sends nothing, and queued messages are lost.
+//
+// Errors are codes, not exceptions, and a compiler warns if you ignore one. Each is a std::error_code, too:
 //     if (auto error = socket.connect(); error != dcsctp::error::ok)
 //         throw std::system_error(error);
-// Of exceptions there is std::bad_alloc alone, where a vector here can't grow. What the library allocates is an error.
+// Only std::bad_alloc is thrown, when a vector here can't grow. When the library can't allocate, it is an error.
 //
-// An event is a struct, not a std::variant: so one object can be used for all of them, and its vectors grow but once.
-// Packets and messages can be used where they lie, too, without a copy:
+// An event is a struct, not a std::variant: so one object serves for all, and its vectors grow only once. Packets and
+// messages can also be used without a copy:
 //     dcsctp::bytes_view packet;
 //     while (socket.poll_event(event, packet))
 //         if (event.kind == dcsctp::event_kind::send_packet)
 //             send(fd, packet.data(), packet.size(), 0);
 //
-// A socket that was not created, was destroyed or moved from is empty: commands return error::no_socket, polls have
-// nothing, and queries answer 0 or nothing. A socket belongs to one call at a time, also a query.
+// A socket that was not created, was destroyed or moved from is empty: commands return error::no_socket, polls return
+// nothing, and queries return 0 or nothing. Make one call at a time on a socket; a query is a call, too.
 #ifndef DCSCTP_HPP
 #define DCSCTP_HPP
 
@@ -62,7 +69,7 @@ using std::chrono::nanoseconds;
 
 // ---- Errors ---------------------------------------------------------------------------------------------------------
 
-// The numbers of dcsctp.h, and two of this header.
+// The numbers of dcsctp.h, and one of this header.
 enum class [[nodiscard]] error : std::int32_t {
     ok = DCSCTP_OK,
     out_of_memory = DCSCTP_ERROR_OUT_OF_MEMORY,
@@ -85,15 +92,13 @@ enum class [[nodiscard]] error : std::int32_t {
     wrong_size = DCSCTP_ERROR_WRONG_SIZE,
     other_options = DCSCTP_ERROR_OTHER_OPTIONS,
     wrong_version = -1001, // the library has another version than dcsctp.h
-    no_seed = -1002,       // the system's generator can't be read
+    no_seed = DCSCTP_ERROR_NO_SEED,
 };
 
 inline const char *text_of(error it) {
     switch (it) {
     case error::wrong_version:
         return "the library has another version";
-    case error::no_seed:
-        return "the system has no random numbers";
     default:
         return dcsctp_error_text(static_cast<std::int32_t>(it));
     }
@@ -116,8 +121,8 @@ inline std::error_code make_error_code(error it) {
 
 // ---- Views ----------------------------------------------------------------------------------------------------------
 
-// Elements that are stored elsewhere, as std::span of C++20 has them. `data` is never null, as dcsctp.h wants it. A
-// list in braces is there until the call has returned.
+// Elements that are stored elsewhere, like std::span of C++20. `data` is never null, as dcsctp.h requires. A list in
+// braces lives until the call has returned.
 template <typename T>
 class view {
     static constexpr bool has_bytes = std::is_same_v<T, std::uint8_t>;
@@ -139,7 +144,7 @@ public:
     template <typename Bytes = T, typename = std::enable_if_t<std::is_same_v<Bytes, std::uint8_t>>>
     view(const char *text) : view(text ? std::string_view(text) : std::string_view()) {}
 
-    // A vector, a string, or what else has elements in a row. Those of char and std::byte count as bytes. An array of
+    // A vector, a string, or another contiguous container. Elements of char and std::byte count as bytes. An array of
     // char is a text, as above.
     template <typename Container, typename Element = element_of<const Container>,
               typename = std::enable_if_t<!std::is_base_of_v<view, Container> && is_element<Element> &&
@@ -169,7 +174,7 @@ inline std::string_view text_of(bytes_view bytes) {
 
 // ---- Options, events, messages --------------------------------------------------------------------------------------
 
-// The fields of dcsctp_options, which begin with their defaults. Times are nanoseconds.
+// The fields of dcsctp_options, with their defaults. Times are in nanoseconds.
 struct options : dcsctp_options {
     options() : dcsctp_options() { dcsctp_options_init(this); }
 };
@@ -206,7 +211,7 @@ enum class error_kind : std::uint32_t {
     unsupported_operation = DCSCTP_KIND_UNSUPPORTED_OPERATION,
 };
 
-// What a socket reports. Later versions of the library may have more kinds: ignore them.
+// What a socket reports. Later versions of the library may add kinds: ignore them.
 struct event {
     event_kind kind = event_kind::none;
     error_kind about = error_kind::no_error; // of aborted and error
@@ -240,7 +245,7 @@ struct send_options {
     std::uint64_t lifecycle_id = 0; // the name in events; 0: there are none
     bool unordered = false;
     std::optional<nanoseconds> lifetime;              // abandoned if it isn't acknowledged by then
-    std::optional<std::uint16_t> max_retransmissions; // or if it would be sent again more often
+    std::optional<std::uint16_t> max_retransmissions; // or rather than sent again more often
 };
 
 enum class socket_state : std::int32_t {
@@ -282,8 +287,8 @@ public:
     socket(const socket &) = delete;
     socket &operator=(const socket &) = delete;
 
-    // Creates a closed socket whose clock is at `now`, by a seed from the system, or by one that is given: that must
-    // be secret and new.
+    // Creates a closed socket whose clock is at `now`, with a seed from the system, or with yours, which must be
+    // secret and new.
     error create(const dcsctp_options &how, nanoseconds now) {
         const std::optional<seed> drawn = random_seed();
         return drawn ? create(how, *drawn, now) : error::no_seed;
@@ -304,7 +309,7 @@ public:
     error handle_input(bytes_view packet) { return done(dcsctp_handle_input(&it_, packet.data(), packet.size())); }
     error advance_time(nanoseconds now) { return done(dcsctp_advance_time(&it_, number(now))); }
 
-    // The next deadline. There is none, or it is further away than a clock can show.
+    // The next deadline; nothing if there is none before the end of std::chrono::nanoseconds.
     std::optional<nanoseconds> poll_timeout() const {
         std::uint64_t moment = DCSCTP_NEVER;
         dcsctp_poll_timeout(&it_, &moment);
@@ -322,8 +327,8 @@ public:
         return is_taken;
     }
 
-    // It doesn't copy a packet to `taken.bytes`, but shows it where it lies: until a call that isn't const. Of other
-    // events there is none.
+    // The same without a copy of a packet: `packet` shows it, instead of `taken.bytes`, until a call that isn't const.
+    // For other events it is empty.
     bool poll_event(event &taken, bytes_view &packet) {
         dcsctp_event it = dcsctp_event();
         const bool is_taken = dcsctp_poll_event(&it_, &it) == 1;
@@ -350,13 +355,13 @@ public:
         return is_taken;
     }
 
-    // The packet of the event that was taken last, where it lies: until a call that isn't const. It is empty if the
-    // event has none.
+    // The packet of the last taken event, without a copy: until a call that isn't const. It is empty if the event has
+    // none.
     bytes_view event_view() const { return shown(dcsctp_event_view); }
 
     std::size_t messages_ready_count() const { return counted(dcsctp_messages_ready_count); }
 
-    // Takes the message that became ready first. If there is none, `taken` has no bytes.
+    // Takes the first message that is ready. If there is none, `taken` has no bytes.
     bool get_next_message(message &taken) {
         bytes_view payload;
         const bool is_taken = get_next_message(taken, payload);
@@ -364,7 +369,7 @@ public:
         return is_taken;
     }
 
-    // It doesn't copy the bytes to `taken.payload`, but shows them where they lie: until a call that isn't const.
+    // The same without a copy: `payload` shows the bytes, instead of `taken.payload`, until a call that isn't const.
     bool get_next_message(message &taken, bytes_view &payload) {
         dcsctp_message it = dcsctp_message();
         const bool is_taken = dcsctp_get_next_message(&it_, &it) == 1;
@@ -375,7 +380,7 @@ public:
         return is_taken;
     }
 
-    // The bytes of the message that was taken last, where they lie: until a call that isn't const.
+    // The bytes of the last taken message, without a copy: until a call that isn't const.
     bytes_view message_view() const { return shown(dcsctp_message_view); }
 
     error send(std::uint16_t stream_id, std::uint32_t ppid, bytes_view payload, const send_options &how = {}) {
@@ -383,8 +388,8 @@ public:
         return done(dcsctp_send(&it_, stream_id, ppid, payload.data(), payload.size(), &options));
     }
 
-    // Sends several messages in one call. `results` has one for each, unless the call returns an error that no message
-    // has: then it is empty.
+    // Sends several messages in one call. `results` has one for each, unless the call returns an error of no message:
+    // then it is empty.
     error send_many(const std::vector<outgoing_message> &messages, std::vector<error> &results,
                     const send_options &how = {}) {
         const dcsctp_send_options options = in_c(how);
@@ -427,21 +432,21 @@ public:
     bool has_failed() const { return dcsctp_has_failed(&it_) == 1; }
     error set_max_message_size(std::size_t bytes) { return done(dcsctp_set_max_message_size(&it_, bytes)); }
 
-    // The options. Of an empty socket: the defaults.
+    // The options; the defaults for an empty socket.
     options get_options() const {
         options read;
         dcsctp_get_options(&it_, &read);
         return read;
     }
 
-    // The metrics. There are none where the peer isn't known.
+    // The metrics; nothing if there is no peer yet.
     std::optional<dcsctp_metrics> metrics() const {
         dcsctp_metrics read = dcsctp_metrics();
         read.size = sizeof read;
         return dcsctp_get_metrics(&it_, &read) == 1 ? std::optional(read) : std::nullopt;
     }
 
-    // What the socket has counted, whatever the state. Of an empty socket: nothing.
+    // Counts since the socket was created, also after an association has ended; 0 for an empty socket.
     dcsctp_counts counts() const {
         dcsctp_counts read = dcsctp_counts();
         read.size = sizeof read;
@@ -449,7 +454,7 @@ public:
         return read;
     }
 
-    // Why the socket can't be handed over now: DCSCTP_HANDOVER_.., added up.
+    // Why the socket can't be handed over now: the sum of DCSCTP_HANDOVER_.., or 0 if it can.
     std::uint32_t handover_readiness() const {
         std::uint32_t reasons = 0;
         dcsctp_get_handover_readiness(&it_, &reasons);
@@ -463,7 +468,7 @@ public:
         return result == error::ok ? handover_bytes(snapshot) : result;
     }
 
-    // Copies the snapshot that was taken last.
+    // Copies the last snapshot.
     error handover_bytes(std::vector<std::uint8_t> &snapshot) const {
         std::uint8_t nowhere = 0;
         std::size_t length = 0;
@@ -478,7 +483,7 @@ public:
 private:
     static constexpr std::int32_t unwritten = std::numeric_limits<std::int32_t>::max();
 
-    // What waits for an association is no error, and neither is a count.
+    // Results above 0 are no errors.
     static error done(std::int32_t result) { return result < 0 ? static_cast<error>(result) : error::ok; }
 
     static std::uint64_t number(nanoseconds time) {
@@ -506,7 +511,7 @@ private:
         return result;
     }
 
-    // The bytes that a call of the library shows.
+    // The bytes that a view of the library shows.
     template <typename Call>
     bytes_view shown(Call call) const {
         const std::uint8_t *at = nullptr;

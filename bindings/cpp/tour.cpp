@@ -170,7 +170,7 @@ void close_a_channel() {
     pair.settle();
     check(pair.b.reset_streams({1}));
     pair.settle();
-    check(pair.send("anew"));
+    check(pair.send("once more"));
     pair.settle();
 }
 

@@ -227,6 +227,40 @@ func connected(t *testing.T, change func(*Options)) (a, b *Socket) {
 	return a, b
 }
 
+func TestEventsAndMessagesThatALoopLeavesAreStillThere(t *testing.T) {
+	a, b := connected(t, func(*Options) {})
+	for _, text := range []string{"one", "two", "three"} {
+		expect(t, "send", a.Send(1, 51, []byte(text), SendOptions{}), nil)
+	}
+	settle(t, a, b)
+	var taken []string
+	b.Messages()(func(it *Message) bool {
+		taken = append(taken, string(it.Payload))
+		return len(taken) != 1
+	})
+	if len(taken) != 1 || b.MessagesReadyCount() != 2 {
+		t.Errorf("taken: %v, left: %d", taken, b.MessagesReadyCount())
+	}
+	b.Messages()(func(it *Message) bool {
+		taken = append(taken, string(it.Payload))
+		return true
+	})
+	if !reflect.DeepEqual(taken, []string{"one", "two", "three"}) {
+		t.Errorf("taken: %v", taken)
+	}
+	expect(t, "close", b.Close(), nil)
+	var names []string
+	for round := 0; round < 3; round++ {
+		b.Events()(func(it Event) bool {
+			names = append(names, it.Name())
+			return false
+		})
+	}
+	if !reflect.DeepEqual(names, []string{"send packet", "closed"}) {
+		t.Errorf("events: %v", names)
+	}
+}
+
 func TestCountsOutlastTheirAssociation(t *testing.T) {
 	if s := socket(t); s.Counts() != (Counts{}) {
 		t.Errorf("a new socket has counted %+v", s.Counts())

@@ -29,7 +29,7 @@ type (
 	SendPacket struct{ Packet []byte }
 	// Connected: an association was made, by either end.
 	Connected struct{}
-	// Closed: it has ended, by a shutdown, Close or a handover.
+	// Closed: it has ended, by a shutdown, Close or a handover. Continue the loop for 4 s, as the package's page says.
 	Closed struct{}
 	// ConnectionRestarted: the peer restarted. Then Connected comes.
 	ConnectionRestarted struct{}
@@ -43,9 +43,9 @@ type (
 		Kind ErrorKind
 		Text string
 	}
-	// BufferedAmountLow: what waits on this stream has fallen to its threshold.
+	// BufferedAmountLow: the queued bytes of this stream have fallen to its threshold.
 	BufferedAmountLow struct{ StreamID uint16 }
-	// TotalBufferedAmountLow: what waits on all streams has fallen to the threshold.
+	// TotalBufferedAmountLow: the queued bytes of all streams have fallen to the threshold.
 	TotalBufferedAmountLow struct{}
 	// StreamsResetFailed: streams of this end that weren't reset.
 	StreamsResetFailed struct{ Streams []uint16 }
@@ -63,7 +63,7 @@ type (
 	LifecycleDelivered struct{ LifecycleID uint64 }
 	// LifecycleEnd: no event names it again.
 	LifecycleEnd struct{ LifecycleID uint64 }
-	// UnknownEvent is of a kind that a later version of the library may have. Ignore it.
+	// UnknownEvent is of a kind that a later version of the library may add. Ignore it.
 	UnknownEvent struct{ Kind uint32 }
 )
 

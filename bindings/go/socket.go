@@ -4,15 +4,18 @@
 // You hand a socket the packets that arrive, and the time. It hands you the packets to send, the messages that have
 // arrived, and events:
 //
-//  1. Take all events (PollEvent), and send each packet to the peer. Take all messages (GetNextMessage).
+//  1. Take all events (Events), and send each packet to the peer. Take all messages (Messages).
 //  2. Ask for the deadline (PollTimeout). Wait for a packet, or until then.
-//  3. Set the time (AdvanceTime). Hand in one packet, if one has come (HandleInput). Begin again at 1.
+//  3. Set the time (AdvanceTime). Hand in one packet, if one has come (HandleInput). Continue at 1.
 //
-// A call that hands something in, be it a packet, the time or a command, may add events and messages, and move the
-// deadline. When an association begins, the messages of the one before that weren't taken are lost.
+// Each packet, time or command may add events and messages, and move the deadline. Take all messages before you hand in
+// the next packet: messages that are left when another association begins are lost.
 //
-// pkg-config finds the library. With the build tag unproved it is the one that was built without proofs. Let DTLS be
-// below, or another layer that lets in nothing but what the peer has sent.
+// The loop ends at Aborted, or 4 s after Closed: until then the peer may need the last packet of the shutdown again.
+// Wait for Connected before you call Shutdown.
+//
+// pkg-config finds the library. With the build tag unproved it is the one that was built without proofs. Run it over
+// DTLS, or over another layer that delivers only what the peer has sent. Its license is Apache-2.0.
 package dcsctp
 
 // #cgo !unproved pkg-config: dcsctp
@@ -30,15 +33,15 @@ import (
 	"unsafe"
 )
 
-// Socket is a socket. Goroutines may share it. It can't be copied: a copy is no socket. Of one that isn't there, since
-// it was destroyed, copied, or not made by New, commands return ErrNoSocket, polls have nothing, and queries answer 0.
+// Socket is a socket. Goroutines may share it. Don't copy it: a copy is no socket. If there is none, since it was
+// destroyed, copied, or not made by New, then commands return ErrNoSocket, polls return nothing, and queries return 0.
 type Socket struct {
 	mutex sync.Mutex
 	c     C.dcsctp_socket
-	own   uintptr // its address, by which a copy is recognized
+	own   uintptr // its address, which shows a copy
 }
 
-// where there is nothing to point to
+// What a pointer without elements points to.
 var nothing [1]byte
 var nowhere [1]uint16
 
@@ -84,21 +87,22 @@ func (s *Socket) Destroy() {
 	})
 }
 
-// Connect begins an association: Connected follows, or Aborted. On a socket that isn't closed it changes nothing.
+// Connect begins an association: Connected follows, or Aborted. If the socket isn't closed, it does nothing.
 // Errors: ErrNoSocket, ErrFailed, ErrOutOfMemory.
 func (s *Socket) Connect() error {
 	return check(s.do(func(at *C.dcsctp_socket) C.int32_t { return C.dcsctp_connect(at) }))
 }
 
-// Shutdown ends the association in an orderly way: Closed follows, or Aborted. From now on Send is refused. Errors:
-// ErrNoSocket, ErrFailed, ErrOutOfMemory.
+// Shutdown ends the association in an orderly way: Closed follows, or Aborted. From now on Send fails. Wait for
+// Connected before this call: until the peer has answered the first INIT it sends nothing, and queued messages are
+// lost. Errors: ErrNoSocket, ErrFailed, ErrOutOfMemory.
 func (s *Socket) Shutdown() error {
 	return check(s.do(func(at *C.dcsctp_socket) C.int32_t { return C.dcsctp_shutdown(at) }))
 }
 
-// Close ends the association at once, by an ABORT: the last event is Closed. What is on its way is lost. Messages that
-// are ready can still be taken; without FollowRFC they are lost. It doesn't free the socket. Errors: ErrNoSocket,
-// ErrFailed, ErrOutOfMemory.
+// Close ends the association at once, by an ABORT: the last event is Closed. Queued messages and data in flight are
+// lost. Messages that are ready can still be taken; without FollowRFC they are lost. It doesn't free the socket.
+// Errors: ErrNoSocket, ErrFailed, ErrOutOfMemory.
 func (s *Socket) Close() error {
 	return check(s.do(func(at *C.dcsctp_socket) C.int32_t { return C.dcsctp_close(at) }))
 }
@@ -111,17 +115,37 @@ func (s *Socket) HandleInput(packet []byte) error {
 	}))
 }
 
-// AdvanceTime sets the time, and handles what is due. A moment before the last one changes nothing. Errors:
+// AdvanceTime sets the time, and handles expired timers. A moment before the last one does nothing. Errors:
 // ErrNoSocket, ErrFailed, ErrOutOfMemory.
 func (s *Socket) AdvanceTime(now time.Duration) error {
 	return check(s.do(func(at *C.dcsctp_socket) C.int32_t { return C.dcsctp_advance_time(at, nanoseconds(now)) }))
 }
 
-// PollTimeout returns the next deadline, by which AdvanceTime must be called, and whether there is one.
+// PollTimeout returns the next deadline, by which you must call AdvanceTime, and whether there is one.
 func (s *Socket) PollTimeout() (time.Duration, bool) {
 	moment := C.uint64_t(C.DCSCTP_NEVER)
 	s.do(func(at *C.dcsctp_socket) C.int32_t { return C.dcsctp_poll_timeout(at, &moment) })
 	return duration(moment), moment <= math.MaxInt64
+}
+
+// Events takes all events, one at a time. Those that aren't taken stay for the next call. As of Go 1.23:
+//
+//	for event := range socket.Events() {
+//
+// Before that, pass it a function, which returns whether to continue.
+func (s *Socket) Events() func(yield func(Event) bool) {
+	return func(yield func(Event) bool) {
+		for it := s.PollEvent(); it != nil && yield(it); it = s.PollEvent() {
+		}
+	}
+}
+
+// Messages takes all messages that are ready, as Events takes events.
+func (s *Socket) Messages() func(yield func(*Message) bool) {
+	return func(yield func(*Message) bool) {
+		for it := s.GetNextMessage(); it != nil && yield(it); it = s.GetNextMessage() {
+		}
+	}
 }
 
 // PollEvent takes the oldest event. If there is none, it is nil.
@@ -168,8 +192,8 @@ func (s *Socket) MessagesReadyCount() int {
 	return int(count)
 }
 
-// GetNextMessage takes the message that became ready first. If there is none, it is nil. It may be of an association
-// that has ended. What isn't taken when the next one begins is lost, and without FollowRFC when its own ends.
+// GetNextMessage takes the first message that is ready. If there is none, it is nil. It may be of an association that
+// has ended. Messages that are left when the next one begins are lost; without FollowRFC when their own ends.
 func (s *Socket) GetNextMessage() *Message {
 	var message C.dcsctp_message
 	var payload []byte
@@ -188,8 +212,8 @@ func (s *Socket) GetNextMessage() *Message {
 	return &Message{uint16(message.stream_id), uint32(message.ppid), payload}
 }
 
-// Send sends a message, whose bytes are copied. It waits after the others of its stream, and before an association is
-// made, too. Where it is refused, an ErrorEvent says the same. After ErrOutOfMemory it may be tried again if HasFailed
+// Send sends a message, whose bytes are copied. It is queued behind other messages of its stream, also before an
+// association exists. If it fails, an ErrorEvent follows, too. After ErrOutOfMemory it may be tried again if HasFailed
 // is false. Errors: ErrNoSocket, ErrEmptyPayload, ErrMessageTooLarge, ErrShuttingDown, ErrResourceExhaustion,
 // ErrFailed, ErrOutOfMemory.
 func (s *Socket) Send(streamID uint16, ppid uint32, payload []byte, options SendOptions) error {
@@ -199,10 +223,10 @@ func (s *Socket) Send(streamID uint16, ppid uint32, payload []byte, options Send
 	}))
 }
 
-// SendMany sends several messages, each as Send does, with the same options. What waits is sent once, after the last.
-// It returns for each message nil, or what refused it: that doesn't refuse those after it. Errors: ErrNoSocket,
-// ErrFailed, ErrOutOfMemory. After the last it may be tried again if HasFailed is false; else some of the messages may
-// have been sent.
+// SendMany sends several messages, each as Send does, with the same options. Packets are made once, after the last. It
+// returns for each message nil or its error. If one fails, later ones are sent all the same. Errors: ErrNoSocket,
+// ErrFailed, ErrOutOfMemory. After ErrOutOfMemory it may be tried again if HasFailed is false; else some of the messages
+// may have been sent.
 func (s *Socket) SendMany(messages []Message, options SendOptions) ([]error, error) {
 	const unwritten = math.MaxInt32
 	count, bytes := len(messages), 0
@@ -242,9 +266,9 @@ func (s *Socket) SendMany(messages []Message, options SendOptions) ([]error, err
 	return each, nil
 }
 
-// ResetStreams resets streams of this end, which closes data channels. Messages on them that weren't begun are dropped:
-// first wait until BufferedAmount of each and UnackDataCount of Metrics are 0. StreamsResetPerformed or
-// StreamsResetFailed follows; the peer gets IncomingStreamReset. Errors: ErrNoSocket, ErrNotConnected, ErrNotSupported,
+// ResetStreams resets outgoing streams, which closes data channels. First wait until BufferedAmount of each and
+// UnackDataCount of Metrics are 0: queued messages are dropped. StreamsResetPerformed or StreamsResetFailed follows;
+// the peer gets IncomingStreamReset. Errors: ErrNoSocket, ErrNotConnected, ErrNotSupported,
 // ErrFailed, ErrOutOfMemory.
 func (s *Socket) ResetStreams(streamIDs ...uint16) error {
 	return check(s.do(func(at *C.dcsctp_socket) C.int32_t {
@@ -252,15 +276,15 @@ func (s *Socket) ResetStreams(streamIDs ...uint16) error {
 	}))
 }
 
-// BufferedAmount returns how many bytes wait to be sent on a stream.
+// BufferedAmount returns how many bytes are queued on a stream.
 func (s *Socket) BufferedAmount(streamID uint16) uint {
 	var bytes C.size_t
 	s.do(func(at *C.dcsctp_socket) C.int32_t { return C.dcsctp_buffered_amount(at, C.uint16_t(streamID), &bytes) })
 	return uint(bytes)
 }
 
-// BufferedAmountLowThreshold returns the low threshold of a stream: BufferedAmountLow comes when what waits falls to
-// it.
+// BufferedAmountLowThreshold returns the low threshold of a stream: BufferedAmountLow comes when its queued bytes fall
+// to it.
 func (s *Socket) BufferedAmountLowThreshold(streamID uint16) uint {
 	var bytes C.size_t
 	s.do(func(at *C.dcsctp_socket) C.int32_t {
@@ -269,7 +293,7 @@ func (s *Socket) BufferedAmountLowThreshold(streamID uint16) uint {
 	return uint(bytes)
 }
 
-// SetBufferedAmountLowThreshold sets that threshold. It outlasts an association. Errors: ErrNoSocket, ErrFailed,
+// SetBufferedAmountLowThreshold sets that threshold, also for later associations. Errors: ErrNoSocket, ErrFailed,
 // ErrOutOfMemory.
 func (s *Socket) SetBufferedAmountLowThreshold(streamID uint16, bytes uint) error {
 	return check(s.do(func(at *C.dcsctp_socket) C.int32_t {
@@ -277,7 +301,7 @@ func (s *Socket) SetBufferedAmountLowThreshold(streamID uint16, bytes uint) erro
 	}))
 }
 
-// StreamPriority returns the priority of a stream: one of the greatest priority is sent first.
+// StreamPriority returns the priority of a stream: the one with the greatest is sent first.
 func (s *Socket) StreamPriority(streamID uint16) uint16 {
 	var priority C.uint16_t
 	s.do(func(at *C.dcsctp_socket) C.int32_t {
@@ -286,38 +310,38 @@ func (s *Socket) StreamPriority(streamID uint16) uint16 {
 	return uint16(priority)
 }
 
-// SetStreamPriority sets that priority. It outlasts an association. Errors: ErrNoSocket, ErrFailed, ErrOutOfMemory.
+// SetStreamPriority sets that priority, also for later associations. Errors: ErrNoSocket, ErrFailed, ErrOutOfMemory.
 func (s *Socket) SetStreamPriority(streamID, priority uint16) error {
 	return check(s.do(func(at *C.dcsctp_socket) C.int32_t {
 		return C.dcsctp_set_stream_priority(at, C.uint16_t(streamID), C.uint16_t(priority))
 	}))
 }
 
-// State returns the state, and NoSocket where there is no socket.
+// State returns the state, and NoSocket if there is no socket.
 func (s *Socket) State() State {
 	return State(s.do(func(at *C.dcsctp_socket) C.int32_t { return C.dcsctp_state(at) }))
 }
 
-// HasFailed says whether an allocation has failed, so that the socket is of no more use.
+// HasFailed reports whether an allocation has failed, so that the socket can't be used any more.
 func (s *Socket) HasFailed() bool {
 	return s.do(func(at *C.dcsctp_socket) C.int32_t { return C.dcsctp_has_failed(at) }) == 1
 }
 
-// SetMaxMessageSize sets how long a message may be from now on. Error: ErrNoSocket.
+// SetMaxMessageSize sets MaxMessageSize, for messages sent from now on. Error: ErrNoSocket.
 func (s *Socket) SetMaxMessageSize(bytes uint) error {
 	return check(s.do(func(at *C.dcsctp_socket) C.int32_t {
 		return C.dcsctp_set_max_message_size(at, C.size_t(bytes))
 	}))
 }
 
-// Options returns the options. MaxMessageSize is as it was set last. Where there is no socket, they are the defaults.
+// Options returns the options. MaxMessageSize is as it was set last. If there is no socket, they are the defaults.
 func (s *Socket) Options() Options {
 	read := defaultOptions()
 	s.do(func(at *C.dcsctp_socket) C.int32_t { return C.dcsctp_get_options(at, &read) })
 	return optionsOf(&read)
 }
 
-// Metrics returns the metrics. Where the peer isn't known, they are nil.
+// Metrics returns the metrics. If there is no peer yet, they are nil.
 func (s *Socket) Metrics() *Metrics {
 	read := C.dcsctp_metrics{size: C.sizeof_dcsctp_metrics}
 	if s.do(func(at *C.dcsctp_socket) C.int32_t { return C.dcsctp_get_metrics(at, &read) }) != 1 {
@@ -326,14 +350,14 @@ func (s *Socket) Metrics() *Metrics {
 	return metricsOf(&read)
 }
 
-// Counts returns what the socket has counted, whatever the state: an association that has ended doesn't matter.
+// Counts returns counts since the socket was created, also after an association has ended.
 func (s *Socket) Counts() Counts {
 	read := C.dcsctp_counts{size: C.sizeof_dcsctp_counts}
 	s.do(func(at *C.dcsctp_socket) C.int32_t { return C.dcsctp_get_counts(at, &read) })
 	return Counts{uint(read.rx_packets_count), uint(read.tx_packets_count), uint(read.tx_messages_count)}
 }
 
-// HandoverReadiness returns why the socket can't be handed over now: Handover.., added up.
+// HandoverReadiness returns why the socket can't be handed over now: the sum of Handover.., or 0 if it can.
 func (s *Socket) HandoverReadiness() uint32 {
 	var reasons C.uint32_t
 	s.do(func(at *C.dcsctp_socket) C.int32_t { return C.dcsctp_get_handover_readiness(at, &reasons) })
@@ -352,7 +376,7 @@ func (s *Socket) GetHandoverStateAndClose() ([]byte, error) {
 	return s.HandoverBytes()
 }
 
-// HandoverBytes returns the snapshot that was taken last. Errors: ErrNoSocket, ErrNothingToCopy, ErrOutOfMemory.
+// HandoverBytes returns the last snapshot. Errors: ErrNoSocket, ErrNothingToCopy, ErrOutOfMemory.
 func (s *Socket) HandoverBytes() ([]byte, error) {
 	var snapshot []byte
 	err := check(s.do(func(at *C.dcsctp_socket) C.int32_t {
@@ -370,8 +394,8 @@ func (s *Socket) HandoverBytes() ([]byte, error) {
 	return snapshot, nil
 }
 
-// RestoreFromState continues from a snapshot that another socket with these options gave: Connected follows. Let the
-// clock of the socket be past a minute. Restore only what you trust. ErrOtherOptions: they differ in a port, an
+// RestoreFromState continues from a snapshot that another socket with these options gave: Connected follows. The time
+// of this socket must be over a minute. Restore only what you trust. ErrOtherOptions: they differ in a port, an
 // announced number of streams, EnablePartialReliability, EnableMessageInterleaving or ZeroChecksumMethod. Errors:
 // ErrNoSocket, ErrNotClosed, ErrInvalidSnapshot, ErrOtherOptions, ErrFailed, ErrOutOfMemory.
 func (s *Socket) RestoreFromState(snapshot []byte) error {
@@ -380,7 +404,7 @@ func (s *Socket) RestoreFromState(snapshot []byte) error {
 	}))
 }
 
-// copied returns bytes of Go, of those that a call has shown.
+// copied returns a copy, in memory of Go, of bytes that a call has shown.
 func copied(from *C.uint8_t, length C.size_t) []byte {
 	bytes := make([]byte, length)
 	copy(bytes, unsafe.Slice((*byte)(from), length))

@@ -8,10 +8,10 @@ import (
 	"time"
 )
 
-// Error says why a call failed, by its number in dcsctp.h. Unless the call says more, it has changed nothing then.
+// Error is why a call failed, by its number in dcsctp.h. Unless the call says more, it has changed nothing then.
 type Error int32
 
-// The errors of dcsctp.h, which says of each what it means, and one of this package.
+// The errors of dcsctp.h, which describes each, and one of this package.
 const (
 	ErrOutOfMemory        Error = C.DCSCTP_ERROR_OUT_OF_MEMORY
 	ErrFailed             Error = C.DCSCTP_ERROR_FAILED
@@ -73,8 +73,8 @@ func duration(it C.uint64_t) time.Duration {
 	return time.Duration(it)
 }
 
-// Options are what can be set. Sizes are bytes. DefaultOptions has the defaults; dcsctp.h says of each what it does,
-// and at dcsctp_options which values connect.
+// Options are what can be set. Sizes are in bytes. DefaultOptions has the defaults. dcsctp.h describes each at
+// dcsctp_options, and says which values connect.
 type Options struct {
 	MTU                                     uint
 	MaxMessageSize                          uint
@@ -222,7 +222,7 @@ type Message struct {
 type SendOptions struct {
 	LifecycleID uint64 // the name in Lifecycle.. events; 0: there are none
 	Unordered   bool
-	// A message is abandoned that isn't acknowledged by then, or that would be sent again more often. Both need partial
+	// A message is abandoned if it isn't acknowledged by then, or rather than sent again more often. Both need partial
 	// reliability (RFC 3758) at both ends. Limit makes them.
 	Lifetime           *time.Duration
 	MaxRetransmissions *uint16
@@ -261,7 +261,7 @@ const (
 	StateShuttingDown State = C.DCSCTP_STATE_SHUTTING_DOWN
 )
 
-// Peer is which program the peer runs, as its cookie says.
+// Peer is which program the peer runs, by its cookie.
 type Peer uint32
 
 // The programs.
@@ -287,7 +287,7 @@ const (
 	HandoverRetransmissionQueueNotEmpty        uint32 = C.DCSCTP_HANDOVER_RETRANSMISSION_QUEUE_NOT_EMPTY
 )
 
-// Metrics are counts of the socket's whole life, and how the association is now. dcsctp.h says of each what it counts.
+// Metrics are counts since the socket was created, and the present state of the association. dcsctp.h describes each.
 type Metrics struct {
 	RtxBytesCount                    uint64
 	SRTT                             time.Duration
@@ -326,11 +326,11 @@ func metricsOf(it *C.dcsctp_metrics) *Metrics {
 	}
 }
 
-// Counts are what a socket has counted in its whole life.
+// Counts are counts since the socket was created.
 type Counts struct {
 	RxPacketsCount  uint // packets handed in, readable or not
 	TxPacketsCount  uint // packets sent
-	TxMessagesCount uint // messages that Send took
+	TxMessagesCount uint // messages that Send accepted
 }
 
 // Version returns the version of the library: major, minor and patch, and whether it was built with proofs.

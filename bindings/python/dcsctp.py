@@ -5,26 +5,41 @@ arrived, and events:
 
     with dcsctp.Socket(now=time.monotonic_ns()) as socket:
         socket.connect()
-        while True:
+        stop = None
+        while stop is None or time.monotonic_ns() < stop:
             for event in socket.events():
                 if isinstance(event, dcsctp.SendPacket):
                     udp.send(event.packet)
+                elif isinstance(event, dcsctp.Closed):
+                    stop = time.monotonic_ns() + 4_000_000_000  # the last packet may be lost
+                elif isinstance(event, dcsctp.Aborted):
+                    stop = time.monotonic_ns()
             for message in socket.messages():
                 use(message.stream_id, message.ppid, message.payload)
-            wait_until_readable(udp, socket.poll_timeout())
-            socket.advance_time(time.monotonic_ns())
-            socket.handle_input(udp.recv(65535))            # one packet, if one has come
+            if wait_until_readable(udp, socket.poll_timeout(), stop):
+                socket.advance_time(time.monotonic_ns())
+                socket.handle_input(udp.recv(65535))        # one packet, then from the top
+            else:
+                socket.advance_time(time.monotonic_ns())
 
-A call that hands something in, be it a packet, the time or a command, may add events and messages, and move the
-deadline. Take all messages before the next packet is handed in: when an association begins, those left are lost.
+Each packet, time or command may add events and messages, and move the deadline. Take all messages before you hand in
+the next packet: messages that are left when another association begins are lost. After `Closed` continue for 4 s, since
+the peer may need the last packet again; dcsctp.h says more.
 
 A moment is a number of nanoseconds by a clock that never goes back, and a time is in nanoseconds, too. A call that
 fails raises an `Error`, and unless it says more, nothing has changed. Threads may share a socket: each call has a lock.
-Let DTLS be below, or another layer that lets in nothing but what the peer has sent.
+Run it over DTLS, or over another layer that delivers only what the peer has sent.
 
-It needs Python 3.8. The library is the file that the environment names by DCSCTP_LIBRARY; or it is in `lib` of the
-package that this file was unpacked with; or where `make` or `make unproved` of the repository has put it; or the loader
-finds libdcsctp.so.0.
+It needs Python 3.8 and the shared library, libdcsctp.so.0 or libdcsctp-unproved.so.0. The environment variable
+DCSCTP_LIBRARY may name the file. Otherwise it takes the first of these; in each place the proved library comes first:
+
+1. `lib` of the package that this file was unpacked with.
+2. `out` of the repository that this file is in.
+3. Where the loader looks: LD_LIBRARY_PATH, and the folders that ldconfig knows.
+4. /usr/local/lib, which ldconfig may not know yet.
+5. Where pkg-config finds dcsctp or dcsctp-unproved.
+
+`library()` returns the file that it took, and `is_proved()` whether that library was built with proofs.
 """
 
 from __future__ import annotations
@@ -35,6 +50,7 @@ import enum
 import operator
 import os
 import pathlib
+import subprocess
 import threading
 from typing import ClassVar, Dict, Iterator, List, NoReturn, Optional, Sequence, Type, Union
 
@@ -62,14 +78,14 @@ class Error(Exception):
 
 class OutOfMemory(Error):
     """An allocation of the library failed. The socket has failed now, unless the call says that it may be tried again;
-    `has_failed` says whether."""
+    `has_failed` reports whether."""
 
     number = -1
     text = "out of memory"
 
 
 class Failed(Error):
-    """An allocation failed in an earlier call. Events can be taken; all that is left to do is `destroy`."""
+    """An allocation failed in an earlier call. Events can be taken. Then call `destroy`."""
 
     number = -2
     text = "an allocation failed in an earlier call"
@@ -83,14 +99,14 @@ class NoSocket(Error):
 
 
 class AlreadyCreated(Error):
-    """There is a socket already. No method of `Socket` raises it."""
+    """The socket was created already. No method of `Socket` raises it."""
 
     number = -4
     text = "there is a socket already"
 
 
 class InvalidOptions(Error):
-    """No socket can be made with these options."""
+    """The options aren't valid."""
 
     number = -5
     text = "no socket can be made with these options"
@@ -125,7 +141,7 @@ class MessageTooLarge(Error):
 
 
 class ResourceExhaustion(Error):
-    """The send buffer is full, in all or for this stream. Try again at `BufferedAmountLow` or
+    """The send buffer is full, in total or for this stream. Try again after `BufferedAmountLow` or
     `TotalBufferedAmountLow`."""
 
     number = -10
@@ -133,7 +149,7 @@ class ResourceExhaustion(Error):
 
 
 class ShuttingDown(Error):
-    """The association is being shut down, and takes no message."""
+    """The association is being shut down, and accepts no message."""
 
     number = -11
     text = "the association is being shut down"
@@ -154,21 +170,21 @@ class NotSupported(Error):
 
 
 class NotReady(Error):
-    """The socket can't be handed over now: `handover_readiness` says why."""
+    """The socket can't be handed over now: `handover_readiness` reports why."""
 
     number = -14
     text = "the socket can't be handed over now"
 
 
 class InvalidSnapshot(Error):
-    """These bytes are no snapshot, or not all of them are as they were written."""
+    """The bytes aren't a snapshot, or were changed since it was taken."""
 
     number = -15
     text = "the snapshot isn't valid"
 
 
 class NotClosed(Error):
-    """The socket has an association, or begins one."""
+    """The socket has an association, or is connecting."""
 
     number = -16
     text = "the socket isn't closed"
@@ -182,14 +198,14 @@ class InvalidSendOptions(Error):
 
 
 class WrongSize(Error):
-    """A struct has another size in the library, which has another header."""
+    """A struct has another size in the library, which was built with another header."""
 
     number = -18
     text = "the struct has another size in the library"
 
 
 class OtherOptions(Error):
-    """The snapshot is of a socket with other options: `Socket.restore_from_state` says which ones count."""
+    """The snapshot is of a socket with other options: `Socket.restore_from_state` lists those that must be the same."""
 
     number = -19
     text = "the snapshot is of a socket with other options"
@@ -256,7 +272,7 @@ class Connected(Event):
 
 @dataclasses.dataclass(frozen=True)
 class Closed(Event):
-    """It has ended: by a shutdown, `Socket.close` or a handover."""
+    """It has ended: by a shutdown, `Socket.close` or a handover. Continue the loop for 4 s, as the page says."""
 
     kind = 3
     name = "closed"
@@ -272,7 +288,7 @@ class ConnectionRestarted(Event):
 
 @dataclasses.dataclass(frozen=True)
 class Aborted(Event):
-    """It was cut off. `error` is an `ErrorKind`, unless a later version of the library has more, and `text` may be
+    """It was cut off. `error` is an `ErrorKind`, or a number that a later version of the library adds. `text` may be
     empty."""
 
     error: int
@@ -293,7 +309,7 @@ class ErrorEvent(Event):
 
 @dataclasses.dataclass(frozen=True)
 class BufferedAmountLow(Event):
-    """What waits on a stream has fallen to its threshold."""
+    """The queued bytes of a stream have fallen to its threshold."""
 
     stream_id: int
     kind = 7
@@ -302,7 +318,7 @@ class BufferedAmountLow(Event):
 
 @dataclasses.dataclass(frozen=True)
 class TotalBufferedAmountLow(Event):
-    """What waits on all streams has fallen to the threshold."""
+    """The queued bytes of all streams have fallen to the threshold."""
 
     kind = 8
     name = "total buffered amount low"
@@ -401,8 +417,8 @@ _WITH_NAME = {
 
 @dataclasses.dataclass
 class Options:
-    """What can be set. Sizes are bytes, times nanoseconds. `dcsctp.h` says of each what it does, and at
-    `dcsctp_options` which values connect."""
+    """What can be set. Sizes are in bytes, times in nanoseconds. `dcsctp.h` describes each at `dcsctp_options`, and
+    says which values connect."""
 
     mtu: int = 1191
     max_message_size: int = 262_144
@@ -477,7 +493,7 @@ class State(enum.IntEnum):
 
 
 class Peer(enum.IntEnum):
-    """Which program the peer runs, as its cookie says. Later versions may have more numbers."""
+    """Which program the peer runs, by its cookie. Later versions may add numbers."""
 
     UNKNOWN = 0
     DCSCTP_RS = 1
@@ -487,7 +503,7 @@ class Peer(enum.IntEnum):
 
 
 class Handover(enum.IntFlag):
-    """Why a socket can't be handed over. Later versions may have more reasons."""
+    """Why a socket can't be handed over. Later versions may add reasons."""
 
     WRONG_CONNECTION_STATE = 1
     SEND_QUEUE_NOT_EMPTY = 2
@@ -503,7 +519,7 @@ class Handover(enum.IntFlag):
 
 @dataclasses.dataclass(frozen=True)
 class Metrics:
-    """Counts of the socket's whole life, and how the association is now. `dcsctp.h` says of each what it counts."""
+    """Counts since the socket was created, and the present state of the association. `dcsctp.h` describes each."""
 
     rtx_bytes_count: int
     srtt: int
@@ -524,8 +540,8 @@ class Metrics:
 
 @dataclasses.dataclass(frozen=True)
 class Counts:
-    """What a socket has counted in its whole life: packets handed in, readable or not; packets sent; messages that
-    `send` took."""
+    """Counts since the socket was created: packets handed in, readable or not; packets sent; messages that `send`
+    accepted."""
 
     rx_packets_count: int
     tx_packets_count: int
@@ -708,40 +724,85 @@ _CALLS = {
 }
 
 
-def _load() -> ctypes.CDLL:
+_NAMES = ("dcsctp", "dcsctp-unproved")
+
+
+def _files() -> Iterator[str]:
+    """Files of the library that may exist, the best first. One without a folder is for the loader to find."""
+    here = pathlib.Path(__file__).resolve()
+    if here.parts[-3:-1] == ("bindings", "python"):
+        top = here.parents[2]
+        for folders in (("lib", "lib"), ("out", "out/unproved")):
+            for name, folder in zip(_NAMES, folders):
+                yield str(top / folder / f"lib{name}.so.0")
+    for folder in ("", "/usr/local/lib"):
+        for name in _NAMES:
+            yield os.path.join(folder, f"lib{name}.so.0")
+    for name in _NAMES:
+        try:
+            asked = subprocess.run(
+                ["pkg-config", "--variable=libdir", name], stdout=subprocess.PIPE, stderr=subprocess.DEVNULL, check=True
+            )
+        except (OSError, subprocess.SubprocessError):
+            continue
+        yield os.path.join(os.fsdecode(asked.stdout).strip(), f"lib{name}.so.0")
+
+
+def _open() -> ctypes.CDLL:
     named = os.environ.get("DCSCTP_LIBRARY")
-    top = pathlib.Path(__file__).resolve().parents[2]
-    places = [
-        top / "lib/libdcsctp.so.0",
-        top / "lib/libdcsctp-unproved.so.0",
-        top / "out/libdcsctp.so.0",
-        top / "out/unproved/libdcsctp-unproved.so.0",
-    ]
-    found = [str(it) for it in places if it.exists()]
-    try:
-        library = ctypes.CDLL(named or (found + ["libdcsctp.so.0"])[0])
-    except OSError as error:
-        raise ImportError(f"there is no library: set DCSCTP_LIBRARY to libdcsctp.so.0 ({error})") from error
+    if named:
+        try:
+            return ctypes.CDLL(named)
+        except OSError as error:
+            raise ImportError(f"DCSCTP_LIBRARY: {error}") from error
+    tried = []
+    for file in _files():
+        is_path = os.path.isabs(file)
+        try:
+            if not is_path or os.path.exists(file):
+                return ctypes.CDLL(file)
+        except OSError as error:
+            if is_path:  # it is there, and can't be loaded
+                raise ImportError(str(error)) from error
+        tried.append(file)
+    raise ImportError(
+        "neither libdcsctp.so.0 nor libdcsctp-unproved.so.0 was found: install one by `make install` or `make unproved "
+        "install`, or set DCSCTP_LIBRARY to the file. Tried: " + ", ".join(tried)
+    )
+
+
+def _load() -> ctypes.CDLL:
+    library = _open()
     for name, parameters in _CALLS.items():
         try:
             call = getattr(library, name)
         except AttributeError as error:
-            raise ImportError(f"the library has another version: {error}") from error
+            raise ImportError(f"{library._name} has another version: {error}") from error
         call.argtypes = parameters
         call.restype = ctypes.c_int32
     library.dcsctp_version.restype = ctypes.c_uint32
     library.dcsctp_destroy.restype = None
     if library.dcsctp_version() & ~VERSION_UNPROVED != VERSION:
-        raise ImportError("the library has another version")
+        raise ImportError(f"{library._name} has another version")
     return library
 
 
 _library = _load()
 
 
+def library() -> str:
+    """The file of the library, as it was opened. A name without a folder was found by the loader."""
+    return _library._name
+
+
 def version() -> int:
     """The version of the library: `VERSION`, and `VERSION_UNPROVED` added to it if it was built without proofs."""
     return _library.dcsctp_version()
+
+
+def is_proved() -> bool:
+    """Whether the library was built with proofs."""
+    return version() & VERSION_UNPROVED == 0
 
 
 # ---- The socket -----------------------------------------------------------------------------------------------------
@@ -785,7 +846,7 @@ def _stream(stream_id: int) -> int:
 
 
 class Socket:
-    """A socket. Leaving its `with` destroys it without informing the peer: `shutdown` or `close` does. It can't be
+    """A socket. Leaving its `with` destroys it without informing the peer: `shutdown` or `close` does that. It can't be
     copied. A destroyed socket raises `NoSocket`.
 
     It begins closed, with its clock at `now`. The seed has 32 bytes, is secret and never used twice: without one the
@@ -851,19 +912,22 @@ class Socket:
     # Commands
 
     def connect(self) -> None:
-        """Begins an association: `Connected` follows, or `Aborted`. On a socket that isn't closed it changes nothing.
-        Raises `NoSocket`, `Failed` and `OutOfMemory`."""
+        """Begins an association: `Connected` follows, or `Aborted`. If the socket isn't closed, it does nothing. Raises
+        `NoSocket`, `Failed` and `OutOfMemory`."""
         self._do(_library.dcsctp_connect)
 
     def shutdown(self) -> None:
-        """Ends the association in an orderly way: `Closed` follows, or `Aborted`. From now on `send` is refused. Raises
+        """Wait for `Connected` before this call: until the peer has answered the first INIT it sends nothing, and
+        queued messages are lost.
+
+        It ends the association in an orderly way: `Closed` follows, or `Aborted`. From now on `send` fails. Raises
         `NoSocket`, `Failed` and `OutOfMemory`."""
         self._do(_library.dcsctp_shutdown)
 
     def close(self) -> None:
-        """Ends the association at once, by an ABORT: the last event is `Closed`. What is on its way is lost. Messages
-        that are ready can still be taken; without `follow_rfc` they are lost. Raises `NoSocket`, `Failed` and
-        `OutOfMemory`."""
+        """Ends the association at once, by an ABORT: the last event is `Closed`. Queued messages and data in flight are
+        lost. Messages that are ready can still be taken; without `follow_rfc` they are lost. Raises `NoSocket`,
+        `Failed` and `OutOfMemory`."""
         self._do(_library.dcsctp_close)
 
     # Packets and time
@@ -875,12 +939,12 @@ class Socket:
         self._do(_library.dcsctp_handle_input, whole, len(whole))
 
     def advance_time(self, now: int) -> None:
-        """Sets the time, and handles what is due. A moment before the last one changes nothing. Raises `NoSocket`,
+        """Sets the time, and handles expired timers. A moment before the last one does nothing. Raises `NoSocket`,
         `Failed` and `OutOfMemory`."""
         self._do(_library.dcsctp_advance_time, _checked("now", now, ctypes.c_uint64))
 
     def poll_timeout(self) -> Optional[int]:
-        """The next deadline, by which `advance_time` must be called. `None` if there is none. Raises `NoSocket`."""
+        """The next deadline, by which you must call `advance_time`. `None` if there is none. Raises `NoSocket`."""
         moment = self._number(_library.dcsctp_poll_timeout, ctypes.c_uint64())
         return None if moment == NEVER else moment
 
@@ -923,8 +987,8 @@ class Socket:
         return self._number(_library.dcsctp_messages_ready_count, ctypes.c_size_t())
 
     def get_next_message(self) -> Optional[Message]:
-        """Takes the message that became ready first. `None` if there is none. It may be of an association that has
-        ended. What isn't taken when the next one begins is lost, and without `follow_rfc` when its own ends. Raises
+        """Takes the first message that is ready. `None` if there is none. It may be of an association that has ended.
+        Messages that are left when the next one begins are lost; without `follow_rfc` when their own ends. Raises
         `NoSocket`."""
         message = _Message()
         with self._lock:
@@ -939,8 +1003,8 @@ class Socket:
             yield message
 
     def send(self, stream_id: int, ppid: int, payload: Bytes, options: SendOptions = _SENT_PLAINLY) -> None:
-        """Sends a message, whose bytes are copied. It waits after the others of its stream, and before an association
-        is made, too. Where it is refused, an `ErrorEvent` says the same. After `OutOfMemory` it may be tried again if
+        """Sends a message, whose bytes are copied. It is queued behind other messages of its stream, also before an
+        association exists. If it fails, an `ErrorEvent` follows, too. After `OutOfMemory` it may be tried again if
         `has_failed` is false.
 
         Raises `NoSocket`, `EmptyPayload`, `MessageTooLarge`, `ShuttingDown`, `ResourceExhaustion`, `Failed` and
@@ -952,8 +1016,8 @@ class Socket:
     def send_many(
         self, messages: Sequence[Message], options: SendOptions = _SENT_PLAINLY
     ) -> List[Optional[Error]]:
-        """Sends several messages, each as `send` does, with the same options. What waits is sent once, after the last.
-        Returns for each message `None`, or what refused it: that doesn't refuse those after it.
+        """Sends several messages, each as `send` does, with the same options. Packets are made once, after the last.
+        Returns for each message `None` or its error. If one fails, later ones are sent all the same.
 
         Raises `NoSocket`, `Failed` and `OutOfMemory`. After the last it may be tried again if `has_failed` is false;
         else some of the messages may have been sent."""
@@ -969,7 +1033,7 @@ class Socket:
         try:
             self._do(_library.dcsctp_send_many, outgoing, count, _send_options(options), results, count)
         except Error:
-            # An error that refuses one message is written, and the others are not.
+            # The error of a message is written to its result; other errors write none.
             if count == 0 or results[0] == unwritten:
                 raise
         return [error_of(it) if it < 0 else None for it in results[:count]]
@@ -977,8 +1041,8 @@ class Socket:
     # Streams
 
     def reset_streams(self, stream_ids: Sequence[int]) -> None:
-        """Resets streams of this end, which closes data channels. Messages on them that weren't begun are dropped:
-        first wait until `buffered_amount` of each and `unack_data_count` of `metrics` are 0. `StreamsResetPerformed` or
+        """Resets outgoing streams, which closes data channels. First wait until `buffered_amount` of each and
+        `unack_data_count` of `metrics` are 0: queued messages are dropped. `StreamsResetPerformed` or
         `StreamsResetFailed` follows; the peer gets `IncomingStreamReset`.
 
         Raises `NoSocket`, `NotConnected`, `NotSupported`, `Failed` and `OutOfMemory`."""
@@ -986,24 +1050,25 @@ class Socket:
         self._do(_library.dcsctp_reset_streams, (ctypes.c_uint16 * max(len(ids), 1))(*ids), len(ids))
 
     def buffered_amount(self, stream_id: int) -> int:
-        """How many bytes wait to be sent on a stream. Raises `NoSocket`."""
+        """How many bytes are queued on a stream. Raises `NoSocket`."""
         return self._number(_library.dcsctp_buffered_amount, ctypes.c_size_t(), _stream(stream_id))
 
     def buffered_amount_low_threshold(self, stream_id: int) -> int:
-        """The low threshold of a stream: `BufferedAmountLow` comes when what waits falls to it. Raises `NoSocket`."""
+        """The low threshold of a stream: `BufferedAmountLow` comes when its queued bytes fall to it.
+        Raises `NoSocket`."""
         return self._number(_library.dcsctp_buffered_amount_low_threshold, ctypes.c_size_t(), _stream(stream_id))
 
     def set_buffered_amount_low_threshold(self, stream_id: int, size: int) -> None:
-        """Sets that threshold. It outlasts an association. Raises `NoSocket`, `Failed` and `OutOfMemory`."""
+        """Sets that threshold, also for later associations. Raises `NoSocket`, `Failed` and `OutOfMemory`."""
         size = _checked("size", size, ctypes.c_size_t)
         self._do(_library.dcsctp_set_buffered_amount_low_threshold, _stream(stream_id), size)
 
     def stream_priority(self, stream_id: int) -> int:
-        """The priority of a stream: one of the greatest priority is sent first. Raises `NoSocket`."""
+        """The priority of a stream: the one with the greatest is sent first. Raises `NoSocket`."""
         return self._number(_library.dcsctp_get_stream_priority, ctypes.c_uint16(), _stream(stream_id))
 
     def set_stream_priority(self, stream_id: int, priority: int) -> None:
-        """Sets that priority. It outlasts an association. Raises `NoSocket`, `Failed` and `OutOfMemory`."""
+        """Sets that priority, also for later associations. Raises `NoSocket`, `Failed` and `OutOfMemory`."""
         priority = _checked("priority", priority, ctypes.c_uint16)
         self._do(_library.dcsctp_set_stream_priority, _stream(stream_id), priority)
 
@@ -1014,11 +1079,11 @@ class Socket:
         return State(self._do(_library.dcsctp_state))
 
     def has_failed(self) -> bool:
-        """Whether an allocation has failed, so that the socket is of no more use. Raises `NoSocket`."""
+        """Whether an allocation has failed, so that the socket can't be used any more. Raises `NoSocket`."""
         return self._do(_library.dcsctp_has_failed) == 1
 
     def set_max_message_size(self, size: int) -> None:
-        """Sets how long a message may be from now on. Raises `NoSocket`."""
+        """Sets `max_message_size`, for messages sent from now on. Raises `NoSocket`."""
         self._do(_library.dcsctp_set_max_message_size, _checked("size", size, ctypes.c_size_t))
 
     def options(self) -> Options:
@@ -1028,7 +1093,7 @@ class Socket:
         return Options(**{it.name: type(it.default)(getattr(read, it.name)) for it in dataclasses.fields(Options)})
 
     def metrics(self) -> Optional[Metrics]:
-        """The metrics. `None` where the peer isn't known. Raises `NoSocket`."""
+        """The metrics. `None` if there is no peer yet. Raises `NoSocket`."""
         read = _Metrics(size=ctypes.sizeof(_Metrics))
         if self._do(_library.dcsctp_get_metrics, read) != 1:
             return None
@@ -1038,8 +1103,7 @@ class Socket:
         return Metrics(**values)
 
     def counts(self) -> Counts:
-        """What the socket has counted, whatever the state: an association that has ended doesn't matter. Raises
-        `NoSocket`."""
+        """Counts since the socket was created, also after an association has ended. Raises `NoSocket`."""
         read = _Counts(size=ctypes.sizeof(_Counts))
         self._do(_library.dcsctp_get_counts, read)
         return Counts(read.rx_packets_count, read.tx_packets_count, read.tx_messages_count)
@@ -1061,7 +1125,7 @@ class Socket:
             return self.handover_bytes()
 
     def handover_bytes(self) -> bytes:
-        """The snapshot that was taken last. Raises `NoSocket`, `NothingToCopy` and `OutOfMemory`."""
+        """The last snapshot. Raises `NoSocket`, `NothingToCopy` and `OutOfMemory`."""
         length = ctypes.c_size_t()
         with self._lock:
             try:
@@ -1071,8 +1135,8 @@ class Socket:
             return self._copied(_library.dcsctp_handover_bytes, length.value)
 
     def restore_from_state(self, snapshot: Bytes) -> None:
-        """Continues from a snapshot that another socket with these options gave: `Connected` follows. Let the clock of
-        the socket be past a minute. Restore only what you trust. `OtherOptions`: they differ in a port, an announced
+        """Continues from a snapshot that another socket with these options gave: `Connected` follows. The time of this
+        socket must be over a minute. Restore only what you trust. `OtherOptions`: they differ in a port, an announced
         number of streams, `enable_partial_reliability`, `enable_message_interleaving` or `zero_checksum_method`.
 
         Raises `NoSocket`, `NotClosed`, `InvalidSnapshot`, `OtherOptions`, `Failed` and `OutOfMemory`."""

@@ -3,10 +3,15 @@
 import copy
 import ctypes
 import dataclasses
+import os
 import pathlib
 import pickle
 import random
 import re
+import shutil
+import subprocess
+import sys
+import tempfile
 import threading
 import unittest
 
@@ -70,6 +75,73 @@ def numbers(prefix):
 
 def pascal(name):
     return "".join(it.capitalize() for it in name.split("_"))
+
+
+@unittest.skipUnless(os.path.isabs(dcsctp.library()), "the library has no folder")
+class Finding(unittest.TestCase):
+    """A copy of dcsctp.py, alone in a folder, finds a library that was installed."""
+
+    def setUp(self):
+        folder = tempfile.TemporaryDirectory()
+        self.addCleanup(folder.cleanup)
+        self.top = pathlib.Path(folder.name)
+        (self.top / "program").mkdir()
+        shutil.copy(dcsctp.__file__, self.top / "program/dcsctp.py")
+
+    def install(self, *files):
+        for file in files:
+            target = self.top / file
+            target.parent.mkdir(parents=True, exist_ok=True)
+            shutil.copy(dcsctp.library(), target)
+
+    def take(self, **variables):
+        """What `library()` and `is_proved()` return, and what an import says that fails."""
+        kept = ("DCSCTP_LIBRARY", "LD_LIBRARY_PATH", "PKG_CONFIG_PATH", "PKG_CONFIG_LIBDIR")
+        variables = {**{it: os.environ[it] for it in os.environ if it not in kept}, **variables}
+        program = "import dcsctp; print(dcsctp.library(), dcsctp.is_proved())"
+        run = [sys.executable, "-c", program]
+        ran = subprocess.run(run, cwd=self.top / "program", env=variables, capture_output=True, text=True, check=False)
+        return ran.stdout.split() or ran.stderr
+
+    def test_the_loader_finds_either_and_the_proved_one_first(self):
+        folder, proved = str(self.top / "lib"), str(dcsctp.is_proved())
+        self.install("lib/libdcsctp-unproved.so.0")
+        self.assertEqual(self.take(LD_LIBRARY_PATH=folder), ["libdcsctp-unproved.so.0", proved])
+        self.install("lib/libdcsctp.so.0")
+        self.assertEqual(self.take(LD_LIBRARY_PATH=folder), ["libdcsctp.so.0", proved])
+
+    def test_the_variable_names_another(self):
+        self.install("lib/libdcsctp.so.0", "other/of_mine.so")
+        folder, mine = str(self.top / "lib"), str(self.top / "other/of_mine.so")
+        found = self.take(LD_LIBRARY_PATH=folder, DCSCTP_LIBRARY=mine)
+        self.assertEqual(found, [mine, str(dcsctp.is_proved())])
+        self.assertIn("DCSCTP_LIBRARY: ", self.take(LD_LIBRARY_PATH=folder, DCSCTP_LIBRARY=mine + "x"))
+
+    def test_a_package_and_a_repository_have_it_beside_the_bindings(self):
+        self.install("bindings/python/unused", "out/unproved/libdcsctp-unproved.so.0")
+        shutil.copy(dcsctp.__file__, self.top / "bindings/python/dcsctp.py")
+        (self.top / "program").rename(self.top / "unused")
+        (self.top / "program").symlink_to("bindings/python")
+        for file in ("out/unproved/libdcsctp-unproved.so.0", "out/libdcsctp.so.0", "lib/libdcsctp.so.0"):
+            self.install(file)
+            self.assertEqual(self.take()[0], str((self.top / file).resolve()))
+
+    @unittest.skipUnless(shutil.which("pkg-config"), "there is no pkg-config")
+    def test_pkg_config_is_asked_last(self):
+        self.install("lib/libdcsctp-unproved.so.0")
+        folder = self.top / "lib/pkgconfig"
+        folder.mkdir()
+        lines = f"libdir={self.top}/lib\nName: n\nDescription: d\nVersion: 1\n"
+        (folder / "dcsctp-unproved.pc").write_text(lines, encoding="utf-8")
+        found = self.take(PKG_CONFIG_LIBDIR=str(folder))
+        if not found[0].startswith(("libdcsctp", "/usr/local/lib/")):  # unless this machine has one
+            self.assertEqual(found[0], str(self.top / "lib/libdcsctp-unproved.so.0"))
+
+    def test_an_import_without_a_library_says_what_was_tried(self):
+        found = self.take(PKG_CONFIG_LIBDIR=str(self.top))
+        if isinstance(found, str):  # unless this machine has one
+            for name in ("make unproved install", "DCSCTP_LIBRARY", "/usr/local/lib/libdcsctp-unproved.so.0"):
+                self.assertIn(name, found)
 
 
 class Header(unittest.TestCase):

@@ -129,7 +129,7 @@ def close_a_channel():
         pair.settle()
         pair.b.reset_streams([1])
         pair.settle()
-        pair.send("anew")
+        pair.send("once more")
         pair.settle()
 
 

@@ -200,7 +200,7 @@ func closeAChannel() {
 	p.settle()
 	must(p.b.ResetStreams(1))
 	p.settle()
-	must(p.send("anew"))
+	must(p.send("once more"))
 	p.settle()
 }
 

@@ -1,41 +1,64 @@
-//! Links the static library. It is in the folder that DCSCTP_LIB_DIR names; or in `lib` of the package that this crate
-//! was unpacked with; or where `make` or `make unproved` of the repository has put it; or where pkg-config finds it.
-//! DCSCTP_LIB_NAME is `dcsctp-unproved` for a library without proofs, where DCSCTP_LIB_DIR or pkg-config finds it.
+//! Links the static library: libdcsctp.a, or libdcsctp-unproved.a, which was built without proofs. It takes the first
+//! of these, and in each place the proved library first:
+//!
+//! 1. in the folder that DCSCTP_LIB_DIR names, if it is set;
+//! 2. in `lib` of the package that this crate was unpacked with;
+//! 3. where `make` of the repository puts it;
+//! 4. where pkg-config finds it.
+//!
+//! DCSCTP_LIB_NAME, `dcsctp` or `dcsctp-unproved`, chooses one of the two. If it isn't set and the unproved library is
+//! taken, a warning says so. With DOCS_RS, as docs.rs sets it, nothing is linked: documents need no library.
 use std::path::{Path, PathBuf};
 use std::process::Command;
 
+const PROVED: &str = "dcsctp";
 const UNPROVED: &str = "dcsctp-unproved";
 
 fn main() {
+    if std::env::var_os("DOCS_RS").is_some() {
+        return;
+    }
     for name in ["DCSCTP_LIB_DIR", "DCSCTP_LIB_NAME", "PKG_CONFIG_PATH", "PKG_CONFIG_LIBDIR"] {
         println!("cargo:rerun-if-env-changed={name}");
     }
-    let Some((folder, name)) = find() else {
-        eprintln!("dcsctp-sys: no libdcsctp.a: set DCSCTP_LIB_DIR to its folder, or run make");
+    let wanted = std::env::var("DCSCTP_LIB_NAME").ok();
+    let names = wanted.as_deref().map_or(vec![PROVED, UNPROVED], |name| vec![name]);
+    let Some((folder, name)) = find(&names) else {
+        let files: Vec<_> = names.iter().map(|name| format!("lib{name}.a")).collect();
+        eprintln!(
+            "dcsctp-sys: no {}: set DCSCTP_LIB_DIR to its folder, or run `make unproved` in the repository",
+            files.join(" or ")
+        );
         std::process::exit(1);
     };
+    if name == UNPROVED && wanted.is_none() {
+        println!("cargo:warning=it links {UNPROVED}, which was built without proofs");
+    }
     println!("cargo:rustc-link-search=native={}", folder.display());
     println!("cargo:rustc-link-lib=static={name}");
     println!("cargo:rerun-if-changed={}", archive(&folder, &name).display());
 }
 
 /// The folder of the library, and its name.
-fn find() -> Option<(PathBuf, String)> {
-    let name = std::env::var("DCSCTP_LIB_NAME").unwrap_or("dcsctp".into());
+fn find(names: &[&str]) -> Option<(PathBuf, String)> {
+    let has = |(folder, name): &(PathBuf, String)| archive(folder, name).exists();
+    let in_folders = |folders: [PathBuf; 2]| {
+        let of = |name: &&str| folders[usize::from(*name == UNPROVED)].clone();
+        names.iter().map(|name| (of(name), name.to_string())).find(has)
+    };
     if let Some(folder) = std::env::var_os("DCSCTP_LIB_DIR").map(PathBuf::from) {
-        return archive(&folder, &name).exists().then_some((folder, name));
+        return in_folders([folder.clone(), folder]);
     }
     let top = Path::new(env!("CARGO_MANIFEST_DIR")).join("../../..");
-    let places =
-        [("lib", "dcsctp"), ("lib", UNPROVED), ("out", "dcsctp"), ("out/unproved", UNPROVED)];
-    for (folder, name) in places {
-        if archive(&top.join(folder), name).exists() {
-            return Some((top.join(folder), name.into()));
-        }
-    }
-    let found = Command::new("pkg-config").args(["--variable=libdir", &name]).output().ok()?;
-    let folder = PathBuf::from(String::from_utf8(found.stdout).ok()?.trim());
-    archive(&folder, &name).exists().then_some((folder, name))
+    in_folders([top.join("lib"), top.join("lib")])
+        .or_else(|| in_folders([top.join("out"), top.join("out/unproved")]))
+        .or_else(|| names.iter().filter_map(|name| by_pkg_config(name)).find(has))
+}
+
+fn by_pkg_config(name: &str) -> Option<(PathBuf, String)> {
+    let found = Command::new("pkg-config").args(["--variable=libdir", name]).output().ok()?;
+    let folder = String::from_utf8(found.stdout).ok()?;
+    Some((PathBuf::from(folder.trim()), name.to_string()))
 }
 
 fn archive(folder: &Path, name: &str) -> PathBuf {

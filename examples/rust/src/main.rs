@@ -1,6 +1,6 @@
 //! Sends bytes from one process to another over SCTP, by UDP on loopback:
-//! `cargo run -- [--loss PERMILLE] [BYTES]`, 10 MB where it isn't said. So many of 1,000 packets are lost at
-//! each end. This process starts the one that receives, which compares what has arrived.
+//! `cargo run -- [--loss PERMILLE] [BYTES]`. BYTES is 10 MB by default, and PERMILLE is how many of 1,000 packets each
+//! end loses. This process starts the receiver, which compares the bytes.
 
 use dcsctp::{random_seed, Event, Options, SendOptions, Socket};
 use std::error::Error;
@@ -19,7 +19,7 @@ const LAST: u64 = 1;
 /// How long a process waits at most before it looks again.
 const LONGEST: Duration = Duration::from_secs(1);
 
-/// One end: a socket, the UDP socket below it, and what has happened.
+/// One end: a socket, its UDP socket, and what has happened.
 struct End {
     socket: Socket,
     udp: UdpSocket,
@@ -55,7 +55,7 @@ impl End {
         })
     }
 
-    /// Sends a packet, or loses it. What the system doesn't send is lost, too, and sent again.
+    /// Sends a packet, or loses it. A packet that the system doesn't send is lost, too.
     fn emit(&mut self, packet: &[u8]) {
         self.sent += 1;
         self.random =
@@ -67,7 +67,7 @@ impl End {
         }
     }
 
-    /// Takes all events and messages. It follows each call that may add some.
+    /// Takes all events and messages. Call it after each call that may add some.
     fn drain(&mut self) {
         while let Some(event) = self.socket.poll_event() {
             match event {
@@ -86,12 +86,12 @@ impl End {
                 _ => {}
             }
         }
-        while let Some(message) = self.socket.get_next_message() {
+        for message in self.socket.messages() {
             self.received.extend(message.payload);
         }
     }
 
-    /// Waits for a packet or the deadline, and hands in what there is.
+    /// Waits for a packet or the deadline, and hands in all packets that have come.
     fn turn(&mut self, longest: Duration) -> Result<(), Failure> {
         let deadline = self.socket.poll_timeout().unwrap_or(Duration::MAX);
         let wait = deadline.saturating_sub(self.epoch.elapsed());
@@ -120,7 +120,7 @@ fn sample(count: usize) -> Vec<u8> {
     (0..count).map(|at| ((at * 31) >> 3) as u8).collect()
 }
 
-/// Says on one line of standard error how far it is, twice a second.
+/// Prints the progress on one line of standard error, twice a second.
 fn progress(end: &End, done: usize, count: usize, shown: &mut Instant) {
     if shown.elapsed() > Duration::from_millis(500) {
         *shown = Instant::now();
@@ -176,7 +176,7 @@ fn exchange(other: &mut Child, udp: UdpSocket, loss: u64, count: usize) -> Resul
     udp.connect(("127.0.0.1", port.trim().parse::<u16>()?))?;
     let mut end = End::new(udp, loss)?;
     let time = send(&mut end, &sample(count))?.as_secs_f64();
-    // It answers until the other process has ended, too: the last packet may be lost.
+    // It answers until the other process has ended, since the last packet of the shutdown may be lost.
     let same = loop {
         if let Some(status) = other.try_wait()? {
             break status.success();
@@ -209,8 +209,8 @@ fn run(loss: u64, count: usize) -> Result<bool, Failure> {
     outcome
 }
 
-/// What the words of the command line ask for; `None`: they are wrong.
-fn obey(words: &[&str]) -> Option<Result<bool, Failure>> {
+/// Runs the command line; `None` if it is wrong.
+fn run_words(words: &[&str]) -> Option<Result<bool, Failure>> {
     Some(match words {
         [] => run(0, 10_000_000),
         [count] => run(0, count.parse().ok()?),
@@ -225,7 +225,7 @@ fn obey(words: &[&str]) -> Option<Result<bool, Failure>> {
 
 fn main() -> ExitCode {
     let words: Vec<String> = env::args().skip(1).collect();
-    match obey(&words.iter().map(String::as_str).collect::<Vec<_>>()) {
+    match run_words(&words.iter().map(String::as_str).collect::<Vec<_>>()) {
         Some(Ok(same)) => ExitCode::from(!same as u8),
         Some(Err(failure)) => {
             eprintln!("{failure}");

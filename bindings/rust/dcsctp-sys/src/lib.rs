@@ -36,6 +36,7 @@ pub const DCSCTP_ERROR_NOT_CLOSED: i32 = -16;
 pub const DCSCTP_ERROR_INVALID_SEND_OPTIONS: i32 = -17;
 pub const DCSCTP_ERROR_WRONG_SIZE: i32 = -18;
 pub const DCSCTP_ERROR_OTHER_OPTIONS: i32 = -19;
+pub const DCSCTP_ERROR_NO_SEED: i32 = -1002;
 
 // ---- Sockets and options ----------------------------------------------------------------------
 

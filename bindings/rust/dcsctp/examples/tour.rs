@@ -1,5 +1,5 @@
 //! What a socket can do, as small programs of two sockets, A and B, in one process. `cargo run --example tour` runs all
-//! of them. They print what `bindings/expected.txt` says, as those of the other languages do.
+//! of them. They print `bindings/expected.txt`, as those of the other languages do.
 
 use dcsctp::{
     random_seed, Error, Event, HandoverReadiness, Options, OutgoingMessage, SendOptions, Socket,
@@ -13,7 +13,7 @@ type Program = fn() -> Outcome;
 const TEXT: u32 = 51;
 const BINARY: u32 = 53;
 
-/// The time at which each program begins. `restore_from_state` wants more than a minute.
+/// The time at which each program begins. `restore_from_state` needs more than a minute.
 const BEGIN: Duration = Duration::from_secs(3600);
 
 struct Pair {
@@ -46,7 +46,7 @@ fn details(event: &Event) -> String {
 /// Takes all events and messages of a socket. Its packets go to the other one. Returns how many there were.
 fn carry(name: &str, from: &mut Socket, to: &mut Socket) -> Result<usize, Error> {
     let mut packets = 0;
-    while let Some(event) = from.poll_event() {
+    for event in from.events() {
         if let Event::SendPacket(packet) = event {
             to.handle_input(&packet)?;
             packets += 1;
@@ -54,7 +54,7 @@ fn carry(name: &str, from: &mut Socket, to: &mut Socket) -> Result<usize, Error>
             println!("{name}: {}{}", event.name(), details(&event));
         }
     }
-    while let Some(message) = from.get_next_message() {
+    for message in from.messages() {
         let text = String::from_utf8_lossy(&message.payload);
         let (stream_id, ppid) = (message.stream_id, message.ppid);
         println!("{name} has a message on stream {stream_id} under {ppid}: {text}");
@@ -160,7 +160,7 @@ fn close_a_channel() -> Outcome {
     pair.settle()?;
     pair.b.reset_streams(&[1])?;
     pair.settle()?;
-    pair.send("anew")?;
+    pair.send("once more")?;
     pair.settle()?;
     Ok(())
 }

@@ -8,15 +8,15 @@ use std::fmt;
 #[derive(Clone, Copy, Debug, PartialEq, Eq, Hash)]
 pub enum Error {
     /// An allocation of the library failed in this call. The socket has failed now, unless the call says that it may be
-    /// tried again; `Socket::has_failed` says whether.
+    /// tried again; `Socket::has_failed` reports whether.
     OutOfMemory,
-    /// An allocation failed in an earlier call. Events can be taken; all that is left to do is to drop the socket.
+    /// An allocation failed in an earlier call. Events can be taken. Then drop the socket.
     Failed,
     /// There is no socket. No method of `Socket` returns it.
     NoSocket,
-    /// There is a socket already. No method of `Socket` returns it.
+    /// The socket was created already. No method of `Socket` returns it.
     AlreadyCreated,
-    /// No socket can be made with these options.
+    /// The options aren't valid.
     InvalidOptions,
     /// The buffer is too small. No method of `Socket` returns it.
     BufferTooSmall,
@@ -26,30 +26,30 @@ pub enum Error {
     EmptyPayload,
     /// The message is longer than `max_message_size`.
     MessageTooLarge,
-    /// The send buffer is full, in all or for this stream. Try again at `Event::BufferedAmountLow` or
+    /// The send buffer is full, in total or for this stream. Try again after `Event::BufferedAmountLow` or
     /// `Event::TotalBufferedAmountLow`.
     ResourceExhaustion,
-    /// The association is being shut down, and takes no message.
+    /// The association is being shut down, and accepts no message.
     ShuttingDown,
     /// There is no association, or the peer hasn't answered yet.
     NotConnected,
     /// The peer doesn't reset streams (RFC 6525).
     NotSupported,
-    /// The socket can't be handed over now: `Socket::handover_readiness` says why.
+    /// The socket can't be handed over now: `Socket::handover_readiness` reports why.
     NotReady,
-    /// These bytes are no snapshot, or not all of them are as they were written.
+    /// The bytes aren't a snapshot, or were changed since it was taken.
     InvalidSnapshot,
-    /// The socket has an association, or begins one.
+    /// The socket has an association, or is connecting.
     NotClosed,
     /// No method of `Socket` returns it, since `SendOptions` are always valid.
     InvalidSendOptions,
-    /// A struct has another size in the library, which has another header.
+    /// A struct has another size in the library, which was built with another header.
     WrongSize,
-    /// The snapshot is of a socket with other options: `Socket::restore_from_state` says which ones count.
+    /// The snapshot is of a socket with other options: `Socket::restore_from_state` lists those that must be the same.
     OtherOptions,
     /// The library has another version than these crates.
     WrongVersion,
-    /// A number that a later version of the library may have.
+    /// A number that a later version of the library may add.
     Unknown(i32),
 }
 

@@ -10,7 +10,7 @@ pub enum Event {
     SendPacket(Vec<u8>),
     /// An association was made, by either end.
     Connected,
-    /// It has ended: by a shutdown, `Socket::close` or a handover.
+    /// It has ended: by a shutdown, `Socket::close` or a handover. Continue the loop for 4 s, as the crate's page says.
     Closed,
     /// The peer restarted: then `Connected` comes.
     ConnectionRestarted,
@@ -28,9 +28,9 @@ pub enum Event {
         /// More of it, which may be empty.
         text: String,
     },
-    /// What waits on this stream has fallen to its threshold.
+    /// The queued bytes of this stream have fallen to its threshold.
     BufferedAmountLow(u16),
-    /// What waits on all streams has fallen to the threshold.
+    /// The queued bytes of all streams have fallen to the threshold.
     TotalBufferedAmountLow,
     /// Streams of this end that weren't reset.
     StreamsResetFailed(Vec<u16>),
@@ -48,7 +48,7 @@ pub enum Event {
     LifecycleDelivered(u64),
     /// No event names it again.
     LifecycleEnd(u64),
-    /// A kind that a later version of the library may have. Ignore it.
+    /// A kind that a later version of the library may add. Ignore it.
     Unknown(u32),
 }
 
@@ -99,7 +99,7 @@ pub enum ErrorKind {
     ResourceExhaustion,
     /// It isn't supported.
     UnsupportedOperation,
-    /// A kind that a later version of the library may have.
+    /// A kind that a later version of the library may add.
     Unknown(u32),
 }
 

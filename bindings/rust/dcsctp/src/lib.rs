@@ -2,42 +2,46 @@
 //! arrive, and the time. It hands you the packets to send, the messages that have arrived, and events.
 //!
 //! ```
-//! use dcsctp::{random_seed, Event, Options, SendOptions, Socket};
+//! use dcsctp::{random_seed, Error, Event, Options, SendOptions, Socket};
 //! use std::time::Duration;
 //!
 //! // Takes all events and messages of a socket. Its packets go to the other one; in a program, to the peer.
-//! fn drain(from: &mut Socket, to: &mut Socket) -> Result<bool, dcsctp::Error> {
+//! fn drain(from: &mut Socket, to: &mut Socket) -> Result<bool, Error> {
 //!     let mut has_packets = false;
-//!     while let Some(event) = from.poll_event() {
+//!     for event in from.events() {
 //!         if let Event::SendPacket(packet) = event {
 //!             to.handle_input(&packet)?;
 //!             has_packets = true;
 //!         }
 //!     }
-//!     while let Some(message) = from.get_next_message() {
-//!         assert_eq!(message.payload, b"hello");
+//!     for message in from.messages() {
+//!         println!("{}", String::from_utf8_lossy(&message.payload));
 //!     }
 //!     Ok(has_packets)
 //! }
 //!
-//! # fn main() -> Result<(), Box<dyn std::error::Error>> {
-//! let mut a = Socket::new(&Options::default(), &random_seed()?, Duration::ZERO)?;
-//! let mut b = Socket::new(&Options::default(), &random_seed()?, Duration::ZERO)?;
-//! a.connect()?;
-//! a.send(1, 51, b"hello", &SendOptions::default())?;
-//! while drain(&mut a, &mut b)? | drain(&mut b, &mut a)? {}
-//! # Ok(())
-//! # }
+//! fn main() -> Result<(), Box<dyn std::error::Error>> {
+//!     let mut a = Socket::new(&Options::default(), &random_seed()?, Duration::ZERO)?;
+//!     let mut b = Socket::new(&Options::default(), &random_seed()?, Duration::ZERO)?;
+//!     a.connect()?;
+//!     a.send(1, 51, b"hello", &SendOptions::default())?;
+//!     while drain(&mut a, &mut b)? | drain(&mut b, &mut a)? {}
+//!     assert_eq!(b.counts().rx_packets_count, 2); // INIT, then COOKIE ECHO with the message
+//!     Ok(())
+//! }
 //! ```
 //!
 //! # The loop
 //!
-//! 1. Take all events (`poll_event`), and send each packet to the peer. Take all messages (`get_next_message`).
+//! 1. Take all events (`events`), and send each packet to the peer. Take all messages (`messages`).
 //! 2. Ask for the deadline (`poll_timeout`). Wait for a packet, or until then.
-//! 3. Set the time (`advance_time`). Hand in one packet, if one has come (`handle_input`). Begin again at 1.
+//! 3. Set the time (`advance_time`). Hand in one packet, if one has come (`handle_input`). Continue at 1.
 //!
-//! A call that hands something in, be it a packet, the time or a command, may add events and messages, and move the
-//! deadline. When an association begins, the messages of the one before that weren't taken are lost.
+//! Each packet, time or command may add events and messages, and move the deadline. Take all messages before you hand
+//! in the next packet: messages that are left when another association begins are lost.
+//!
+//! The loop ends at `Event::Aborted`, or 4 s after `Event::Closed`: until then the peer may need the last packet of the
+//! shutdown again. Wait for `Event::Connected` before you call `shutdown`.
 //!
 //! # Safety and memory
 //!
@@ -45,8 +49,8 @@
 //! What is copied here is in vectors, and if one of these can't be allocated, Rust ends the process as it always
 //! does.
 //!
-//! Let DTLS be below, or another layer that lets in nothing but what the peer has sent. `docs/C.md` says what is
-//! proved.
+//! Run it over DTLS, or over another layer that delivers only what the peer has sent. The library is proved, unless
+//! `version().is_proved` is false; this crate is tested. `docs/guide/c.md` of the repository says what is proved.
 
 mod error;
 mod event;

@@ -7,7 +7,7 @@ use std::time::Duration;
 /// A message that has arrived.
 #[derive(Clone, Debug, PartialEq, Eq)]
 pub struct Message {
-    /// The stream that it came by.
+    /// Its stream.
     pub stream_id: u16,
     /// The payload protocol identifier (RFC 8831, section 8).
     pub ppid: u32,
@@ -18,7 +18,7 @@ pub struct Message {
 /// A message of `Socket::send_many`.
 #[derive(Clone, Copy, Debug, PartialEq, Eq)]
 pub struct OutgoingMessage<'a> {
-    /// The stream that it goes by.
+    /// Its stream.
     pub stream_id: u16,
     /// The payload protocol identifier (RFC 8831, section 8).
     pub ppid: u32,
@@ -34,9 +34,9 @@ pub struct OutgoingMessage<'a> {
 /// ```
 #[derive(Clone, Copy, Debug, Default, PartialEq, Eq)]
 pub struct SendOptions {
-    /// The name in `Event::Lifecycle..`; 0: no such events.
+    /// Its name in `Event::Lifecycle..`; 0: no such events.
     pub lifecycle_id: u64,
-    /// Whether the peer may be given it out of order.
+    /// Whether the peer may deliver it out of order.
     pub unordered: bool,
     /// It is abandoned if it isn't acknowledged by then. It needs partial reliability at both ends, as the next one
     /// does.
@@ -46,12 +46,12 @@ pub struct SendOptions {
 }
 
 impl SendOptions {
-    /// The name in `Event::Lifecycle..`.
+    /// Sets its name in `Event::Lifecycle..`.
     pub fn lifecycle_id(self, lifecycle_id: u64) -> SendOptions {
         SendOptions { lifecycle_id, ..self }
     }
 
-    /// The peer may be given it out of order.
+    /// The peer may deliver it out of order.
     pub fn unordered(self) -> SendOptions {
         SendOptions { unordered: true, ..self }
     }

@@ -3,7 +3,7 @@
 use dcsctp_sys as sys;
 use std::time::Duration;
 
-/// What can be set. Sizes are bytes. `dcsctp.h` says at `dcsctp_options` which values connect, and what they cost.
+/// What can be set. Sizes are in bytes. `dcsctp.h` describes each at `dcsctp_options`, and says which values connect.
 ///
 /// ```
 /// let options = dcsctp::Options { mtu: 1200, ..Default::default() };
@@ -15,43 +15,43 @@ pub struct Options {
     pub mtu: usize,
     /// The longest message to send: 262,144.
     pub max_message_size: usize,
-    /// What is received and not taken yet: 5,242,880. Let it be far more than a peer has in flight.
+    /// Received, not taken yet: 5,242,880. Make it far more than a peer has in flight.
     pub max_receiver_window_buffer_size: usize,
-    /// `send` refuses at this: 2,000,000.
+    /// `send` fails at this: 2,000,000.
     pub max_send_buffer_size: usize,
-    /// The same of a stream: 2,000,000.
+    /// The same for one stream: 2,000,000.
     pub per_stream_send_queue_limit: usize,
-    /// Of all streams: 1,800,000. Let it be below `max_send_buffer_size`.
+    /// Of all streams: 1,800,000. Keep it below `max_send_buffer_size`.
     pub total_buffered_amount_low_threshold: usize,
     /// Of a stream: 0.
     pub default_stream_buffered_amount_low_threshold: usize,
     /// The first congestion window, in MTUs: 10.
     pub cwnd_mtus_initial: usize,
-    /// The least one after a loss, in MTUs: 4.
+    /// Its minimum after a loss, in MTUs: 4.
     pub cwnd_mtus_min: usize,
-    /// No longer round trip counts: 60 s.
+    /// Longer round trips are ignored: 60 s.
     pub rtt_max: Duration,
-    /// The first retransmission timeout: 500 ms. Let it be longer than any round trip.
+    /// The first retransmission timeout: 500 ms. Make it longer than any round trip.
     pub rto_initial: Duration,
-    /// Its greatest value: 60 s.
+    /// Its maximum without backoff: 60 s.
     pub rto_max: Duration,
-    /// Its least value: 400 ms.
+    /// Its minimum: 400 ms.
     pub rto_min: Duration,
     /// The first wait for an INIT ACK: 1 s.
     pub t1_init_timeout: Duration,
     /// The first wait for a COOKIE ACK: 1 s.
     pub t1_cookie_timeout: Duration,
-    /// No association is made by an older one: 60 s.
+    /// Older cookies are rejected: 60 s.
     pub cookie_lifetime: Duration,
-    /// The limit of backoff: none.
+    /// The limit of backoff: none. Set it to a few seconds if the peer may pause.
     pub max_timer_backoff_duration: Option<Duration>,
     /// Between HEARTBEATs; zero: none are sent. 30 s.
     pub heartbeat_interval: Duration,
-    /// For acknowledgements: 200 ms.
+    /// SACKs wait up to this: 200 ms.
     pub delayed_ack_max_timeout: Duration,
-    /// The least four variances: 220 ms.
+    /// The minimum of 4 * RTTVAR: 220 ms.
     pub min_rtt_variance: Duration,
-    /// Packets that one flush sends: 4.
+    /// Packets sent at once: 4. Raise it for a peer that acknowledges once a round trip.
     pub max_burst: i32,
     /// Of data; `None`: no limit. 10.
     pub max_retransmissions: Option<u32>,
@@ -65,19 +65,19 @@ pub struct Options {
     pub enable_message_interleaving: bool,
     /// For tests: off.
     pub disable_checksum_verification: bool,
-    /// Whether data that is sent may be unfinished at a handover: off.
+    /// Whether a handover may leave data unfinished: off.
     pub enable_handover_with_outstanding_data: bool,
-    /// 5,000.
+    /// Our port: 5,000.
     pub local_port: u16,
     /// The peer's `local_port`: 5,000.
     pub remote_port: u16,
-    /// 65,535.
+    /// Streams that the peer may use: 65,535.
     pub announced_maximum_incoming_streams: u16,
-    /// 65,535.
+    /// Streams that we ask for: 65,535.
     pub announced_maximum_outgoing_streams: u16,
-    /// 256.
+    /// Of each stream: 256.
     pub default_stream_priority: u16,
-    /// Whether rules of the RFCs hold that dcsctp 0.1.16 doesn't keep: on.
+    /// Whether the socket keeps rules of the RFCs that upstream, dcsctp 0.1.16, doesn't: on.
     pub follow_rfc: bool,
 }
 

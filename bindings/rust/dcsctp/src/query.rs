@@ -1,4 +1,4 @@
-//! What queries answer.
+//! What queries return.
 
 use dcsctp_sys as sys;
 use std::time::Duration;
@@ -9,13 +9,13 @@ use std::time::Duration;
 pub enum State {
     /// There is no association.
     Closed,
-    /// One is being made.
+    /// The handshake isn't over.
     Connecting,
     /// There is one.
     Connected,
     /// It is being shut down.
     ShuttingDown,
-    /// A state that a later version of the library may have.
+    /// A state that a later version of the library may add.
     Unknown(i32),
 }
 
@@ -31,11 +31,11 @@ impl State {
     }
 }
 
-/// Which program the peer runs, as its cookie says.
+/// Which program the peer runs, by its cookie.
 #[non_exhaustive]
 #[derive(Clone, Copy, Debug, PartialEq, Eq, Hash)]
 pub enum Peer {
-    /// Its cookie doesn't say, or it sent no INIT ACK.
+    /// Its cookie doesn't show it, or it sent no INIT ACK.
     Unknown,
     /// This library, or dcSCTP in Rust.
     DcsctpRs,
@@ -59,7 +59,7 @@ impl Peer {
     }
 }
 
-/// Counts of the socket's whole life, and how the association is now.
+/// Counts since the socket was created, and the present state of the association.
 #[derive(Clone, Debug, PartialEq, Eq)]
 pub struct Metrics {
     /// Bytes of chunks sent again, with headers and padding.
@@ -68,19 +68,19 @@ pub struct Metrics {
     pub srtt: Duration,
     /// Packets sent.
     pub tx_packets_count: usize,
-    /// Messages that `send` took.
+    /// Messages that `send` accepted.
     pub tx_messages_count: usize,
     /// Packets with chunks that were sent again.
     pub rtx_packets_count: usize,
     /// The congestion window.
     pub cwnd_bytes: usize,
-    /// Chunks in flight, and those of messages that wait.
+    /// Chunks in flight, and those of queued messages.
     pub unack_data_count: usize,
     /// Packets handed in, readable or not.
     pub rx_packets_count: usize,
     /// Messages that became ready.
     pub rx_messages_count: usize,
-    /// The window of the peer, without what is in flight.
+    /// The peer's window, less data in flight.
     pub peer_rwnd_bytes: u32,
     /// Which program the peer runs.
     pub peer_implementation: Peer,
@@ -88,9 +88,9 @@ pub struct Metrics {
     pub uses_message_interleaving: bool,
     /// Whether the checksum may be left out.
     pub uses_zero_checksum: bool,
-    /// The peer is to use streams below this.
+    /// The peer uses streams below this.
     pub negotiated_maximum_incoming_streams: u16,
-    /// And `send` those below this.
+    /// Use streams below this in `send`.
     pub negotiated_maximum_outgoing_streams: u16,
 }
 
@@ -116,14 +116,14 @@ impl Metrics {
     }
 }
 
-/// What a socket has counted in its whole life.
+/// Counts since the socket was created.
 #[derive(Clone, Copy, Debug, Default, PartialEq, Eq)]
 pub struct Counts {
     /// Packets handed in, readable or not.
     pub rx_packets_count: usize,
     /// Packets sent.
     pub tx_packets_count: usize,
-    /// Messages that `send` took.
+    /// Messages that `send` accepted.
     pub tx_messages_count: usize,
 }
 
@@ -144,18 +144,18 @@ pub struct HandoverReadiness(pub u32);
 impl HandoverReadiness {
     /// It is being set up or shut down.
     pub const WRONG_CONNECTION_STATE: u32 = sys::DCSCTP_HANDOVER_WRONG_CONNECTION_STATE;
-    /// Messages wait to be sent.
+    /// Messages are queued.
     pub const SEND_QUEUE_NOT_EMPTY: u32 = sys::DCSCTP_HANDOVER_SEND_QUEUE_NOT_EMPTY;
-    /// A request of this end isn't answered.
+    /// Our request isn't answered.
     pub const PENDING_STREAM_RESET_REQUEST: u32 = sys::DCSCTP_HANDOVER_PENDING_STREAM_RESET_REQUEST;
     /// Received data has a gap.
     pub const DATA_TRACKER_TSN_BLOCKS_PENDING: u32 =
         sys::DCSCTP_HANDOVER_DATA_TRACKER_TSN_BLOCKS_PENDING;
-    /// A stream of this end is to be reset.
+    /// Our stream is to be reset.
     pub const PENDING_STREAM_RESET: u32 = sys::DCSCTP_HANDOVER_PENDING_STREAM_RESET;
     /// A reset by the peer is deferred.
     pub const STREAM_RESET_DEFERRED: u32 = sys::DCSCTP_HANDOVER_STREAM_RESET_DEFERRED;
-    /// Messages aren't whole, or wait.
+    /// Messages are incomplete.
     pub const STREAM_HAS_UNASSEMBLED_CHUNKS: u32 =
         sys::DCSCTP_HANDOVER_STREAM_HAS_UNASSEMBLED_CHUNKS;
     /// Data isn't acknowledged.
@@ -164,7 +164,7 @@ impl HandoverReadiness {
     /// Fast recovery is under way.
     pub const RETRANSMISSION_QUEUE_FAST_RECOVERY: u32 =
         sys::DCSCTP_HANDOVER_RETRANSMISSION_QUEUE_FAST_RECOVERY;
-    /// Data is to be sent again.
+    /// Data must be sent again.
     pub const RETRANSMISSION_QUEUE_NOT_EMPTY: u32 =
         sys::DCSCTP_HANDOVER_RETRANSMISSION_QUEUE_NOT_EMPTY;
 

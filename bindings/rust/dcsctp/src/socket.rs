@@ -1,4 +1,4 @@
-//! A socket that is safe: it owns what it has, and borrows keep the rules of `dcsctp.h`.
+//! A safe socket: it owns its memory, and borrows keep the rules of `dcsctp.h`.
 
 use crate::options::{moment, nanoseconds};
 use crate::{
@@ -9,9 +9,9 @@ use dcsctp_sys as sys;
 use std::time::Duration;
 use std::{ptr, slice};
 
-/// A socket. The page of the crate says in which order its methods are called.
+/// A socket. The crate's page shows the order of calls.
 ///
-/// It may be moved to another thread, but isn't shared between threads, and can't be copied:
+/// It may be moved to another thread, but can't be shared between threads or copied:
 ///
 /// ```compile_fail,E0277
 /// fn shared<T: Sync>() {}
@@ -63,21 +63,24 @@ impl Socket {
 
     // ---- Commands ---------------------------------------------------------------------------
 
-    /// Begins an association: `Event::Connected` follows, or `Event::Aborted`. On a socket that isn't closed it changes
+    /// Begins an association: `Event::Connected` follows, or `Event::Aborted`. If the socket isn't closed, it does
     /// nothing. Errors: `Failed`, `OutOfMemory`.
     pub fn connect(&mut self) -> Result<(), Error> {
         Error::check(unsafe { sys::dcsctp_connect(&mut self.0) })
     }
 
-    /// Ends the association in an orderly way: `Event::Closed` follows, or `Event::Aborted`. From now on `send` is
-    /// refused. On a closed socket it changes nothing. Errors: `Failed`, `OutOfMemory`.
+    /// Wait for `Event::Connected` before this call: until the peer has answered the first INIT it sends nothing, and
+    /// queued messages are lost.
+    ///
+    /// It ends the association in an orderly way: `Event::Closed` follows, or `Event::Aborted`. From now on `send`
+    /// fails. On a closed socket it does nothing. Errors: `Failed`, `OutOfMemory`.
     pub fn shutdown(&mut self) -> Result<(), Error> {
         Error::check(unsafe { sys::dcsctp_shutdown(&mut self.0) })
     }
 
-    /// Ends the association at once, by an ABORT: the last event is `Event::Closed`. What is on its way is lost.
-    /// Messages that are ready can still be taken; without `follow_rfc` they are lost. On a closed socket it changes
-    /// nothing. Errors: `Failed`, `OutOfMemory`.
+    /// Ends the association at once, by an ABORT: the last event is `Event::Closed`. Queued messages and data in flight
+    /// are lost. Messages that are ready can still be taken; without `follow_rfc` they are lost. On a closed socket it
+    /// does nothing. Errors: `Failed`, `OutOfMemory`.
     pub fn close(&mut self) -> Result<(), Error> {
         Error::check(unsafe { sys::dcsctp_close(&mut self.0) })
     }
@@ -91,13 +94,13 @@ impl Socket {
         Error::check(unsafe { sys::dcsctp_handle_input(&mut self.0, at, length) })
     }
 
-    /// Sets the time, and handles what is due. A moment before the last one changes nothing.
+    /// Sets the time, and handles expired timers. A moment before the last one does nothing.
     /// Errors: `Failed`, `OutOfMemory`.
     pub fn advance_time(&mut self, now: Duration) -> Result<(), Error> {
         Error::check(unsafe { sys::dcsctp_advance_time(&mut self.0, nanoseconds(now)) })
     }
 
-    /// The next deadline, by which `advance_time` must be called; `None` if there is none.
+    /// The next deadline, by which you must call `advance_time`; `None` if there is none.
     pub fn poll_timeout(&self) -> Option<Duration> {
         let mut deadline = sys::DCSCTP_NEVER;
         unsafe { sys::dcsctp_poll_timeout(&self.0, &mut deadline) };
@@ -106,7 +109,12 @@ impl Socket {
 
     // ---- Events and messages ----------------------------------------------------------------
 
-    /// Takes the oldest event.
+    /// Takes all events, one at a time. Those that aren't taken stay for the next call.
+    pub fn events(&mut self) -> impl Iterator<Item = Event> + '_ {
+        std::iter::from_fn(|| self.poll_event())
+    }
+
+    /// Takes the oldest event; `None` if there is none.
     pub fn poll_event(&mut self) -> Option<Event> {
         let mut event = sys::dcsctp_event::default();
         if unsafe { sys::dcsctp_poll_event(&mut self.0, &mut event) } != 1 {
@@ -170,9 +178,13 @@ impl Socket {
         count
     }
 
-    /// Takes the message that became ready first. It may be of an association that has ended. What isn't taken when the
-    /// next one begins is lost, and the peer may begin it: so take all before the next packet is handed in. Without
-    /// `follow_rfc` it is lost when its own ends.
+    /// Takes all messages that are ready, one at a time. Those that aren't taken stay for the next call.
+    pub fn messages(&mut self) -> impl Iterator<Item = Message> + '_ {
+        std::iter::from_fn(|| self.get_next_message())
+    }
+
+    /// Takes the first message that is ready; `None` if there is none. It may be of an association that has ended.
+    /// Messages that are left when the next one begins are lost; without `follow_rfc` when their own ends.
     pub fn get_next_message(&mut self) -> Option<Message> {
         let mut message = sys::dcsctp_message::default();
         if unsafe { sys::dcsctp_get_next_message(&mut self.0, &mut message) } != 1 {
@@ -182,9 +194,9 @@ impl Socket {
         Some(Message { stream_id: message.stream_id, ppid: message.ppid, payload })
     }
 
-    /// Sends a message, whose bytes are copied. It waits after the others of its stream, and before an association is
-    /// made, too. Where a message is refused, an `Event::Error` says the same. After `OutOfMemory` the call may be
-    /// tried again if `has_failed` is `false`.
+    /// Sends a message, whose bytes are copied. It is queued behind other messages of its stream, also before an
+    /// association exists. If it fails, an `Event::Error` follows, too. After `OutOfMemory` the call may be tried again
+    /// if `has_failed` is `false`.
     ///
     /// Errors: `EmptyPayload`, `MessageTooLarge`, `ShuttingDown`, `ResourceExhaustion`, `Failed`, `OutOfMemory`.
     pub fn send(
@@ -200,8 +212,8 @@ impl Socket {
         })
     }
 
-    /// Sends several messages, each as `send` does, with the same options. What waits is sent once, after the last.
-    /// `Ok` says of each message whether it was taken: what refuses one doesn't refuse those after it.
+    /// Sends several messages, each as `send` does, with the same options. Packets are made once, after the last.
+    /// `Ok` has a result for each message. If one fails, later ones are sent all the same.
     ///
     /// Errors: `Failed`, `OutOfMemory`. After `OutOfMemory` the call may be tried again if `has_failed` is `false`;
     /// else some of the messages may have been sent.
@@ -226,7 +238,7 @@ impl Socket {
         let (from, to) = (outgoing.as_ptr(), results.as_mut_ptr());
         let result =
             unsafe { sys::dcsctp_send_many(&mut self.0, from, count, &options, to, count) };
-        // (an error that refuses one message is written, and the others are not)
+        // (the error of a message is written to its result; other errors write none)
         if results.contains(&UNWRITTEN) || results.is_empty() {
             Error::check(result)?;
         }
@@ -235,9 +247,9 @@ impl Socket {
 
     // ---- Streams ----------------------------------------------------------------------------
 
-    /// Resets streams of this end, which closes data channels. Messages on them that weren't begun are dropped: first
-    /// wait until `buffered_amount` of each stream and `unack_data_count` of `metrics` are 0. `Event::StreamsReset..`
-    /// follows; the peer gets `Event::IncomingStreamReset`.
+    /// Resets outgoing streams, which closes data channels. First wait until `buffered_amount` of each stream and
+    /// `unack_data_count` of `metrics` are 0: queued messages are dropped. `Event::StreamsReset..` follows; the peer
+    /// gets `Event::IncomingStreamReset`.
     ///
     /// Errors: `NotConnected`, `NotSupported`, `Failed`, `OutOfMemory`.
     pub fn reset_streams(&mut self, stream_ids: &[u16]) -> Result<(), Error> {
@@ -245,21 +257,21 @@ impl Socket {
         Error::check(unsafe { sys::dcsctp_reset_streams(&mut self.0, at, count) })
     }
 
-    /// How many bytes wait to be sent on a stream.
+    /// How many bytes are queued on a stream.
     pub fn buffered_amount(&self, stream_id: u16) -> usize {
         let mut bytes = 0;
         unsafe { sys::dcsctp_buffered_amount(&self.0, stream_id, &mut bytes) };
         bytes
     }
 
-    /// The low threshold of a stream: `Event::BufferedAmountLow` comes when what waits falls to it.
+    /// The low threshold of a stream: `Event::BufferedAmountLow` comes when its queued bytes fall to it.
     pub fn buffered_amount_low_threshold(&self, stream_id: u16) -> usize {
         let mut bytes = 0;
         unsafe { sys::dcsctp_buffered_amount_low_threshold(&self.0, stream_id, &mut bytes) };
         bytes
     }
 
-    /// Sets that threshold. It outlasts an association. Errors: `Failed`, `OutOfMemory`.
+    /// Sets that threshold, also for later associations. Errors: `Failed`, `OutOfMemory`.
     pub fn set_buffered_amount_low_threshold(
         &mut self,
         stream_id: u16,
@@ -270,14 +282,14 @@ impl Socket {
         })
     }
 
-    /// The priority of a stream: one of the greatest priority is sent first.
+    /// The priority of a stream: the one with the greatest is sent first.
     pub fn stream_priority(&self, stream_id: u16) -> u16 {
         let mut priority = 0;
         unsafe { sys::dcsctp_get_stream_priority(&self.0, stream_id, &mut priority) };
         priority
     }
 
-    /// Sets that priority. It outlasts an association. Errors: `Failed`, `OutOfMemory`.
+    /// Sets that priority, also for later associations. Errors: `Failed`, `OutOfMemory`.
     pub fn set_stream_priority(&mut self, stream_id: u16, priority: u16) -> Result<(), Error> {
         Error::check(unsafe { sys::dcsctp_set_stream_priority(&mut self.0, stream_id, priority) })
     }
@@ -289,12 +301,12 @@ impl Socket {
         State::of(unsafe { sys::dcsctp_state(&self.0) })
     }
 
-    /// Whether an allocation has failed, so that the socket is of no more use.
+    /// Whether an allocation has failed, so that the socket can't be used any more.
     pub fn has_failed(&self) -> bool {
         unsafe { sys::dcsctp_has_failed(&self.0) == 1 }
     }
 
-    /// Sets how long a message may be from now on.
+    /// Sets `max_message_size`, for messages sent from now on.
     pub fn set_max_message_size(&mut self, bytes: usize) {
         unsafe { sys::dcsctp_set_max_message_size(&mut self.0, bytes) };
     }
@@ -371,13 +383,13 @@ impl Socket {
     }
 }
 
-/// A copy of the bytes that a call of the library shows where they lie.
+/// A copy of the bytes that a call of the library shows.
 fn shown(show: impl FnOnce(*mut *const u8, *mut usize) -> i32) -> Vec<u8> {
     let (mut at, mut length) = (ptr::null(), 0);
     if show(&mut at, &mut length) != sys::DCSCTP_OK || length == 0 {
         return Vec::new();
     }
-    // SAFETY: a call that returns DCSCTP_OK has written where so many bytes lie, and no call has come since.
+    // SAFETY: a call that returns DCSCTP_OK has written where so many bytes are, and no call has followed.
     unsafe { slice::from_raw_parts(at, length) }.to_vec()
 }
 

@@ -5,7 +5,7 @@ use dcsctp_sys as sys;
 use std::fs::File;
 use std::io::{self, Read};
 
-/// The version of the library that is linked. `Socket::new` refuses one of another version than these crates.
+/// The version of the linked library. `Socket::new` fails if it isn't the version of these crates.
 pub fn version() -> Version {
     // SAFETY: it has no premise.
     Version::of(unsafe { sys::dcsctp_version() })

@@ -13,7 +13,7 @@ fn socket(options: &Options) -> Socket {
 /// Takes all events of a socket. Its packets go to the other one. Returns how many there were.
 fn carry(from: &mut Socket, to: &mut Socket) -> usize {
     let mut packets = 0;
-    while let Some(event) = from.poll_event() {
+    for event in from.events() {
         if let Event::SendPacket(packet) = event {
             to.handle_input(&packet).expect("a packet");
             packets += 1;
@@ -44,6 +44,24 @@ fn connected(options: &Options) -> [Socket; 2] {
 
 fn send(socket: &mut Socket, text: &str) {
     socket.send(1, 51, text.as_bytes(), &SendOptions::default()).expect("send");
+}
+
+#[test]
+fn events_and_messages_that_an_iterator_leaves_are_still_there() {
+    let [mut a, mut b] = connected(&Options::default());
+    assert_eq!((a.events().count(), b.messages().count()), (0, 0));
+    for text in ["one", "two", "three"] {
+        send(&mut a, text);
+    }
+    settle(&mut a, &mut b);
+    assert_eq!(b.messages().next().map(|it| it.payload), Some(b"one".to_vec()));
+    assert_eq!(b.messages_ready_count(), 2);
+    let left: Vec<_> =
+        b.messages().map(|it| String::from_utf8_lossy(&it.payload).into_owned()).collect();
+    assert_eq!(left, ["two", "three"]);
+    b.close().expect("close");
+    assert!(matches!(b.events().next(), Some(Event::SendPacket(_))));
+    assert_eq!(b.events().collect::<Vec<_>>(), [Event::Closed]);
 }
 
 #[test]
