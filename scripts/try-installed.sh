@@ -39,8 +39,41 @@ if command -v pkg-config >/dev/null; then
     "${compile[@]}" $program "${flags[@]}" "$(pkg-config --variable=archive "$name")" -o "$folder/by_its_archive"
     run by_its_archive
 else
-    echo "check: no pkg-config, so $name.pc isn't tried"
+    echo "check: no pkg-config, so $name.pc isn't tried (apt-get install pkg-config)"
 fi
+
+# find_dcsctp PREFIX VERSION: what CMake prints that looks for the proved library there.
+find_dcsctp() {
+    rm -rf "$folder/hint"
+    cmake -S tests/c/cmake -B "$folder/hint" "-DCMAKE_PREFIX_PATH=$1" \
+        -DCMAKE_LIBRARY_ARCHITECTURE=x86_64-linux-gnu -DPACKAGE=dcsctp "-DWANTED=$2" 2>&1
+}
+
+# try_hint: who asks CMake for the proved library, and has the other one alone, reads what to write. Where both are
+# installed (the proved one is played by a copy), the proved one is taken.
+try_hint() {
+    local both=$folder/both wanted
+    for wanted in "$version" ""; do
+        if find_dcsctp "$prefix" "$wanted" >"$folder/log"; then
+            echo "try-installed: CMake takes $name for dcsctp" >&2
+            exit 1
+        fi
+        tr -s ' \n' ' ' <"$folder/log" | grep -qF "find_package($name $version REQUIRED)" ||
+            { cat "$folder/log" >&2; exit 1; }
+    done
+    cp -r "$prefix" "$both"
+    cp "$both/$lib/lib$name.a" "$both/$lib/libdcsctp.a"
+    cp "$both/$lib/lib$name.so.0" "$both/$lib/libdcsctp.so.0"
+    mkdir "$both/$lib/cmake/dcsctp"
+    for wanted in Config ConfigVersion; do
+        sed -e '/^if(NOT "/,/^endif()/d' -e "s/$name/dcsctp/g" "$both/$lib/cmake/$name/$name$wanted.cmake" \
+            >"$both/$lib/cmake/dcsctp/dcsctp$wanted.cmake"
+    done
+    find_dcsctp "$both" "$version" >"$folder/log" || { cat "$folder/log" >&2; exit 1; }
+    cmake --build "$folder/hint" >/dev/null
+    run hint/by_cmake
+    grep -qF "$lib/libdcsctp.a" "$folder/hint/CMakeFiles/by_cmake.dir/link.txt"
+}
 
 if command -v cmake >/dev/null; then
     echo "check: cmake"
@@ -49,6 +82,7 @@ if command -v cmake >/dev/null; then
     cmake --build "$folder/cmake" >/dev/null
     run cmake/by_cmake
     run_shared cmake/by_cmake_shared
+    [ "$name" = dcsctp ] || try_hint
 else
-    echo "check: no cmake, so ${name}Config.cmake isn't tried"
+    echo "check: no cmake, so ${name}Config.cmake isn't tried (apt-get install cmake)"
 fi
