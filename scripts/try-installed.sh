@@ -23,13 +23,22 @@ run_shared() {
     LD_LIBRARY_PATH=$prefix/$lib run "$1"
 }
 
+# The loop in the header's first comment compiles.
+{
+    echo '#include "loop.h"'
+    echo 'int main(void) {'
+    sed -n '/^ \* *dcsctp_socket s = /,/^ \* *dcsctp_destroy(&s);/s/^ \*//p' "$prefix/include/dcsctp.h"
+    echo '}'
+} >"$folder/loop.c"
+grep -q dcsctp_destroy "$folder/loop.c"
+"${compile[@]}" -std=c11 -Wall -Wextra -Werror "-I$prefix/include" -Itests/c -fsyntax-only "$folder/loop.c"
+
 "${compile[@]}" $program "-I$prefix/include" "$prefix/$lib/lib$name.a" -o "$folder/by_archive"
 run by_archive
 "${compile[@]}" $program "-I$prefix/include" "-L$prefix/$lib" "-l$name" -o "$folder/by_shared"
 run_shared by_shared
 
 if command -v pkg-config >/dev/null; then
-    echo "check: pkg-config"
     export PKG_CONFIG_LIBDIR=$prefix/$lib/pkgconfig
     [ "$(pkg-config --modversion "$name")" = "$version${name#dcsctp}" ]
     read -ra flags < <(pkg-config --cflags "$name")
@@ -38,8 +47,9 @@ if command -v pkg-config >/dev/null; then
     run_shared by_pkg_config
     "${compile[@]}" $program "${flags[@]}" "$(pkg-config --variable=archive "$name")" -o "$folder/by_its_archive"
     run by_its_archive
+    echo "check: pkg-config"
 else
-    echo "check: no pkg-config, so $name.pc isn't tried (apt-get install pkg-config)"
+    echo "skipped: $name.pc: no pkg-config (apt install pkg-config)"
 fi
 
 # find_dcsctp PREFIX VERSION: what CMake prints that looks for the proved library there.
@@ -76,13 +86,13 @@ try_hint() {
 }
 
 if command -v cmake >/dev/null; then
-    echo "check: cmake"
     cmake -S tests/c/cmake -B "$folder/cmake" "-DCMAKE_PREFIX_PATH=$prefix" \
         -DCMAKE_LIBRARY_ARCHITECTURE=x86_64-linux-gnu "-DPACKAGE=$name" "-DWANTED=$version" >/dev/null
     cmake --build "$folder/cmake" >/dev/null
     run cmake/by_cmake
     run_shared cmake/by_cmake_shared
     [ "$name" = dcsctp ] || try_hint
+    echo "check: cmake"
 else
-    echo "check: no cmake, so ${name}Config.cmake isn't tried (apt-get install cmake)"
+    echo "skipped: ${name}Config.cmake: no cmake (apt install cmake)"
 fi
