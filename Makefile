@@ -47,7 +47,7 @@ VERSION := $(shell awk '/define DCSCTP_VERSION_[MP]/ { v = v s $$3; s = "." } EN
     include/dcsctp.h)
 
 TESTS = names calls queries many options events ends kept handover refusals random threads channels \
-    deadlines trace
+    deadlines trace seed
 EXAMPLES = demo two_sockets file_transfer channels server load
 WARNINGS = -Wall -Wextra -Wshadow -pedantic -Werror
 COMPILE = $(CC) -std=c11 $(WARNINGS) $(CFLAGS) -Iinclude
@@ -137,6 +137,8 @@ install: all
 	ln -sf $(notdir $(SHARED)) $(LIB_TO)/lib$(NAME).so
 	install -m 644 $(OUT)/$(NAME).pc $(LIB_TO)/pkgconfig/
 	install -m 644 $(OUT)/$(NAME)Config.cmake $(OUT)/$(NAME)ConfigVersion.cmake $(LIB_TO)/cmake/$(NAME)/
+	$(if $(MARK),for it in Config ConfigVersion; do install -m 644 $(OUT)/$(NAME)$$it.cmake \
+	    $(LIB_TO)/cmake/$(NAME)/dcsctp$$it.cmake; done)
 	@echo "Installed $(NAME) $(VERSION), $(HOW), to $(DESTDIR)$(PREFIX). To compile a program:"
 	@echo "    export PKG_CONFIG_PATH=$(DESTDIR)$(LIBDIR)/pkgconfig LD_LIBRARY_PATH=$(DESTDIR)$(LIBDIR)"
 	@echo "    cc program.c \$$(pkg-config --cflags --libs $(NAME))"
@@ -169,6 +171,9 @@ clean:
 
 reference:
 	python3 scripts/reference.py
+
+doc:
+	bash scripts/doc.sh
 
 # ---- Programs ---------------------------------------------------------------------------------
 
@@ -226,6 +231,8 @@ check-header:
 	$(CXX) -std=c++11 -Wall -Wextra -Iinclude -c -o /dev/null -x c++ $(WARNED); \
 	echo "check: dcsctp.h in C++"; \
 	else echo "skipped: dcsctp.h in C++: no $(CXX) (apt install g++)"; fi
+	printf '#undef __linux__\n#include <dcsctp.h>\nint dcsctp_random_seed;\n' | \
+	    $(CC) -std=c11 $(WARNINGS) -Iinclude -fsyntax-only -x c -
 	! grep -n '.\{101\}' include/dcsctp.h
 	@echo "check: dcsctp.h in C"
 
@@ -361,6 +368,7 @@ check-browser: $(SHARED)
 
 # (dist and install write the same files)
 .NOTPARALLEL:
-.PHONY: FORCE help demo reference all unproved prove no-library test examples c-programs install uninstall dist clean check check-header check-symbols check-tests \
+.PHONY: FORCE help demo test prove unproved all no-library examples c-programs reference doc install uninstall dist \
+    clean check check-header check-symbols check-tests \
     check-cpp check-cffi check-examples check-install check-dist check-valgrind check-sanitizers \
     check-bindings check-rust check-browser

@@ -9,5 +9,5 @@ bad=$(grep -nE 'RFC' $files \
     | sed -E "s/RFC ($known)(, (sections?|appendix) [0-9A-Z][0-9.]*((,| and| to) [0-9A-Z][0-9.]*)*)?//g" \
     | grep -E 'RFC *-?[0-9]')
 [ -z "$bad" ] || { echo "$bad"; echo "citations: not of the form 'RFC 9260, section 5.2.4'"; exit 1; }
-bare=$(grep -nE 'RFC9|RFC-|rfc[0-9]' $files)
+bare=$(sed -s -E 's#https?://[^) ]*##g' $files | grep -nE 'RFC9|RFC-|rfc[0-9]')
 [ -z "$bare" ] || { echo "$bare"; echo "citations: write 'RFC 9260'"; exit 1; }

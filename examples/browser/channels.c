@@ -8,7 +8,6 @@
 
 #include <stdlib.h>
 #include <string.h>
-#include <sys/random.h>
 #include <time.h>
 
 /* What Python gets. `bytes` are there until it returns. */
@@ -98,7 +97,7 @@ struct end *channels_create(const struct channel_calls *calls, int is_dtls_clien
     end->channels.is_dtls_client = is_dtls_client;
     dcsctp_options_init(&options);
     options.remote_port = port;
-    if (getrandom(seed, sizeof seed, 0) == sizeof seed &&
+    if (dcsctp_random_seed(seed) == DCSCTP_OK &&
         dcsctp_create(&end->socket, &options, seed, now) == DCSCTP_OK)
         return end;
     free(end);

@@ -9,7 +9,6 @@
 #include <stdio.h>
 #include <stdlib.h>
 #include <string.h>
-#include <sys/random.h>
 
 static const uint64_t SECOND = 1000000000;
 
@@ -93,8 +92,7 @@ static void create(struct end *end, const char *name, int is_dtls_client, struct
     end->channels.buffer = end->buffer;
     end->channels.buffer_size = sizeof end->buffer;
     end->channels.is_dtls_client = is_dtls_client;
-    if (getrandom(seed, sizeof seed, 0) != sizeof seed)
-        check("getrandom", DCSCTP_ERROR_NO_SOCKET);
+    check("dcsctp_random_seed", dcsctp_random_seed(seed));
     dcsctp_options_init(&options);
     check("create", dcsctp_create(&end->socket, &options, seed, 0));
 }

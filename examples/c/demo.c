@@ -204,7 +204,7 @@ static void create(struct demo *demo, int end) {
     options.mtu = PACKET;
     options.local_port = PORTS[end];
     options.remote_port = PORTS[end == CLIENT ? SERVER : CLIENT];
-    /* Each run is the same. Your program takes its seeds from getrandom. */
+    /* Each run is the same. Your program calls dcsctp_random_seed. */
     memset(seed, end + 1, sizeof seed);
     check("create", dcsctp_create(&demo->ends[end], &options, seed, 0));
 }

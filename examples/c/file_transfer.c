@@ -20,7 +20,6 @@
 #include <stdio.h>
 #include <stdlib.h>
 #include <string.h>
-#include <sys/random.h>
 #include <sys/socket.h>
 #include <sys/wait.h>
 #include <time.h>
@@ -69,8 +68,8 @@ static void create(struct end *end, int fd, long loss, FILE *out) {
     end->fd = fd;
     end->loss = loss;
     end->out = out;
-    if (getrandom(seed, sizeof seed, 0) != sizeof seed)
-        fail("getrandom");
+    if (dcsctp_random_seed(seed) != DCSCTP_OK)
+        fail("dcsctp_random_seed");
     srandom((unsigned)seed[0] << 8 | seed[1]);
     dcsctp_options_init(&options);
     check("create", dcsctp_create(&end->socket, &options, seed, now()));

@@ -20,7 +20,6 @@
 #include <stdlib.h>
 #include <string.h>
 #include <sys/epoll.h>
-#include <sys/random.h>
 #include <sys/socket.h>
 #include <time.h>
 #include <unistd.h>
@@ -210,8 +209,8 @@ static void create(struct load *load, struct association *it, const dcsctp_optio
         connect(it->fd, (struct sockaddr *)&load->server, sizeof load->server) != 0 ||
         epoll_ctl(load->epoll, EPOLL_CTL_ADD, it->fd, &event) != 0)
         fail("socket");
-    if (getrandom(seed, sizeof seed, 0) != sizeof seed)
-        fail("getrandom");
+    if (dcsctp_random_seed(seed) != DCSCTP_OK)
+        fail("dcsctp_random_seed");
     check("create", dcsctp_create(&it->socket, options, seed, load->now));
     it->begins_at = load->now + it->index * SECOND / BEGIN;
     it->sends_at = DCSCTP_NEVER;

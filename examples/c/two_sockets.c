@@ -3,14 +3,13 @@
 
 #include <stdio.h>
 #include <string.h>
-#include <sys/random.h>
 
 static int32_t create(dcsctp_socket *socket) {
     dcsctp_options options;
     uint8_t seed[32];
     dcsctp_options_init(&options);
-    if (getrandom(seed, sizeof seed, 0) != sizeof seed)
-        return DCSCTP_ERROR_NO_SOCKET;
+    if (dcsctp_random_seed(seed) != DCSCTP_OK)
+        return DCSCTP_ERROR_NO_SEED;
     return dcsctp_create(socket, &options, seed, 0);
 }
 
