@@ -55,10 +55,10 @@ COMPILE = $(CC) -std=c11 $(WARNINGS) $(CFLAGS) -Iinclude
 help:
 	@echo "make demo              two sockets over a link that loses a packet    2 min, without proofs"
 	@echo "make test              all tests                                      10 min, without proofs"
-	@echo "make unproved          the C library without proofs                   1 min"
+	@echo "make unproved          the C library without proofs                   2 min"
 	@echo "make unproved install  copies it to PREFIX=$(PREFIX)"
 	@echo "make prove             proves and tests all, builds the C library     an hour or more"
-	@echo "make install           copies the proved library to PREFIX"
+	@echo "make install           copies what was built, the proved one first    "
 	@echo "make uninstall         removes what either has copied"
 	@echo "make check             checks the library, also by valgrind           5 min"
 	@echo "make dist              packs the library with bindings and examples"
@@ -83,14 +83,14 @@ prove:
 $(PROVED_ARCHIVE): $(if $(filter prove,$(MAKECMDGOALS)),,$(SOURCES) crates.txt)
 	@[ -n "$(filter prove,$(MAKECMDGOALS))" ] || { echo "make: sources are newer than the proved library." \
 	    "'make prove' proves it again (an hour or more);"; echo "make: 'make unproved $(MAKECMDGOALS)' does it without" \
-	    "proofs (a minute)."; exit 2; } >&2
+	    "proofs (two minutes)."; exit 2; } >&2
 
 $(UNPROVED_ARCHIVE): $(SOURCES) crates.txt scripts/unproved.sh
 	KIT=$(KIT) bash scripts/unproved.sh library $@
 
 no-library:
 	@{ echo "make: no library has been built here."; \
-	echo "make: 'make unproved $(MAKECMDGOALS)' builds it without proofs first (a minute)."; \
+	echo "make: 'make unproved $(MAKECMDGOALS)' builds it without proofs first (two minutes)."; \
 	echo "make: 'make prove $(MAKECMDGOALS)' proves and tests all first (an hour or more)."; exit 2; } >&2
 
 # What the tests take beside the library: programs and tests in Rattle.

@@ -18,7 +18,7 @@
  *     if (result == DCSCTP_OK)
  *         result = dcsctp_create(&s, &options, seed, now());
  *     if (result == DCSCTP_OK)
- *         result = dcsctp_connect(&s);                             // one end, or both
+ *         result = dcsctp_connect(&s);                             // at one end
  *     while (result == DCSCTP_OK && now() < stop) {
  *         while (dcsctp_poll_event(&s, &event) == 1)
  *             switch (event.kind) {
@@ -58,13 +58,12 @@
  *
  * THE END
  *
- * The loop ends at DCSCTP_EVENT_CLOSED or DCSCTP_EVENT_ABORTED. After ABORTED stop at once.
- *
- * After CLOSED continue for 4 s, or for seven times the retransmission timeout if that is longer.
- * The end that gets CLOSED first has sent the last packet of the shutdown, and that may be lost.
- * Then the peer repeats its SHUTDOWN ACK: by default after 500 ms, then after 1 s more, 2 s and so
- * on. A closed socket answers each one, and 4 s cover three losses in a row. A peer without an
- * answer stays in DCSCTP_STATE_SHUTTING_DOWN for up to 330.5 s, and then gets ABORTED.
+ * After DCSCTP_EVENT_ABORTED stop at once. After DCSCTP_EVENT_CLOSED continue for 4 s, or for seven
+ * times the retransmission timeout if that is longer. The end that gets CLOSED first has sent the
+ * last packet of the shutdown, and that may be lost. Then the peer repeats its SHUTDOWN ACK: by
+ * default after 500 ms, then after 1 s more, 2 s and so on. A closed socket answers each one, and 4
+ * s cover three losses in a row. A peer without an answer stays in DCSCTP_STATE_SHUTTING_DOWN for
+ * up to 330.5 s, and then gets ABORTED.
  *
  *
  * RULES
@@ -369,8 +368,8 @@ typedef struct dcsctp_socket {
  *   at once. A full receive window that opens is reported to the peer. A peer's SHUTDOWN
  *   acknowledges data. Streams of equal priority take turns. A repeated request to reset a stream
  *   that is in progress gets the next number. Messages that are ready can be taken after their
- *   association has ended. At 0 the socket behaves as upstream. docs/design/differences.md has a
- *   row for each rule. */
+ *   association has ended. At 0 the socket behaves as upstream, but for a few differences:
+ *   docs/design/differences.md has a row for each, and for each rule. */
 typedef struct dcsctp_options {
     size_t size;                                         /* sizeof(dcsctp_options) */
     size_t mtu;                                          /* longest packet that is sent: 1,191 */

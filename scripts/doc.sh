@@ -47,6 +47,8 @@ if has python3 'Python and the sources' python3; then
         mkdir "$to/python"
         (cd "$to/python" && PYTHONDONTWRITEBYTECODE=1 PYTHONPATH=$OLDPWD/bindings/python python3 -m pydoc -w dcsctp \
             >/dev/null)
+        # (pydoc links the file on this machine)
+        sed -i -E 's#<a href="file:[^"]*">[^<]*</a>##' "$to/python/dcsctp.html"
         made python/dcsctp.html 'Python: the module dcsctp'
     else
         echo "skipped: the page of Python: ${reason##*$'\n'}"
@@ -54,7 +56,8 @@ if has python3 'Python and the sources' python3; then
     if [ -f scripts/reference.py ]; then
         # (its pages are there even if it finds a fault of a document, which it prints)
         python3 scripts/reference.py || true
-        made ../reference/index.html 'The sources: functions with their contracts, definitions, laws, RFC sections'
+        cp -r out/reference "$to/reference"
+        made reference/index.html 'The sources: functions with their contracts, definitions, laws, RFC sections'
     fi
 fi
 

@@ -15,7 +15,7 @@ namespace {
 
 constexpr std::uint32_t text = 51, binary = 53;
 
-// The time at which each program begins. restore_from_state wants more than a minute.
+// The time at which each program begins. restore_from_state needs a clock past 60 s.
 constexpr nanoseconds begin = 1h;
 
 // No call of these programs fails, unless they say so.

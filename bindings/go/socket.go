@@ -18,8 +18,6 @@
 // DTLS, or over another layer that delivers only what the peer has sent. Its license is Apache-2.0.
 package dcsctp
 
-// #cgo !unproved pkg-config: dcsctp
-// #cgo unproved pkg-config: dcsctp-unproved
 // #include <dcsctp.h>
 // #include <stdlib.h>
 import "C"

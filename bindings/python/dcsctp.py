@@ -288,7 +288,7 @@ class ConnectionRestarted(Event):
 
 @dataclasses.dataclass(frozen=True)
 class Aborted(Event):
-    """It was cut off. `error` is an `ErrorKind`, or a number that a later version of the library adds. `text` may be
+    """The association was aborted. `error` is an `ErrorKind`, or a number that a later version adds. `text` may be
     empty."""
 
     error: int

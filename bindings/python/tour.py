@@ -6,7 +6,7 @@ import dcsctp
 TEXT, BINARY = 51, 53
 SECOND = 1_000_000_000
 
-# The time at which each program begins. `restore_from_state` wants more than a minute.
+# The time at which each program begins. `restore_from_state` needs a clock past 60 s.
 BEGIN = 3600 * SECOND
 
 

@@ -14,7 +14,7 @@ import (
 
 const text, binary = 51, 53
 
-// The time at which each program begins. RestoreFromState wants more than a minute.
+// The time at which each program begins. RestoreFromState needs a clock past 60 s.
 const begin = time.Hour
 
 type pair struct {

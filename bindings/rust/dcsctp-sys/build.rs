@@ -26,13 +26,13 @@ fn main() {
     let Some((folder, name)) = find(&names) else {
         let files: Vec<_> = names.iter().map(|name| format!("lib{name}.a")).collect();
         eprintln!(
-            "dcsctp-sys: no {}: set DCSCTP_LIB_DIR to its folder, or run `make unproved` in the repository",
+            "dcsctp-sys: no {}: set DCSCTP_LIB_DIR or PKG_CONFIG_PATH, or build it in the repository (`make` says how)",
             files.join(" or ")
         );
         std::process::exit(1);
     };
     if name == UNPROVED && wanted.is_none() {
-        println!("cargo:warning=it links {UNPROVED}, which was built without proofs");
+        println!("cargo:warning=linking {UNPROVED}, which was built without proofs");
     }
     println!("cargo:rustc-link-search=native={}", folder.display());
     println!("cargo:rustc-link-lib=static={name}");

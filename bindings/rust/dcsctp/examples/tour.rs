@@ -13,7 +13,7 @@ type Program = fn() -> Outcome;
 const TEXT: u32 = 51;
 const BINARY: u32 = 53;
 
-/// The time at which each program begins. `restore_from_state` needs more than a minute.
+/// The time at which each program begins. `restore_from_state` needs a clock past 60 s.
 const BEGIN: Duration = Duration::from_secs(3600);
 
 struct Pair {

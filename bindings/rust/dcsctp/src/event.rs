@@ -14,7 +14,7 @@ pub enum Event {
     Closed,
     /// The peer restarted: then `Connected` comes.
     ConnectionRestarted,
-    /// It was cut off.
+    /// The association was aborted.
     Aborted {
         /// What it is about.
         kind: ErrorKind,

@@ -46,8 +46,7 @@
 //! # Safety and memory
 //!
 //! No method panics, and none needs `unsafe`. If the library can't allocate, a call returns `Error::OutOfMemory`.
-//! What is copied here is in vectors, and if one of these can't be allocated, Rust ends the process as it always
-//! does.
+//! Packets, messages and lists are copied into `Vec`s; if that allocation fails, Rust aborts as usual.
 //!
 //! Run it over DTLS, or over another layer that delivers only what the peer has sent. The library is proved, unless
 //! `version().is_proved` is false; this crate is tested. `docs/guide/c.md` of the repository says what is proved.

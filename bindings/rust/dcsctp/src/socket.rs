@@ -372,9 +372,10 @@ impl Socket {
         Ok(bytes)
     }
 
-    /// Continues from a snapshot that another socket with these options gave: `Event::Connected` follows. Let the clock
-    /// of the socket be past a minute. Restore only what you trust. `OtherOptions`: they differ in a port, an announced
-    /// number of streams, `enable_partial_reliability`, `enable_message_interleaving` or `zero_checksum_method`.
+    /// Continues from a snapshot that another socket with these options gave: `Event::Connected` follows. The socket's
+    /// clock must be past 60 s, since it counts times before the snapshot back from its own. Restore only what you
+    /// trust. `OtherOptions`: they differ in a port, an announced number of streams, `enable_partial_reliability`,
+    /// `enable_message_interleaving` or `zero_checksum_method`.
     ///
     /// Errors: `NotClosed`, `InvalidSnapshot`, `OtherOptions`, `Failed`, `OutOfMemory`.
     pub fn restore_from_state(&mut self, bytes: &[u8]) -> Result<(), Error> {

@@ -1,0 +1,6 @@
+//go:build unproved
+
+package dcsctp
+
+// #cgo pkg-config: dcsctp-unproved
+import "C"
