@@ -58,12 +58,12 @@
  *
  * THE END
  *
- * After DCSCTP_EVENT_ABORTED stop at once. After DCSCTP_EVENT_CLOSED continue for 4 s, or for seven
- * times the retransmission timeout if that is longer. The end that gets CLOSED first has sent the
- * last packet of the shutdown, and that may be lost. Then the peer repeats its SHUTDOWN ACK: by
- * default after 500 ms, then after 1 s more, 2 s and so on. A closed socket answers each one, and 4
- * s cover three losses in a row. A peer without an answer stays in DCSCTP_STATE_SHUTTING_DOWN for
- * up to 330.5 s, and then gets ABORTED.
+ * After DCSCTP_EVENT_ABORTED stop at once. After DCSCTP_EVENT_CLOSED continue for 4 s, or for ten
+ * round trips if that is longer. The end that gets CLOSED first has sent the last packet of the
+ * shutdown, and that may be lost. Then the peer repeats its SHUTDOWN ACK: by default after 500 ms,
+ * then after 1 s more, 2 s and so on. A closed socket answers each one, and 4 s cover three losses
+ * in a row. A peer without an answer stays in DCSCTP_STATE_SHUTTING_DOWN for up to 330.5 s, and
+ * then gets ABORTED.
  *
  *
  * RULES
@@ -876,8 +876,8 @@ int32_t dcsctp_handover_bytes(const dcsctp_socket *socket, uint8_t *buffer, size
 
 /* Continues from a snapshot that another socket with these options gave: DCSCTP_EVENT_CONNECTED
  * follows. Messages queued on this socket are dropped. The snapshot of a closed socket changes
- * nothing. Use a snapshot once: two sockets that continue from it confuse the peer. The time of
- * this socket must be over a minute: older times become moment 0. If its clock isn't the one of the
+ * nothing. Use a snapshot once: two sockets that continue from it confuse the peer. This socket's
+ * clock must read more than 60 s: older times become moment 0. If its clock isn't the one of the
  * snapshot, cookies from before may be judged too young or too old. Restore only what you trust: a
  * forged snapshot can make an association, and can take long to check.
  *

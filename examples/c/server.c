@@ -35,7 +35,7 @@
 static const uint64_t SECOND = 1000000000;
 
 /* Times, in seconds: to connect, to answer the last packet again, and to end all. */
-enum { TO_CONNECT = 10, LINGER = 1, TO_END = 5 };
+enum { TO_CONNECT = 10, LINGER = 4, TO_END = 5 };
 
 /* Bytes that wait at most for a peer, and that one has sent at most before they are taken. So no
  * message is longer than a window. */

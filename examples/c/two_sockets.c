@@ -15,7 +15,7 @@ static int32_t create(dcsctp_socket *socket) {
 
 /* Takes the events of a socket. Its packets go to the other one. Returns how many there were. */
 static int drain(const char *name, dcsctp_socket *from, dcsctp_socket *to) {
-    uint8_t bytes[1500];
+    const uint8_t *bytes;
     dcsctp_event event;
     dcsctp_message message;
     size_t length;
@@ -26,12 +26,12 @@ static int drain(const char *name, dcsctp_socket *from, dcsctp_socket *to) {
         if (event.kind == DCSCTP_EVENT_CLOSED)
             printf("%s is closed\n", name);
         if (event.kind == DCSCTP_EVENT_SEND_PACKET &&
-            dcsctp_event_bytes(from, bytes, sizeof bytes, &length) == DCSCTP_OK &&
+            dcsctp_event_view(from, &bytes, &length) == DCSCTP_OK &&
             dcsctp_handle_input(to, bytes, length) == DCSCTP_OK)
             packets++;
     }
     while (dcsctp_get_next_message(from, &message) == 1)
-        if (dcsctp_message_bytes(from, bytes, sizeof bytes, &length) == DCSCTP_OK)
+        if (dcsctp_message_view(from, &bytes, &length) == DCSCTP_OK)
             printf("%s has a message on stream %d: %.*s\n", name, message.stream_id, (int)length,
                    (const char *)bytes);
     return packets;
