@@ -15,12 +15,13 @@ pub struct Counts {
     pub incoming: u32,
 
     /// In how many schedules each verification tag served one association up to the end; how many messages were read
-    /// while it was so; how many of these once a reset of streams had been performed; and how many in the first
-    /// association of both sides.
+    /// while it was so; how many of these once a reset of streams had been performed; how many in the first
+    /// association of both sides; and how many of these in schedules without limits and resets.
     pub served: u32,
     pub read: u32,
     pub read_after_reset: u32,
     pub in_order: u32,
+    pub without_gap: u32,
 }
 
 fn one_more(count: &mut u32) {
@@ -46,6 +47,7 @@ impl Counts {
             read: 0,
             read_after_reset: 0,
             in_order: 0,
+            without_gap: 0,
         }
     }
 
@@ -55,6 +57,7 @@ impl Counts {
         add(&mut self.read, delivery.read);
         add(&mut self.read_after_reset, delivery.read_after_reset);
         add(&mut self.in_order, delivery.in_order);
+        add(&mut self.without_gap, delivery.without_gap);
     }
 
     /// Counts an event. Is it a connection or an end?
@@ -87,7 +90,8 @@ impl Counts {
             least.read <= self.read,
             least.read_after_reset <= self.read_after_reset,
             least.in_order <= self.in_order,
+            least.without_gap <= self.without_gap,
         ];
-        assert!(rt; enough == [true; 10], "{name}: {self:?}");
+        assert!(rt; enough == [true; 11], "{name}: {self:?}");
     }
 }

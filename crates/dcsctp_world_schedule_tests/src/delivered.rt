@@ -4,7 +4,7 @@
 use crate::counter::Counter;
 use crate::steps::{ORDERED, other};
 use crate::view::{Schedule, View};
-use dcsctp_world::socket::{Association, Message, Pair};
+use dcsctp_world::socket::{Association, Message, Pair, StreamId};
 use dcsctp_world::{Side, World};
 use std::alloc::Global;
 use std::process::Abort;
@@ -116,6 +116,34 @@ fn is_in_order(rt: &impl Abort, view: &View<'_>) {
     }
 }
 
+// How many ordered messages are for this stream?
+fn ordered_on(stream: StreamId, messages: &[Message]) -> usize {
+    let mut count = 0_usize;
+    for one in messages {
+        if one.ppid == ORDERED && one.stream_id == stream {
+            count = count.saturating_add(1);
+        }
+    }
+    count
+}
+
+// Nothing is missing: as many ordered messages of a stream were sent before one as were read before it.
+fn is_without_gap(rt: &impl Abort, view: &View<'_>) {
+    let read = view.world.read(view.side);
+    let sent = view.world.sent(other(view.side));
+    for (at, message) in read.iter().enumerate() {
+        let earlier = read.get(..at).unwrap_or(&[]);
+        let before = sent.get(..place_of(message, sent)).unwrap_or(&[]);
+        let stream = message.stream_id;
+        let is_next = ordered_on(stream, earlier) == ordered_on(stream, before);
+        view.holds(
+            rt,
+            "one before it is missing",
+            message.ppid != ORDERED || is_next,
+        );
+    }
+}
+
 // Has each side had one association at most?
 fn is_only(rt: &impl Abort, alloc: Global, world: &World<Counter>) -> bool {
     begun(rt, alloc, world, Side::A).len() <= 1 && begun(rt, alloc, world, Side::B).len() <= 1
@@ -123,13 +151,14 @@ fn is_only(rt: &impl Abort, alloc: Global, world: &World<Counter>) -> bool {
 
 /// Whether each verification tag has served one association so far in a schedule, how many messages were read while it
 /// was so, how many of these were read once a reset of streams had been performed, and how many while each side had had
-/// no other association: these come in order.
+/// no other association: these come in order. They come without gaps in schedules without limits and resets.
 #[derive(Drop)]
 pub struct Delivery {
     pub serves: bool,
     pub read: usize,
     pub read_after_reset: usize,
     pub in_order: usize,
+    pub without_gap: usize,
 }
 
 impl Delivery {
@@ -140,6 +169,7 @@ impl Delivery {
             read: 0,
             read_after_reset: 0,
             in_order: 0,
+            without_gap: 0,
         }
     }
 
@@ -164,15 +194,20 @@ impl Delivery {
             side: Side::A,
         };
         let is_only = is_only(rt, alloc, world);
+        let is_whole = is_only && schedule.is_reliable();
         for side in [Side::A, Side::B] {
             view.side = side;
             is_delivered(rt, &view);
             if is_only {
                 is_in_order(rt, &view);
             }
+            if is_whole {
+                is_without_gap(rt, &view);
+            }
         }
         self.read = read;
         self.in_order = self.in_order.saturating_add(usize::from(is_only));
+        self.without_gap = self.without_gap.saturating_add(usize::from(is_whole));
         self.read_after_reset = self.read_after_reset.saturating_add(usize::from(was_reset));
     }
 }

@@ -11,6 +11,7 @@ use std::time::Duration;
 #[derive(Drop)]
 pub struct Drawing {
     rng: Xoshiro256PlusPlus,
+    is_reliable: bool,
     now: SocketTime,
     messages: u32,
     a_handed: usize,
@@ -19,9 +20,10 @@ pub struct Drawing {
 
 impl Drawing {
     /// Nothing was drawn yet.
-    pub fn new(seed: u64) -> Drawing {
+    pub fn new(seed: u64, is_reliable: bool) -> Drawing {
         Drawing {
             rng: Xoshiro256PlusPlus::seed_from_u64(seed),
+            is_reliable,
             now: SocketTime::zero(),
             messages: 0,
             a_handed: 0,
@@ -32,6 +34,11 @@ impl Drawing {
     /// A number below this one, which isn't 0.
     pub fn below(&mut self, limit: u32) -> u32 {
         self.rng.next_u32().checked_rem(limit).unwrap_or(0)
+    }
+
+    /// Does no message have limits, and is no stream reset?
+    pub fn is_reliable(&self) -> bool {
+        self.is_reliable
     }
 
     /// Either side.

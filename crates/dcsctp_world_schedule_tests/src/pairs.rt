@@ -89,3 +89,10 @@ pub fn narrow() -> Both {
         b,
     }
 }
+
+/// The same options with `follow_rfc` at both ends.
+pub fn by_rfc(mut both: Both) -> Both {
+    both.a.follow_rfc = true;
+    both.b.follow_rfc = true;
+    both
+}

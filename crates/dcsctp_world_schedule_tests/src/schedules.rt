@@ -4,7 +4,7 @@ use crate::counter::Counter;
 use crate::counts::Counts;
 use crate::delivered::Delivery;
 use crate::drawing::Drawing;
-use crate::pairs::{Both, interleaved, narrow, one_sided, plain, unlike};
+use crate::pairs::{Both, by_rfc, interleaved, narrow, one_sided, plain, unlike};
 use crate::seen::Seen;
 use crate::steps::next_step;
 use crate::view::{Schedule, View};
@@ -30,6 +30,7 @@ const LEAST: Counts = Counts {
     read: 400,
     read_after_reset: 200,
     in_order: 200,
+    without_gap: 50,
 };
 
 // The words of a side. In every second schedule the numbers are near the greatest, so that they wrap. In every
@@ -101,7 +102,7 @@ fn goes_through(
     world: &mut World<Counter>,
     counts: &mut Counts,
 ) {
-    let mut drawing = Drawing::new(schedule.seed);
+    let mut drawing = Drawing::new(schedule.seed, schedule.is_reliable());
     let mut a = Seen::new(alloc);
     let mut b = Seen::new(alloc);
     let mut delivery = Delivery::new();
@@ -134,27 +135,33 @@ fn runs_each(rt: &impl Abort, alloc: Global, both: &Both, first: u32) {
     counts.reach(rt, both.name, &LEAST);
 }
 
+// Goes through them as upstream, and then as the RFCs say where upstream doesn't.
+fn runs_both_ways(rt: &impl Abort, alloc: Global, both: Both, first: u32) {
+    runs_each(rt, alloc, &both, first);
+    runs_each(rt, alloc, &by_rfc(both), first.saturating_add(500));
+}
+
 #[test]
 fn sockets_by_default_agree(rt: HostRuntime) {
-    runs_each(&rt, rt.alloc(), &plain(), 1000);
+    runs_both_ways(&rt, rt.alloc(), plain(), 1000);
 }
 
 #[test]
 fn sockets_with_other_streams_and_methods_agree(rt: HostRuntime) {
-    runs_each(&rt, rt.alloc(), &unlike(), 2000);
+    runs_both_ways(&rt, rt.alloc(), unlike(), 2000);
 }
 
 #[test]
 fn sockets_that_interleave_agree(rt: HostRuntime) {
-    runs_each(&rt, rt.alloc(), &interleaved(), 3000);
+    runs_both_ways(&rt, rt.alloc(), interleaved(), 3000);
 }
 
 #[test]
 fn sockets_with_other_extensions_agree(rt: HostRuntime) {
-    runs_each(&rt, rt.alloc(), &one_sided(), 4000);
+    runs_both_ways(&rt, rt.alloc(), one_sided(), 4000);
 }
 
 #[test]
 fn sockets_with_small_packets_agree(rt: HostRuntime) {
-    runs_each(&rt, rt.alloc(), &narrow(), 5000);
+    runs_both_ways(&rt, rt.alloc(), narrow(), 5000);
 }

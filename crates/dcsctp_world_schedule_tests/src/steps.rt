@@ -20,6 +20,9 @@ pub fn other(side: Side) -> Side {
 fn options(drawing: &mut Drawing) -> SendOptions {
     let mut options = SendOptions::default();
     options.unordered = drawing.below(3) == 0;
+    if drawing.is_reliable() {
+        return options;
+    }
     match drawing.below(6) {
         0 => options.lifetime = Some(Duration::from_millis(100)),
         1 => options.max_retransmissions = Some(0),
@@ -90,8 +93,8 @@ fn call(rt: &impl Abort, alloc: Global, drawing: &mut Drawing) -> Call {
         0..=6 => Call::Connect,
         7 => Call::Close,
         8 => Call::Shutdown,
-        9..=15 => resetting(rt, alloc, drawing),
-        16..=25 => sending_one(rt, alloc, drawing),
+        9..=15 if !drawing.is_reliable() => resetting(rt, alloc, drawing),
+        9..=25 => sending_one(rt, alloc, drawing),
         26 => sending_two(rt, alloc, drawing),
         27..=31 => Call::GetNextMessage,
         32..=38 => Call::AdvanceTime(drawing.later()),

@@ -15,6 +15,13 @@ pub struct Schedule<'a> {
     pub seed: u64,
 }
 
+impl Schedule<'_> {
+    /// In every fifth schedule no message has limits, and no stream is reset.
+    pub fn is_reliable(&self) -> bool {
+        self.seed.is_multiple_of(5)
+    }
+}
+
 /// A side of a world.
 #[derive(Clone, Copy)]
 pub struct View<'a> {
