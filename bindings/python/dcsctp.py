@@ -33,11 +33,12 @@ Run it over DTLS, or over another layer that delivers only what the peer has sen
 It needs Python 3.8 and the shared library, libdcsctp.so.0 or libdcsctp-unproved.so.0. The environment variable
 DCSCTP_LIBRARY may name the file. Otherwise it takes the first of these; in each place the proved library comes first:
 
-1. `lib` of the package that this file was unpacked with.
-2. `out` of the repository that this file is in.
-3. Where the loader looks: LD_LIBRARY_PATH, and the folders that ldconfig knows.
-4. /usr/local/lib, which ldconfig may not know yet.
-5. Where pkg-config finds dcsctp or dcsctp-unproved.
+1. In the wheel, the folder of this file.
+2. `lib` of the package that this file was unpacked with.
+3. `out` of the repository that this file is in.
+4. Where the loader looks: LD_LIBRARY_PATH, and the folders that ldconfig knows.
+5. /usr/local/lib, which ldconfig may not know yet.
+6. Where pkg-config finds dcsctp or dcsctp-unproved.
 
 `library()` returns the file that it took, and `is_proved()` whether that library was built with proofs.
 """
@@ -730,6 +731,9 @@ _NAMES = ("dcsctp", "dcsctp-unproved")
 def _files() -> Iterator[str]:
     """Files of the library that may exist, the best first. One without a folder is for the loader to find."""
     here = pathlib.Path(__file__).resolve()
+    if here.name == "__init__.py":
+        for name in _NAMES:
+            yield str(here.parent / f"lib{name}.so.0")
     if here.parts[-3:-1] == ("bindings", "python"):
         top = here.parents[2]
         for folders in (("lib", "lib"), ("out", "out/unproved")):
