@@ -62,6 +62,8 @@ help:
 	@echo "make uninstall         removes what either has copied"
 	@echo "make check             checks the library, also by valgrind           5 min"
 	@echo "make dist              packs the library with bindings and examples"
+	@echo "make deb               packages for Debian: libdcsctp0, libdcsctp-dev 20 s"
+	@echo "make wheel             a wheel for Python, with the library inside   10 s"
 	@echo "make reference         pages of all contracts and definitions         10 s, into out/reference"
 	@echo "make doc               pages of C, Rust and Python, too               1 min, into out/doc"
 	@echo "make check-browser     a page in Chromium uses data channels          1 min"
@@ -159,12 +161,19 @@ dist: all
 	rm -rf $(OUT)/$(DIST)
 	$(MAKE) -s install DESTDIR=$(abspath $(OUT)/$(DIST)) PREFIX= LIBDIR=/lib >/dev/null
 	install -m 644 LICENSE NOTICE CHANGELOG.md SECURITY.md $(OUT)/$(DIST)/
-	cp --parents $(PACKED) $(OUT)/$(DIST)/
+	@cp --parents $(PACKED) $(OUT)/$(DIST)/
 	chmod -R u=rwX,go=rX $(OUT)/$(DIST)
 	KIT=$(KIT) bash scripts/verdict.sh $(OUT)/$(DIST) >$(OUT)/VERDICT
 	mv $(OUT)/VERDICT $(OUT)/$(DIST)/
 	$(TAR) -C $(OUT) -c $(DIST) | gzip -n9 >$(OUT)/$(DIST).tar.gz
 	@echo "Packed $(OUT)/$(DIST).tar.gz, $(HOW)"
+
+# Packages of Debian, and a wheel of Python, of what was packed.
+deb: dist
+	CC='$(CC)' bash scripts/deb.sh $(OUT)/$(DIST).tar.gz
+
+wheel: dist
+	bash scripts/wheel.sh $(OUT)/$(DIST).tar.gz
 
 clean:
 	rm -rf out
@@ -369,6 +378,6 @@ check-browser: $(SHARED)
 # (dist and install write the same files)
 .NOTPARALLEL:
 .PHONY: FORCE help demo test prove unproved all no-library examples c-programs reference doc install uninstall dist \
-    clean check check-header check-symbols check-tests \
+    deb wheel clean check check-header check-symbols check-tests \
     check-cpp check-cffi check-examples check-install check-dist check-valgrind check-sanitizers \
     check-bindings check-rust check-browser
