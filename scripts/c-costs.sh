@@ -28,7 +28,7 @@ instructions() {
     awk '/Collected *:/ { print $NF }' "$folder/log"
 }
 
-report "bytes of $library" "$(wc -c <"$library")"
+report "bytes of $(basename "$library")" "$(wc -c <"$library")"
 report "code in it, without data" "$(size "$library" | awk 'NR == 2 { print $1 }')"
 while read -r kind rest; do report "heap of a $kind socket" "$rest"; done < <("$folder/costs" heap)
 command -v valgrind >/dev/null || { echo "c-costs: no valgrind, so no instructions are counted"; exit 0; }

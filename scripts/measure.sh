@@ -59,12 +59,12 @@ report() {
 
 speed() {
     report "a handshake, sockets made and dropped" each instructions 10 110 handshakes
-    report "1 MiB of 1,024 bytes, a message" each instructions 1 1025 messages 1024
-    report "10 MiB of 1,024 bytes at 1 % loss, a message" each instructions 1 10241 messages 1024 loss=10
+    report "1 MiB in messages of 1,024 bytes, a message" each instructions 1 1025 messages 1024
+    report "10 MiB of these at 1 % loss, a message" each instructions 1 10241 messages 1024 loss=10
     report "the same at 5 % loss" each instructions 1 10241 messages 1024 loss=50
-    report "1 MiB of 64 KiB, a packet" each instructions 1 17 messages 65536 counts
-    report "1 MiB of 100 bytes, a message" each instructions 1 10487 messages 100
-    report "1 MiB of 1,024 bytes, no checksums, a message" each instructions 1 1025 messages 1024 zero-checksum
+    report "1 MiB in messages of 64 KiB, a packet" each instructions 1 17 messages 65536 counts
+    report "1 MiB in messages of 100 bytes, a message" each instructions 1 10487 messages 100
+    report "1 MiB of 1,024 bytes, no checksums" each instructions 1 1025 messages 1024 zero-checksum
     report "10 MiB of these at 1 % loss, a message" each instructions 1 10241 messages 1024 zero-checksum loss=10
     report "the same at 5 % loss" each instructions 1 10241 messages 1024 zero-checksum loss=50
     report "100 bytes after 10 messages, a message" each instructions 100 400 messages 100 queued=10
