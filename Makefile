@@ -27,7 +27,7 @@ ifneq ($(filter unproved,$(MAKECMDGOALS)),)
 ARCHIVE := $(UNPROVED_ARCHIVE)
 else ifneq ($(filter prove,$(MAKECMDGOALS))$(wildcard $(PROVED_ARCHIVE)),)
 ARCHIVE := $(PROVED_ARCHIVE)
-else ifneq ($(filter demo test,$(MAKECMDGOALS))$(wildcard $(UNPROVED_ARCHIVE)),)
+else ifneq ($(filter demo test fuzz bench,$(MAKECMDGOALS))$(wildcard $(UNPROVED_ARCHIVE)),)
 ARCHIVE := $(UNPROVED_ARCHIVE)
 else
 ARCHIVE := no-library
@@ -66,6 +66,8 @@ help:
 	@echo "make wheel             a wheel for Python, with the library inside   10 s"
 	@echo "make reference         pages of all contracts and definitions         10 s, into out/reference"
 	@echo "make doc               pages of C, Rust and Python, too               1 min, into out/doc"
+	@echo "make fuzz MINUTES=5    calls the C library as libFuzzer's inputs say"
+	@echo "make bench             instructions, beside those of docs/figures.md  5 min"
 	@echo "make check-browser     a page in Chromium uses data channels          1 min"
 	@echo "make clean             removes out/"
 	@echo
@@ -375,9 +377,26 @@ check-rust: $(LIBRARY)
 check-browser: $(SHARED)
 	CC='$(CC)' bash scripts/browser.sh $(SHARED) $(OUT)/browser
 
+# Any calls, by libFuzzer. out/fuzz keeps its inputs.
+MINUTES ?= 5
+fuzz: $(LIBRARY)
+	@bash scripts/fuzz.sh $(LIBRARY) out/fuzz $(MINUTES)
+
+# Instructions of what is proved, else of the same without proofs and without checks.
+FAST = out/fast/libdcsctp_c-unproved.a
+FAST_BENCH = out/fast/dcsctp_bench
+PROVED_BENCH = $(wildcard crates/dcsctp_bench/out/dcsctp_bench)
+$(FAST): $(SOURCES) crates.txt scripts/unproved.sh
+	CHECKS=no KIT=$(KIT) bash scripts/unproved.sh library $@
+$(FAST_BENCH): $(SOURCES) crates.txt scripts/unproved.sh
+	CHECKS=no KIT=$(KIT) bash scripts/unproved.sh program dcsctp_bench $@
+bench: $(if $(MARK),$(FAST) $(FAST_BENCH),$(LIBRARY) $(or $(PROVED_BENCH),$(FAST_BENCH)))
+	@$(if $(MARK),$(MAKE) -s --no-print-directory ARCHIVE=$(FAST) OUT=out/fast out/fast/libdcsctp-unproved.a)
+	@bash scripts/bench.sh $(filter %/dcsctp_bench,$^) $(if $(MARK),out/fast,$(OUT))
+
 # (dist and install write the same files)
 .NOTPARALLEL:
 .PHONY: FORCE help demo test prove unproved all no-library examples c-programs reference doc install uninstall dist \
     deb wheel clean check check-header check-symbols check-tests \
     check-cpp check-cffi check-examples check-install check-dist check-valgrind check-sanitizers \
-    check-bindings check-rust check-browser
+    check-bindings check-rust check-browser fuzz bench
