@@ -5,7 +5,7 @@ use Rattle.std.specs.Prelude.{if◌then◌else◌}
 use Rattle.std.specs.List.{AllByRecursion, flat_map}
 use Rattle.std.proofs.lemmas.List.{append-nil}
 use Rattle.std.proofs.lemmas.Bool.Decides.{nat_tests}
-use Rattle.dcsctp_transfer.specs.wire.Content.{ChunkContent}
+use Rattle.dcsctp_transfer.specs.wire.Content.{ChunkContent, sack_chunk}
 use Rattle.dcsctp_transfer.specs.wire.ReadsBack.{FitsChunk}
 use Rattle.dcsctp_transfer.specs.wire.Spelling.{chunk_bytes}
 use Rattle.dcsctp_transfer.specs.wire_build.Building.{Building, bytes_remaining}
@@ -14,15 +14,15 @@ use Rattle.dcsctp_transfer.specs.types.declared.options.Options.{Options}
 use Rattle.dcsctp_transfer.specs.types.Settings.{Ports, ports_of}
 use Rattle.dcsctp_transfer.specs.spec.endpoint.Event.{Event}
 use Rattle.dcsctp_transfer.specs.spec.Packet.{Plain, plain, unworked, Content, Emission}
-use Rattle.dcsctp_transfer.specs.spec.queues.Tracker.{TrackerState, is_acknowledgement_due, owes_acknowledgement}
+use Rattle.dcsctp_transfer.specs.spec.queues.Tracker.{TrackerState, is_acknowledgement_due, owes_acknowledgement, sack_of}
 use Rattle.dcsctp_transfer.specs.spec.queues.SendQueue.{SendQueueState, has_queued_data}
-use Rattle.dcsctp_transfer.specs.spec.queues.Transfer.{Transfer, is_none_ready, is_idle, may_give}
+use Rattle.dcsctp_transfer.specs.spec.queues.Transfer.{Transfer, advertised_window, is_none_ready, is_idle, may_give}
 use Rattle.dcsctp_transfer.specs.spec.queues.Retransmission.{can_send, outstanding_count, RetransmissionState}
 use Rattle.dcsctp_transfer.specs.types.declared.association.Held.{Held}
 use Rattle.dcsctp_transfer.specs.spec.endpoint.Endpoint.{Endpoint, Timers, held_in}
 use Rattle.dcsctp_transfer.specs.spec.association.Choices.{plain_contents}
 use Rattle.dcsctp_transfer.specs.spec.endpoint.BegunResets.{BegunReset, stream_field, streams_within, last_assigned_tsn, begun_where, begun_in, request_contents, queue_requesting, after_begun, retransmission_begun}
-use Rattle.dcsctp_transfer.specs.spec.endpoint.FlushOutcomes.{FillingEvent, amount_is_low, total_amount_is_low, message_is_sent, message_may_have_expired, message_has_expired, message_ends, filling_event, Answer, answer_contents, filled, Ask, first_ask, later_ask, room_in, where_fits, begun_at, wants_sack, FitsPlain, Gives, GivesWhere, IsAnswerOfQueues, timers_with, nothing_waits, filling_event_content, FillsWhere, GivesUpWhere, forward_where, may_abandon, may_forward, stage_of}
+use Rattle.dcsctp_transfer.specs.spec.endpoint.FlushOutcomes.{FillingEvent, amount_is_low, total_amount_is_low, message_is_sent, message_may_have_expired, message_has_expired, message_ends, filling_event, Answer, answer_contents, filled, Ask, first_ask, later_ask, own_sack, room_in, where_fits, begun_at, wants_sack, FitsPlain, Gives, GivesWhere, IsAnswerOfQueues, timers_with, nothing_waits, filling_event_content, FillsWhere, GivesUpWhere, forward_where, may_abandon, may_forward, stage_of}
 use Rattle.dcsctp_transfer.specs.api.Calls.{user_event}
 use Rattle.dcsctp_transfer.specs.Filling.{has_chunks, FillsDataPacket, with_chunk}
 use Rattle.dcsctp_core.specs.View.{View}
@@ -446,3 +446,12 @@ chunk_packet e draft chunk =
     ap (λ (room : ℕ). if nat_le (length (chunk_bytes chunk)) room then record (packet_for e.options draft) { body = (packet_for e.options draft).body ++ chunk_bytes chunk } else packet_for e.options draft)
     (room_is e draft)
     ∙ chunk_where (nat_le (length (chunk_bytes chunk)) (room_in e draft)) e.options draft (room_in e draft) chunk refl
+
+-- a SACK that is cut to the room
+pub sack_packet : (e : Endpoint) (draft : Emission) (packet : Building) (transfer : Transfer) → packet ≡ packet_for e.options draft
+    → with_chunk packet (sack_chunk (sack_of (bytes_remaining packet) transfer.tracker (advertised_window transfer)))
+    ≡ packet_for e.options (filled draft (plain_contents (where_fits (room_in e draft) (own_sack (room_in e draft) transfer))))
+sack_packet e draft packet transfer is =
+    ap (λ (b : Building). with_chunk b (sack_chunk (sack_of (bytes_remaining b) transfer.tracker (advertised_window transfer)))) is
+    ∙ ap (λ (room : ℕ). with_chunk (packet_for e.options draft) (sack_chunk (sack_of room transfer.tracker (advertised_window transfer)))) (room_is e draft)
+    ∙ chunk_packet e draft (sack_chunk (sack_of (room_in e draft) transfer.tracker (advertised_window transfer)))

@@ -5,24 +5,24 @@ use Rattle.std.proofs.lemmas.List.{append-nil, map-append}
 use Rattle.dcsctp_transfer.specs.wire_build.Building.{Building, bytes_remaining}
 use Rattle.dcsctp_transfer.specs.spec.endpoint.Event.{Event}
 use Rattle.dcsctp_transfer.specs.spec.Packet.{Plain, plain, Content, chunk_out, Emission, plain_out}
-use Rattle.dcsctp_transfer.specs.spec.queues.Tracker.{sack_of, TrackerState, sacked}
+use Rattle.dcsctp_transfer.specs.spec.queues.Tracker.{TrackerState, sacked}
 use Rattle.dcsctp_transfer.specs.spec.queues.SendQueue.{SendQueueState, has_queued_data}
-use Rattle.dcsctp_transfer.specs.spec.queues.Transfer.{Transfer, advertised_window, may_give}
+use Rattle.dcsctp_transfer.specs.spec.queues.Transfer.{Transfer, may_give}
 use Rattle.dcsctp_transfer.specs.spec.queues.Retransmission.{RetransmissionState}
 use Rattle.dcsctp_transfer.specs.spec.endpoint.Endpoint.{Endpoint, Core, OutstandingRequest, held_in}
-use Rattle.dcsctp_transfer.specs.spec.endpoint.Timers.{RunningTimer, started}
+use Rattle.dcsctp_transfer.specs.spec.endpoint.Timers.{RunningTimer, TimerSettings, started}
 use Rattle.dcsctp_transfer.specs.spec.association.Choices.{plain_contents}
-use Rattle.dcsctp_transfer.specs.spec.endpoint.BegunResets.{BegunReset, streams_within, last_assigned_tsn, begun_in, request_contents, reconfiguration_settings, transfer_reset_begun, rto_of, core_asking, after_begun, queue_requesting, retransmission_begun}
+use Rattle.dcsctp_transfer.specs.spec.endpoint.BegunResets.{BegunReset, streams_within, last_assigned_tsn, begun_in, request_contents, reconfiguration_settings, transfer_reset_begun, core_asking, after_begun, queue_requesting, retransmission_begun}
 use Rattle.dcsctp_transfer.specs.spec.endpoint.FlushOutcomes.{own_sack, filled, first_ask, room_in, where_fits, wants_sack, FitsPlain, FillsWhere, ForwardsWhere, GivesUpWhere, forward_where, FillingEvent, begun_at, may_abandon, may_forward, stage_of, filling_event_content}
-use Rattle.dcsctp_transfer.specs.wire.Content.{ChunkContent, sack_chunk}
+use Rattle.dcsctp_transfer.specs.wire.Content.{ChunkContent}
 use Rattle.dcsctp_transfer.specs.wire.Spelling.{chunk_bytes}
-use Rattle.dcsctp_transfer.specs.Filling.{is_sack_wanted, with_chunk, FillsRequestedSack, has_chunks}
+use Rattle.dcsctp_transfer.specs.Filling.{is_sack_wanted, FillsRequestedSack, has_chunks}
 use Rattle.dcsctp_core.specs.declared.context.Context.{Context}
 use Rattle.dcsctp_core.specs.declared.state.State.{State}
 use Rattle.dcsctp_core.specs.declared.state.State.TheVariants.{Closed, CookieWait, CookieEchoed, Open}
 use Rattle.dcsctp_core.specs.View.{View, core_of, tie_of, t1_of, t2_of, outstanding_of, reconfiguration_of, transfer_of, endpoint_of, view_of}
 use Rattle.dcsctp_core.specs.Flushing.{packet_for, state_with, AcknowledgesInQueues, ForwardsAt, FillsResetRequest, FillsPacketData, timers_where, FillsAskedPacket, can_queues_send, ForwardsNow, is_in_time}
-use Rattle.dcsctp_core.proofs.FillLemmas.{fills_by, fills_nothing, chunk_packet, endpoint_given, room_is_left, same_draft, stays_behind, told_after, view_filled}
+use Rattle.dcsctp_core.proofs.FillLemmas.{fills_by, fills_nothing, sack_packet, endpoint_given, room_is_left, same_draft, stays_behind, told_after, view_filled}
 use Rattle.dcsctp_core.proofs.SentLemmas.{body_append}
 use Rattle.dcsctp_transfer.proofs.spec_lemmas.FilledAnswers.{GivesUntilFull}
 use Rattle.dcsctp_transfer.specs.spec.queues.Filling.{Stage}
@@ -113,13 +113,12 @@ acked : (e : Endpoint) (draft : Emission) (b : Bool) (transfer mid : Transfer) (
 acked e draft false transfer mid before packet is h =
     record { sacks = []; tracker = transfer.tracker; acknowledges = (refl, refl); mid_is = h.0; is = h.1 ∙ is ∙ ap (packet_for e.options) (sym (same_draft draft)) }
 acked e draft true transfer mid before packet is h =
-    let sack = sack_of transfer.tracker (advertised_window transfer) in
     record {
-      sacks = where_fits (room_in e draft) (own_sack transfer);
+      sacks = where_fits (room_in e draft) (own_sack (room_in e draft) transfer);
       tracker = sacked transfer.tracker;
       acknowledges = (refl, refl);
       mid_is = h.0;
-      is = h.1 ∙ ap (λ (b : Building). with_chunk b (sack_chunk sack)) is ∙ chunk_packet e draft (sack_chunk sack);
+      is = h.1 ∙ sack_packet e draft before transfer is;
     }
 
 -- the view once what came in is acknowledged
@@ -363,23 +362,23 @@ fills_behind old draft transfer here packet d sent fills =
     (subst (λ (now : ℕ). FillsWhere (may_give (handed_of d) (state_of d)) now (stage_of (handed_of d) (state_of d) [] (bytes_remaining packet)) sent) (moment_begun d.begun _) fills)
 
 -- Abandoning messages leaves the retransmission timeout as it is, so a reset that is begun after it starts the same timer.
-begun_behind : (begun : Option BegunReset) (e : Endpoint) (any : Bool) (later : ℕ) (waits handed left : SendQueueState) (given after : Transfer) → rto_of (Some given) ≡ rto_of e.queues.transfer
+begun_behind : (begun : Option BegunReset) (e : Endpoint) (any : Bool) (later : ℕ) (waits handed left : SendQueueState) (given after : Transfer) → reconfiguration_settings (Some given) ≡ reconfiguration_settings e.queues.transfer
     → let f : Endpoint = record (after_begun begun (record e { no_forward_tsn_before = later; queues = record { queue = waits; transfer = Some given } })) { queues = record { queue = handed; transfer = Some (transfer_reset_begun begun given) } } in
     record f { timers = timers_where any f; queues = record { queue = left; transfer = Some after } } ≡ endpoint_given e begun any later left after
 begun_behind None e true later waits handed left given after same = refl
 begun_behind None e false later waits handed left given after same = refl
 begun_behind (Some begun) e true later waits handed left given after same =
-    ap (λ (rto : ℕ). let f : Endpoint = record e {
+    ap (λ (settings : TimerSettings). let f : Endpoint = record e {
       core = core_asking e.core;
       outstanding = Some (record { last_tsn = begun.reset.last_tsn; streams = begun.reset.streams; waits_for_retry = false });
-      timers = record e.timers { reconfiguration = started e.moment (reconfiguration_settings rto) };
+      timers = record e.timers { reconfiguration = started e.moment settings };
     } in
     let g : Endpoint = record f { timers = timers_where true f; no_forward_tsn_before = later; queues = record { queue = left; transfer = Some after } } in g) same
 begun_behind (Some begun) e false later waits handed left given after same =
-    ap (λ (rto : ℕ). let f : Endpoint = record e {
+    ap (λ (settings : TimerSettings). let f : Endpoint = record e {
       core = core_asking e.core;
       outstanding = Some (record { last_tsn = begun.reset.last_tsn; streams = begun.reset.streams; waits_for_retry = false });
-      timers = record e.timers { reconfiguration = started e.moment (reconfiguration_settings rto) };
+      timers = record e.timers { reconfiguration = started e.moment settings };
       no_forward_tsn_before = later;
       queues = record { queue = left; transfer = Some after };
     } in f) same
@@ -412,7 +411,7 @@ first_by {R = R} old draft transfer here new packet filled_packet holds d data_i
       is = view_filled begun_view (transfer_reset_begun d.begun (record transfer { tracker = d.up.tracker; retransmission = d.up.gave_up.queue })) there.1 there.2 packet filled_packet there.0 new filling there.4
           ∙ ap (λ (x : Endpoint). record old { endpoint = x; events = old.events ++ d.up.gave_up.told ++ filling.sent.told })
           (begun_behind d.begun e (has_chunks filling.chunks) (forward_where d.up.next e.no_forward_tsn_before) d.up.gave_up.waiting (handed_of d) filling.sent.waiting (record transfer { tracker = d.up.tracker; retransmission = d.up.gave_up.queue })
-          (record transfer { retransmission = filling.sent.queue; tracker = d.up.tracker }) (sym (ap rto_of holds)))
+          (record transfer { retransmission = filling.sent.queue; tracker = d.up.tracker }) (sym (ap reconfiguration_settings holds)))
           ∙ ap (λ (es : List (Event (List ℕ))). record old { endpoint = endpoint_given e d.begun (has_chunks filling.chunks) (forward_where d.up.next e.no_forward_tsn_before) filling.sent.waiting (record transfer { retransmission = filling.sent.queue; tracker = d.up.tracker }); events = es })
           (append_assoc old.events d.up.gave_up.told filling.sent.told);
     })

@@ -19,6 +19,7 @@ pub mod PlaceLemmas
 pub mod RelistLemmas
 pub mod ResetLemmas
 pub mod RestLemmas
+pub mod RoundTripLemmas
 pub mod SentLemmas
 pub mod SettingLemmas
 pub mod SevenLemmas

@@ -9,7 +9,7 @@ use Rattle.dcsctp_transfer.specs.wire.Spelling.{chunk_bytes}
 use Rattle.dcsctp_transfer.specs.spec.Packet.{chunk_out}
 use Rattle.dcsctp_transfer.specs.spec.Reconfiguration.{RequestedReset}
 use Rattle.dcsctp_transfer.specs.spec.association.FlushChanges.{reset_request}
-use Rattle.dcsctp_transfer.specs.spec.endpoint.BegunResets.{streams_within, stream_field, BegunReset, last_assigned_tsn, begun_in, begun_where, transfer_reset_begun, rto_of, held_begun, core_asking, after_begun}
+use Rattle.dcsctp_transfer.specs.spec.endpoint.BegunResets.{streams_within, stream_field, BegunReset, last_assigned_tsn, begun_in, begun_where, transfer_reset_begun, held_begun, core_asking, after_begun}
 use Rattle.dcsctp_transfer.proofs.spec_lemmas.PacketLengths.{request_len}
 use Rattle.std.proofs.lemmas.Bool.Decides.{nat_tests}
 use Rattle.dcsctp_core.specs.Resetting.{IsStream, StartsReset, BeginsReset, request_begun, timer_begun, BeginsOwnReset, BeginsIn, BeginsResetInQueues}
@@ -174,7 +174,7 @@ record Stood (now : ℕ) (begun : Option BegunReset) (old new : State) : Type 0 
   t1 : t1_of new ≡ t1_of old
   t2 : t2_of new ≡ t2_of old
   outstanding : outstanding_of new ≡ request_begun begun (outstanding_of old)
-  reconfiguration : reconfiguration_of new ≡ timer_begun begun now (rto_of (transfer_of old)) (reconfiguration_of old)
+  reconfiguration : reconfiguration_of new ≡ timer_begun begun now (transfer_of old) (reconfiguration_of old)
   transfer : transfer_of new ≡ transfer_where begun (transfer_of old)
 
 echoed_core : (begun : Option BegunReset) (my : Pair) (held : Held) (cookie : List ℕ) → cookie_echoed my (held_begun begun held) cookie ≡ core_where begun (cookie_echoed my held cookie)
@@ -228,7 +228,7 @@ with_parts context core tie t1 t2 outstanding reconfiguration transfer queue =
 
 begun_whole : {R : Type 0} (begun : Option BegunReset) (context : Context R) (queue : SendQueueState)
     → let s : State = context.state in
-    with_parts context (core_where begun (core_of s)) (tie_of s) (t1_of s) (t2_of s) (request_begun begun (outstanding_of s)) (timer_begun begun context.moment (rto_of (transfer_of s)) (reconfiguration_of s)) (transfer_where begun (transfer_of s)) queue
+    with_parts context (core_where begun (core_of s)) (tie_of s) (t1_of s) (t2_of s) (request_begun begun (outstanding_of s)) (timer_begun begun context.moment (transfer_of s) (reconfiguration_of s)) (transfer_where begun (transfer_of s)) queue
     ≡ record (after_begun begun (endpoint_of context)) { queues = record { queue = queue; transfer = transfer_where begun (transfer_of s) } }
 begun_whole None context queue = refl
 begun_whole (Some begun) context queue = refl
@@ -244,7 +244,7 @@ endpoint_begun context begun state queue h =
     ∙ ap (λ (own : Option OutstandingRequest). with_parts context (core_where begun (core_of s)) (tie_of s) (t1_of s) (t2_of s) own (reconfiguration_of state) (transfer_of state) queue) h.outstanding
     ∙ ap (λ (timer : Option RunningTimer). with_parts context (core_where begun (core_of s)) (tie_of s) (t1_of s) (t2_of s) (request_begun begun (outstanding_of s)) timer (transfer_of state) queue) h.reconfiguration
     ∙ ap (λ (below : Option Transfer). with_parts context (core_where begun (core_of s)) (tie_of s) (t1_of s) (t2_of s) (request_begun begun (outstanding_of s))
-    (timer_begun begun context.moment (rto_of (transfer_of s)) (reconfiguration_of s)) below queue) h.transfer
+    (timer_begun begun context.moment (transfer_of s) (reconfiguration_of s)) below queue) h.transfer
     ∙ begun_whole begun context queue
 
 begun_below : {R : Type 0} (old : Context R) (found : Option Transfer) (state : State) (queue : SendQueueState) (packet filled : Building) → transfer_of old.state ≡ found

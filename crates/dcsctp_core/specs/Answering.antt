@@ -1,5 +1,5 @@
 -- What becomes of our own request to reset streams if the peer answers it (RFC 6525, section 5.2.7).
-use Rattle.std.specs.Prelude.{◌≡◌, ℕ, true, None}
+use Rattle.std.specs.Prelude.{◌≡◌, ℕ, true, None, Some}
 use Rattle.std.specs.Option.{option_map}
 use Rattle.dcsctp_transfer.specs.spec.endpoint.Timers.{started, TimerModel}
 use Rattle.dcsctp_transfer.specs.spec.endpoint.BegunResets.{reconfiguration_settings}
@@ -15,7 +15,7 @@ delayed timer request = record request { waits_for_retry = true; timer = timer }
 -- It waits, and its timer starts again. Nothing else has moved.
 pub record Retries (now : ℕ) (old new : TransmissionControlBlock) : Type 0 where
   pub timer : TimerModel
-  pub runs : timer.running ≡ started now (reconfiguration_settings old.transfer.timeout.rto)
+  pub runs : timer.running ≡ started now (reconfiguration_settings (Some old.transfer))
   pub is : new ≡ record old { reset_request = option_map (delayed timer) old.reset_request }
 
 -- ---- it has ended

@@ -1,9 +1,11 @@
 -- The phases of an open association, as the code moves them (RFC 9260, section 9.2).
-use Rattle.std.specs.Prelude.{ℕ}
+use Rattle.std.specs.Prelude.{ℕ, Option}
+use Rattle.dcsctp_transfer.specs.spec.endpoint.TransferMoves.{timed_by}
 use Rattle.dcsctp_core.specs.declared.state.State.{State}
 use Rattle.dcsctp_core.specs.declared.state.State.TheVariants.{CookieEchoed, Open}
 use Rattle.dcsctp_core.specs.declared.state.OpenPhase.{OpenPhase}
 use Rattle.dcsctp_core.specs.declared.state.OpenPhase.TheVariants.{ShutdownPending, ShutdownSent, ShutdownAckSent}
+use Rattle.dcsctp_core.specs.Reconfiguring.{tcb_changed}
 use Rattle.dcsctp_core.specs.Timing.{timer_after}
 
 -- the open association in this phase
@@ -26,3 +28,7 @@ t2_told_in moment phase = phase
 abbrev pub t2_told : ℕ → State → State
 t2_told moment (Open opened) = Open (record opened { phase = t2_told_in moment opened.phase })
 t2_told moment state = state
+
+-- the association once a round trip was taken into account
+abbrev pub with_round_trip : Option ℕ → State → State
+with_round_trip round_trip state = tcb_changed (λ tcb. record tcb { transfer = timed_by round_trip tcb.transfer }) state

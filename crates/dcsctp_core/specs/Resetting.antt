@@ -47,15 +47,15 @@ abbrev pub request_begun : Option BegunReset → Option OutstandingRequest → O
 request_begun None request = request
 request_begun (Some begun) request = Some (record { last_tsn = begun.reset.last_tsn; streams = begun.reset.streams; waits_for_retry = false })
 
-abbrev pub timer_begun : Option BegunReset → ℕ → ℕ → Option RunningTimer → Option RunningTimer
-timer_begun None now rto timer = timer
-timer_begun (Some begun) now rto timer = started now (reconfiguration_settings rto)
+abbrev pub timer_begun : Option BegunReset → ℕ → Option Transfer → Option RunningTimer → Option RunningTimer
+timer_begun None now transfer timer = timer
+timer_begun (Some begun) now transfer timer = started now (reconfiguration_settings transfer)
 
 -- This was begun, and nothing else has moved.
 pub record BeginsOwnReset (now : ℕ) (begun : Option BegunReset) (old new : TransmissionControlBlock) : Type 0 where
   pub held : held_of new ≡ held_begun begun (held_of old)
   pub request : request_of new.reset_request ≡ request_begun begun (request_of old.reset_request)
-  pub timer : timer_of new.reset_request ≡ timer_begun begun now old.transfer.timeout.rto (timer_of old.reset_request)
+  pub timer : timer_of new.reset_request ≡ timer_begun begun now (Some old.transfer) (timer_of old.reset_request)
   pub my : new.my ≡ old.my
   pub tie_tag : new.tie_tag ≡ old.tie_tag
   pub transfer : new.transfer ≡ transfer_reset_begun begun old.transfer

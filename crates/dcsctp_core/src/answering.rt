@@ -13,7 +13,7 @@ impl TransmissionControlBlock {
     pub fn retry_reset(&mut self, now: SocketTime)
         ensures { Retries now self.old self.new }
     {
-        let timer = reconfiguration_timer(self.transfer.rto(), now);
+        let timer = reconfiguration_timer(&self.transfer, now);
         match &mut self.reset_request {
             None => {}
             Some(request) => {

@@ -3,6 +3,7 @@
 ghost use Rattle.std.specs.Prelude.{◌≡◌};
 ghost use Rattle.dcsctp_transfer.specs.spec.endpoint.Endpoint.{heartbeat_settings};
 ghost use Rattle.dcsctp_transfer.specs.spec.endpoint.HeartbeatOutcomes.{heartbeat_timeout_settings};
+ghost use Rattle.dcsctp_transfer.specs.spec.endpoint.CookieEchoOutcomes.{is_last_tag};
 ghost use Rattle.dcsctp_transfer.specs.types.Settings.{IsValid};
 
 use crate::ending::end_event;
@@ -18,6 +19,7 @@ use dcsctp_transfer::wire_build::SctpPacketBuilder;
 use rand_core::Rng;
 use std::alloc::{AllocError, Global};
 use std::collections::VecDeque;
+use std::time::Duration;
 
 /// What a socket is made of. Handlers change the state, the events, the queue and the peer's implementation
 /// in place, and the rest by the functions below.
@@ -65,8 +67,14 @@ pub struct Context<R> {
     // The counter in the last HEARTBEAT.
     heartbeat_counter: u32,
 
-    // The errors that count (RFC 9260, section 8.1).
-    tx_error_counter: TxErrorCounter,
+    /// When the last HEARTBEAT was sent, until it is answered or its association ends.
+    pub heartbeat_sent: Option<SocketTime>,
+
+    // Our verification tag in the last association that had a peer and has ended.
+    last_tag: Option<u32>,
+
+    /// The errors that count (RFC 9260, section 8.1).
+    pub tx_error_counter: TxErrorCounter,
 
     // How many packets were handed in.
     pub(crate) rx_packets_count: usize,
@@ -89,8 +97,20 @@ pub struct Context<R> {
     ghost errors: { tx_error_counter.limit ≡ options.max_retransmissions },
 }
 
+// Was this our verification tag in the last association?
+fn is_last_tag(last: Option<u32>, tag: u32) -> bool
+    ensures { result ≡ is_last_tag last tag }
+{
+    match last {
+        None => false,
+        Some(last) => tag == last,
+    }
+}
+
 impl<R: Rng> Context<R> {
     ghost use Rattle.std.specs.Prelude.{◌≡◌, ◌+◌, Bool, ℕ, List, length, map, nat_le, string_bytes};
+    ghost use Rattle.std.specs.Duration.{as_nanos};
+    ghost use Rattle.std.specs.Option.{option_map};
     ghost use Rattle.rand_core.specs.Stream.{next_u32, next_u64};
     ghost use Rattle.dcsctp_transfer.specs.types.declared.word.Word.TheVariants.{U32, U64};
     ghost use Rattle.dcsctp_transfer.specs.spec.endpoint.Outcome.{packet_counted};
@@ -102,7 +122,8 @@ impl<R: Rng> Context<R> {
     ghost use Rattle.dcsctp_transfer.specs.types.Sizes.{common_header_size};
     ghost use Rattle.dcsctp_transfer.specs.spec.endpoint.TimeTurns.{own_timer};
     ghost use Rattle.dcsctp_transfer.specs.spec.endpoint.OwnTimers.{heartbeat_interval, heartbeat_timeout, reconfiguration, retransmission};
-    ghost use Rattle.dcsctp_transfer.specs.spec.endpoint.HeartbeatOutcomes.{interval_expired, beating, timeout_outcome, answered, is_exhausted};
+    ghost use Rattle.dcsctp_transfer.specs.spec.endpoint.HeartbeatOutcomes.{interval_expired, beating, timeout_outcome, answered, heartbeat_round_trip, is_exhausted};
+    ghost use Rattle.dcsctp_transfer.specs.spec.endpoint.CookieEchoOutcomes.{is_tag_over};
     ghost use Rattle.dcsctp_transfer.specs.spec.endpoint.Timers.{running_deadline};
     ghost use Rattle.dcsctp_core.specs.Timing.{where_expired, is_timer_due, ExpiresAlways};
     ghost use Rattle.dcsctp_core.specs.Reconfiguring.{request_over};
@@ -140,6 +161,8 @@ impl<R: Rng> Context<R> {
                 None,
             ),
             heartbeat_counter: 0,
+            heartbeat_sent: None,
+            last_tag: None,
             tx_error_counter: TxErrorCounter::new(options.max_retransmissions),
             rx_packets_count: 0,
             tx_packets_count: 0,
@@ -312,6 +335,7 @@ impl<R: Rng> Context<R> {
     {
         self.heartbeat_counter = self.heartbeat_counter.wrapping_add(1);
         self.heartbeat_timeout.start(self.moment);
+        self.heartbeat_sent = Some(self.moment);
         self.heartbeat_counter
     }
 
@@ -336,15 +360,31 @@ impl<R: Rng> Context<R> {
         self.heartbeat_counter
     }
 
-    /// The peer has answered the last HEARTBEAT: no answer is awaited, and no error counts.
+    // The round trip that the answer to the last HEARTBEAT measures: with `Options::follow_rfc` its first one.
+    fn heartbeat_round_trip(&self) -> Option<Duration>
+        ensures { option_map as_nanos result ≡ heartbeat_round_trip (endpoint_of self.now) }
+    {
+        if self.options.follow_rfc {
+            let sent = self.heartbeat_sent?;
+            Some(self.moment - sent)
+        } else {
+            None
+        }
+    }
+
+    /// The peer has answered the last HEARTBEAT: no answer is awaited, and no error counts. With
+    /// `Options::follow_rfc` its first answer measures a round trip (RFC 9260, section 8.3).
     pub fn end_heartbeat(&mut self)
         ensures { view_of self.new ≡ record (view_of self.old) {
           endpoint = answered
               (endpoint_of self.old);
         } }
     {
+        let round_trip = self.heartbeat_round_trip();
         self.heartbeat_timeout.stop();
+        self.heartbeat_sent = None;
         self.tx_error_counter.reset();
+        self.state.observe_round_trip(round_trip);
     }
 
     /// The peer has acknowledged something that it hadn't before: no error counts (RFC 9260, section 8.1).
@@ -392,6 +432,19 @@ impl<R: Rng> Context<R> {
         true
     }
 
+    /// Is there no association, and was this our verification tag in the last one? With `Options::follow_rfc` no other
+    /// begins under it (RFC 9260, section 5.3.1).
+    pub fn is_tag_over(&self, tag: u32) -> bool
+        ensures { result ≡ is_tag_over (endpoint_of self.now) (endpoint_of self.now).core tag }
+    {
+        match &self.state {
+            State::CookieEchoed(_) | State::Open(_) => false,
+            State::Closed | State::CookieWait(_) => {
+                self.options.follow_rfc && is_last_tag(self.last_tag, tag)
+            }
+        }
+    }
+
     /// Were more errors counted than the options allow (RFC 9260, section 8.1)?
     pub fn has_too_many_errors(&self) -> bool
         ensures { result ≡ is_exhausted (endpoint_of self.now).options.max_retransmissions
@@ -422,6 +475,8 @@ impl<R: Rng> Context<R> {
         ensures view { view_of self.new ≡ association_dropped (view_of self.old)
             (map message_content self.new.left.items) }
     {
+        self.heartbeat_sent = None;
+        self.last_tag = self.state.ended_tag(self.last_tag);
         let ended = std::mem::replace(&mut self.state, State::Closed);
         if !self.options.follow_rfc {
             return;
@@ -433,7 +488,7 @@ impl<R: Rng> Context<R> {
 
     /// Ends the association: with OnClosed if the error is `NoError`, else with OnAborted and this text. A
     /// closed socket is unchanged. The count of errors stays (docs/design/decisions.md, The count of errors). With
-    /// `Options::follow_rfc` the messages that are ready can still be taken until the next one begins.
+    /// `Options::follow_rfc` it begins at 0 in the next one, and the messages that are ready can be taken until then.
     ///
     /// `Err`: an allocation failed, and nothing has changed.
     pub fn internal_close(&mut self, error: ErrorKind, message: String) -> Result<(), AllocError>

@@ -2,10 +2,11 @@
 
 ghost use Rattle.std.specs.Prelude.{◌≡◌, not};
 ghost use Rattle.std.specs.Duration.{as_nanos};
+ghost use Rattle.std.specs.Option.{option_map};
 ghost use Rattle.dcsctp_transfer.specs.spec.endpoint.BegunResets.{rto_of};
-ghost use Rattle.dcsctp_transfer.specs.spec.endpoint.ShutdownOutcomes.{is_all_acknowledged};
+ghost use Rattle.dcsctp_transfer.specs.spec.endpoint.ShutdownOutcomes.{is_all_acknowledged, is_all_passed};
 ghost use Rattle.dcsctp_transfer.specs.spec.endpoint.Timers.{running_deadline};
-ghost use Rattle.dcsctp_core.specs.Phases.{pending_from, phase_set, t2_told, t2_told_in};
+ghost use Rattle.dcsctp_core.specs.Phases.{pending_from, phase_set, t2_told, t2_told_in, with_round_trip};
 ghost use Rattle.dcsctp_core.specs.Timing.{expiry_of};
 ghost use Rattle.dcsctp_core.specs.View.{t2_in, t2_of, transfer_of};
 
@@ -84,6 +85,17 @@ impl State {
         }
     }
 
+    /// Was something sent that the peer's cumulative TSN ack hasn't passed, abandoned or not? False without a
+    /// peer. Allocates nothing.
+    pub fn has_outstanding_items(&self) -> bool
+        ensures { result ≡ not (is_all_passed (transfer_of self.now)) }
+    {
+        match self.tcb() {
+            None => false,
+            Some(tcb) => tcb.transfer.has_outstanding_items(),
+        }
+    }
+
     /// The retransmission timeout; zero without a peer. Allocates nothing.
     pub fn rto(&self) -> Duration
         ensures { as_nanos result ≡ rto_of (transfer_of self.now) }
@@ -91,6 +103,18 @@ impl State {
         match self.tcb() {
             None => Duration::ZERO,
             Some(tcb) => tcb.transfer.rto(),
+        }
+    }
+
+    /// Takes a round trip into account, if one was measured and the peer is known (RFC 9260, section 6.3.1). Allocates
+    /// nothing.
+    pub fn observe_round_trip(&mut self, round_trip: Option<Duration>)
+        ensures { self.new ≡ with_round_trip (option_map as_nanos round_trip) self.old }
+    {
+        match self {
+            State::Closed | State::CookieWait(_) => {}
+            State::CookieEchoed(echoed) => echoed.tcb.transfer.observe_round_trip(round_trip),
+            State::Open(opened) => opened.tcb.transfer.observe_round_trip(round_trip),
         }
     }
 

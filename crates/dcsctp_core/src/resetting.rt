@@ -3,7 +3,6 @@
 ghost use Rattle.std.specs.Prelude.{◌≡◌, ◌≤◌, ◌+◌, ◌-◌, ◌*◌, ◌/◌, ◌++◌, Some, true, length, map, IfOk, OnOk, OnErr, IsOk};
 ghost use Rattle.std.specs.List.{flat_map, AllByRecursion};
 ghost use Rattle.std.specs.Int.{w16, to_be_bytes};
-ghost use Rattle.std.specs.Duration.{as_nanos};
 ghost use Rattle.dcsctp_transfer.specs.wire.Spelling.{chunk_bytes};
 ghost use Rattle.dcsctp_transfer.specs.wire_build.Building.{bytes_remaining};
 ghost use Rattle.dcsctp_transfer.specs.spec.queues.OwnResets.{ready_streams};
@@ -16,13 +15,12 @@ ghost use Rattle.dcsctp_transfer.specs.spec.endpoint.BegunResets.{streams_within
 ghost use Rattle.dcsctp_core.specs.Resetting.{AddsRequest, HasRoomForRequest, IsStream, StartsReset, BeginsReset, reset_of};
 
 use crate::transmission_control_block::{ResetRequest, TransmissionControlBlock};
-use dcsctp_transfer::SendQueue;
 use dcsctp_transfer::api::{SocketTime, StreamId};
 use dcsctp_transfer::send_timer::{BackoffAlgorithm, Timer};
 use dcsctp_transfer::wire::{Chunk, OutgoingSsnResetRequestParameter, Parameter, ReConfigChunk};
 use dcsctp_transfer::wire_build::SctpPacketBuilder;
+use dcsctp_transfer::{SendQueue, Transfer};
 use std::alloc::{AllocError, Global};
-use std::time::Duration;
 
 // How many streams a request may name if its chunk has that much room. It has 20 bytes and 2 for each stream,
 // padded to a multiple of 4 (RFC 6525, section 4.1).
@@ -78,12 +76,19 @@ fn put_request(
     Ok(())
 }
 
-// The timer by which a request is sent again, started now with this retransmission timeout. Each wait is
-// twice the last one, without a limit, and it never stops by itself (RFC 6525, section 5.1.1).
-pub(crate) fn reconfiguration_timer(rto: Duration, now: SocketTime) -> Timer
-    ensures { result.running ≡ started now (reconfiguration_settings (as_nanos rto)) }
+// The timer by which a request is sent again, started now with the present retransmission timeout. Each wait is
+// twice the last one, and with `Options::follow_rfc` no longer than the retransmission timer's. It never stops by
+// itself (RFC 6525, section 5.1.1).
+pub(crate) fn reconfiguration_timer(transfer: &Transfer, now: SocketTime) -> Timer
+    ensures { result.running ≡ started now (reconfiguration_settings (Some transfer.now)) }
 {
-    let mut timer = Timer::new(rto, BackoffAlgorithm::Exponential, None, None);
+    let rto = transfer.rto();
+    let mut timer = Timer::new(
+        rto,
+        BackoffAlgorithm::Exponential,
+        None,
+        transfer.longest_wait(),
+    );
     timer.start(now);
     timer
 }
@@ -128,7 +133,7 @@ impl TransmissionControlBlock {
             last_tsn,
             streams,
             waits_for_retry: false,
-            timer: reconfiguration_timer(self.transfer.rto(), now),
+            timer: reconfiguration_timer(&self.transfer, now),
         };
         self.next_outgoing_reset_req_seq_nbr = number.wrapping_add(1);
         self.reset_request = Some(request);

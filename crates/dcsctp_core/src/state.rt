@@ -157,6 +157,7 @@ impl State {
     ghost use Rattle.dcsctp_transfer.specs.spec.endpoint.MessageOutcomes.{is_shutting_down};
     ghost use Rattle.std.specs.Prelude.{◌≡◌, map};
     ghost use Rattle.dcsctp_transfer.specs.types.queues.Messages.{message_content};
+    ghost use Rattle.dcsctp_transfer.specs.spec.endpoint.EndOutcomes.{ended_tag};
     ghost use Rattle.dcsctp_transfer.specs.spec.endpoint.Endpoint.{own_tag, association_of};
     ghost use Rattle.dcsctp_transfer.specs.api.Calls.{socket_state_of, is_closed};
     ghost use Rattle.std.specs.Option.{option_map};
@@ -186,6 +187,18 @@ impl State {
             State::Closed | State::CookieWait(_) => None,
             State::CookieEchoed(echoed) => Some(&mut echoed.tcb),
             State::Open(opened) => Some(&mut opened.tcb),
+        }
+    }
+
+    /// Our verification tag in the association that ends now, if it has a peer; else that of the last one. Allocates
+    /// nothing.
+    pub(crate) fn ended_tag(&self, last: Option<u32>) -> Option<u32>
+        ensures { result ≡ ended_tag (core_of self.now) last }
+    {
+        match self {
+            State::Closed | State::CookieWait(_) => last,
+            State::CookieEchoed(echoed) => Some(echoed.tcb.my.tag),
+            State::Open(opened) => Some(opened.tcb.my.tag),
         }
     }
 

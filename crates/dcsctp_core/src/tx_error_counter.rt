@@ -3,7 +3,7 @@
 use std::marker::Model;
 
 /// Counts the errors since the peer last answered, up to one beyond its limit; without a limit it counts
-/// none. The count outlasts an association. Allocates nothing.
+/// none. The count outlasts an association, but for `Options::follow_rfc`. Allocates nothing.
 ///
 /// A contract sees its limit and its count.
 #[derive(Debug, Drop)]
@@ -24,7 +24,7 @@ impl Model for TxErrorCounter {
 }
 
 impl TxErrorCounter {
-    ghost use Rattle.std.specs.Prelude.{◌≡◌};
+    ghost use Rattle.std.specs.Prelude.{◌≡◌, if◌then◌else◌};
     ghost use Rattle.dcsctp_transfer.specs.spec.endpoint.HeartbeatOutcomes.{error_counted, is_exhausted};
 
     /// No error was counted yet. `None` is no limit.
@@ -52,6 +52,13 @@ impl TxErrorCounter {
         ensures { self.new ≡ record self.old { count = 0 } }
     {
         self.value = 0;
+    }
+
+    /// An association begins. With `Options::follow_rfc` no error counts any more (RFC 9260, section 8.1).
+    pub fn begin_association(&mut self, follows_rfc: bool)
+        ensures { self.new ≡ record self.old { count = if follows_rfc then 0 else self.old.count } }
+    {
+        self.value = if follows_rfc { 0 } else { self.value };
     }
 
     /// Are there more errors than the limit allows?

@@ -2,16 +2,15 @@
 use Rattle.std.proofs.Common.{◌≡◌, ◌==◌, if◌then◌else◌, ◌&&◌, ◌||◌, Bool, true, false, Option, None, Some, Result, Ok, Err, refl, sym, ap, subst, ◌∙◌}
 use Rattle.rand_core.specs.Stream.{Stream}
 use Rattle.dcsctp_core.specs.wire_build.Building.{Building}
-use Rattle.dcsctp_core.specs.wire.Content.{sack_chunk}
 use Rattle.dcsctp_core.specs.types.declared.association.Held.{Held}
-use Rattle.dcsctp_core.specs.spec.queues.Tracker.{TrackerState, after_packet_end, is_acknowledgement_due, owes_acknowledgement, delayed_acknowledgement, delay_over, sack_of, sacked}
-use Rattle.dcsctp_core.specs.spec.queues.Transfer.{Transfer, advertised_window}
+use Rattle.dcsctp_core.specs.spec.queues.Tracker.{TrackerState, after_packet_end, is_acknowledgement_due, owes_acknowledgement, delayed_acknowledgement, delay_over, sacked}
+use Rattle.dcsctp_core.specs.spec.queues.Transfer.{Transfer}
 use Rattle.dcsctp_core.specs.spec.endpoint.Endpoint.{Endpoint, held_in}
 use Rattle.dcsctp_core.specs.spec.endpoint.Outcome.{Outcome, still}
-use Rattle.dcsctp_core.specs.spec.endpoint.FlushOutcomes.{own_sack, draft_to, flush_of, first_ask, packets_allowed}
+use Rattle.dcsctp_core.specs.spec.endpoint.FlushOutcomes.{own_sack, room_in, draft_to, flush_of, first_ask, packets_allowed}
 use Rattle.dcsctp_core.specs.spec.endpoint.DataOutcomes.{with_transfer, endpoint_with_tracker, delay_outcome, acknowledging, AnswersPacket, EndWhere, EndsBy}
 use Rattle.dcsctp_core.proofs.spec_lemmas.AnswerLemmas.{any_answers}
-use Rattle.dcsctp_core.specs.transfer.Filling.{with_chunk, is_sack_wanted, FillsRequestedSack}
+use Rattle.dcsctp_core.specs.transfer.Filling.{is_sack_wanted, FillsRequestedSack}
 use Rattle.dcsctp_core.specs.declared.context.Context.{Context}
 use Rattle.dcsctp_core.specs.declared.state.State.{State}
 use Rattle.dcsctp_core.specs.declared.transmission_control_block.TransmissionControlBlock.{TransmissionControlBlock}
@@ -25,7 +24,7 @@ use Rattle.dcsctp_core.specs.Flushing.{packet_for, empty_packet, state_with, Ack
 use Rattle.dcsctp_core.specs.Below.{ChangesQueues, EndsPacketInQueues, is_peer_acknowledgement_due}
 use Rattle.dcsctp_core.proofs.BelowLemmas.{below_view, below_moves, moves_from, same_view}
 use Rattle.dcsctp_core.proofs.Composing.{cut_after}
-use Rattle.dcsctp_core.proofs.FillLemmas.{chunk_packet}
+use Rattle.dcsctp_core.proofs.FillLemmas.{sack_packet}
 use Rattle.dcsctp_core.proofs.FirstLemmas.{transfer_is}
 use Rattle.dcsctp_core.proofs.LoopLemmas.{held_by_tcb, packet_to}
 use Rattle.dcsctp_core.proofs.Moving.{moves_still}
@@ -36,23 +35,22 @@ use Rattle.dcsctp_core_data.proofs.TakingLemmas.{cut_before}
 
 record Sacked (e : Endpoint) (held : Held) (transfer mid : Transfer) (filled : Building) : Type 0 where
   left : mid ≡ record transfer { tracker = sacked transfer.tracker }
-  packet : filled ≡ packet_for e.options (acknowledging e held (own_sack transfer))
+  packet : filled ≡ packet_for e.options (acknowledging e held (own_sack (room_in e (draft_to held)) transfer))
 
 sack_put : (e : Endpoint) (held : Held) (transfer mid : Transfer) (packet filled : Building) → packet ≡ packet_for e.options (draft_to held) → FillsRequestedSack true transfer packet mid filled
     → Sacked e held transfer mid filled
 sack_put e held transfer mid packet filled is h =
-    let sack = sack_of transfer.tracker (advertised_window transfer) in
-    record { left = h.0; packet = h.1 ∙ ap (λ (b : Building). with_chunk b (sack_chunk sack)) is ∙ chunk_packet e (draft_to held) (sack_chunk sack) }
+    record { left = h.0; packet = h.1 ∙ sack_packet e (draft_to held) packet transfer is }
 
 -- what the flush does, from the endpoint at which all is acknowledged
 flushed : {R E : Type 0} (stream : R → Stream) (v : View R) (held : Held) (transfer : Transfer) (result : Result (Unit {0}) E) (new : Context R)
     → v.endpoint.queues.transfer ≡ Some transfer → held_in v.endpoint.core ≡ Some held
-    → FlushesBy stream first_ask (packets_allowed v.endpoint.options.max_burst v.endpoint.core) (acknowledging v.endpoint held (own_sack transfer))
+    → FlushesBy stream first_ask (packets_allowed v.endpoint.options.max_burst v.endpoint.core) (acknowledging v.endpoint held (own_sack (room_in v.endpoint (draft_to held)) transfer))
     (record v { endpoint = endpoint_with_tracker v.endpoint transfer (sacked transfer.tracker) }) result (view_of new)
     → (old : Context R) → view_of old ≡ v → TakesOne stream AnswersAt old result new
 flushed {R = R} stream v held transfer (Ok done) new below holds f old is =
     let e : Endpoint = v.endpoint in
-    let o : Outcome = flush_of (endpoint_with_tracker e transfer (sacked transfer.tracker)) (acknowledging e held (own_sack transfer)) f.answers in
+    let o : Outcome = flush_of (endpoint_with_tracker e transfer (sacked transfer.tracker)) (acknowledging e held (own_sack (room_in e (draft_to held)) transfer)) f.answers in
     let turn : AnswersPacket e held transfer transfer.tracker o = record { answers = f.answers; allowed = f.allowed; is = refl } in
     let here : TakesPossibleTurn stream AnswersAt v (view_of new) =
     record {
@@ -63,7 +61,7 @@ flushed {R = R} stream v held transfer (Ok done) new below holds f old is =
     subst (λ (x : View R). TakesPossibleTurn stream AnswersAt x (view_of new)) (sym is) here
 flushed {R = R} stream v held transfer (Err error) new below holds f old is =
     let e : Endpoint = v.endpoint in
-    let o : Outcome = flush_of (endpoint_with_tracker e transfer (sacked transfer.tracker)) (acknowledging e held (own_sack transfer)) f.answers in
+    let o : Outcome = flush_of (endpoint_with_tracker e transfer (sacked transfer.tracker)) (acknowledging e held (own_sack (room_in e (draft_to held)) transfer)) f.answers in
     let turn : AnswersPacket e held transfer transfer.tracker o = record { answers = f.answers; allowed = f.allowed; is = refl } in
     let here : CutIn AnswersAt v (view_of new).events =
     record {
@@ -90,10 +88,10 @@ acknowledged_by {R = R} stream old tcb (Some transfer) state packet filled resul
     let left : Transfer = record transfer { tracker = sacked transfer.tracker } in
     let view : view_of (record old { state = state }) ≡ record (view_of old) { endpoint = with_transfer e left } =
     below_view old state transfer left found (ack.1 ∙ ap (state_with old.state) put.left) in
-    let f : FlushesBy stream first_ask (packets_allowed old.options.max_burst (core_of state)) (acknowledging e held (own_sack transfer)) (view_of (record old { state = state })) result (view_of new) =
-    flushes (acknowledging e held (own_sack transfer)) put.packet held (ap (λ (v : View R). held_in v.endpoint.core) view ∙ holds) in
+    let f : FlushesBy stream first_ask (packets_allowed old.options.max_burst (core_of state)) (acknowledging e held (own_sack (room_in e (draft_to held)) transfer)) (view_of (record old { state = state })) result (view_of new) =
+    flushes (acknowledging e held (own_sack (room_in e (draft_to held)) transfer)) put.packet held (ap (λ (v : View R). held_in v.endpoint.core) view ∙ holds) in
     flushed stream (view_of old) held transfer result new found holds
-    (subst (λ (v : View R). FlushesBy stream first_ask (packets_allowed v.endpoint.options.max_burst v.endpoint.core) (acknowledging e held (own_sack transfer)) v result (view_of new)) view f)
+    (subst (λ (v : View R). FlushesBy stream first_ask (packets_allowed v.endpoint.options.max_burst v.endpoint.core) (acknowledging e held (own_sack (room_in e (draft_to held)) transfer)) v result (view_of new)) view f)
     old refl
 
 acknowledges : {R E : Type 0} (stream : R → Stream) (old : Context R) (tcb : TransmissionControlBlock) (state : State) (packet filled : Building) (result : Result (Unit {0}) E) (new : Context R)
@@ -128,8 +126,8 @@ any_answer e None found = (still e, refl)
 any_answer e (Some held) None = (still e, refl)
 any_answer e (Some held) (Some transfer) =
     let after : Endpoint = endpoint_with_tracker e transfer (sacked transfer.tracker) in
-    let some = any_answers first_ask (packets_allowed after.options.max_burst after.core) after (acknowledging e held (own_sack transfer)) in
-    (flush_of after (acknowledging e held (own_sack transfer)) some.0, record { answers = some.0; allowed = some.1; is = refl })
+    let some = any_answers first_ask (packets_allowed after.options.max_burst after.core) after (acknowledging e held (own_sack (room_in e (draft_to held)) transfer)) in
+    (flush_of after (acknowledging e held (own_sack (room_in e (draft_to held)) transfer)) some.0, record { answers = some.0; allowed = some.1; is = refl })
 
 pub answers_cut : {R : Type 0} (view : View R) → CutIn AnswersAt view view.events
 answers_cut view =

@@ -1,6 +1,7 @@
 -- A SACK comes in.
 use Rattle.std.proofs.Common.{◌≡◌, ◌||◌, ℕ, Bool, true, false, if◌then◌else◌, Option, None, Some, Result, Ok, Err, List, [], ◌∷◌, ◌++◌, map, take, length, refl, sym, ap, subst, ◌∙◌, append_assoc}
 use Rattle.std.specs.Prelude.{is_some}
+use Rattle.std.specs.Option.{option_map}
 use Rattle.std.proofs.lemmas.List.{append-nil, map-append}
 use Rattle.std.specs.declared.alloc.AllocError.{AllocError}
 use Rattle.rand_core.specs.Stream.{Stream}
@@ -16,9 +17,9 @@ use Rattle.dcsctp_core.specs.spec.endpoint.Outcome.{Outcome, still, reports}
 use Rattle.dcsctp_core.specs.spec.endpoint.FlushOutcomes.{draft_to, flush_of}
 use Rattle.dcsctp_core.specs.spec.endpoint.TransferMoves.{TakesSack, timed_by}
 use Rattle.dcsctp_core.specs.spec.endpoint.DataOutcomes.{with_transfer, no_tcb_text, heeds_window, shows_peer, sack_taken, AcknowledgesBy, SackWhere, SackBy, SackTurn}
-use Rattle.dcsctp_core.specs.spec.queues.Acknowledging.{is_sack_valid, has_acknowledged, ends_delivery, lifecycle_events_by, delivered_events, delivered_by}
+use Rattle.dcsctp_core.specs.spec.queues.Acknowledging.{is_sack_valid, has_acknowledged, exiting, acknowledged_until, opens, probes_lost, window_settled_at, ends_delivery, lifecycle_events_by, delivered_events, delivered_by}
 use Rattle.dcsctp_core.specs.spec.queues.Items.{Item}
-use Rattle.dcsctp_core.specs.spec.queues.Outstanding.{acknowledged_count}
+use Rattle.dcsctp_core.specs.spec.queues.Outstanding.{acknowledged_count, tsn_at}
 use Rattle.dcsctp_core.specs.spec.queues.Retransmission.{RetransmissionState}
 use Rattle.dcsctp_core.proofs.spec_lemmas.SackOutcomeLemmas.{some_taken}
 use Rattle.dcsctp_core.specs.spec.endpoint.ShutdownOutcomes.{step_outcome}
@@ -140,10 +141,19 @@ timed_window : (round_trip : Option ℕ) (transfer : Transfer) → (timed_by rou
 timed_window None transfer = refl
 timed_window (Some measured) transfer = refl
 
+settled_window : (now window count : ℕ) (state : RetransmissionState) → (window_settled_at now window count state).peer_window ≡ window
+settled_window now window count state = go (opens state (record state { peer_window = window }))
+  where
+    go : (b : Bool) → (probes_lost b (record state { peer_window = window })).peer_window ≡ window
+    go true = refl
+    go false = refl
+
 window_taken : (now : ℕ) (sack : SackContent) (old new : Transfer) → TakesSack now sack old new → new.retransmission.peer_window ≡ sack.a_rwnd
 window_taken now sack old new takes =
+    let count : ℕ = acknowledged_count old.retransmission.outstanding sack.cumulative_tsn_ack in
     ap (λ (t : Transfer). t.retransmission.peer_window) takes.is ∙ timed_window takes.round_trip (record old { retransmission = takes.left })
-    ∙ ap (λ (s : RetransmissionState). s.peer_window) takes.acknowledges.is
+    ∙ (ap (λ (s : RetransmissionState). s.peer_window) takes.acknowledges.is
+    ∙ settled_window now sack.a_rwnd count (acknowledged_until count takes.blocks takes.acknowledges.limit (option_map (tsn_at old.retransmission.outstanding) takes.acknowledges.newest) (exiting sack.cumulative_tsn_ack old.retransmission)))
 
 -- A SACK that was taken into account.
 pub record Taken {R : Type 0} (old : Context R) (sack : SackContent) (shows : Bool) (state : State) (events : List SocketEvent) : Type 0 where

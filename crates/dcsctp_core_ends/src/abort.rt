@@ -12,7 +12,7 @@ use rand_core::Rng;
 use std::alloc::AllocError;
 
 /// Handles an ABORT: it ends an association with a peer, and the rest of its packet is dropped. If the peer
-/// isn't known, nothing happens.
+/// isn't known, nothing happens; with `Options::follow_rfc` the attempt to connect ends, too.
 ///
 /// `Err`: an allocation failed, and nothing has changed.
 pub fn handle_abort<R: Rng>(
@@ -23,8 +23,9 @@ pub fn handle_abort<R: Rng>(
         context.old result context.new }
 {
     match context.state {
-        State::Closed | State::CookieWait(_) => Ok(Following::NextChunk),
-        State::CookieEchoed(_) | State::Open(_) => {
+        State::Closed => Ok(Following::NextChunk),
+        State::CookieWait(_) if !context.options.follow_rfc => Ok(Following::NextChunk),
+        State::CookieWait(_) | State::CookieEchoed(_) | State::Open(_) => {
             let text = causes_text(context.alloc, &abort.error_causes)?;
             context.internal_close(ErrorKind::PeerReported, text)?;
             Ok(Following::DroppedRest)

@@ -1,12 +1,11 @@
 -- A COOKIE ECHO's turn, by which case it is.
 use Rattle.std.proofs.Common.{◌≡◌, ◌==◌, ℕ, Bool, true, false, List, [], ◌∷◌, refl, sym, ap, subst, ◌∙◌, arith}
 use Rattle.std.specs.Prelude.{Result, Ok, Err}
-use Rattle.std.specs.Duration.{as_nanos}
 use Rattle.std.proofs.lemmas.Bool.Decides.{nat_tests}
 use Rattle.rand_core.specs.Stream.{Stream}
 use Rattle.dcsctp_core.specs.types.declared.association.Pair.{Pair}
 use Rattle.dcsctp_core.specs.types.declared.association.Held.{Held}
-use Rattle.dcsctp_core.specs.spec.Cookie.{Cookie, cookie_at, is_stale}
+use Rattle.dcsctp_core.specs.spec.Cookie.{Cookie, cookie_at}
 use Rattle.dcsctp_core.specs.spec.endpoint.Event.{Event, connected}
 use Rattle.dcsctp_core.specs.spec.Packet.{Emission, cookie_ack}
 use Rattle.dcsctp_core.specs.spec.endpoint.Endpoint.{Endpoint, Core, closed, cookie_wait, cookie_echoed, open_in}
@@ -16,7 +15,7 @@ use Rattle.dcsctp_core.specs.spec.association.Effect.{connects, identity_of}
 use Rattle.dcsctp_core.specs.spec.association.CookieEchoChanges.{Resolution, establish_new, restart, simultaneous_init, discard, maintain_existing, invalid_tag, stale, case_by, case_with_peer, resolve}
 use Rattle.dcsctp_core.specs.spec.endpoint.FlushOutcomes.{Answer, FlushAnswers, flush_answered}
 use Rattle.dcsctp_core.specs.spec.endpoint.HandshakeOutcomes.{connected_after}
-use Rattle.dcsctp_core.specs.spec.endpoint.CookieEchoOutcomes.{maintain_by, resolved_by, cookie_echo_by, discard_outcome, refused_echo_outcome, MaintainAnswers, ResolvedAnswers, EchoedAnswers, resolved_now, CookieEchoTurn}
+use Rattle.dcsctp_core.specs.spec.endpoint.CookieEchoOutcomes.{is_spent, maintain_by, resolved_by, cookie_echo_by, discard_outcome, refused_echo_outcome, MaintainAnswers, ResolvedAnswers, EchoedAnswers, resolved_now, CookieEchoTurn}
 use Rattle.dcsctp_core.proofs.spec_lemmas.ControlEcho.{kept_by_age}
 use Rattle.dcsctp_core.specs.declared.context.Context.{Context}
 use Rattle.dcsctp_core.specs.declared.following.Following.{Following}
@@ -160,7 +159,7 @@ maintain_turn : {R : Type 0} (old : View R) (header : ℕ) (bytes : List ℕ) (c
     → MaintainAt old o → CookieEchoAt header bytes old o
 maintain_turn old header bytes cookie o c turn =
     let e : Endpoint = old.endpoint in
-    let is : maintain_existing ≡ resolve e.core e.tie header cookie = sym (kept_by_age (is_stale (as_nanos e.options.cookie_lifetime) e.moment cookie) (resolve e.core e.tie header cookie) (sym c.is)) in
+    let is : maintain_existing ≡ resolve e.core e.tie header cookie = sym (kept_by_age (is_spent e e.core header cookie) (resolve e.core e.tie header cookie) (sym c.is)) in
     let here = maintain_is e cookie e.core e.tie header turn.0 is turn.1 in
     turn_of e header bytes cookie 0 maintain_existing turn.0 o c here.0 (turn.2 ∙ here.1)
 

@@ -210,6 +210,9 @@ fn echo_cookie<R: Rng>(
         tcb: TransmissionControlBlock::new(context.alloc, &context.options, my, &peer, tie_tag),
     });
     context.left = VecDeque::new(context.alloc);
+    context
+        .tx_error_counter
+        .begin_association(context.options.follow_rfc);
     send_cookie_echo(context)?;
     Ok(())
 }

@@ -54,6 +54,10 @@ fn begin_association<R: Rng>(context: &mut Context<R>, cookie: &StateCookie, tie
         tcb,
     });
     context.left = VecDeque::new(context.alloc);
+    context
+        .tx_error_counter
+        .begin_association(context.options.follow_rfc);
+    context.heartbeat_sent = None;
     context.start_heartbeat_interval();
 }
 
@@ -192,9 +196,9 @@ fn maintain<R: Rng>(context: &mut Context<R>) -> Result<(), AllocError>
     Ok(())
 }
 
-/// Handles a COOKIE ECHO in a packet with this header tag. One that would make an association, and whose cookie
-/// is stale, is refused: that is reported, and nothing else changes. After one that is refused or discarded the
-/// rest of the packet is dropped.
+/// Handles a COOKIE ECHO in a packet with this header tag. One that would make an association, and whose
+/// cookie is stale or of the last association, is refused: that is reported, and nothing else changes. After
+/// one that is refused or discarded the rest of the packet is dropped.
 ///
 /// `Err`: an allocation failed; the first of its events may already have been added.
 pub fn handle_cookie_echo<R: Rng>(

@@ -61,7 +61,8 @@ impl CookieResolution {
 }
 
 /// Which case a COOKIE ECHO is now, in a packet with this header tag: that of the table, unless it would make an
-/// association and its cookie is older than `cookie_lifetime` (RFC 9260, section 5.1.5).
+/// association and its cookie is older than `cookie_lifetime` (RFC 9260, section 5.1.5) or, with
+/// `Options::follow_rfc`, of the last association (section 5.3.1).
 pub fn resolve_now<R: Rng>(
     context: &Context<R>,
     header_tag: u32,
@@ -71,7 +72,8 @@ pub fn resolve_now<R: Rng>(
         header_tag (cookie_of cookie.now) }
 {
     let is_stale = cookie.is_stale(context.options.cookie_lifetime, context.moment);
-    resolve(&context.state, header_tag, cookie).aged(is_stale)
+    let is_spent = context.is_tag_over(header_tag) || is_stale;
+    resolve(&context.state, header_tag, cookie).aged(is_spent)
 }
 
 /// Which case of the table a COOKIE ECHO is, in a packet with this header tag. It is never `Stale`.

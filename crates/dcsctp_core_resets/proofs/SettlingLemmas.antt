@@ -7,7 +7,7 @@ use Rattle.dcsctp_core.specs.spec.Reconfiguration.{RequestedReset}
 use Rattle.dcsctp_core.specs.spec.queues.Transfer.{Transfer}
 use Rattle.dcsctp_core.specs.spec.endpoint.Endpoint.{OutstandingRequest, cookie_echoed, open_in}
 use Rattle.dcsctp_core.specs.spec.endpoint.Timers.{RunningTimer, started}
-use Rattle.dcsctp_core.specs.spec.endpoint.BegunResets.{reconfiguration_settings, rto_of}
+use Rattle.dcsctp_core.specs.spec.endpoint.BegunResets.{reconfiguration_settings}
 use Rattle.dcsctp_core.specs.spec.endpoint.ResetOutcomes.{OwnAnswer, unanswered, retried, was_performed, has_failed, waiting, own_streams}
 use Rattle.dcsctp_core.specs.api.declared.events.SocketEvent.{SocketEvent}
 use Rattle.dcsctp_core.specs.declared.context.Context.{Context}
@@ -94,7 +94,7 @@ asking view request timer =
 
 -- the view once it is in progress, but for the count of errors
 abbrev retried_at : {R : Type 0} → View R → View R
-retried_at view = asking view (option_map waiting view.endpoint.outstanding) (started view.endpoint.moment (reconfiguration_settings (rto_of view.endpoint.queues.transfer)))
+retried_at view = asking view (option_map waiting view.endpoint.outstanding) (started view.endpoint.moment (reconfiguration_settings view.endpoint.queues.transfer))
 
 echoed_view : {R : Type 0} (old : Context R) (echoed : CookieEchoState) (tcb : TransmissionControlBlock) → Retries old.moment echoed.tcb tcb → (echoed.tcb.reset_request ≡ None → ⊥)
     → view_of (record old { state = CookieEchoed (record echoed { tcb = tcb }) }) ≡ retried_at (view_of (record old { state = CookieEchoed echoed }))

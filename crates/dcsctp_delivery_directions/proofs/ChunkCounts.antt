@@ -74,7 +74,7 @@ module _ (options : Options) (first size : ℕ) (small : first < 2 ^ 32) (old : 
   stepped_few _ (asks_again emission begun was contents) = (let sent = chunks_more old.sent (emission ∷ []) in omega (arith, sent, h))
   stepped_few _ (renews emission newest earlier number asks out contents) = (let sent = chunks_more old.sent (emission ∷ []) in omega (arith, sent, h))
   stepped_few _ (turns_aside transfer new known same) =
-      let size : length new.retransmission.outstanding.items ≡ length transfer.retransmission.outstanding.items = ap (λ (r : _). length r.outstanding.items) same in
+      let size : length new.retransmission.outstanding.items ≡ length transfer.retransmission.outstanding.items = ap (λ (o : OutstandingState). length o.items) same.outstanding in
       let before = at_known transfer known in
       omega (arith, size, before, h)
   stepped_few _ (acknowledges now sack transfer new known valid does) =

@@ -19,7 +19,7 @@ use Rattle.dcsctp_delivery_sending.specs.Log.{Mark, History, log_extended}
 use Rattle.dcsctp_delivery_sending.specs.Numbers.{IsOfKind}
 use Rattle.dcsctp_delivery_sending.specs.Stages.{Bears, Pends, Stays}
 use Rattle.dcsctp_delivery_sending.specs.Flushes.{NoData, SayAll, PacketsSay, PendsWhere, IsBegun}
-use Rattle.dcsctp_delivery_directions.specs.Directions.{Direction}
+use Rattle.dcsctp_delivery_directions.specs.Directions.{Direction, SameFlight}
 use Rattle.dcsctp_delivery_sending.proofs.Packets.{said_chunks, none_said}
 use Rattle.dcsctp_delivery_sending.proofs.Filling.{at_once_stays}
 use Rattle.dcsctp_delivery_sending.proofs.Acknowledged.{acknowledged_bear, acknowledged_pends, acknowledged_kind, lost_bear}
@@ -168,12 +168,12 @@ module _ (first : ℕ) (old : Direction) (s : Stands first old) where
   pub pends_as : (transfer : Transfer) (begun : Bool) → old.queues.transfer ≡ Some transfer → begun ≡ transfer.retransmission.reset_begun → Pends s.history begun
   pends_as transfer begun known same = subst (λ (b : Bool). Pends s.history b) (sym same) (known_pends transfer known)
 
-  unfoldable pub stepped_turns_aside : (transfer new : Transfer) → old.queues.transfer ≡ Some transfer → new.retransmission ≡ transfer.retransmission → Stands first (record old { queues = record old.queues { transfer = Some new } })
+  unfoldable pub stepped_turns_aside : (transfer new : Transfer) → old.queues.transfer ≡ Some transfer → SameFlight transfer.retransmission new.retransmission → Stands first (record old { queues = record old.queues { transfer = Some new } })
   stepped_turns_aside transfer new known same =
       let bears : Bears s.history first old.acknowledged new.retransmission.outstanding =
-      subst (λ (r : RetransmissionState). Bears s.history first old.acknowledged r.outstanding) (sym same) (known_flight transfer known) in
-      stepped_transfer new old.acknowledged bears (pends_as transfer new.retransmission.reset_begun known (ap (λ (r : RetransmissionState). r.reset_begun) same))
-      (ap (λ (r : RetransmissionState). r.outstanding.is_interleaved) same ∙ known_kind transfer known)
+      subst (λ (o : OutstandingState). Bears s.history first old.acknowledged o) (sym same.outstanding) (known_flight transfer known) in
+      stepped_transfer new old.acknowledged bears (pends_as transfer new.retransmission.reset_begun known same.reset_begun)
+      (ap (λ (o : OutstandingState). o.is_interleaved) same.outstanding ∙ known_kind transfer known)
 
   unfoldable pub stepped_acknowledges : (now : ℕ) (sack : SackContent) (transfer new : Transfer) → old.queues.transfer ≡ Some transfer → is_sack_valid transfer.retransmission sack.cumulative_tsn_ack ≡ true → TakesSack now sack transfer new
       → Stands first (record old { queues = record old.queues { transfer = Some new }; acknowledged = old.acknowledged + acknowledged_count transfer.retransmission.outstanding sack.cumulative_tsn_ack })

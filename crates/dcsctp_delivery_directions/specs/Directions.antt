@@ -103,6 +103,11 @@ tsns_in_flight (Some transfer) = length transfer.retransmission.outstanding.item
 abbrev pub assigned : Direction → ℕ
 assigned direction = direction.acknowledged + tsns_in_flight direction.queues.transfer
 
+-- The same is in flight, and a reset was begun after it, or none was, as before. Timers and windows may differ.
+pub record SameFlight (old new : RetransmissionState) : Type 0 where
+  pub outstanding : new.outstanding ≡ old.outstanding
+  pub reset_begun : new.reset_begun ≡ old.reset_begun
+
 -- One step of a direction.
 pub data DirectionStep (old : Direction) : Direction → Type 0 where
   -- The user queues a message.
@@ -139,8 +144,8 @@ pub data DirectionStep (old : Direction) : Direction → Type 0 where
   -- The newest request, which has no end, is sent again under another number, and takes its place.
   renews : (emission : Emission) (newest : BegunReset) (earlier : List BegunReset) (number : ℕ) → old.asking.requests ≡ newest ∷ earlier → old.asking.out ≡ 1
       → emission.packet.contents ≡ reset_request number newest.reset ∷ [] → DirectionStep old (record old { sent = old.sent ++ emission ∷ []; asking = asking_renewed number newest old.asking })
-  -- The sender receives something itself.
-  turns_aside : (transfer new : Transfer) → old.queues.transfer ≡ Some transfer → new.retransmission ≡ transfer.retransmission
+  -- The sender receives something itself, or measures a round trip.
+  turns_aside : (transfer new : Transfer) → old.queues.transfer ≡ Some transfer → SameFlight transfer.retransmission new.retransmission
       → DirectionStep old (record old { queues = record old.queues { transfer = Some new } })
   -- A SACK, whatever it says.
   acknowledges : (now : ℕ) (sack : SackContent) (transfer new : Transfer) → old.queues.transfer ≡ Some transfer → is_sack_valid transfer.retransmission sack.cumulative_tsn_ack ≡ true → TakesSack now sack transfer new

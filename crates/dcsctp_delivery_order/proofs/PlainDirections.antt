@@ -42,7 +42,7 @@ use Rattle.dcsctp_delivery_directions.proofs.Losing.{same_beginning, unlimited_b
 use Rattle.dcsctp_delivery_order.proofs.Beginning.{waits_from}
 use Rattle.dcsctp_delivery_order.proofs.PlainGrowing.{takes_plain, counts_before, received_more, received_nothing}
 use Rattle.dcsctp_delivery_order.proofs.PlainReceived.{ReassemblesPlain, none_handled, some_handled, HasReceivedPlain, tracked_plain, received_plain, IsIdleAs, stays_idle}
-use Rattle.dcsctp_delivery_order.proofs.PlainSteps.{CanBeCounted, can_count, same_kind, none_before, counted_before}
+use Rattle.dcsctp_delivery_order.proofs.PlainSteps.{IsCounted, CanBeCounted, can_count, same_kind, none_before, counted_before}
 
 -- ---- what holds throughout
 
@@ -91,11 +91,11 @@ arrives_later first history later queued more read tracker reassembly c a =
 -- ---- each step
 
 -- each message that was queued can be counted
-counted_at : (size : ℕ) (queued : List Message) (place : ℕ) (message : Message) → CanBeCounted size queued → at_place place queued ≡ Some message → size + length message.payload ≤ 2 ^ 64
+counted_at : (size : ℕ) (queued : List Message) (place : ℕ) (message : Message) → CanBeCounted size queued → at_place place queued ≡ Some message → IsCounted size (length message.payload)
 counted_at size [] place message can at = absurd (cc)
 counted_at size (m ∷ queued) place message can at =
     elim (at_cases place m message queued at) [
-      | inl e ↦ subst (λ (x : Message). size + length x.payload ≤ 2 ^ 64) e.1 can.0
+      | inl e ↦ subst (λ (x : Message). IsCounted size (length x.payload)) e.1 can.0
       | inr old ↦ counted_at size queued place message can.1 old
     ]
 

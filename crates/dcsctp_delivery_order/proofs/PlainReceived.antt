@@ -1,5 +1,5 @@
 -- What is received of DATA leaves each stream in order, where nothing is skipped or reset.
-use Rattle.std.proofs.Common.{◌≡◌, ◌==◌, ℕ, zero, suc, Bool, true, false, ◌<◌, ◌≤◌, ◌+◌, ◌-◌, ◌*◌, ◌%◌, ◌^◌, List, [], ◌∷◌, length, take, drop, refl, sym, ◌∙◌, ap, arith, subst, inl, inr}
+use Rattle.std.proofs.Common.{◌≡◌, ◌==◌, ℕ, zero, suc, Bool, true, false, ◌<◌, ◌≤◌, ◌+◌, ◌-◌, ◌*◌, ◌%◌, ◌^◌, List, [], ◌∷◌, length, take, drop, refl, sym, ◌∙◌, ap, arith, subst, inl, inr, min}
 use Rattle.std.specs.Prelude.{◌&&◌, ◌||◌, not, nat_lt, nat_le, Option, None, Some}
 use Rattle.std.proofs.lemmas.Bool.{eqb-true}
 use Rattle.std.proofs.lemmas.Bool.Decides.{nat_tests}
@@ -10,7 +10,7 @@ use Rattle.dcsctp_spec_lemmas.specs.spec.queues.Ranges.{IsBeyond, is_received}
 use Rattle.dcsctp_spec_lemmas.specs.spec.queues.IncomingStreams.{ChunkModel}
 use Rattle.dcsctp_spec_lemmas.specs.spec.queues.Incoming.{IncomingModel, TakesIncomingChunk}
 use Rattle.dcsctp_spec_lemmas.specs.spec.queues.Reassembly.{ReassemblyState, DeferralModel, can_count, reassembly_bytes, is_data_deferred, AddsData}
-use Rattle.dcsctp_spec_lemmas.specs.spec.queues.Tracker.{TrackerState, has_received, is_new_tsn, observed, is_valid_tsn, delay_over, nearest_number, is_below_highest}
+use Rattle.dcsctp_spec_lemmas.specs.spec.queues.Tracker.{TrackerState, has_received, is_new_tsn, observed, is_valid_tsn, delay_over, nearest_number, is_below_highest, is_first_missing}
 use Rattle.dcsctp_spec_lemmas.specs.spec.queues.Transfer.{Transfer}
 use Rattle.dcsctp_spec_lemmas.specs.spec.endpoint.TransferMoves.{AddsWhere, has_room, dropping, ReceivesWhere, ReceivesData, TakesData as TakesArrival}
 use Rattle.dcsctp_spec_lemmas.proofs.RangesLemmas.{received_members}
@@ -24,6 +24,7 @@ use Rattle.dcsctp_delivery_receiving.proofs.Reassembled.{first_number, first_bas
 use Rattle.dcsctp_delivery_receiving.proofs.Tracked.{number_is, new_is_new, up_to}
 use Rattle.dcsctp_delivery_order.specs.Plain.{CountsPlain, IncomingPlain}
 use Rattle.dcsctp_delivery_order.proofs.PlainReady.{ready_plain}
+use Rattle.dcsctp_delivery_order.proofs.PlainSteps.{IsCounted}
 
 -- No TSN was handled yet; or the number of the first is known, and all that is held is in order.
 pub data ReassemblesPlain (queued : List Message) (history : History) (first : ℕ) (got read : List ℕ) (incoming : IncomingModel) : Type 0 where
@@ -125,18 +126,26 @@ size_drop (suc k) (b ∷ bytes) = (let rest = size_drop k bytes in omega (arith,
 piece_small : (piece : Piece) → length (piece_bytes piece) ≤ length piece.message.payload
 piece_small piece = (let a = size_take piece.size (drop piece.start piece.message.payload) in let b = size_drop piece.start piece.message.payload in omega (arith, a, b))
 
-window_left : (bytes max : ℕ) (rest : Bool) → (not (nat_le (9 * max) (10 * bytes)) || (rest && nat_lt 0 (max - bytes))) ≡ true → bytes < max
-window_left bytes max rest e = go (nat_le (9 * max) (10 * bytes)) refl e
+window_left : (bytes max size : ℕ) (follows below first : Bool)
+    → (not (nat_le (9 * max) (10 * bytes)) || (follows && (below && (nat_lt 0 (max - bytes) || (first && nat_lt bytes (min (2 * max) (2 ^ 63))))))) ≡ true
+    → IsCounted max size → bytes + size < 2 ^ 64
+window_left bytes max size follows below first room counts = go (nat_le (9 * max) (10 * bytes)) refl room
   where
-    go : (b : Bool) → nat_le (9 * max) (10 * bytes) ≡ b → (not b || (rest && nat_lt 0 (max - bytes))) ≡ true → bytes < max
-    go false is either = grind (arith, nat_tests, is)
-    go true is either = (let (one, two) = both rest (nat_lt 0 (max - bytes)) either in grind (arith, nat_tests, two))
+    beyond : (b : Bool) → nat_lt 0 (max - bytes) ≡ b → (b || (first && nat_lt bytes (min (2 * max) (2 ^ 63)))) ≡ true → bytes + size < 2 ^ 64
+    beyond true is either = grind (arith, nat_tests, is, counts.whole)
+    beyond false is either = (let double = (both first (nat_lt bytes (min (2 * max) (2 ^ 63))) either).1 in grind (arith, nat_tests, double, counts.half))
+
+    go : (b : Bool) → nat_le (9 * max) (10 * bytes) ≡ b
+        → (not b || (follows && (below && (nat_lt 0 (max - bytes) || (first && nat_lt bytes (min (2 * max) (2 ^ 63))))))) ≡ true → bytes + size < 2 ^ 64
+    go false is either = grind (arith, nat_tests, is, counts.whole)
+    go true is either = beyond (nat_lt 0 (max - bytes)) refl (both below _ (both follows _ either).1).1
 
 -- where there is room, data can be counted
-counted_so : (tsn size : ℕ) (transfer : Transfer) → has_room tsn transfer ≡ true → transfer.reassembly.max_size + size ≤ 2 ^ 64 → can_count size transfer.reassembly ≡ true
-counted_so tsn size transfer room fits =
-    let less : reassembly_bytes transfer.reassembly < transfer.reassembly.max_size = window_left (reassembly_bytes transfer.reassembly) transfer.reassembly.max_size (transfer.tracker.follows_rfc && is_below_highest tsn transfer.tracker) room in
-    grind (arith, nat_tests, less, fits)
+counted_so : (tsn size : ℕ) (transfer : Transfer) → has_room tsn transfer ≡ true → IsCounted transfer.reassembly.max_size size → can_count size transfer.reassembly ≡ true
+counted_so tsn size transfer room counts =
+    let less = window_left (reassembly_bytes transfer.reassembly) transfer.reassembly.max_size size transfer.tracker.follows_rfc
+    (is_below_highest tsn transfer.tracker) (is_first_missing tsn transfer.tracker) room counts in
+    grind (arith, nat_tests, less)
 
 -- ---- data
 
@@ -165,7 +174,7 @@ module _ (queued : List Message) (history : History) (first size : ℕ) (cut : C
 
   -- what an arrival leaves, where there is no reset that is deferred
   module _ (offset : ℕ) (arrival : Arrival) (old new : Transfer) (c : Carries history.log first offset arrival.tsn arrival.chunk) (r : HasReceivedPlain queued history first read old.tracker old.reassembly.incoming)
-      (idle : old.reassembly.deferral ≡ None) (bounded : old.reassembly.max_size ≡ size) (fits : size + length c.piece.message.payload ≤ 2 ^ 64) where
+      (idle : old.reassembly.deferral ≡ None) (bounded : old.reassembly.max_size ≡ size) (fits : IsCounted size (length c.piece.message.payload)) where
     below : offset < length history.log
     below = at_below offset (Some c.piece) history.log c.at
 
@@ -199,7 +208,9 @@ module _ (queued : List Message) (history : History) (first size : ℕ) (cut : C
         go : (b : Bool) → is_new_tsn arrival.tsn old.tracker ≡ b → AddsWhere b arrival.tsn arrival.chunk old.reassembly new.reassembly
             → HasReceivedPlain queued history first read (observed arrival.tsn arrival.immediate_ack old.tracker) new.reassembly.incoming
         go true is adds =
-            let size_fits : old.reassembly.max_size + length arrival.chunk.payload ≤ 2 ^ 64 = (let payload = payload_small in omega (arith, bounded, fits, payload)) in
+            let payload = payload_small in
+            let size_fits : IsCounted old.reassembly.max_size (length arrival.chunk.payload) =
+            record { whole = omega (arith, bounded, fits.whole, payload); half = omega (arith, fits.half, payload) } in
             let counted = counted_so arrival.tsn (length arrival.chunk.payload) old room size_fits in
             let taken = adds.taken counted (not_deferred old.reassembly.deferral idle) in
             let is_new = (new_is_new first (length history.log) offset arrival.immediate_ack r.got old.tracker small counts.few below r.tracks).1 (by_offset true is) in

@@ -12,15 +12,22 @@ use Rattle.dcsctp_delivery_sending.proofs.Settings.{setting_kind}
 use Rattle.dcsctp_delivery_directions.specs.Directions.{Direction, DirectionStep, queues, sets, prepares, commits, rolls_back, flushes, resends, resends_nothing, speaks, asks_again, renews, turns_aside, acknowledges, loses, receives, forwards, receives_interleaved, forwards_interleaved, tracks, defers, performs, resets, performs_earlier, takes}
 use Rattle.dcsctp_delivery_directions.specs.Forwards.{NoneForwards}
 
--- The bytes of a receive window of this size and of one message more can be counted (64 bits). So data for which there is room
--- isn't dropped after its TSN was noted as received.
+-- So many bytes can be counted (64 bits) beside a receive window of this size, and beside twice its size or 2^63 bytes, whichever is
+-- less.
+pub record IsCounted (size bytes : ℕ) : Type 0 where
+  pub whole : size + bytes ≤ 2 ^ 64
+  pub half : bytes ≤ 2 ^ 63
+
+-- Each message can be. So data for which there is room isn't dropped after its TSN was noted as received.
 abbrev pub CanBeCounted : ℕ → List Message → Type 0
-CanBeCounted size queued = AllByRecursion (λ message. size + length message.payload ≤ 2 ^ 64) queued
+CanBeCounted size queued = AllByRecursion (λ message. IsCounted size (length message.payload)) queued
 
 -- So it is with a window that is small enough.
 pub can_count : (size : ℕ) (queued : List Message) → size ≤ 2 ^ 63 → AllByRecursion Fits queued → CanBeCounted size queued
 can_count size [] small fit = tt
-can_count size (message ∷ queued) small fit = (let below = fit.0.size in omega (arith, small, below), can_count size queued small fit.1)
+can_count size (message ∷ queued) small fit =
+    let below = fit.0.size in
+    (record { whole = omega (arith, small, below); half = omega (arith, below) }, can_count size queued small fit.1)
 
 -- messages are interleaved, or not, as before
 pub same_kind : (old direction : Direction) → DirectionStep old direction → direction.queues.queue.is_interleaved ≡ old.queues.queue.is_interleaved

@@ -6,7 +6,7 @@ use Rattle.std.proofs.lemmas.Bool.Decides.{nat_tests}
 use Rattle.std.proofs.lemmas.List.{length-drop}
 use Rattle.dcsctp_spec.specs.wire.declared.chunk.sack.GapAckBlock.{GapAckBlock}
 use Rattle.dcsctp_spec.specs.types.declared.progress.Change.TheVariants.{Miss, Mark, Acknowledge}
-use Rattle.dcsctp_spec.specs.queues.Acknowledging.{is_sack_valid, AcknowledgesItems, covered, lossy, missed_until, without_first_items, exiting}
+use Rattle.dcsctp_spec.specs.queues.Acknowledging.{is_sack_valid, AcknowledgesItems, covered, lossy, missed_until, without_first_items, acknowledged_until, exiting, opens, probes_lost, window_settled_at}
 use Rattle.dcsctp_spec.specs.queues.Items.{Item, marked_items, changed_between}
 use Rattle.dcsctp_spec.specs.queues.Outstanding.{OutstandingState, acknowledged_count, reported, tsn_at}
 use Rattle.dcsctp_spec.specs.queues.Retransmission.{RetransmissionState, with_items, outstanding_count, after_expiry}
@@ -109,10 +109,34 @@ missed_items count limit newest state =
     go true = changed_length (Miss newest) count limit state.outstanding.items
     go false = changed_length (Miss newest) count limit state.outstanding.items
 
+-- where probes of the peer's window are lost
+probes_bear : (history : History) (first acknowledged : ℕ) (b : Bool) (state : RetransmissionState) → Bears history first acknowledged state.outstanding
+    → Bears history first acknowledged (probes_lost b state).outstanding
+probes_bear history first acknowledged true state bear =
+    bears_changed history first acknowledged Mark 0 (outstanding_count state) state.outstanding losing_leaves (λ k item at from below. losing_keeps item.progress) bear
+probes_bear history first acknowledged false state bear = bear
+
+settled_bear : (history : History) (first acknowledged now window count : ℕ) (state : RetransmissionState) → Bears history first acknowledged state.outstanding
+    → Bears history first acknowledged (window_settled_at now window count state).outstanding
+settled_bear history first acknowledged now window count state bear =
+    let told : RetransmissionState = record state { peer_window = window } in probes_bear history first acknowledged (opens state told) told bear
+
+-- the kind of what is in flight, and the reset that pends
+probes_stay : (b : Bool) (state : RetransmissionState)
+    → ((probes_lost b state).outstanding.is_interleaved ≡ state.outstanding.is_interleaved) × ((probes_lost b state).reset_begun ≡ state.reset_begun)
+probes_stay true state = (refl, refl)
+probes_stay false state = (refl, refl)
+
+settled_stay : (now window count : ℕ) (state : RetransmissionState)
+    → ((window_settled_at now window count state).outstanding.is_interleaved ≡ state.outstanding.is_interleaved)
+    × ((window_settled_at now window count state).reset_begun ≡ state.reset_begun)
+settled_stay now window count state = let told : RetransmissionState = record state { peer_window = window } in probes_stay (opens state told) told
+
 pub acknowledged_bear : (history : History) (first acknowledged now cumulative window : ℕ) (blocks : List GapAckBlock) (old new : RetransmissionState) → is_sack_valid old cumulative ≡ true → Bears history first acknowledged old.outstanding
     → AcknowledgesItems now cumulative window blocks old new → Bears history first (acknowledged + acknowledged_count old.outstanding cumulative) new.outstanding
 acknowledged_bear history first acknowledged now cumulative window blocks old new valid b acknowledges =
-    subst (λ (s : RetransmissionState). Bears history first (acknowledged + acknowledged_count old.outstanding cumulative) s.outstanding) (sym acknowledges.is) (first_bear history first acknowledged count missed (omega (arith, within, missed_length)) missed_b)
+    subst (λ (s : RetransmissionState). Bears history first (acknowledged + acknowledged_count old.outstanding cumulative) s.outstanding) (sym acknowledges.is)
+    (settled_bear history first (acknowledged + count) now window count left (first_bear history first acknowledged count missed (omega (arith, within, missed_length)) missed_b))
   where
     count : ℕ
     count = acknowledged_count old.outstanding cumulative
@@ -122,6 +146,9 @@ acknowledged_bear history first acknowledged now cumulative window blocks old ne
 
     missed : RetransmissionState
     missed = missed_until count acknowledges.limit (option_map (tsn_at old.outstanding) acknowledges.newest) start
+
+    left : RetransmissionState
+    left = acknowledged_until count blocks acknowledges.limit (option_map (tsn_at old.outstanding) acknowledges.newest) (exiting cumulative old)
 
     start_b : Bears history first acknowledged start.outstanding
     start_b = covered_bear history first acknowledged count blocks old.outstanding b
@@ -140,6 +167,8 @@ pub acknowledged_kind : (now cumulative window : ℕ) (blocks : List GapAckBlock
     → new.outstanding.is_interleaved ≡ old.outstanding.is_interleaved
 acknowledged_kind now cumulative window blocks old new acknowledges =
     ap (λ (s : RetransmissionState). s.outstanding.is_interleaved) acknowledges.is
+    ∙ (settled_stay now window (acknowledged_count old.outstanding cumulative)
+    (acknowledged_until (acknowledged_count old.outstanding cumulative) blocks acknowledges.limit (option_map (tsn_at old.outstanding) acknowledges.newest) (exiting cumulative old))).0
     ∙ missed (acknowledged_count old.outstanding cumulative) acknowledges.limit (option_map (tsn_at old.outstanding) acknowledges.newest)
     (with_items (covered (acknowledged_count old.outstanding cumulative) blocks old.outstanding.items) (exiting cumulative old))
   where
@@ -154,6 +183,8 @@ acknowledged_kind now cumulative window blocks old new acknowledges =
 pub acknowledged_pends : (now cumulative window : ℕ) (blocks : List GapAckBlock) (old new : RetransmissionState) → AcknowledgesItems now cumulative window blocks old new → new.reset_begun ≡ old.reset_begun
 acknowledged_pends now cumulative window blocks old new acknowledges =
     ap (λ (s : RetransmissionState). s.reset_begun) acknowledges.is
+    ∙ (settled_stay now window (acknowledged_count old.outstanding cumulative)
+    (acknowledged_until (acknowledged_count old.outstanding cumulative) blocks acknowledges.limit (option_map (tsn_at old.outstanding) acknowledges.newest) (exiting cumulative old))).1
     ∙ missed (acknowledged_count old.outstanding cumulative) acknowledges.limit (option_map (tsn_at old.outstanding) acknowledges.newest)
     (with_items (covered (acknowledged_count old.outstanding cumulative) blocks old.outstanding.items) (exiting cumulative old))
   where

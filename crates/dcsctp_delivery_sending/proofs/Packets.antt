@@ -73,7 +73,7 @@ module _ (history : History) (first : ℕ) where
 
   pub said_sacks : (wants : Bool) (room : ℕ) (transfer : Transfer) (after : TrackerState) (chunks : List Plain) → Acknowledges wants room transfer after chunks → SayAll history first (plain_contents chunks)
   said_sacks false room transfer after chunks acknowledges = subst (λ (l : List Plain). SayAll history first (plain_contents l)) (sym acknowledges.1) tt
-  said_sacks true room transfer after chunks acknowledges = subst (λ (l : List Plain). SayAll history first (plain_contents l)) (sym acknowledges.1) (said_fitting room (own_sack transfer) tt)
+  said_sacks true room transfer after chunks acknowledges = subst (λ (l : List Plain). SayAll history first (plain_contents l)) (sym acknowledges.1) (said_fitting room (own_sack room transfer) tt)
 
   said_forward : (is_interleaved : Bool) (tsn : ℕ) (entries : List ((ℕ × Bool) × ℕ)) → (passed : IsPassed history.log first tsn) → AreForwardEntries is_interleaved history passed.passed entries → HasLimited history.log
       → SaysPlain history first (unworked (forward_chunk is_interleaved tsn entries))

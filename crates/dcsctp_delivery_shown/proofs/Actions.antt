@@ -20,7 +20,7 @@ use Rattle.dcsctp_delivery_turns.specs.Actions.{Ledger, Action, Actions, nothing
 use Rattle.dcsctp_delivery_turns.specs.Actions as actions
 use Rattle.dcsctp_delivery_turns.proofs.Received.{data_where}
 use Rattle.dcsctp_delivery_sending.proofs.Packets.{out_below}
-use Rattle.dcsctp_delivery_shown.proofs.InFlight.{IsOf, fills_where_is, begun_is, at_once_is, sack_is}
+use Rattle.dcsctp_delivery_shown.proofs.InFlight.{IsOf, fills_where_is, begun_is, at_once_is, sack_is, timed_is}
 use Rattle.dcsctp_delivery_shown.proofs.Allowed.{MayGo, AllAllowed, AreAllowed, all_append, no_data_goes, plain_go, request_goes, sacks_go, data_goes, forwards_go}
 
 -- This holds for what is in flight, if there is an association.
@@ -157,6 +157,8 @@ module _ (kinds : Capabilities) where
   action_is came to old _ h (actions.forwards tsn streams transfer new is known does) = record { left = moves_is _ _ _ transfer new (of_known transfer old.queues.transfer known h.left) does; says = h.says }
   action_is came to old _ h (actions.forwards_interleaved tsn streams transfer new is known does) = record { left = moves_is _ _ _ transfer new (of_known transfer old.queues.transfer known h.left) does; says = h.says }
   action_is came to old _ h (actions.tracks transfer tracker known same_tsn same_ranges) = record { left = of_known transfer old.queues.transfer known h.left; says = h.says }
+  action_is came to old _ h (actions.times round_trip transfer known) =
+      record { left = timed_is kinds round_trip transfer (of_known transfer old.queues.transfer known h.left); says = h.says }
   action_is came to old _ h (actions.takes transfer message messages known ready) = record { left = of_known transfer old.queues.transfer known h.left; says = h.says }
 
   pub actions_are : (came : Option Content) (to : ℕ) (old new : Ledger) → LedgerIs old → Actions came to old new → LedgerIs new

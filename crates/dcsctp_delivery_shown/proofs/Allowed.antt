@@ -80,7 +80,7 @@ module _ (kinds : Capabilities) where
 
   pub sacks_go : (b : Bool) (room : ℕ) (transfer : Transfer) (after : TrackerState) (chunks : List Plain) → Acknowledges b room transfer after chunks → AllByRecursion (MayGo kinds) chunks
   sacks_go false room transfer after chunks does = subst (AllByRecursion (MayGo kinds)) (sym does.1) tt
-  sacks_go true room transfer after chunks does = subst (AllByRecursion (MayGo kinds)) (sym does.1) (where_go room (own_sack transfer) refl)
+  sacks_go true room transfer after chunks does = subst (AllByRecursion (MayGo kinds)) (sym does.1) (where_go room (own_sack room transfer) refl)
 
   -- ---- data
 

@@ -8,7 +8,7 @@ use Rattle.dcsctp_spec_lemmas.specs.wire.declared.chunk.sack.GapAckBlock.{GapAck
 use Rattle.dcsctp_spec_lemmas.specs.types.declared.capabilities.Capabilities.{Capabilities}
 use Rattle.dcsctp_spec_lemmas.specs.spec.queues.Abandoning.{GivesUpFirst, GivesUpAll}
 use Rattle.dcsctp_spec_lemmas.specs.types.declared.progress.Change.TheVariants.{Miss}
-use Rattle.dcsctp_spec_lemmas.specs.spec.queues.Acknowledging.{covered, lossy, missed_until, exiting, AcknowledgesItems}
+use Rattle.dcsctp_spec_lemmas.specs.spec.queues.Acknowledging.{covered, lossy, missed_until, exiting, AcknowledgesItems, acknowledged_until, opens, probes_lost, window_settled_at}
 use Rattle.dcsctp_spec_lemmas.specs.spec.queues.AtOnce.{empty_stage, SendsAtOnce}
 use Rattle.dcsctp_spec_lemmas.specs.spec.queues.Filling.{Stage, DropsRestAt, ClosesMessage, GivesUpAt, SendsMarked, SendsNew, FindsNone, StepAgain, StepNew, StageSteps, none, more, resent_packet_counted, FillsPacket}
 use Rattle.dcsctp_spec_lemmas.specs.spec.queues.ItemMessages.{EndsDropped}
@@ -108,13 +108,22 @@ module _ (kinds : Capabilities) where
       go true = h
       go false = h
 
+  probes_is : (b : Bool) (state : RetransmissionState) → IsOf kinds state → IsOf kinds (probes_lost b state)
+  probes_is true state h = h
+  probes_is false state h = h
+
+  settled_is : (now window count : ℕ) (state : RetransmissionState) → IsOf kinds state → IsOf kinds (window_settled_at now window count state)
+  settled_is now window count state h = let told : RetransmissionState = record state { peer_window = window } in probes_is (opens state told) told h
+
   acknowledged_is : (now cumulative window : ℕ) (blocks : List GapAckBlock) (old new : RetransmissionState) → IsOf kinds old → AcknowledgesItems now cumulative window blocks old new → IsOf kinds new
   acknowledged_is now cumulative window blocks old new h does =
       let count = acknowledged_count old.outstanding cumulative in
+      let left : RetransmissionState = acknowledged_until count blocks does.limit (option_map (tsn_at old.outstanding) does.newest) (exiting cumulative old) in
       subst (IsOf kinds) (sym does.is)
-      (missed_is count does.limit (option_map (tsn_at old.outstanding) does.newest) (with_items (covered count blocks old.outstanding.items) (exiting cumulative old)) h)
+      (settled_is now window count left
+      (missed_is count does.limit (option_map (tsn_at old.outstanding) does.newest) (with_items (covered count blocks old.outstanding.items) (exiting cumulative old)) h))
 
-  timed_is : (round_trip : Option ℕ) (transfer : Transfer) → IsOf kinds transfer.retransmission → IsOf kinds (timed_by round_trip transfer).retransmission
+  pub timed_is : (round_trip : Option ℕ) (transfer : Transfer) → IsOf kinds transfer.retransmission → IsOf kinds (timed_by round_trip transfer).retransmission
   timed_is None transfer h = h
   timed_is (Some round_trip) transfer h = h
 

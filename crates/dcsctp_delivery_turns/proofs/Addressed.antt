@@ -9,7 +9,7 @@ use Rattle.dcsctp_spec_lemmas.specs.spec.association.Choices.{plain_contents}
 use Rattle.dcsctp_spec_lemmas.specs.spec.endpoint.BegunResets.{BegunReset, request_contents}
 use Rattle.dcsctp_spec_lemmas.specs.spec.endpoint.FlushOutcomes.{FillingEvent, filling_event, Answer, answer_contents, filled, goes_out, asked, next_draft, flush_of, Ask, first_ask, later_ask, AreFlushAnswers, at_limit, at_empty, after_packet, packets_allowed}
 use Rattle.dcsctp_theorem_sockets.proofs.Bursts.{packets_in-append, told_none}
-use Rattle.dcsctp_delivery_turns.specs.Actions.{Ledger, NoEnd, Action, queues, sets, flushes, resends, resends_nothing, speaks, asks_again, acknowledges, loses, receives, receives_interleaved, forwards, forwards_interleaved, tracks, takes, Actions, nothing, further}
+use Rattle.dcsctp_delivery_turns.specs.Actions.{Ledger, NoEnd, Action, queues, sets, flushes, resends, resends_nothing, speaks, asks_again, acknowledges, loses, receives, receives_interleaved, forwards, forwards_interleaved, tracks, times, takes, Actions, nothing, further}
 use Rattle.dcsctp_delivery_turns.specs.Addressed.{AreAddressed}
 use Rattle.dcsctp_delivery_turns.specs.Tags.{AllTo, IsPeerTag}
 use Rattle.dcsctp_delivery_turns.proofs.Tags.{flushes_to, tags_own}
@@ -111,6 +111,7 @@ action_addressed came to old _ addressed (receives_interleaved chunk transfer ne
 action_addressed came to old _ addressed (forwards tsn streams transfer new is known does) = addressed
 action_addressed came to old _ addressed (forwards_interleaved tsn streams transfer new is known does) = addressed
 action_addressed came to old _ addressed (tracks transfer tracked known cumulative ranges) = addressed
+action_addressed came to old _ addressed (times round_trip transfer known) = addressed
 action_addressed came to old _ addressed (takes transfer message messages known ready) = addressed
 
 pub data_goes_to_peer : (came : Option Content) (to : ℕ) (old new : Ledger) → AreAddressed to old.sent → Actions came to old new → AreAddressed to new.sent

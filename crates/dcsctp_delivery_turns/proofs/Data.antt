@@ -171,7 +171,7 @@ module _ (came : Option Content) (calm : IsCalm came) (to : ℕ) where
       → EndWhere b e peer transfer tracker o → Goes came to e o
   end_where_goes true e (Some held) transfer tracker o at holds known alike turn =
       let base : Endpoint = endpoint_with_tracker e transfer (sacked tracker) in
-      let draft : Emission = acknowledging e held (own_sack (record transfer { tracker = tracker })) in
+      let draft : Emission = acknowledging e held (own_sack (room_in e (draft_to held)) (record transfer { tracker = tracker })) in
       subst (Goes came to e) (sym turn.is)
       (goes_on calm (flush_link base draft turn.answers turn.allowed) (both came to (inside e) (inside base) (inside (flush_of base draft turn.answers).after) [] (packets_in (flush_of base draft turn.answers).events)
       (tracked e transfer (sacked tracker) known (record { cumulative = alike.cumulative; ranges = alike.ranges }))

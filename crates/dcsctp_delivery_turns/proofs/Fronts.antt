@@ -133,9 +133,9 @@ peer_resets_send : (came : Option Content) (direction : Direction) (happened : L
     → DirectionSteps (sending_by direction old asking) (sending_by direction new asking)
 peer_resets_send came direction happened old _ asking (unreset none) = stays
 peer_resets_send came direction happened old _ asking (absent gone) = stays
-peer_resets_send came direction happened old _ asking (deferred none parameters reset came_is wants transfer last_tsn streams known) = one_step (sending_by direction old asking) _ (directions.turns_aside transfer _ known refl)
+peer_resets_send came direction happened old _ asking (deferred none parameters reset came_is wants transfer last_tsn streams known) = one_step (sending_by direction old asking) _ (directions.turns_aside transfer _ known (record { outstanding = refl; reset_begun = refl }))
 peer_resets_send came direction happened old _ asking (reset_now some parameters reset is wants transfer reassembly known reached leaves) =
-    one_step (sending_by direction old asking) _ (directions.turns_aside transfer _ known refl)
+    one_step (sending_by direction old asking) _ (directions.turns_aside transfer _ known (record { outstanding = refl; reset_begun = refl }))
 
 pub front_sends : (came : Option Content) (first : ℕ) (direction : Direction) (happened : List Effect) (old between new : Inside) → OwnEnds happened old between → PeerResets came happened between new
     → AsksFit first old.own direction.asking → (has_completed happened ≡ true → old.queues.queue.is_interleaved ≡ true → direction.asking.is_performed ≡ true) → (old.queues.queue.is_interleaved ≡ true → has_refused happened ≡ false) → SendingFront first direction happened old new

@@ -1,13 +1,13 @@
 -- The turns of the handshake, and ends, as actions.
 use Rattle.std.proofs.Common.{subst, ap, sym, ◌≡◌, ◌⊎◌, ℕ, Bool, true, false, cond, Option, None, Some, Result, Ok, Err, List, [], ◌∷◌, refl, inl, inr, ◌==◌, ◌∙◌}
-use Rattle.std.specs.Duration.{as_nanos}
+use Rattle.dcsctp_spec_lemmas.proofs.AbortLemmas.{by_abort_outcome}
 use Rattle.dcsctp_spec_lemmas.proofs.ControlEcho.{kept_by_age}
 use Rattle.dcsctp_spec_lemmas.specs.types.declared.association.Pair.{Pair}
 use Rattle.dcsctp_spec_lemmas.specs.types.declared.word.Word.{Word}
 use Rattle.dcsctp_spec_lemmas.specs.types.declared.word.Word.TheVariants.{U32, U64}
 use Rattle.dcsctp_spec_lemmas.specs.types.declared.ends.AbortReason.{AbortReason}
 use Rattle.dcsctp_spec_lemmas.specs.spec.endpoint.Cause.{Cause}
-use Rattle.dcsctp_spec_lemmas.specs.spec.Cookie.{Cookie, is_stale}
+use Rattle.dcsctp_spec_lemmas.specs.spec.Cookie.{Cookie}
 use Rattle.dcsctp_spec_lemmas.specs.spec.endpoint.Event.{Event, packets_in, connected, connection_restarted, aborted}
 use Rattle.dcsctp_spec_lemmas.specs.spec.queues.SendQueue.{queue_restarted, numbered_for}
 use Rattle.dcsctp_spec_lemmas.specs.spec.Packet.{Introduction, Content, cookie_echo, shutdown_ack, Emission}
@@ -18,7 +18,7 @@ use Rattle.dcsctp_spec_lemmas.specs.spec.endpoint.EndOutcomes.{abort_outcome, ab
 use Rattle.dcsctp_spec_lemmas.specs.spec.endpoint.HandoverOutcomes.{hand_over_outcome}
 use Rattle.dcsctp_spec_lemmas.specs.spec.endpoint.HandshakeOutcomes.{pair_from, renewed_pair, init_ack_emission, init_outcome, init_emission, awaits_init_ack, connect_outcome, awaits_cookie_ack, echo_emission, EchoAnswers, InitAckAnswers, accepted_init_ack_by, init_ack_by, connected_after, CookieAckAnswers, cookie_ack_by, abort_emission, no_cookie_text}
 use Rattle.dcsctp_spec_lemmas.specs.spec.endpoint.TimerOutcomes.{AgainAnswers, again_by, t1_gives_up_outcome}
-use Rattle.dcsctp_spec_lemmas.specs.spec.endpoint.CookieEchoOutcomes.{established_by, cookie_ack_emission, EstablishAnswers, establish_by, interleaves, queue_where, queue_kept, queue_begun, RestartAnswers, restart_by_where, MaintainAnswers, maintain_by, ResolvedAnswers, resolved_by, EchoedAnswers, cookie_echo_by, resolved_now, shutting_down_emission, window_by_cookie}
+use Rattle.dcsctp_spec_lemmas.specs.spec.endpoint.CookieEchoOutcomes.{is_spent, established_by, cookie_ack_emission, EstablishAnswers, establish_by, interleaves, queue_where, queue_kept, queue_begun, RestartAnswers, restart_by_where, MaintainAnswers, maintain_by, ResolvedAnswers, resolved_by, EchoedAnswers, cookie_echo_by, resolved_now, shutting_down_emission, window_by_cookie}
 use Rattle.dcsctp_spec_lemmas.specs.spec.association.CookieEchoChanges.{held_by_cookie, Resolution, establish_new, restart, simultaneous_init, discard, maintain_existing, invalid_tag, stale, aged, resolve, case_by}
 use Rattle.dcsctp_spec_lemmas.specs.spec.association.HandshakeChanges.{held_by_init_ack}
 use Rattle.std.proofs.lemmas.Bool.{eqb-true}
@@ -176,15 +176,14 @@ module _ (came : Option Content) (calm : IsCalm came) (to : ℕ) where
   pub echo_goes : IsOpening came → (e : Endpoint) (core : Core) (header : ℕ) (found : Result Cookie (List ℕ)) (word : ℕ) (answers : List Answer) → e.core ≡ core → IsPeerTag e.core to → IsPeerTag core to → EchoedAnswers e core header found word answers
       → Goes came to e (cookie_echo_by (flush_answered answers) e core header found word)
   echo_goes opening e core header (Err text) word answers same at is allowed = goes_on calm refl (rests came to (inside e))
-  echo_goes opening e core header (Ok cookie) word answers same at is allowed = resolved_goes opening e cookie header core word (is_stale (as_nanos e.options.cookie_lifetime) e.moment cookie) (resolved_now e core header cookie) answers same at is refl allowed
+  echo_goes opening e core header (Ok cookie) word answers same at is allowed = resolved_goes opening e cookie header core word (is_spent e core header cookie) (resolved_now e core header cookie) answers same at is refl allowed
 
   -- ---- ends, and T1
 
   pub abort_goes : (e : Endpoint) (causes : List Cause) (core : Core) → Goes came to e (abort_outcome e causes core)
-  abort_goes e causes closed = goes_on calm refl (rests came to (inside e))
-  abort_goes e causes (cookie_wait my) = goes_on calm refl (rests came to (inside e))
-  abort_goes e causes (cookie_echoed my held cookie) = ends refl (λ read. refl) (inside e) refl (rests came to (inside e)) refl
-  abort_goes e causes (open_in phase my held) = ends refl (λ read. refl) (inside e) refl (rests came to (inside e)) refl
+  abort_goes e causes core =
+      by_abort_outcome (Goes came to e) e causes core (ends refl (λ read. refl) (inside e) refl (rests came to (inside e)) refl)
+      (goes_on calm refl (rests came to (inside e)))
 
   pub aborting_goes : (e : Endpoint) (core : Core) (reason : AbortReason) → Goes came to e (aborting_outcome e core reason)
   aborting_goes e closed reason = goes_on calm refl (rests came to (inside e))

@@ -4,7 +4,7 @@ use Rattle.dcsctp_spec_lemmas.specs.spec.endpoint.Endpoint.{Endpoint}
 use Rattle.dcsctp_spec_lemmas.specs.spec.Packet.{Content, init, init_ack, cookie_echo, cookie_ack, re_config, abort, shutdown, shutdown_ack, shutdown_complete, plain, Emission}
 use Rattle.dcsctp_spec_lemmas.specs.spec.endpoint.Turn.{Input, arrival, refusal, packet_begins, chunk_input, packet_ends, act_input, user_sets, user_sends, user_resets, user_takes, timer_expires, time_passes, restores}
 use Rattle.dcsctp_spec_lemmas.specs.spec.queues.Transfer.{Transfer, EndpointQueues}
-use Rattle.dcsctp_delivery_turns.specs.Actions.{Ledger, IsOpening, read_where, Action, queues, sets, flushes, resends, resends_nothing, speaks, asks_again, acknowledges, loses, receives, receives_interleaved, forwards, forwards_interleaved, tracks, takes, Actions, nothing, further, read_after}
+use Rattle.dcsctp_delivery_turns.specs.Actions.{Ledger, IsOpening, read_where, Action, queues, sets, flushes, resends, resends_nothing, speaks, asks_again, acknowledges, loses, receives, receives_interleaved, forwards, forwards_interleaved, tracks, times, takes, Actions, nothing, further, read_after}
 use Rattle.dcsctp_delivery_turns.specs.Sides.{WasSent}
 use Rattle.dcsctp_spec_lemmas.specs.types.queues.Messages.{MessageContent}
 use Rattle.dcsctp_spec_lemmas.specs.spec.endpoint.FlushOutcomes.{Answer, answer_contents, filled, asked, next_draft, Ask, first_ask, later_ask, IsFlushAnswer, IsAnswerOfQueues, AreFlushAnswers, at_limit, at_empty, after_packet, flush_of, packets_allowed}
@@ -42,6 +42,7 @@ action_none came to old _ (receives_interleaved chunk transfer new is some known
 action_none came to old _ (forwards tsn streams transfer new is known does) none = absurd (cc)
 action_none came to old _ (forwards_interleaved tsn streams transfer new is known does) none = absurd (cc)
 action_none came to old _ (tracks transfer tracked known cumulative ranges) none = absurd (cc)
+action_none came to old _ (times round_trip transfer known) none = absurd (cc)
 action_none came to old _ (takes transfer message messages known ready) none = absurd (cc)
 
 pub actions_none : (came : Option Content) (to : ℕ) (old new : Ledger) → Actions came to old new → old.queues.transfer ≡ None → new.queues.transfer ≡ None

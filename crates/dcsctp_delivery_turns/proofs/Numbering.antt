@@ -5,7 +5,7 @@ use Rattle.dcsctp_spec_lemmas.specs.spec.queues.Transfer.{EndpointQueues}
 use Rattle.dcsctp_spec_lemmas.specs.spec.endpoint.FlushOutcomes.{first_ask, packets_allowed}
 use Rattle.dcsctp_delivery_sending.proofs.NextIdentifiers.{flush_kind}
 use Rattle.dcsctp_delivery_sending.proofs.Settings.{setting_kind}
-use Rattle.dcsctp_delivery_turns.specs.Actions.{Ledger, Action, queues, sets, flushes, resends, resends_nothing, speaks, asks_again, acknowledges, loses, receives, receives_interleaved, forwards, forwards_interleaved, tracks, takes, Actions, nothing, further}
+use Rattle.dcsctp_delivery_turns.specs.Actions.{Ledger, Action, queues, sets, flushes, resends, resends_nothing, speaks, asks_again, acknowledges, loses, receives, receives_interleaved, forwards, forwards_interleaved, tracks, times, takes, Actions, nothing, further}
 
 action_kind : (came : Option Content) (to : ℕ) (old new : Ledger) → Action came to old new → new.queues.queue.is_interleaved ≡ old.queues.queue.is_interleaved
 action_kind came to old _ (queues now sending fit some) = refl
@@ -23,6 +23,7 @@ action_kind came to old _ (receives_interleaved chunk transfer new is some known
 action_kind came to old _ (forwards tsn streams transfer new is known does) = refl
 action_kind came to old _ (forwards_interleaved tsn streams transfer new is known does) = refl
 action_kind came to old _ (tracks transfer tracked known cumulative ranges) = refl
+action_kind came to old _ (times round_trip transfer known) = refl
 action_kind came to old _ (takes transfer message messages known ready) = refl
 
 pub actions_kind : (came : Option Content) (to : ℕ) (old new : Ledger) → Actions came to old new → new.queues.queue.is_interleaved ≡ old.queues.queue.is_interleaved

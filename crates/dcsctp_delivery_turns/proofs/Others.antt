@@ -2,6 +2,7 @@
 use Rattle.dcsctp_spec_lemmas.specs.types.declared.ends.AbortReason.TheVariants as reasons
 use Rattle.dcsctp_delivery_turns.specs.Actions as actions
 use Rattle.std.proofs.Common.{◌≡◌, ◌==◌, ℕ, Bool, true, false, cond, Option, None, Some, List, [], refl, sym, ◌∙◌, subst, ap, inl}
+use Rattle.std.specs.Option.{option_map}
 use Rattle.dcsctp_spec_lemmas.specs.types.declared.association.Held.{Held}
 use Rattle.dcsctp_spec_lemmas.specs.types.declared.ends.Violation.{Violation}
 use Rattle.dcsctp_spec_lemmas.specs.spec.endpoint.Cause.{Cause}
@@ -10,18 +11,20 @@ use Rattle.dcsctp_spec_lemmas.specs.spec.Reconfiguration.{RequestedReset}
 use Rattle.dcsctp_spec_lemmas.specs.spec.endpoint.Endpoint.{Endpoint, Core, closed, cookie_wait, cookie_echoed, open_in, OutstandingRequest, held_in}
 use Rattle.dcsctp_spec_lemmas.specs.spec.endpoint.Outcome.{Outcome, still, to_peer, fits}
 use Rattle.dcsctp_spec_lemmas.specs.spec.association.FlushChanges.{reset_request}
-use Rattle.dcsctp_spec_lemmas.specs.spec.endpoint.HeartbeatOutcomes.{heartbeat_outcome, info_in, counter_of, answered, heartbeat_ack_outcome, interval_expired, beating, heartbeat_emission, interval_outcome, is_exhausted}
+use Rattle.dcsctp_spec_lemmas.specs.spec.endpoint.HeartbeatOutcomes.{heartbeat_outcome, info_in, counter_of, answered, heartbeat_round_trip, heartbeat_ack_outcome, interval_expired, beating, heartbeat_emission, interval_outcome, is_exhausted}
+use Rattle.dcsctp_spec_lemmas.specs.spec.queues.Transfer.{Transfer}
+use Rattle.dcsctp_spec_lemmas.specs.spec.endpoint.TransferMoves.{timed_by}
 use Rattle.dcsctp_spec_lemmas.specs.spec.endpoint.OwnTimers.{OwnTimer, acknowledgement_delay, retransmission, heartbeat_interval, heartbeat_timeout, reconfiguration, TimerTurn}
 use Rattle.dcsctp_spec_lemmas.specs.spec.endpoint.PlainOutcomes.{PlainTurn, PlainTurnBy, violation_at, is_reported, after_unknown, unknown_bytes, unknown_chunk_outcome, unknown_report, error_outcome}
 use Rattle.dcsctp_spec_lemmas.specs.spec.endpoint.ReconfigurationOutcomes.{reset_again, request_emitted, renewed_request_where, request_renewed, is_renewed, request_repeated, request_unless, request_errors, request_expired, reconfiguration_outcome}
 use Rattle.dcsctp_spec_lemmas.specs.wire.Content.{ParameterContent, data_chunk, sack_chunk, error_chunk, i_data_chunk, forward_tsn_chunk, i_forward_tsn_chunk}
-use Rattle.dcsctp_delivery_turns.specs.Actions.{IsCalm, Inside, inside, goes_on, renews}
+use Rattle.dcsctp_delivery_turns.specs.Actions.{IsCalm, Inside, inside, MakesPackets, goes_on, renews}
 use Rattle.dcsctp_delivery_turns.specs.Asking.{own_with, own_in, own_of, renewed_own, IsAsking, AsksFit, IsOut, OutIs, Own}
 use Rattle.dcsctp_delivery_sending.specs.Places.{HasEntry}
 use Rattle.dcsctp_spec_lemmas.specs.spec.endpoint.BegunResets.{BegunReset, core_asking}
 use Rattle.dcsctp_spec_lemmas.specs.spec.association.Effect.{identity_in}
 use Rattle.dcsctp_delivery_turns.specs.Tags.{IsPeerTag}
-use Rattle.dcsctp_delivery_turns.proofs.Actions.{emits_link, Goes, MakesTo, rests, spoken, emitted, emission_of, packet_if}
+use Rattle.dcsctp_delivery_turns.proofs.Actions.{action_of, with_inside, emits_link, Goes, MakesTo, rests, spoken, emitted, emission_of, packet_if}
 use Rattle.dcsctp_delivery_turns.proofs.Fixed.{held_tag}
 use Rattle.dcsctp_delivery_turns.proofs.Tags.{asking_link}
 use Rattle.dcsctp_delivery_turns.proofs.Handshake.{aborting_goes}
@@ -50,8 +53,15 @@ module _ (came : Option Content) (calm : IsCalm came) (to : ℕ) where
   heartbeat_goes e (cookie_echoed my held cookie) parameters = goes_on calm (emits_link e [] (to_peer held (plain (heartbeat_ack parameters)))) (emitted came to e [] (to_peer held (plain (heartbeat_ack parameters))) (tt, tt))
   heartbeat_goes e (open_in phase my held) parameters = goes_on calm (emits_link e [] (to_peer held (plain (heartbeat_ack parameters)))) (emitted came to e [] (to_peer held (plain (heartbeat_ack parameters))) (tt, tt))
 
+  -- The answer to a HEARTBEAT may measure a round trip.
+  measured_makes : (e : Endpoint) (round_trip : Option ℕ) (transfer : Option Transfer) → e.queues.transfer ≡ transfer
+      → MakesPackets came to (inside e) [] (with_inside (record e.queues { transfer = option_map (timed_by round_trip) transfer }) (inside e))
+  measured_makes e round_trip None known =
+      subst (λ (t : Option Transfer). MakesPackets came to (inside e) [] (with_inside (record e.queues { transfer = t }) (inside e))) known (rests came to (inside e))
+  measured_makes e round_trip (Some transfer) known = action_of came to (inside e) _ (λ queued sent read asking. actions.times round_trip transfer known)
+
   counted_goes : (b : Bool) (e : Endpoint) → Goes came to e (cond b (still (answered e)) (still e))
-  counted_goes true e = goes_on calm refl (rests came to (inside e))
+  counted_goes true e = goes_on calm refl (measured_makes e (heartbeat_round_trip e) e.queues.transfer refl)
   counted_goes false e = goes_on calm refl (rests came to (inside e))
 
   heartbeat_ack_goes : (e : Endpoint) (counter : Option ℕ) → Goes came to e (heartbeat_ack_outcome e counter)

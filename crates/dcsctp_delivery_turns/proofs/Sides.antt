@@ -11,9 +11,11 @@ use Rattle.dcsctp_spec_lemmas.specs.spec.queues.Tracker.{TrackerState}
 use Rattle.dcsctp_spec_lemmas.specs.spec.queues.Transfer.{Transfer, EndpointQueues}
 use Rattle.dcsctp_spec_lemmas.specs.spec.endpoint.FlushOutcomes.{first_ask, packets_allowed}
 use Rattle.dcsctp_spec_lemmas.specs.spec.endpoint.TransferMoves.{timed_by, lost_all}
-use Rattle.dcsctp_delivery_turns.specs.Actions.{Ledger, Action, queues, sets, flushes, resends, resends_nothing, speaks, asks_again, acknowledges, loses, receives, receives_interleaved, forwards, forwards_interleaved, tracks, takes, Actions, nothing, further}
+use Rattle.dcsctp_spec_lemmas.specs.spec.queues.Retransmission.{RetransmissionState}
+use Rattle.dcsctp_delivery_directions.proofs.Standing.{timed_outstanding, timed_begun}
+use Rattle.dcsctp_delivery_turns.specs.Actions.{Ledger, Action, queues, sets, flushes, resends, resends_nothing, speaks, asks_again, acknowledges, loses, receives, receives_interleaved, forwards, forwards_interleaved, tracks, times, takes, Actions, nothing, further}
 use Rattle.dcsctp_delivery_turns.specs.Sides.{DirectionSteps, stays, moves, sending, SendingSteps, WasIn, WasSent, receiving, ReceivingSteps}
-use Rattle.dcsctp_delivery_directions.specs.Directions.{Direction, Beginning, DirectionStep, DirectionRun, goes_on}
+use Rattle.dcsctp_delivery_directions.specs.Directions.{Direction, Beginning, DirectionStep, DirectionRun, SameFlight, goes_on}
 use Rattle.dcsctp_spec_lemmas.specs.spec.queues.Arrivals.{data_arrival, i_data_arrival, skipped_in, messages_skipped_in}
 use Rattle.dcsctp_delivery_turns.specs.PeerRequests.{SameWaits}
 use Rattle.dcsctp_delivery_turns.proofs.Waiting.{same_waits, waits_by, waits_then, receives_wait, moves_wait}
@@ -29,6 +31,11 @@ all_steps old between _ first (moves middle new second step) = moves middle new 
 
 pub one_step : (old new : Direction) → DirectionStep old new → DirectionSteps old new
 one_step old new step = moves old new stays step
+
+-- What is received leaves what is in flight.
+flight_same : (old new : Transfer) → new.retransmission ≡ old.retransmission → SameFlight old.retransmission new.retransmission
+flight_same old new same =
+    record { outstanding = ap (λ (r : RetransmissionState). r.outstanding) same; reset_begun = ap (λ (r : RetransmissionState). r.reset_begun) same }
 
 -- ---- the direction on which it sends
 
@@ -48,12 +55,15 @@ module _ (came : Option Content) (to : ℕ) (tracker : TrackerState) (reassembly
   action_sends old _ acknowledged (acknowledges now sack transfer new known valid does) =
       by old _ acknowledged (acknowledged + acknowledged_count transfer.retransmission.outstanding sack.cumulative_tsn_ack) (directions.acknowledges now sack transfer new known valid does)
   action_sends old _ acknowledged (loses now transfer known) = by old _ acknowledged acknowledged (directions.loses now transfer known)
-  action_sends old _ acknowledged (receives chunk transfer new is some known does) = by old _ acknowledged acknowledged (directions.turns_aside transfer new known (data_where _ _ transfer new does))
-  action_sends old _ acknowledged (receives_interleaved chunk transfer new is some known does) = by old _ acknowledged acknowledged (directions.turns_aside transfer new known (data_where _ _ transfer new does))
-  action_sends old _ acknowledged (forwards tsn streams transfer new is known does) = by old _ acknowledged acknowledged (directions.turns_aside transfer new known (forward_where _ tsn _ transfer new does))
-  action_sends old _ acknowledged (forwards_interleaved tsn streams transfer new is known does) = by old _ acknowledged acknowledged (directions.turns_aside transfer new known (forward_where _ tsn _ transfer new does))
-  action_sends old _ acknowledged (tracks transfer tracked known cumulative ranges) = by old _ acknowledged acknowledged (directions.turns_aside transfer _ known refl)
-  action_sends old _ acknowledged (takes transfer message messages known ready) = by old _ acknowledged acknowledged (directions.turns_aside transfer _ known refl)
+  action_sends old _ acknowledged (receives chunk transfer new is some known does) = by old _ acknowledged acknowledged (directions.turns_aside transfer new known (flight_same transfer new (data_where _ _ transfer new does)))
+  action_sends old _ acknowledged (receives_interleaved chunk transfer new is some known does) = by old _ acknowledged acknowledged (directions.turns_aside transfer new known (flight_same transfer new (data_where _ _ transfer new does)))
+  action_sends old _ acknowledged (forwards tsn streams transfer new is known does) = by old _ acknowledged acknowledged (directions.turns_aside transfer new known (flight_same transfer new (forward_where _ tsn _ transfer new does)))
+  action_sends old _ acknowledged (forwards_interleaved tsn streams transfer new is known does) = by old _ acknowledged acknowledged (directions.turns_aside transfer new known (flight_same transfer new (forward_where _ tsn _ transfer new does)))
+  action_sends old _ acknowledged (tracks transfer tracked known cumulative ranges) = by old _ acknowledged acknowledged (directions.turns_aside transfer _ known (record { outstanding = refl; reset_begun = refl }))
+  action_sends old _ acknowledged (times round_trip transfer known) =
+      by old _ acknowledged acknowledged
+      (directions.turns_aside transfer _ known (record { outstanding = timed_outstanding round_trip transfer; reset_begun = timed_begun round_trip transfer }))
+  action_sends old _ acknowledged (takes transfer message messages known ready) = by old _ acknowledged acknowledged (directions.turns_aside transfer _ known (record { outstanding = refl; reset_begun = refl }))
 
   all_send : (old new : Ledger) (acknowledged : ℕ) → Actions came to old new → SendingSteps old new acknowledged tracker reassembly read beginning
   all_send old _ acknowledged nothing = record { later = acknowledged; steps = stays }
@@ -152,6 +162,11 @@ module _ (came : Option Content) (to : ℕ) (direction : Direction) (was : WasSe
     where
       like : found ≡ transfer → Alike transfer (record found { tracker = tracked })
       like same = subst (λ (t : Transfer). Alike t (record found { tracker = tracked })) same (record { cumulative = cumulative; ranges = ranges; reassembly = refl })
+  action_receives old _ transfer is (times round_trip found known) =
+      alike_receives old _ transfer _ refl refl (like (same_transfer old.queues.transfer found transfer known is))
+    where
+      like : found ≡ transfer → Alike transfer (timed_by round_trip found)
+      like same = subst (λ (t : Transfer). Alike t (timed_by round_trip found)) same (timed_alike round_trip found)
   action_receives old new transfer is (takes found message messages known ready) =
       subst (λ (t : Transfer). ReceivingSteps direction t old new) (same_transfer old.queues.transfer found transfer known is)
       (by_step old new found _ refl (directions.takes message messages ready) (same_waits found.reassembly.deferral))

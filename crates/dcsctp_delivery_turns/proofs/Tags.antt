@@ -2,10 +2,9 @@
 use Rattle.std.proofs.Common.{◌≡◌, ◌==◌, ℕ, Bool, true, false, List, [], ◌∷◌, ◌++◌, map, refl, sym, ◌∙◌, ap, subst}
 use Rattle.std.specs.Prelude.{◌&&◌, not, Option, None, Some, Result, Ok}
 use Rattle.std.proofs.lemmas.Bool.{eqb-true}
-use Rattle.std.specs.Duration.{as_nanos}
 use Rattle.dcsctp_spec_lemmas.proofs.ControlEcho.{kept_by_age}
 use Rattle.dcsctp_spec_lemmas.specs.spec.Admission.{all_chunks, admits, admits_by, admits_shutdown_ack, admitted_where, uncut_where, is_own_tag, is_own_nonzero_tag, first_abort, first_shutdown_complete, has_shutdown_ack, is_echo_in_front, is_single_init, wrong_tag_text, single_init_text, shutdown_ack_text}
-use Rattle.dcsctp_spec_lemmas.specs.spec.Cookie.{Cookie, cookie_at, is_stale}
+use Rattle.dcsctp_spec_lemmas.specs.spec.Cookie.{Cookie, cookie_at}
 use Rattle.dcsctp_spec_lemmas.specs.spec.endpoint.Endpoint.{Endpoint, Core, closed, cookie_wait, cookie_echoed, open_in, own_tag, established, shutdown_pending, shutdown_sent, shutdown_received, shutdown_ack_sent}
 use Rattle.dcsctp_spec_lemmas.specs.spec.endpoint.Event.{Event, sent, connected, closed as closed_event, connection_restarted, aborted, error, buffered_amount_low, total_buffered_amount_low, streams_reset_failed, streams_reset_performed, incoming_stream_reset, lifecycle_message_fully_sent, lifecycle_message_maybe_expired, lifecycle_message_expired, lifecycle_message_delivered, lifecycle_end, packets_in}
 use Rattle.dcsctp_spec_lemmas.specs.spec.endpoint.Following.{next_chunk, dropped_rest}
@@ -13,7 +12,7 @@ use Rattle.dcsctp_spec_lemmas.specs.spec.endpoint.Outcome.{Outcome}
 use Rattle.dcsctp_spec_lemmas.specs.spec.association.CookieEchoChanges.{Resolution, establish_new, restart, simultaneous_init, discard, maintain_existing, invalid_tag, stale, aged, case_by, case_without_peer, resolve, held_by_cookie}
 use Rattle.dcsctp_spec_lemmas.specs.spec.queues.SendQueue.{SendQueueState}
 use Rattle.dcsctp_spec_lemmas.specs.spec.endpoint.BegunResets.{BegunReset, core_asking, after_begun}
-use Rattle.dcsctp_spec_lemmas.specs.spec.endpoint.CookieEchoOutcomes.{established_by, cookie_ack_emission, EstablishAnswers, establish_by, queue_kept, queue_begun, RestartAnswers, restart_by_where, MaintainAnswers, maintain_by, ResolvedAnswers, resolved_by, EchoedAnswers, cookie_echo_by, resolved_now, CookieEchoTurn}
+use Rattle.dcsctp_spec_lemmas.specs.spec.endpoint.CookieEchoOutcomes.{is_spent, established_by, cookie_ack_emission, EstablishAnswers, establish_by, queue_kept, queue_begun, RestartAnswers, restart_by_where, MaintainAnswers, maintain_by, ResolvedAnswers, resolved_by, EchoedAnswers, cookie_echo_by, resolved_now, CookieEchoTurn}
 use Rattle.dcsctp_spec_lemmas.specs.spec.association.Effect.{identity_in}
 use Rattle.dcsctp_spec_lemmas.specs.spec.endpoint.FlushOutcomes.{FillingEvent, amount_is_low, total_amount_is_low, message_is_sent, message_may_have_expired, message_has_expired, message_ends, filling_event, Answer, answer_contents, filled, goes_out, asked, next_draft, Ask, IsFlushAnswer, first_ask, later_ask, AreFlushAnswers, at_limit, at_empty, after_packet, FlushAnswers, flush_of, flush_answered, packets_allowed}
 use Rattle.dcsctp_delivery_turns.specs.Tags.{IsPeerTag, AllTo}
@@ -134,7 +133,7 @@ echoes_own e header bytes cookie o read bears (word, answers, allowed, is) next 
     let allowed' = subst (λ (r : Result Cookie (List ℕ)). EchoedAnswers e e.core header r word answers) read allowed in
     let is' : o ≡ cookie_echo_by (flush_answered answers) e e.core header (Ok cookie) word = is ∙ ap (λ (r : Result Cookie (List ℕ)). cookie_echo_by (flush_answered answers) e e.core header r word) read in
     subst (λ (x : Outcome). own_tag x.after.core ≡ header) (sym is')
-    (resolved_tag e cookie header e.core word (is_stale (as_nanos e.options.cookie_lifetime) e.moment cookie) (resolved_now e e.core header cookie) answers refl bears refl allowed' (ap (λ (x : Outcome). x.following) (sym is') ∙ next))
+    (resolved_tag e cookie header e.core word (is_spent e e.core header cookie) (resolved_now e e.core header cookie) answers refl bears refl allowed' (ap (λ (x : Outcome). x.following) (sym is') ∙ next))
 
 -- ---- where packets go
 

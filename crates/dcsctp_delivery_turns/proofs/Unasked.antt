@@ -17,7 +17,7 @@ use Rattle.dcsctp_spec_lemmas.specs.spec.queues.Retransmission.{has_fast_retrans
 use Rattle.dcsctp_spec_lemmas.specs.spec.queues.Tracker.{TrackerState, after_packet_end, is_acknowledgement_due, sacked}
 use Rattle.dcsctp_spec_lemmas.specs.spec.queues.Transfer.{Transfer, EndpointQueues}
 use Rattle.dcsctp_spec_lemmas.specs.spec.endpoint.DataOutcomes.{with_transfer, endpoint_with_tracker, flush_by, AnswersTo, FlushTurn, no_user_data_outcome, ReceiveTurn, DataWhere, ForwardTurn, FastRetransmits, sack_taken, AcknowledgesBy, SackWhere, SackBy, SackTurn, acknowledging, EndWhere, EndsBy, opens_window, hastened_where_open, with_messages, taken_to, TakeWhere, TakeLeft, TakeTurn, delay_outcome, LossTurn}
-use Rattle.dcsctp_spec_lemmas.specs.spec.endpoint.FlushOutcomes.{own_sack, Answer, draft_to}
+use Rattle.dcsctp_spec_lemmas.specs.spec.endpoint.FlushOutcomes.{own_sack, Answer, draft_to, room_in}
 use Rattle.dcsctp_spec_lemmas.specs.spec.endpoint.MessageOutcomes.{MessageRefusal, Sending, sending_refusal, queue_by, queue_one, queue_all, takes_any, SendAnswers, send_by, SendTurn}
 use Rattle.dcsctp_spec_lemmas.specs.spec.endpoint.PreparedResets.{ResetRefusal, reset_refusal, endpoint_with_queue, OwnResetsWhere, OwnResetsTurn}
 use Rattle.dcsctp_delivery_sending.proofs.Packets.{out_below}
@@ -103,7 +103,7 @@ sack_asks e (Some transfer) sack o known turn = sack_by_asks e (held_in e.core) 
 end_where_asks : (b : Bool) (e : Endpoint) (peer : Option Held) (transfer : Transfer) (tracker : TrackerState) (o : Outcome) → e.queues.transfer ≡ Some transfer → EndWhere b e peer transfer tracker o → AsksNothing e.queues.transfer o
 end_where_asks true e (Some held) transfer tracker o known turn =
     let base : Endpoint = endpoint_with_tracker e transfer (sacked tracker) in
-    let last = flushed base (acknowledging e held (own_sack (record transfer { tracker = tracker }))) turn.answers turn.allowed in
+    let last = flushed base (acknowledging e held (own_sack (room_in e (draft_to held)) (record transfer { tracker = tracker }))) turn.answers turn.allowed in
     as_this e.queues.transfer o _ turn.is
     (record {
       none = last.none;

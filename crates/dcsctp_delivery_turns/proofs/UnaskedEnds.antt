@@ -16,6 +16,7 @@ use Rattle.dcsctp_spec_lemmas.specs.spec.endpoint.HeardShutdown.{said_by_shutdow
 use Rattle.dcsctp_spec_lemmas.specs.spec.endpoint.ShutdownOutcomes.{phase_at, may_go_on, step_by, step_outcome, step_from, t1_stopped, shut_down_outcome, shutdown_outcome, shutdown_ack_outcome, shutdown_complete_outcome, shutdown_sent_again}
 use Rattle.dcsctp_spec_lemmas.specs.spec.endpoint.TimerOutcomes.{t1_gives_up_outcome}
 use Rattle.dcsctp_spec_lemmas.specs.spec.queues.Transfer.{Transfer}
+use Rattle.dcsctp_spec_lemmas.proofs.AbortLemmas.{by_abort_outcome}
 use Rattle.dcsctp_delivery_turns.proofs.Unasked.{acknowledges_asks}
 use Rattle.dcsctp_delivery_turns.proofs.Waiting.{AsksNothing, as_this, rests, said, emitted, ended}
 
@@ -118,10 +119,7 @@ begin_asks e (open_in shutdown_ack_sent my held) has o turn = as_this e.queues.t
 -- ---- ends
 
 pub abort_asks : (e : Endpoint) (causes : List Cause) (core : Core) → AsksNothing e.queues.transfer (abort_outcome e causes core)
-abort_asks e causes closed = rests e
-abort_asks e causes (cookie_wait my) = rests e
-abort_asks e causes (cookie_echoed my held cookie) = ended e.queues.transfer (quiet e [] []) _ tt
-abort_asks e causes (open_in phase my held) = ended e.queues.transfer (quiet e [] []) _ tt
+abort_asks e causes core = by_abort_outcome (AsksNothing e.queues.transfer) e causes core (ended e.queues.transfer (quiet e [] []) _ tt) (rests e)
 
 pub aborting_asks : (e : Endpoint) (core : Core) (reason : AbortReason) → AsksNothing e.queues.transfer (aborting_outcome e core reason)
 aborting_asks e closed reason = rests e

@@ -1,4 +1,5 @@
 -- Each turn in which no RE-CONFIG is handled: no request of the peer is accepted or performed.
+use Rattle.std.specs.Option.{option_map}
 use Rattle.dcsctp_spec_lemmas.specs.types.declared.ends.AbortReason.TheVariants as reasons
 use Rattle.std.proofs.Common.{◌==◌, ℕ, Bool, true, false, cond, Option, None, Some, List, [], refl, sym, subst}
 use Rattle.dcsctp_spec_lemmas.specs.wire.Content.{ParameterContent, data_chunk, sack_chunk, error_chunk, i_data_chunk, forward_tsn_chunk, i_forward_tsn_chunk}
@@ -15,7 +16,7 @@ use Rattle.dcsctp_spec_lemmas.specs.spec.association.Acts as acts
 use Rattle.dcsctp_spec_lemmas.specs.spec.association.Acts.{Act, connect, t1_expires, shut_down, step_of_shutdown, shutdown_repeats, abort_with, hands_over, flushes, request_again}
 use Rattle.dcsctp_spec_lemmas.specs.spec.association.FlushChanges.{reset_request}
 use Rattle.dcsctp_spec_lemmas.specs.spec.queues.Arrivals.{data_arrival, i_data_arrival, skipped_in, messages_skipped_in}
-use Rattle.dcsctp_spec_lemmas.specs.spec.endpoint.HeartbeatOutcomes.{heartbeat_outcome, info_in, counter_of, answered, heartbeat_ack_outcome, interval_expired, beating, heartbeat_emission, interval_outcome, is_exhausted}
+use Rattle.dcsctp_spec_lemmas.specs.spec.endpoint.HeartbeatOutcomes.{heartbeat_outcome, info_in, counter_of, answered, heartbeat_round_trip, heartbeat_ack_outcome, interval_expired, beating, heartbeat_emission, interval_outcome, is_exhausted}
 use Rattle.dcsctp_spec_lemmas.specs.spec.endpoint.OwnTimers.{OwnTimer, acknowledgement_delay, retransmission, heartbeat_interval, heartbeat_timeout, reconfiguration, TimerTurn}
 use Rattle.dcsctp_spec_lemmas.specs.spec.endpoint.PlainOutcomes.{PlainTurnBy, violation_at, is_reported, after_unknown, unknown_bytes, unknown_chunk_outcome, error_outcome}
 use Rattle.dcsctp_spec_lemmas.specs.spec.endpoint.ReconfigurationOutcomes.{reset_again, request_emitted, renewed_request_where, request_renewed, is_renewed, request_repeated, request_unless, request_errors, request_expired, reconfiguration_outcome}
@@ -23,7 +24,10 @@ use Rattle.dcsctp_spec_lemmas.specs.spec.endpoint.ShutdownOutcomes.{t2_goes_on}
 use Rattle.dcsctp_spec_lemmas.specs.spec.endpoint.TimerOutcomes.{t1_goes_on}
 use Rattle.dcsctp_delivery_turns.specs.Actions.{IsCalm, IsCall, came_by}
 use Rattle.dcsctp_delivery_turns.proofs.Unasked.{flush_asks, data_asks, forward_asks, sack_asks, end_asks, take_asks, delay_asks, loss_asks, send_asks, own_resets_ask}
-use Rattle.dcsctp_delivery_turns.proofs.Waiting.{all_wait, AsksNothing, as_this, rests, said, emitted}
+use Rattle.dcsctp_spec_lemmas.specs.spec.endpoint.TransferMoves.{timed_by}
+use Rattle.dcsctp_spec_lemmas.specs.spec.queues.Transfer.{Transfer}
+use Rattle.dcsctp_delivery_turns.specs.PeerRequests.{SameWaits}
+use Rattle.dcsctp_delivery_turns.proofs.Waiting.{StillWaits, same_waits, some_wait, all_wait, AsksNothing, as_this, rests, said, emitted}
 use Rattle.dcsctp_delivery_turns.proofs.UnaskedEnds.{step_asks, shut_down_asks, heard_asks, shutdown_ack_asks, shutdown_complete_asks, repeats_ask, begin_asks, abort_asks, aborting_asks, gives_up_asks, hand_over_asks}
 use Rattle.dcsctp_delivery_turns.proofs.UnaskedHandshake.{CalmTurns, goes_on, init_asks, connect_asks, again_asks, cookie_ack_asks, init_ack_calm, echo_calm}
 
@@ -49,8 +53,17 @@ heartbeat_asks e (cookie_wait my) parameters = rests e
 heartbeat_asks e (cookie_echoed my held cookie) parameters = emitted e [] (to_peer held (plain (heartbeat_ack parameters)))
 heartbeat_asks e (open_in phase my held) parameters = emitted e [] (to_peer held (plain (heartbeat_ack parameters)))
 
+-- The answer to a HEARTBEAT may measure a round trip.
+timed_waits : (round_trip : Option ℕ) (transfer : Transfer) → SameWaits transfer.reassembly.deferral (timed_by round_trip transfer).reassembly.deferral
+timed_waits None transfer = same_waits transfer.reassembly.deferral
+timed_waits (Some round_trip) transfer = same_waits transfer.reassembly.deferral
+
+measured_waits : (found : Option Transfer) (round_trip : Option ℕ) → StillWaits found (option_map (timed_by round_trip) found)
+measured_waits None round_trip = λ left is. absurd (cc)
+measured_waits (Some transfer) round_trip = some_wait (Some transfer) transfer _ refl (timed_waits round_trip transfer)
+
 answered_asks : (b : Bool) (e : Endpoint) → AsksNothing e.queues.transfer (cond b (still (answered e)) (still e))
-answered_asks true e = said e _ tt refl
+answered_asks true e = record { none = tt; waits = measured_waits e.queues.transfer (heartbeat_round_trip e) }
 answered_asks false e = rests e
 
 heartbeat_ack_asks : (e : Endpoint) (counter : Option ℕ) → AsksNothing e.queues.transfer (heartbeat_ack_outcome e counter)

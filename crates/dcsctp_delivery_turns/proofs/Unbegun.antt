@@ -24,7 +24,7 @@ use Rattle.dcsctp_delivery_sending.specs.Losing.{StillWaits}
 use Rattle.dcsctp_delivery_sending.proofs.OpenStreams.{open_mapped, queueing_open, setting_open}
 use Rattle.dcsctp_delivery_sending.proofs.StillWaiting.{waits_mapped, queued_waits, queueing_waits, setting_waits}
 use Rattle.dcsctp_delivery_turns.specs.Asking.{Own, own_in, own_of, AsksFit}
-use Rattle.dcsctp_delivery_turns.specs.Actions.{Ledger, Action, queues, sets, flushes, resends, resends_nothing, speaks, asks_again, acknowledges, loses, receives, receives_interleaved, forwards, forwards_interleaved, tracks, takes, Actions, nothing, further, came_by, peer_tag, queued_after, read_after, Inside, inside, MakesAlso, OwnEnds, unended, committed, rolled_back, PeerResets, unreset, absent, deferred, reset_now, Begun, Becomes, resets_streams, goes_on, pauses, prepared_inside, works_resets, renews, ends, begins}
+use Rattle.dcsctp_delivery_turns.specs.Actions.{Ledger, Action, queues, sets, flushes, resends, resends_nothing, speaks, asks_again, acknowledges, loses, receives, receives_interleaved, forwards, forwards_interleaved, tracks, times, takes, Actions, nothing, further, came_by, peer_tag, queued_after, read_after, Inside, inside, MakesAlso, OwnEnds, unended, committed, rolled_back, PeerResets, unreset, absent, deferred, reset_now, Begun, Becomes, resets_streams, goes_on, pauses, prepared_inside, works_resets, renews, ends, begins}
 use Rattle.dcsctp_delivery_turns.specs.Unbegun.{IsAtZero, UnbegunTurns, stays_unbegun, begins_first, StaysAtZero, UnbegunBeginsAtZero, UnbegunBeginsWaiting, FreshIsAtZero}
 use Rattle.dcsctp_spec_lemmas.proofs.MarkedItemLemmas.{le_or_lt}
 use Rattle.dcsctp_delivery_turns.proofs.Beginnings.{unlinked_fits}
@@ -176,6 +176,7 @@ action_unbegun came to old _ (receives_interleaved chunk transfer new is some kn
 action_unbegun came to old _ (forwards tsn streams transfer new is known does) u = clash old.queues transfer known u
 action_unbegun came to old _ (forwards_interleaved tsn streams transfer new is known does) u = clash old.queues transfer known u
 action_unbegun came to old _ (tracks transfer tracked known cumulative ranges) u = clash old.queues transfer known u
+action_unbegun came to old _ (times round_trip transfer known) u = clash old.queues transfer known u
 action_unbegun came to old _ (takes transfer message messages known ready) u = clash old.queues transfer known u
 
 actions_unbegun : {kept : Type 0} (came : Option Content) (to : ℕ) (old new : Ledger) → Actions came to old new → IsUnbegun kept old.queues → IsUnbegun kept new.queues

@@ -29,7 +29,7 @@ use Rattle.dcsctp_spec_lemmas.specs.spec.endpoint.MessageOutcomes.{MessageRefusa
 use Rattle.dcsctp_spec_lemmas.specs.spec.endpoint.ResetOutcomes.{has_completed, has_reset, requested_in}
 use Rattle.dcsctp_spec_lemmas.specs.types.Setting.{Setting}
 use Rattle.dcsctp_spec_lemmas.specs.spec.endpoint.SettingOutcomes.{set_in_queue}
-use Rattle.dcsctp_spec_lemmas.specs.spec.endpoint.TransferMoves.{ReceivesData, MovesForward, TakesSack, lost_all}
+use Rattle.dcsctp_spec_lemmas.specs.spec.endpoint.TransferMoves.{ReceivesData, MovesForward, TakesSack, timed_by, lost_all}
 use Rattle.dcsctp_delivery_sending.specs.Log.{Fits, Message}
 use Rattle.dcsctp_delivery_sending.specs.Flushes.{NoData, reset_begun_by}
 use Rattle.dcsctp_delivery_sending.specs.Queueing.{message_of, SettingFits}
@@ -95,6 +95,9 @@ pub data Action (came : Option Content) (to : ℕ) (old : Ledger) : Ledger → T
   -- When an acknowledgement is due may change.
   tracks : (transfer : Transfer) (tracker : TrackerState) → old.queues.transfer ≡ Some transfer → tracker.cumulative ≡ transfer.tracker.cumulative → tracker.ranges ≡ transfer.tracker.ranges
       → Action came to old (record old { queues = queues_with_transfer (record transfer { tracker = tracker }) old.queues })
+  -- A round trip may be taken into account.
+  times : (round_trip : Option ℕ) (transfer : Transfer) → old.queues.transfer ≡ Some transfer
+      → Action came to old (record old { queues = queues_with_transfer (timed_by round_trip transfer) old.queues })
   takes : (transfer : Transfer) (message : MessageContent) (messages : List MessageContent) → old.queues.transfer ≡ Some transfer → transfer.reassembly.incoming.ready ≡ message ∷ messages
       → Action came to old (record old { queues = queues_with_transfer (record transfer { reassembly = with_ready messages transfer.reassembly }) old.queues; read = old.read ++ message ∷ [] })
 

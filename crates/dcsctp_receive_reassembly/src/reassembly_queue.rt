@@ -63,7 +63,7 @@ impl fmt::Debug for ReassemblyQueue {
 
 impl ReassemblyQueue {
     ghost use Rattle.std.specs.Prelude.{◌*◌, nat_le, ◌∷◌, IfSome, IfNone, map};
-    ghost use Rattle.dcsctp_api.specs.spec.queues.Reassembly.{new_reassembly, is_above_watermark, bytes_to_watermark, with_ready, reassembly_bytes, remaining_bytes, can_count, is_data_deferred, with_deferred, AddsData, SkipsData, DeferralModel, ForwardsBeside, is_forward_deferred, deferring, EndsDeferral, StaysDeferred};
+    ghost use Rattle.dcsctp_api.specs.spec.queues.Reassembly.{new_reassembly, is_above_watermark, is_below_double, bytes_to_watermark, with_ready, reassembly_bytes, remaining_bytes, can_count, is_data_deferred, with_deferred, AddsData, SkipsData, DeferralModel, ForwardsBeside, is_forward_deferred, deferring, EndsDeferral, StaysDeferred};
     ghost use Rattle.dcsctp_api.specs.spec.queues.Readiness.{reassembly_readiness};
     ghost use Rattle.dcsctp_api.specs.spec.queues.ReceivedParts.{with_reassembly, RestoresReassembly};
     ghost use Rattle.dcsctp_api.specs.types.Snapshot.{received_part};
@@ -169,6 +169,13 @@ impl ReassemblyQueue {
         ensures { result ≡ nat_le self.now.max_size (reassembly_bytes self.now) }
     {
         self.max_size <= self.incoming.queued_bytes
+    }
+
+    /// Is less than twice the receive window in use, and less than 2^63 bytes?
+    pub fn is_below_double(&self) -> bool
+        ensures { result ≡ is_below_double self.now }
+    {
+        self.incoming.queued_bytes < self.max_size.saturating_mul(2).min(1 << 63)
     }
 
     /// Are nine tenths of the receive window in use, or more?

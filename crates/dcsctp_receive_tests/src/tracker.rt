@@ -94,7 +94,7 @@ impl Tracker {
         blocks: &[u8],
         duplicates: usize,
     ) {
-        match self.received.create_selective_ack(1000) {
+        match self.received.create_selective_ack(1000, 1179) {
             Err(_) => row.done(false),
             Ok(sack) => {
                 row.same((sack.cumulative_tsn_ack, sack.a_rwnd), (cumulative, 1000));
@@ -107,7 +107,7 @@ impl Tracker {
     /// Asserts how long the next SACK is: the sizes in bytes of its gap ack blocks and its duplicates. Also
     /// the last byte of the second duplicate.
     pub fn has_sizes(&mut self, row: &mut Row, cumulative: u32, sizes: (usize, usize, Option<u8>)) {
-        match self.received.create_selective_ack(0) {
+        match self.received.create_selective_ack(0, 1179) {
             Err(_) => row.done(false),
             Ok(sack) => {
                 let duplicates = sack.duplicate_tsns.as_slice();

@@ -23,10 +23,16 @@ use std::time::Duration;
 // (RFC 9260, section 3.3.4).
 const MAX_TSN_DISTANCE: u64 = 65535;
 
-// No SACK holds more gap ack blocks, or more duplicate TSNs.
+// No SACK holds more gap ack blocks without `Options::follow_rfc`, or ever more duplicate TSNs.
 const MAX_GAP_ACK_BLOCKS: usize = 20;
 
 const MAX_DUPLICATE_TSNS: usize = 20;
+
+// A SACK without gap ack blocks and duplicates (RFC 9260, section 3.3.4).
+const SACK_HEADER_SIZE: usize = 16;
+
+// What a SACK leaves free for a FORWARD-TSN behind it.
+const FORWARD_TSN_ROOM: usize = 20;
 
 // Past this number of TSNs no TSN is accepted any more. No association lives that long.
 const LAST_CUMULATIVE: u64 = 0xffff_fffe_ffff_ffff;
@@ -59,7 +65,7 @@ fn is_urgent(
     !is_new || immediate_ack || !has_seen_data || has_gap || heeds_gap
 }
 
-// Does data that comes now come into a gap, and does that count (RFC 9260, section 6.7)?
+// Does data that comes now come into a gap, and does that count (RFC 5681, section 4.2)?
 fn heeds_gap(follows_rfc: bool, received: &Received) -> bool
     ensures { result ≡ heeds_gap follows_rfc (ranges_of received.now.ranges) }
 {
@@ -113,15 +119,16 @@ fn acknowledgement_delay(rto: Duration, longest: Duration) -> Duration
     if longest < half { longest } else { half }
 }
 
-// The gap ack blocks of a SACK, four bytes each: the first ranges, as distances from the cumulative TSN.
-fn gap_ack_blocks(alloc: Global, received: &Received) -> Result<Vec<u8>, AllocError>
+// The gap ack blocks of a SACK, four bytes each: that many first ranges, as distances from the cumulative TSN.
+fn gap_ack_blocks(alloc: Global, received: &Received, most: usize) -> Result<Vec<u8>, AllocError>
     requires beyond { IsBeyond received.now.cumulative (ranges_of received.now.ranges) }
     requires near { IsWithinReach received.now.cumulative (ranges_of received.now.ranges) }
-    ensures { IfOk result (λ blocks. blocks.items ≡ flat_map (block_bytes received.now.cumulative) (take 20 (ranges_of received.now.ranges))) }
+    requires few { most ≤ 2 ^ 16 }
+    ensures { IfOk result (λ blocks. blocks.items ≡ flat_map (block_bytes received.now.cumulative) (take most (ranges_of received.now.ranges))) }
 {
-    let count = received.ranges.len().min(MAX_GAP_ACK_BLOCKS);
+    let count = received.ranges.len().min(most);
     let mut blocks = Vec::with_capacity(alloc, 4 * count)?;
-    for (first, last) in received.ranges.iter().take(MAX_GAP_ACK_BLOCKS) {
+    for (first, last) in received.ranges.iter().take(most) {
         let start = (*first - received.cumulative) as u16;
         let end = (*last - received.cumulative) as u16;
         blocks.extend_from_slice(&start.to_be_bytes())?;
@@ -130,13 +137,14 @@ fn gap_ack_blocks(alloc: Global, received: &Received) -> Result<Vec<u8>, AllocEr
     Ok(blocks)
 }
 
-// The duplicate TSNs of a SACK, four bytes each.
-fn tsn_bytes(alloc: Global, tsns: &[u32]) -> Result<Vec<u8>, AllocError>
+// The duplicate TSNs of a SACK, four bytes each: that many first ones.
+fn tsn_bytes(alloc: Global, tsns: &[u32], most: usize) -> Result<Vec<u8>, AllocError>
     requires { length tsns.now ≤ 20 }
-    ensures { IfOk result (λ bytes. bytes.items ≡ flat_map (to_be_bytes w32) tsns.now) }
+    ensures { IfOk result (λ bytes. bytes.items ≡ flat_map (to_be_bytes w32) (take most tsns.now)) }
 {
-    let mut bytes = Vec::with_capacity(alloc, 4 * tsns.len())?;
-    for tsn in tsns {
+    let listed = &tsns[..tsns.len().min(most)];
+    let mut bytes = Vec::with_capacity(alloc, 4 * listed.len())?;
+    for tsn in listed {
         bytes.extend_from_slice(&tsn.to_be_bytes())?;
     }
     Ok(bytes)
@@ -224,7 +232,7 @@ impl Model for DataTracker {
 impl DataTracker {
     ghost use Rattle.std.specs.Prelude.{◌%◌, []};
     ghost use Rattle.dcsctp_receive_tracker.specs.Acknowledging.{RunsWhereDelayed};
-    ghost use Rattle.dcsctp_spec_lemmas.specs.spec.queues.Tracker.{new_tracker, is_valid_tsn, is_new_tsn, observed, is_below_highest, delay_over, hastened, is_forward, after_forward, after_packet_end, is_acknowledgement_due, acknowledgement_asked, after_moment, stopped, owes_acknowledgement, with_timeout};
+    ghost use Rattle.dcsctp_spec_lemmas.specs.spec.queues.Tracker.{new_tracker, is_valid_tsn, is_new_tsn, observed, is_below_highest, is_first_missing, delay_over, hastened, is_forward, after_forward, after_packet_end, is_acknowledgement_due, acknowledgement_asked, after_moment, stopped, owes_acknowledgement, with_timeout, most_blocks, duplicates_left};
     ghost use Rattle.dcsctp_spec_lemmas.specs.spec.endpoint.Timers.{running_deadline, expires_at};
 
     /// Nothing was received yet, and `peer_initial_tsn` is the TSN that is to come first. The one before it
@@ -283,6 +291,14 @@ impl DataTracker {
         ensures { result ≡ is_below_highest tsn self.now }
     {
         number_of(self.received.cumulative, tsn) < self.received.highest()
+    }
+
+    /// Is it the first TSN that is missing?
+    pub fn is_first_missing(&self, tsn: u32) -> bool
+        requires { is_valid_tsn self.now.cumulative tsn ≡ true }
+        ensures { result ≡ is_first_missing tsn self.now }
+    {
+        number_of(self.received.cumulative, tsn) == self.received.cumulative + 1
     }
 
     /// An acknowledgement is due at once.
@@ -372,22 +388,55 @@ impl DataTracker {
         is_due
     }
 
-    /// What a SACK says now, with the receive window `a_rwnd`: at most 20 gap ack blocks, the lowest, and the
-    /// TSNs that came again (RFC 9260, section 6.2). The latter are then forgotten. If there is neither,
-    /// nothing is allocated.
+    // How many gap ack blocks a chunk of that many bytes may have: 20, and with `Options::follow_rfc` as many as fit.
+    fn most_blocks(&self, room: usize) -> usize
+        ensures { result ≡ most_blocks self.now.follows_rfc room }
+    {
+        if self.follows_rfc {
+            room.min(65535)
+                .saturating_sub(SACK_HEADER_SIZE + FORWARD_TSN_ROOM)
+                / 4
+        } else {
+            MAX_GAP_ACK_BLOCKS
+        }
+    }
+
+    // How many TSNs that came again it may list: 20, and with `Options::follow_rfc` those that fit after the blocks.
+    fn duplicates_left(&self, room: usize) -> usize
+        ensures { result ≡ duplicates_left self.now room }
+    {
+        if self.follows_rfc {
+            self.most_blocks(room)
+                .saturating_sub(self.received.ranges.len())
+                .min(MAX_DUPLICATE_TSNS)
+        } else {
+            MAX_DUPLICATE_TSNS
+        }
+    }
+
+    /// What a SACK of at most `room` bytes says now, with the receive window `a_rwnd`: at most 20 gap ack blocks, the
+    /// lowest, and the TSNs that came again (RFC 9260, section 6.2). The latter are then forgotten. With
+    /// `Options::follow_rfc` it has as many blocks as fit, and the duplicates that fit after them; else it may be
+    /// longer. If there is neither, nothing is allocated.
     ///
     /// `Err`: an allocation failed, and nothing has changed.
-    pub fn create_selective_ack(&mut self, a_rwnd: u32) -> Result<SelectiveAck, AllocError>
+    pub fn create_selective_ack(
+        &mut self,
+        a_rwnd: u32,
+        room: usize,
+    ) -> Result<SelectiveAck, AllocError>
         ensures cumulative { IfOk result (λ sack. sack.cumulative_tsn_ack ≡ self.old.cumulative % 2 ^ 32) }
         ensures window { IfOk result (λ sack. sack.a_rwnd ≡ a_rwnd) }
-        ensures blocks { IfOk result (λ sack. sack.gap_ack_blocks.items ≡ flat_map (block_bytes self.old.cumulative) (take 20 self.old.ranges)) }
-        ensures duplicates { IfOk result (λ sack. sack.duplicate_tsns.items ≡ flat_map (to_be_bytes w32) self.old.duplicates) }
+        ensures blocks { IfOk result (λ sack. sack.gap_ack_blocks.items ≡ flat_map (block_bytes self.old.cumulative) (take (most_blocks self.old.follows_rfc room) self.old.ranges)) }
+        ensures duplicates { IfOk result (λ sack. sack.duplicate_tsns.items ≡ flat_map (to_be_bytes w32) (take (duplicates_left self.old room) self.old.duplicates)) }
         ensures few { length self.old.duplicates ≤ 20 }
         ensures ok { OnOk result (self.new ≡ record self.old { duplicates = [] }) }
         ensures err { OnErr result (self.new ≡ self.old) }
     {
-        let blocks = gap_ack_blocks(self.alloc, &self.received)?;
-        let duplicates = tsn_bytes(self.alloc, self.duplicates.as_slice())?;
+        let most = self.most_blocks(room);
+        let left = self.duplicates_left(room);
+        let blocks = gap_ack_blocks(self.alloc, &self.received, most)?;
+        let duplicates = tsn_bytes(self.alloc, self.duplicates.as_slice(), left)?;
         self.duplicates.clear();
         Ok(SelectiveAck {
             cumulative_tsn_ack: (self.received.cumulative % 0x1_0000_0000) as u32,

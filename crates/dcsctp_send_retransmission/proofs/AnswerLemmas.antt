@@ -9,14 +9,14 @@ use Rattle.dcsctp_api.specs.types.declared.progress.ItemState.{ItemState}
 use Rattle.dcsctp_api.specs.types.declared.progress.ItemState.TheVariants.{InFlight, Marked, Acknowledged, Abandoned}
 use Rattle.dcsctp_api.specs.types.declared.progress.Progress.{Progress}
 use Rattle.dcsctp_api.specs.types.declared.progress.Change.{Change}
-use Rattle.dcsctp_api.specs.types.declared.progress.Change.TheVariants.{Miss, Acknowledge}
-use Rattle.dcsctp_api.specs.types.queues.Progress.{tells_of, missed, missed_where, acknowledged}
+use Rattle.dcsctp_api.specs.types.declared.progress.Change.TheVariants.{Miss, Mark, Acknowledge}
+use Rattle.dcsctp_api.specs.types.queues.Progress.{tells_of, missed, missed_where, marked_lost, acknowledged}
 use Rattle.std.specs.Option.{option_map}
 use Rattle.dcsctp_api.specs.spec.queues.Outstanding.{reported, acknowledged_count, tsn_at}
 use Rattle.dcsctp_api.specs.spec.queues.Reports.{NamesItem}
 use Rattle.dcsctp_send_outstanding.proofs.ItemsLemmas.{le_or_lt}
-use Rattle.dcsctp_api.specs.spec.queues.Retransmission.{RetransmissionState, with_items}
-use Rattle.dcsctp_api.specs.spec.queues.Acknowledging.{covered, lossy, missed_until, exiting, has_acknowledged, AcknowledgesItems}
+use Rattle.dcsctp_api.specs.spec.queues.Retransmission.{RetransmissionState, outstanding_count, with_items}
+use Rattle.dcsctp_api.specs.spec.queues.Acknowledging.{covered, lossy, missed_until, exiting, has_acknowledged, opens, probes_lost, acknowledged_until, window_settled_at, AcknowledgesItems}
 use Rattle.dcsctp_send_retransmission.specs.Answers.{AcknowledgesItem, SaysAnswer}
 
 -- ---- one item
@@ -47,6 +47,16 @@ miss_keeps newest item = go (tells_of item.progress.sent_before newest)
     go : (b : Bool) → (missed_where b item.progress).was_acknowledged ≡ item.progress.was_acknowledged
     go true = missed_stays item.progress item.progress.state
     go false = refl
+
+-- so does its loss
+loss_keeps : (item : Item) → (changed_item Mark item).progress.was_acknowledged ≡ item.progress.was_acknowledged
+loss_keeps item = go item.progress.state
+  where
+    go : (state : ItemState) → (marked_lost state item.progress).was_acknowledged ≡ item.progress.was_acknowledged
+    go InFlight = refl
+    go Marked = refl
+    go Acknowledged = refl
+    go Abandoned = refl
 
 pub acknowledge_notes : (item : Item) → (changed_item Acknowledge item).progress.was_acknowledged ≡ true
 acknowledge_notes item = acknowledged_now item.progress item.progress.state
@@ -340,14 +350,12 @@ contradicts : (n m : ℕ) → false ≡ nat_lt n m → n < m → ⊥
 contradicts n m is less = grind (arith, nat_tests)
 
 -- The counts of items show whether it is an answer.
-pub says_answer : (count limit : ℕ) (newest : Option ℕ) (blocks : List GapAckBlock) (items left : List Item) (b : Bool) → left ≡ left_of count limit newest blocks items → b ≡ nat_lt (never_acknowledged_items left) (never_acknowledged_items items)
+pub says_answer : (count limit : ℕ) (newest : Option ℕ) (blocks : List GapAckBlock) (items left : List Item) (b : Bool) → never_acknowledged_items left ≡ never_acknowledged_items (left_of count limit newest blocks items) → b ≡ nat_lt (never_acknowledged_items left) (never_acknowledged_items items)
     → SaysAnswer b count blocks items
-says_answer count limit newest blocks items left true is counts =
-    let fewer = ap never_acknowledged_items is in
+says_answer count limit newest blocks items left true fewer counts =
     let less = is_less (never_acknowledged_items left) (never_acknowledged_items items) counts in
     lessens_answer count limit newest blocks items (omega (arith, fewer, less))
-says_answer count limit newest blocks items left false is counts =
-    let fewer = ap never_acknowledged_items is in
+says_answer count limit newest blocks items left false fewer counts =
     λ answers.
     let less = answers_lessen count limit newest blocks items answers in
     contradicts (never_acknowledged_items left) (never_acknowledged_items items) counts (omega (arith, fewer, less))
@@ -361,6 +369,32 @@ missed_items count limit newest queue = go (nat_lt (marked_items queue.outstandi
     go true = refl
     go false = refl
 
+-- the loss of all that is in flight leaves how many no SACK has acknowledged
+losing_keeps : (start end : ℕ) (xs : List Item) → never_acknowledged_items (changed_between Mark start end xs) ≡ never_acknowledged_items xs
+losing_keeps zero zero xs = refl
+losing_keeps zero (suc end) [] = refl
+losing_keeps zero (suc end) (x ∷ xs) =
+    let later = losing_keeps zero end xs in
+    let here = ap (λ (b : Bool). number_where (not b) 1) (loss_keeps x) in
+    let old = sum_by-cons never_acknowledged_count x xs in
+    let new = sum_by-cons never_acknowledged_count (changed_item Mark x) (changed_between Mark zero end xs) in
+    omega (arith, later, here, old, new)
+losing_keeps (suc start) zero xs = refl
+losing_keeps (suc start) (suc end) [] = refl
+losing_keeps (suc start) (suc end) (x ∷ xs) =
+    let later = losing_keeps start end xs in
+    let old = sum_by-cons never_acknowledged_count x xs in
+    let new = sum_by-cons never_acknowledged_count x (changed_between Mark start end xs) in
+    omega (arith, later, old, new)
+
+-- so does a window that opens
+settled_keeps : (now window count : ℕ) (state : RetransmissionState) → never_acknowledged_items (window_settled_at now window count state).outstanding.items ≡ never_acknowledged_items state.outstanding.items
+settled_keeps now window count state = go (opens state (record state { peer_window = window }))
+  where
+    go : (b : Bool) → never_acknowledged_items (probes_lost b (record state { peer_window = window })).outstanding.items ≡ never_acknowledged_items state.outstanding.items
+    go true = losing_keeps 0 (outstanding_count state) state.outstanding.items
+    go false = refl
+
 -- A SACK says so of itself.
 pub sack_answers : (now cumulative window : ℕ) (blocks : List GapAckBlock) (old new : RetransmissionState) (b : Bool) → AcknowledgesItems now cumulative window blocks old new → b ≡ has_acknowledged old new
     → SaysAnswer b (acknowledged_count old.outstanding cumulative) blocks old.outstanding.items
@@ -368,5 +402,7 @@ sack_answers now cumulative window blocks old new b takes counts =
     let count : ℕ = acknowledged_count old.outstanding cumulative in
     let items : List Item = old.outstanding.items in
     says_answer count takes.limit (option_map (tsn_at old.outstanding) takes.newest) blocks items new.outstanding.items b
-    (ap (λ (q : RetransmissionState). q.outstanding.items) takes.is ∙ ap (λ (xs : List Item). drop count xs) (missed_items count takes.limit (option_map (tsn_at old.outstanding) takes.newest) (with_items (covered count blocks items) (exiting cumulative old))))
+    (ap (λ (q : RetransmissionState). never_acknowledged_items q.outstanding.items) takes.is
+    ∙ settled_keeps now window count (acknowledged_until count blocks takes.limit (option_map (tsn_at old.outstanding) takes.newest) (exiting cumulative old))
+    ∙ ap (λ (xs : List Item). never_acknowledged_items (drop count xs)) (missed_items count takes.limit (option_map (tsn_at old.outstanding) takes.newest) (with_items (covered count blocks items) (exiting cumulative old))))
     counts

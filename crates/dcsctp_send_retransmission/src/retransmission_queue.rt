@@ -14,7 +14,7 @@ use dcsctp_api::SocketTime;
 use dcsctp_api::types::{BackoffAlgorithm, Change, CongestionControl, HandoverReadiness, Options};
 use dcsctp_send_outstanding::Outstanding;
 use dcsctp_send_queue::DataToSend;
-use dcsctp_send_timer::Timer;
+use dcsctp_send_timer::{Timer, longest_backoff};
 use std::alloc::Global;
 use std::marker::Model;
 use std::time::Duration;
@@ -37,6 +37,12 @@ pub struct RetransmissionQueue {
     // Were streams reset since the last item was sent?
     reset_begun: bool,
 
+    // Is the RFC followed where the port doesn't (`Options::follow_rfc`)?
+    follows_rfc: bool,
+
+    // Was a round trip measured?
+    has_measured: bool,
+
     packets_retransmitted: usize,
     bytes_retransmitted: u64,
     alloc: Global,
@@ -58,6 +64,8 @@ impl Model for RetransmissionQueue {
       partial_reliability = queue.partial_reliability;
       fast_retransmit_due = queue.fast_retransmit_due;
       reset_begun = queue.reset_begun;
+      follows_rfc = queue.follows_rfc;
+      has_measured = queue.has_measured;
       packets_retransmitted = queue.packets_retransmitted;
       bytes_retransmitted = queue.bytes_retransmitted;
     } };
@@ -68,7 +76,7 @@ impl RetransmissionQueue {
     ghost use Rattle.std.specs.List.{AllByRecursion};
     ghost use Rattle.std.specs.Duration.{as_nanos};
     ghost use Rattle.dcsctp_api.specs.spec.Soundness.{HasBytes};
-    ghost use Rattle.dcsctp_api.specs.spec.queues.Retransmission.{new_retransmission, outstanding_count, window_left, retransmission_deadline, can_send, timer_with, with_duration, with_reset_begun, counted_again};
+    ghost use Rattle.dcsctp_api.specs.spec.queues.Retransmission.{new_retransmission, outstanding_count, window_left, retransmission_deadline, can_send, timer_with, is_window_closed, with_duration, with_reset_begun, counted_again};
     ghost use Rattle.dcsctp_api.specs.spec.endpoint.Timers.{expires_at};
     ghost use Rattle.dcsctp_api.specs.spec.queues.Readiness.{retransmission_readiness};
     ghost use Rattle.dcsctp_api.specs.spec.queues.Items.{unacknowledged_items, marked_items};
@@ -97,12 +105,14 @@ impl RetransmissionQueue {
                 options.rto_initial,
                 BackoffAlgorithm::Exponential,
                 None,
-                options.max_timer_backoff_duration,
+                longest_backoff(options),
             ),
             peer_window: a_rwnd as usize,
             partial_reliability,
             fast_retransmit_due: false,
             reset_begun: false,
+            follows_rfc: options.follow_rfc,
+            has_measured: false,
             packets_retransmitted: 0,
             bytes_retransmitted: 0,
             alloc,
@@ -218,11 +228,15 @@ impl RetransmissionQueue {
         self.timer.next_expiry()
     }
 
-    /// How long an acknowledgement is awaited when the timer is started next (RFC 9260, section 6.3.2).
-    pub fn update_rto(&mut self, rto: Duration)
-        ensures { self.new ≡ with_duration (as_nanos rto) self.old }
+    /// How long an acknowledgement is awaited when the timer is started next (RFC 9260, section 6.3.2), if a round
+    /// trip was measured.
+    pub fn update_rto(&mut self, rto: Duration, is_measured: bool)
+        ensures { self.new ≡ with_duration (as_nanos rto) is_measured self.old }
     {
-        self.timer.set_duration(rto);
+        if is_measured {
+            self.timer.set_duration(rto);
+            self.has_measured = true;
+        }
     }
 
     /// May more be sent? Yes if less than the congestion window and less than the peer's window is in flight,
@@ -261,7 +275,10 @@ impl RetransmissionQueue {
     ///
     /// Once it expires, all that was in flight is marked to be sent again, and the congestion window is one
     /// MTU (RFC 9260, section 6.3.3). The timer runs again, for twice as long as before and at most
-    /// `max_timer_backoff_duration` of the options.
+    /// `max_timer_backoff_duration` of the options. With `Options::follow_rfc` that is at most `rto_max`, and the
+    /// timeout stays doubled until the first round trip is measured, unless the peer's window is closed: a probe that
+    /// finds no room isn't lost. Later on it starts again with what was measured (RFC 9260, section 6.3.3, would keep it
+    /// doubled, which makes waits three times as long at 30 % loss).
     pub fn handle_timeout(&mut self, now: SocketTime) -> bool
         ensures answer { result ≡ expires_at now self.old.timer.running }
         ensures left { self.new ≡ queue_at now self.old }
@@ -272,7 +289,17 @@ impl RetransmissionQueue {
         let len = self.outstanding.len();
         self.outstanding.change_between(Change::Mark, 0, len);
         self.congestion.handle_timeout();
+        if self.follows_rfc && !self.has_measured && !self.is_window_closed() {
+            self.timer.back_off();
+        }
         true
+    }
+
+    // Is the peer's window smaller than a packet? Then what is sent is a probe of it (RFC 9260, section 6.1, rule A).
+    fn is_window_closed(&self) -> bool
+        ensures { result ≡ is_window_closed self.now }
+    {
+        self.peer_window < self.congestion.mtu - self.congestion.mtu % 4
     }
 
     // Runs the timer where something is outstanding, and only there (RFC 9260, section 6.3.2).

@@ -6,4 +6,4 @@ mod timer;
 
 pub use dcsctp_spec::types::BackoffAlgorithm;
 pub use retransmission_timeout::RetransmissionTimeout;
-pub use timer::Timer;
+pub use timer::{Timer, longest_backoff, longest_wait};

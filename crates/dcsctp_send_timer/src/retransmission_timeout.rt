@@ -1,10 +1,11 @@
 //! The retransmission timeout (RFC 9260, section 6.3.1), in whole nanoseconds.
 
-ghost use Rattle.std.specs.Prelude.{◌≡◌, nat_lt};
+ghost use Rattle.std.specs.Prelude.{◌≡◌, is_some, nat_lt};
 ghost use Rattle.std.specs.Duration.{as_nanos};
 ghost use Rattle.std.specs.Option.{option_map};
 ghost use Rattle.dcsctp_spec.specs.queues.Timeout.{smoothed, variance_with};
 
+use crate::timer::longest_wait;
 use dcsctp_spec::types::{Options, duration_of};
 use std::marker::Model;
 use std::time::Duration;
@@ -80,6 +81,9 @@ pub struct RetransmissionTimeout {
     variance: Option<Duration>,
 
     bounds: Bounds,
+
+    // The longest that a timer which began with this timeout waits once it has expired, if it repeats a request.
+    longest_wait: Option<Duration>,
 }
 
 impl Model for RetransmissionTimeout {
@@ -99,6 +103,7 @@ impl Model for RetransmissionTimeout {
         rto_max = as_nanos timeout.bounds.rto_max;
         min_rtt_variance = as_nanos timeout.bounds.min_rtt_variance;
       };
+      longest_wait = option_map as_nanos timeout.longest_wait;
     } };
 }
 
@@ -123,6 +128,7 @@ impl RetransmissionTimeout {
                 rto_max: options.rto_max,
                 min_rtt_variance: options.min_rtt_variance,
             },
+            longest_wait: longest_wait(options),
         }
     }
 
@@ -148,6 +154,20 @@ impl RetransmissionTimeout {
         ensures { as_nanos result ≡ self.now.rto }
     {
         self.rto
+    }
+
+    /// Was a round trip measured?
+    pub fn is_measured(&self) -> bool
+        ensures { result ≡ is_some self.now.variance }
+    {
+        self.variance.is_some()
+    }
+
+    /// The longest that a timer which begins with this timeout waits once it has expired, if it repeats a request.
+    pub fn longest_wait(&self) -> Option<Duration>
+        ensures { option_map as_nanos result ≡ self.now.longest_wait }
+    {
+        self.longest_wait
     }
 
     /// The smoothed round trip time.

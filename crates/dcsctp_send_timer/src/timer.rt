@@ -4,9 +4,9 @@
 ghost use Rattle.std.specs.Prelude.{◌≡◌};
 ghost use Rattle.std.specs.Duration.{as_nanos};
 ghost use Rattle.std.specs.Option.{option_map};
-ghost use Rattle.dcsctp_spec.specs.endpoint.Timers.{may_restart, next_wait, bounded};
+ghost use Rattle.dcsctp_spec.specs.endpoint.Timers.{may_restart, next_wait, bounded, longest_backoff, longest_wait};
 
-use dcsctp_spec::types::{BackoffAlgorithm, SocketTime};
+use dcsctp_spec::types::{BackoffAlgorithm, Options, SocketTime};
 use std::marker::Model;
 use std::time::Duration;
 
@@ -37,6 +37,31 @@ fn bounded(max_backoff: Option<Duration>, wait: Duration) -> Duration
     match max_backoff {
         Some(bound) if bound < wait => bound,
         Some(_) | None => wait,
+    }
+}
+
+/// The longest that the retransmission timer runs once it has expired: `max_timer_backoff_duration`, and with
+/// `Options::follow_rfc` at most `rto_max` (RFC 9260, section 6.3.3, E2). `None` is no limit. Allocates nothing.
+pub fn longest_backoff(options: &Options) -> Option<Duration>
+    ensures { option_map as_nanos result ≡ longest_backoff options.now }
+{
+    let limit = options.max_timer_backoff_duration;
+    if options.follow_rfc {
+        Some(bounded(limit, options.rto_max))
+    } else {
+        limit
+    }
+}
+
+/// The longest wait of a timer that repeats a control chunk, once it has expired: only with `Options::follow_rfc`
+/// it has a limit, that of the retransmission timer. Allocates nothing.
+pub fn longest_wait(options: &Options) -> Option<Duration>
+    ensures { option_map as_nanos result ≡ longest_wait options.now }
+{
+    if options.follow_rfc {
+        longest_backoff(options)
+    } else {
+        None
     }
 }
 
@@ -97,7 +122,7 @@ impl Timer {
     ghost use Rattle.std.specs.Duration.{as_nanos};
     ghost use Rattle.std.specs.Option.{option_map};
     ghost use Rattle.dcsctp_spec.specs.endpoint.Timers.{started};
-    ghost use Rattle.dcsctp_spec.specs.endpoint.Timers.{running_deadline, expires_at, running_after};
+    ghost use Rattle.dcsctp_spec.specs.endpoint.Timers.{running_deadline, expires_at, running_after, backed_off, has_expired};
 
     /// A timer that doesn't run. Once started it runs for `duration`.
     ///
@@ -163,6 +188,24 @@ impl Timer {
         } }
     {
         self.duration = duration;
+    }
+
+    /// From its next start on the timer runs twice as long, and at most as long as its backoff may be.
+    pub fn back_off(&mut self)
+        ensures { self.new ≡ backed_off self.old }
+    {
+        let wait = next_wait(self.backoff, self.duration);
+        self.duration = bounded(self.max_backoff, wait).max(self.duration);
+    }
+
+    /// Does the timer run, and has it expired since it was started?
+    pub fn has_expired(&self) -> bool
+        ensures { result ≡ has_expired self.now.running }
+    {
+        match self.running {
+            None => false,
+            Some(running) => 0 < running.expiries,
+        }
     }
 
     /// Advances the timer to `now`, and returns whether it expires. Before its deadline it doesn't, and

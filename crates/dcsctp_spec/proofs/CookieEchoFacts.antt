@@ -1,6 +1,6 @@
 -- Outside examples of what a socket does with a COOKIE ECHO, worked out by hand and computed by the
 -- definitions: a wrong rule in specs/ would not check here.
-use Rattle.std.proofs.Common.{◌≡◌, ℕ, false, None, List, [], ◌∷◌, refl}
+use Rattle.std.proofs.Common.{◌≡◌, ℕ, false, None, List, [], ◌∷◌, refl, Some}
 use Rattle.std.specs.Prelude.{pos, codes}
 use Rattle.dcsctp_types.specs.wire.Content.{cookie_received_while_shutting_down, error_chunk}
 use Rattle.dcsctp_types.specs.declared.association.Pair.{Pair}
@@ -11,7 +11,8 @@ use Rattle.dcsctp_spec.specs.endpoint.Event.{connected, connection_restarted, er
 use Rattle.dcsctp_spec.specs.Cookie.{Cookie, cookie_at}
 use Rattle.dcsctp_spec.specs.Packet.{cookie_ack, shutdown_ack, plain, unworked}
 use Rattle.dcsctp_spec.specs.queues.SendQueue.{SendQueueState}
-use Rattle.dcsctp_spec.specs.endpoint.Endpoint.{Endpoint, closed, cookie_echoed, open_in, established, shutdown_received, shutdown_ack_sent, stopped_timers}
+use Rattle.dcsctp_spec.specs.endpoint.EndOutcomes.{closed_after}
+use Rattle.dcsctp_spec.specs.endpoint.Endpoint.{Endpoint, closed, cookie_wait, cookie_echoed, open_in, established, shutdown_received, shutdown_ack_sent, stopped_timers}
 use Rattle.dcsctp_spec.specs.endpoint.Following.{next_chunk, dropped_rest}
 use Rattle.dcsctp_spec.specs.association.Effect.{holds, connects}
 use Rattle.dcsctp_spec.specs.endpoint.CookieEchoOutcomes.{window_by_cookie, cookie_echo_outcome}
@@ -28,6 +29,7 @@ abbrev made : Endpoint → SendQueueState → ℕ → Endpoint
 made e waiting packets_sent =
     record (socket e 1191 (pos 4) (open_in established mine held) packets_sent) {
       tie = 55;
+      heartbeat_sent = None;
       outstanding = None;
       timers = record stopped_timers { heartbeat_interval = heartbeats_due 35_000_000_000 30_000_000_000; heartbeat_timeout = e.timers.heartbeat_timeout };
       queues = record { queue = waiting; transfer = transfer_begun 1191 11910 4764 };
@@ -141,6 +143,35 @@ echo_that_is_stale : (e : Endpoint) → let late : Endpoint = record (socket e 1
     ≡ record { words = []; effects = []; after = late; events = error ParseFailed (codes "Stale state cookie") ∷ []; following = dropped_rest }
 unfolding cookie_at
 echo_that_is_stale e = refl
+
+-- ---- the last association had this own tag
+
+abbrev after_7 : Endpoint → Endpoint
+after_7 e = record (socket e 1191 (pos 4) closed 4) { last_tag = Some 7 }
+
+-- By the RFC's rules a cookie under it makes no other,
+echo_of_the_last : (e : Endpoint) → cookie_echo_outcome (by_rfc (after_7 e)) closed 7 (cookie_at (own_cookie 0)) 55
+    ≡ record { words = []; effects = []; after = by_rfc (after_7 e); events = error ParseFailed (codes "Stale state cookie") ∷ []; following = dropped_rest }
+unfolding cookie_at
+echo_of_the_last e = refl
+
+-- nor while an INIT ACK is awaited. By the port it does.
+echo_of_the_last_while_waiting : (e : Endpoint) → (cookie_echo_outcome (by_rfc (after_7 e)) (cookie_wait older) 7 (cookie_at (own_cookie 0)) 55).effects ≡ []
+unfolding cookie_at
+echo_of_the_last_while_waiting e = refl
+
+echo_of_the_last_by_port : (e : Endpoint) → (cookie_echo_outcome (after_7 e) closed 7 (cookie_at (own_cookie 0)) 55).effects ≡ holds link ∷ connects link ∷ []
+unfolding cookie_at
+echo_of_the_last_by_port e = refl
+
+-- Which tag that is: an attempt that had no peer leaves the one before.
+leaves_its_tag : (e : Endpoint) → (closed_after (record e { core = open_in established mine held; last_tag = Some 5 })).last_tag ≡ Some 7
+leaves_its_tag e = refl
+
+leaves_the_one_before : (e : Endpoint) → (closed_after (record e { core = cookie_wait mine; last_tag = Some 5 })).last_tag ≡ Some 5
+leaves_the_one_before e = refl
+
+-- ---- a restart where the cookie is stale
 
 -- No packet goes out where it is a restart and a SHUTDOWN ACK waits for its answer.
 stale_restart_in_shutdown_ack_sent : (e : Endpoint)

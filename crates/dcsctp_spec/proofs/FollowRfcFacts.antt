@@ -1,7 +1,8 @@
 -- Outside examples of what `follow_rfc` changes, worked out by hand and computed by the definitions: a
--- wrong rule in specs/ would not check here. Shutdown and COOKIE ECHO have theirs in ShutdownFacts and
--- CookieEchoFacts.
+-- wrong rule in specs/ would not check here. Timers have theirs in FollowRfcTimerFacts, shutdown and COOKIE ECHO in
+-- ShutdownFacts and CookieEchoFacts.
 use Rattle.std.proofs.Common.{◌≡◌, ◌^◌, ◌-◌, ℕ, zero, suc, Bool, true, false, None, Some, List, [], ◌∷◌, refl}
+use Rattle.dcsctp_types.specs.declared.association.Pair.{Pair}
 use Rattle.dcsctp_types.specs.declared.options.Options.{Options}
 use Rattle.dcsctp_types.specs.declared.tracking.TsnRange.{TsnRange}
 use Rattle.dcsctp_types.specs.declared.tracking.AckState.TheVariants.{Idle, Immediate, BecomingDelayed, Delayed}
@@ -12,10 +13,11 @@ use Rattle.dcsctp_spec.specs.endpoint.Timers.{running_deadline}
 use Rattle.dcsctp_spec.specs.queues.Reassembly.{ReassemblyState, bytes_to_watermark, remaining_bytes}
 use Rattle.dcsctp_spec.specs.queues.SendQueue.{SendQueueState, empty_queue}
 use Rattle.dcsctp_spec.specs.queues.Sending.{next_turn}
-use Rattle.dcsctp_spec.specs.queues.Tracker.{TrackerState, observed, hastened, is_below_highest}
+use Rattle.dcsctp_spec.specs.queues.Tracker.{TrackerState, observed, hastened, is_below_highest, most_blocks, duplicates_left}
 use Rattle.dcsctp_spec.specs.queues.Transfer.{Transfer, advertised_window}
+use Rattle.dcsctp_spec.specs.association.ShutdownChanges.{is_ended_by_abort}
 use Rattle.dcsctp_spec.specs.endpoint.DataOutcomes.{heeds_window, opens_window, taken_to}
-use Rattle.dcsctp_spec.specs.endpoint.Endpoint.{Endpoint}
+use Rattle.dcsctp_spec.specs.endpoint.Endpoint.{Endpoint, closed, cookie_wait, errors_begun}
 use Rattle.dcsctp_spec.specs.endpoint.EndOutcomes.{closed_after}
 use Rattle.dcsctp_spec.specs.endpoint.Outcome.{Outcome, still}
 use Rattle.dcsctp_spec.specs.endpoint.TransferMoves.{has_room, dropping}
@@ -34,6 +36,32 @@ closed_gap tracker = refl
 
 closed_gap_by_port : (tracker : TrackerState) → (observed 11 false (gap_at_11 false tracker)).acknowledgement ≡ BecomingDelayed
 closed_gap_by_port tracker = refl
+
+-- ---- what a SACK lists
+
+-- A packet of 1,191 bytes has 1,179 after its header. Of these 16 are the SACK's own and 20 stay free, so 285 blocks fit.
+full_packet : most_blocks true 1179 ≡ 285
+full_packet = refl
+
+-- One block needs 40 bytes.
+one_block : most_blocks true 40 ≡ 1
+one_block = refl
+
+no_block : most_blocks true 39 ≡ 0
+no_block = refl
+
+by_port : most_blocks false 39 ≡ 20
+by_port = refl
+
+-- There is room for three entries of four bytes. One is the range from 12 to 13, so two duplicates are left.
+two_left : (tracker : TrackerState) → duplicates_left (gap_at_11 true tracker) 48 ≡ 2
+two_left tracker = refl
+
+twenty_left : (tracker : TrackerState) → duplicates_left (gap_at_11 true tracker) 1179 ≡ 20
+twenty_left tracker = refl
+
+left_by_port : (tracker : TrackerState) → duplicates_left (gap_at_11 false tracker) 48 ≡ 20
+left_by_port tracker = refl
 
 -- ---- the receive window
 
@@ -63,8 +91,23 @@ no_room_behind transfer = refl
 no_room_by_port : (transfer : Transfer) → has_room 11 (full false transfer) ≡ false
 no_room_by_port transfer = refl
 
--- With the last byte in use there is no room even for what fills a gap.
-no_room_at_all : (transfer : Transfer) → has_room 11 (record (full true transfer) { reassembly = holding (message 5 ∷ message 5 ∷ []) transfer.reassembly }) ≡ false
+-- So many bytes are held, where TSN 15 was received, too.
+abbrev held_bytes : ℕ → Transfer → Transfer
+held_bytes count transfer =
+    record (full true transfer) {
+      tracker = record (gap_at_11 true transfer.tracker) { ranges = record { first = 12; last = 13 } ∷ record { first = 15; last = 15 } ∷ [] };
+      reassembly = holding (message count ∷ []) transfer.reassembly;
+    }
+
+-- With the last byte in use there is no room for TSN 14, which fills a gap, but there is for TSN 11, the first that is missing,
+no_room_for_later : (transfer : Transfer) → has_room 14 (held_bytes 10 transfer) ≡ false
+no_room_for_later transfer = refl
+
+room_for_first : (transfer : Transfer) → has_room 11 (held_bytes 19 transfer) ≡ true
+room_for_first transfer = refl
+
+-- until twice the window is held.
+no_room_at_all : (transfer : Transfer) → has_room 11 (held_bytes 20 transfer) ≡ false
 no_room_at_all transfer = refl
 
 -- What is dropped is answered at once.
@@ -155,6 +198,25 @@ none_by_port queue = refl
 
 by_option : (options : Options) → (empty_queue options).takes_turns ≡ options.follow_rfc
 by_option options = refl
+
+-- ---- the count of errors as an association begins
+
+begins_at_0 : (e : Endpoint) → errors_begun (record e { options = record e.options { follow_rfc = true }; error_count = 7 }) ≡ 0
+begins_at_0 e = refl
+
+goes_on_by_port : (e : Endpoint) → errors_begun (record e { options = record e.options { follow_rfc = false }; error_count = 7 }) ≡ 7
+goes_on_by_port e = refl
+
+-- ---- an ABORT while an INIT ACK is awaited
+
+refused : (options : Options) (my : Pair) → is_ended_by_abort (record options { follow_rfc = true }) (cookie_wait my) ≡ true
+refused options my = refl
+
+unheard_by_port : (options : Options) (my : Pair) → is_ended_by_abort (record options { follow_rfc = false }) (cookie_wait my) ≡ false
+unheard_by_port options my = refl
+
+nothing_to_end : (options : Options) → is_ended_by_abort options closed ≡ false
+nothing_to_end options = refl
 
 -- ---- messages that the association leaves when it ends
 

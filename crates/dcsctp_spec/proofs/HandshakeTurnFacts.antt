@@ -108,6 +108,7 @@ socket e mtu max_burst core packets_sent =
       options = configured e.options mtu max_burst;
       core = core;
       tie = 77;
+      last_tag = None;
       counts = record { packets_received = 3; packets_sent = packets_sent; messages_queued = 5 };
       queues = record { queue = queue; transfer = None };
     }
@@ -169,6 +170,8 @@ transfer_begun mtu cwnd least =
         partial_reliability = false;
         fast_retransmit_due = false;
         reset_begun = false;
+        follows_rfc = false;
+        has_measured = false;
         packets_retransmitted = 0;
         bytes_retransmitted = 0;
       };
@@ -177,6 +180,7 @@ transfer_begun mtu cwnd least =
         srtt = 500_000_000;
         variance = None;
         bounds = record { rtt_max = 50_000_000_000; rto_min = 400_000_000; rto_max = 60_000_000_000; min_rtt_variance = 220_000_000 };
+        longest_wait = None;
       };
       tracker = record {
         cumulative = 199;
@@ -275,7 +279,7 @@ init_ack_without_cookie : (e : Endpoint) → init_ack_outcome (socket e 1191 (po
     ≡ record {
       words = [];
       effects = ends ∷ [];
-      after = record (socket e 1191 (pos 0) closed 5) { tie = 0; outstanding = None; timers = stopped_timers };
+      after = record (socket e 1191 (pos 0) closed 5) { tie = 0; outstanding = None; heartbeat_sent = None; timers = stopped_timers };
       events = packet_of true 9 (abort false (missing_mandatory_parameter (7 ∷ []) ∷ []) ∷ []) ∷ aborted ProtocolViolation (codes "InitAck chunk doesn't contain a cookie") ∷ [];
       following = dropped_rest;
     }

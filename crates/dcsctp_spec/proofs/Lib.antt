@@ -7,6 +7,7 @@ pub mod CookieEchoFacts
 pub mod ErrorFacts
 pub mod FlushFacts
 pub mod FollowRfcFacts
+pub mod FollowRfcTimerFacts
 pub mod HandshakeFacts
 pub mod HandshakeTurnFacts
 pub mod HeartbeatFacts

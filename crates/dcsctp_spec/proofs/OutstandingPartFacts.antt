@@ -58,6 +58,8 @@ state =
       partial_reliability = true;
       fast_retransmit_due = false;
       reset_begun = false;
+      follows_rfc = false;
+      has_measured = false;
       packets_retransmitted = 0;
       bytes_retransmitted = 0;
     }

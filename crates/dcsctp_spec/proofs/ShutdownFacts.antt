@@ -4,7 +4,7 @@ use Rattle.std.proofs.Common.{◌≡◌, ◌+◌, ◌^◌, ℕ, zero, suc, true,
 use Rattle.std.specs.Prelude.{pos, map}
 use Rattle.dcsctp_types.specs.declared.ends.AbortReason.TheVariants.{TooManyErrors}
 use Rattle.dcsctp_types.specs.declared.kinds.BackoffAlgorithm.TheVariants.{Exponential}
-use Rattle.dcsctp_types.specs.declared.progress.ItemState.TheVariants.{InFlight}
+use Rattle.dcsctp_types.specs.declared.progress.ItemState.TheVariants.{InFlight, Abandoned}
 use Rattle.dcsctp_spec.specs.endpoint.Event.{Event}
 use Rattle.dcsctp_spec.specs.endpoint.Event as events
 use Rattle.dcsctp_spec.specs.Packet.{Emission, shutdown, shutdown_ack, shutdown_complete}
@@ -23,7 +23,7 @@ use Rattle.dcsctp_spec.specs.association.Acts.{shutdown_repeats, abort_with}
 use Rattle.dcsctp_types.specs.declared.options.Options.{Options}
 use Rattle.dcsctp_spec.specs.queues.Retransmission.{RetransmissionState}
 use Rattle.dcsctp_spec.specs.endpoint.HeardShutdown.{said_by_shutdown, heeds_shutdown}
-use Rattle.dcsctp_spec.specs.endpoint.ShutdownOutcomes.{step_outcome, shut_down_outcome, shutdown_outcome, shutdown_ack_outcome, shutdown_complete_outcome, t2_again_outcome, shutdown_repeated}
+use Rattle.dcsctp_spec.specs.endpoint.ShutdownOutcomes.{may_go_on, step_outcome, shut_down_outcome, shutdown_outcome, shutdown_ack_outcome, shutdown_complete_outcome, t2_again_outcome, shutdown_repeated}
 use Rattle.dcsctp_spec.proofs.HandshakeTurnFacts.{mine, held, queue, packet_of}
 
 -- an item of three bytes in flight
@@ -80,6 +80,20 @@ expired_at_9 stream = record stream { messages = map (lives_until 9) stream.mess
 abbrev t2 : ℕ → ℕ → ℕ → Option RunningTimer
 t2 deadline wait expiries = Some (record { deadline = deadline; wait = wait; expiries = expiries; terms = record { backoff = Exponential; max_restarts = Some 2; max_backoff = None } })
 
+-- One item is outstanding, and was abandoned.
+abbrev abandoning : Endpoint → Transfer → Endpoint
+abandoning e transfer =
+    record (at e (open_in shutdown_pending mine held) transfer 0) {
+      queues = record {
+        queue = queue;
+        transfer = Some (record transfer {
+          retransmission = record transfer.retransmission {
+            outstanding = record transfer.retransmission.outstanding { items = record one_item { progress = record one_item.progress { state = Abandoned } } ∷ [] };
+          };
+        });
+      };
+    }
+
 -- the endpoint in another phase, once it has sent one packet and T2 was started
 abbrev waiting : Endpoint → OpenPhase → Endpoint
 waiting e phase = record e { core = open_in phase mine held; counts = record e.counts { packets_sent = 5 }; timers = record e.timers { t2 = t2 1_400_000_000 400_000_000 0 } }
@@ -131,6 +145,16 @@ waits_by_rfc e transfer = refl
 waits_for_no_packet : (e : Endpoint) (transfer : Transfer) → (step_outcome (by_rfc (at e (in_phase shutdown_pending) transfer 0) 0) (in_phase shutdown_pending)).events
     ≡ request ∷ []
 waits_for_no_packet e transfer = refl
+
+-- What was abandoned is waited for, too, until the peer's cumulative TSN ack has passed it.
+abandoned_waits : (e : Endpoint) (transfer : Transfer) → may_go_on (by_rfc (abandoning e transfer) 0) ≡ false
+abandoned_waits e transfer = refl
+
+abandoned_by_port : (e : Endpoint) (transfer : Transfer) → may_go_on (abandoning e transfer) ≡ true
+abandoned_by_port e transfer = refl
+
+passed_goes_on : (e : Endpoint) (transfer : Transfer) → may_go_on (by_rfc (at e (in_phase shutdown_pending) transfer 0) 0) ≡ true
+passed_goes_on e transfer = refl
 
 -- What waits on a stream that is paused, or past its lifetime, isn't waited for.
 nothing_waits_by_rfc : waits_at 10 (record queue { streams = map pausing queue.streams; under_way = None }) ≡ false

@@ -215,8 +215,8 @@ front_at e base (open_in phase my own) held front answers holds is same h =
 end_where_at : (b : Bool) (e : Endpoint) (core : Core) (peer : Option Held) (transfer : Transfer) (tracker : TrackerState) (o : Outcome) → held_in core ≡ peer → e.core ≡ core
     → EndWhere b e peer transfer tracker o → FlushedAt e core o
 end_where_at true e core (Some held) transfer tracker o holds is turn =
-    flushed_as e core o (flush_of (endpoint_with_tracker e transfer (sacked tracker)) (acknowledging e held (own_sack (record transfer { tracker = tracker }))) turn.answers) turn.is
-    (front_at e (endpoint_with_tracker e transfer (sacked tracker)) core held (where_fits (room_in e (draft_to held)) (own_sack (record transfer { tracker = tracker }))) turn.answers holds is refl turn.allowed)
+    flushed_as e core o (flush_of (endpoint_with_tracker e transfer (sacked tracker)) (acknowledging e held (own_sack (room_in e (draft_to held)) (record transfer { tracker = tracker }))) turn.answers) turn.is
+    (front_at e (endpoint_with_tracker e transfer (sacked tracker)) core held (where_fits (room_in e (draft_to held)) (own_sack (room_in e (draft_to held)) (record transfer { tracker = tracker }))) turn.answers holds is refl turn.allowed)
 end_where_at true e core None transfer tracker o holds is turn = flushed_as e core o (still (endpoint_with_tracker e transfer tracker)) turn (still_at e (endpoint_with_tracker e transfer tracker) core is refl)
 end_where_at false e core peer transfer tracker o holds is turn = flushed_as e core o (still (endpoint_with_tracker e transfer tracker)) turn (still_at e (endpoint_with_tracker e transfer tracker) core is refl)
 

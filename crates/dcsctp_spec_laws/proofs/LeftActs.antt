@@ -28,12 +28,12 @@ use Rattle.dcsctp_spec_laws.proofs.LeftData.{step_stays, step_from_stays, flush_
 -- ---- our abort
 
 aborts_where : (b : Bool) (e : Endpoint) (held : Held) (reason : AbortReason) → Ends e (ended_outcome (if b then sends e [] [] (abort_to held reason) else quiet e [] []) (end_of reason)).after
-aborts_where true e held reason = record { left = refl; none = refl }
-aborts_where false e held reason = record { left = refl; none = refl }
+aborts_where true e held reason = record { left = refl; none = refl; last = refl }
+aborts_where false e held reason = record { left = refl; none = refl; last = refl }
 
 pub aborting_leaves : (e : Endpoint) (core : Core) (reason : AbortReason) → LeavesIn e (aborting_outcome e core reason)
 aborting_leaves e closed reason = inl (unmoved e)
-aborting_leaves e (cookie_wait my) reason = inr (inr (record { left = refl; none = refl }))
+aborting_leaves e (cookie_wait my) reason = inr (inr (record { left = refl; none = refl; last = refl }))
 aborting_leaves e (cookie_echoed my held cookie) reason = inr (inr (aborts_where (fits e (abort_to held reason)) e held reason))
 aborting_leaves e (open_in phase my held) reason = inr (inr (aborts_where (fits e (abort_to held reason)) e held reason))
 
@@ -42,31 +42,31 @@ aborting_leaves e (open_in phase my held) reason = inr (inr (aborts_where (fits 
 connect_stays : (e : Endpoint) (core : Core) (word next : ℕ) → StaysIn e (connect_outcome e core word next)
 connect_stays e closed word next =
     let begun : Endpoint = awaits_init_ack e (pair_from word next) in
-    stays_then e begun _ (record { left = refl; there = refl }) (emits_stays begun (U32 word ∷ U32 next ∷ []) (init_emission e (pair_from word next)))
+    stays_then e begun _ (record { left = refl; there = refl; last = refl }) (emits_stays begun (U32 word ∷ U32 next ∷ []) (init_emission e (pair_from word next)))
 connect_stays e (cookie_wait my) word next = unmoved e
 connect_stays e (cookie_echoed my held cookie) word next = unmoved e
 connect_stays e (open_in phase my held) word next = unmoved e
 
 again_stays : (e : Endpoint) (core : Core) (answers : List Answer) → AgainAnswers (t1_goes_on e) core answers → StaysIn e (t1_again_by (flush_answered answers) e core)
-again_stays e closed answers h = record { left = refl; there = refl }
+again_stays e closed answers h = record { left = refl; there = refl; last = refl }
 again_stays e (cookie_wait mine) answers h =
-    stays_then e (t1_goes_on e) _ (record { left = refl; there = refl }) (emits_stays (t1_goes_on e) [] (init_emission (t1_goes_on e) mine))
+    stays_then e (t1_goes_on e) _ (record { left = refl; there = refl; last = refl }) (emits_stays (t1_goes_on e) [] (init_emission (t1_goes_on e) mine))
 again_stays e (cookie_echoed mine held cookie) answers h =
-    stays_then e (t1_goes_on e) _ (record { left = refl; there = refl })
+    stays_then e (t1_goes_on e) _ (record { left = refl; there = refl; last = refl })
     (echo_stays (fits (t1_goes_on e) (echo_emission held.peer.tag cookie)) (t1_goes_on e) [] held.peer.tag cookie answers h)
-again_stays e (open_in phase mine held) answers h = record { left = refl; there = refl }
+again_stays e (open_in phase mine held) answers h = record { left = refl; there = refl; last = refl }
 
 gives_up_leaves : (e : Endpoint) (core : Core) → LeavesIn e (t1_gives_up_outcome e core)
 gives_up_leaves e closed = inl (unmoved e)
-gives_up_leaves e (cookie_wait mine) = inr (inr (record { left = refl; none = refl }))
-gives_up_leaves e (cookie_echoed mine held cookie) = inr (inr (record { left = refl; none = refl }))
+gives_up_leaves e (cookie_wait mine) = inr (inr (record { left = refl; none = refl; last = refl }))
+gives_up_leaves e (cookie_echoed mine held cookie) = inr (inr (record { left = refl; none = refl; last = refl }))
 gives_up_leaves e (open_in phase mine held) = inl (unmoved e)
 
 shut_down_leaves : (e : Endpoint) (core : Core) → LeavesIn e (shut_down_outcome e core)
 shut_down_leaves e closed = inl (unmoved e)
-shut_down_leaves e (cookie_wait my) = inr (inr (record { left = refl; none = refl }))
+shut_down_leaves e (cookie_wait my) = inr (inr (record { left = refl; none = refl; last = refl }))
 shut_down_leaves e (cookie_echoed my held cookie) =
-    inl (stays_then e (t1_stopped e) _ (record { left = refl; there = refl }) (step_from_stays (may_go_on (t1_stopped e)) (t1_stopped e) shutdown_pending my held))
+    inl (stays_then e (t1_stopped e) _ (record { left = refl; there = refl; last = refl }) (step_from_stays (may_go_on (t1_stopped e)) (t1_stopped e) shutdown_pending my held))
 shut_down_leaves e (open_in established my held) = inl (step_from_stays (may_go_on e) e shutdown_pending my held)
 shut_down_leaves e (open_in shutdown_pending my held) = inl (unmoved e)
 shut_down_leaves e (open_in shutdown_sent my held) = inl (unmoved e)
@@ -74,20 +74,20 @@ shut_down_leaves e (open_in shutdown_received my held) = inl (unmoved e)
 shut_down_leaves e (open_in shutdown_ack_sent my held) = inl (unmoved e)
 
 repeated_stays : (e : Endpoint) (core : Core) → StaysIn e (shutdown_sent_again (t2_goes_on e) core)
-repeated_stays e closed = record { left = refl; there = refl }
-repeated_stays e (cookie_wait my) = record { left = refl; there = refl }
-repeated_stays e (cookie_echoed my held cookie) = record { left = refl; there = refl }
-repeated_stays e (open_in established my held) = record { left = refl; there = refl }
-repeated_stays e (open_in shutdown_pending my held) = record { left = refl; there = refl }
-repeated_stays e (open_in shutdown_sent my held) = record { left = refl; there = refl }
-repeated_stays e (open_in shutdown_received my held) = record { left = refl; there = refl }
-repeated_stays e (open_in shutdown_ack_sent my held) = record { left = refl; there = refl }
+repeated_stays e closed = record { left = refl; there = refl; last = refl }
+repeated_stays e (cookie_wait my) = record { left = refl; there = refl; last = refl }
+repeated_stays e (cookie_echoed my held cookie) = record { left = refl; there = refl; last = refl }
+repeated_stays e (open_in established my held) = record { left = refl; there = refl; last = refl }
+repeated_stays e (open_in shutdown_pending my held) = record { left = refl; there = refl; last = refl }
+repeated_stays e (open_in shutdown_sent my held) = record { left = refl; there = refl; last = refl }
+repeated_stays e (open_in shutdown_received my held) = record { left = refl; there = refl; last = refl }
+repeated_stays e (open_in shutdown_ack_sent my held) = record { left = refl; there = refl; last = refl }
 
 hand_over_leaves : (e : Endpoint) (core : Core) → LeavesIn e (hand_over_outcome e core)
 hand_over_leaves e closed = inl (unmoved e)
 hand_over_leaves e (cookie_wait my) = inl (unmoved e)
 hand_over_leaves e (cookie_echoed my held cookie) = inl (unmoved e)
-hand_over_leaves e (open_in established my held) = inr (inr (record { left = refl; none = refl }))
+hand_over_leaves e (open_in established my held) = inr (inr (record { left = refl; none = refl; last = refl }))
 hand_over_leaves e (open_in shutdown_pending my held) = inl (unmoved e)
 hand_over_leaves e (open_in shutdown_sent my held) = inl (unmoved e)
 hand_over_leaves e (open_in shutdown_received my held) = inl (unmoved e)
@@ -109,21 +109,21 @@ act_leaves e (request_renewed reset) o own turn = absurd own
 -- ---- timers
 
 interval_stays : (e : Endpoint) (core : Core) → StaysIn e (interval_outcome e core)
-interval_stays e closed = record { left = refl; there = refl }
-interval_stays e (cookie_wait my) = record { left = refl; there = refl }
+interval_stays e closed = record { left = refl; there = refl; last = refl }
+interval_stays e (cookie_wait my) = record { left = refl; there = refl; last = refl }
 interval_stays e (cookie_echoed my held cookie) =
     let after : Endpoint = beating (interval_expired e) in
-    stays_then e after _ (record { left = refl; there = refl }) (emits_stays after [] (heartbeat_emission held after.heartbeat_counter))
+    stays_then e after _ (record { left = refl; there = refl; last = refl }) (emits_stays after [] (heartbeat_emission held after.heartbeat_counter))
 interval_stays e (open_in phase my held) =
     let after : Endpoint = beating (interval_expired e) in
-    stays_then e after _ (record { left = refl; there = refl }) (emits_stays after [] (heartbeat_emission held after.heartbeat_counter))
+    stays_then e after _ (record { left = refl; there = refl; last = refl }) (emits_stays after [] (heartbeat_emission held after.heartbeat_counter))
 
 emitted_stays : (e : Endpoint) (held : Held) (number : Option ℕ) (reset : RequestedReset) → StaysIn e (request_emitted e held number reset)
 emitted_stays e held None reset = unmoved e
 emitted_stays e held (Some number) reset = emits_stays e [] (to_peer held (reset_request number reset))
 
 renewed_stays : (b : Bool) (e : Endpoint) (held : Held) (number : ℕ) (request : Content) → StaysIn e (renewed_request_where b e held number request)
-renewed_stays true e held number request = record { left = refl; there = refl }
+renewed_stays true e held number request = record { left = refl; there = refl; last = refl }
 renewed_stays false e held number request = unmoved e
 
 anew_stays : (e : Endpoint) (held : Held) (number : Option ℕ) (reset : RequestedReset) → StaysIn e (renewed_outcome e held number reset)
@@ -136,16 +136,16 @@ unless_stays false true e held reset = anew_stays e held held.own_outstanding re
 unless_stays false false e held reset = emitted_stays e held held.own_outstanding reset
 
 reconfiguration_stays : (e : Endpoint) (peer : Option Held) (request : Option OutstandingRequest) → StaysIn e (reconfiguration_outcome e peer request)
-reconfiguration_stays e None request = record { left = refl; there = refl }
-reconfiguration_stays e (Some held) None = record { left = refl; there = refl }
+reconfiguration_stays e None request = record { left = refl; there = refl; last = refl }
+reconfiguration_stays e (Some held) None = record { left = refl; there = refl; last = refl }
 reconfiguration_stays e (Some held) (Some request) =
     let after : Endpoint = request_expired e request in
-    stays_then e after _ (record { left = refl; there = refl })
+    stays_then e after _ (record { left = refl; there = refl; last = refl })
     (unless_stays (is_exhausted after.options.max_retransmissions after.error_count) (is_renewed e (Some request)) after held (reset_again (Some request)))
 
 pub timer_stays : (e : Endpoint) (timer : OwnTimer) (o : Outcome) → TimerTurn e timer o → StaysIn e o
 timer_stays e acknowledgement_delay o turn = subst (StaysIn e) (sym turn) (delay_stays e e.queues.transfer refl)
 timer_stays e retransmission o turn = loss_stays e e.queues.transfer o refl turn
 timer_stays e heartbeat_interval o turn = subst (StaysIn e) (sym turn) (interval_stays e e.core)
-timer_stays e heartbeat_timeout o turn = subst (StaysIn e) (sym turn) (record { left = refl; there = refl })
+timer_stays e heartbeat_timeout o turn = subst (StaysIn e) (sym turn) (record { left = refl; there = refl; last = refl })
 timer_stays e reconfiguration o turn = subst (StaysIn e) (sym turn) (reconfiguration_stays e (held_in e.core) e.outstanding)

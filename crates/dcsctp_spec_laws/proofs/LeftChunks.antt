@@ -23,6 +23,7 @@ use Rattle.dcsctp_spec_lemmas.specs.spec.endpoint.HandshakeOutcomes.{pair_from, 
 use Rattle.dcsctp_spec_lemmas.specs.spec.endpoint.CookieEchoOutcomes.{established_by, cookie_ack_emission, establish_by, queue_begun, queue_kept, restart_by_in, restart_by_where, maintain_by, resolved_by, resolved_now, cookie_echo_by, EstablishAnswers, RestartAnswersIn, RestartAnswers, MaintainAnswers, ResolvedAnswers, EchoedAnswers, CookieEchoTurn}
 use Rattle.dcsctp_spec_lemmas.specs.spec.endpoint.ResetOutcomes.{requested_in, has_reset, answers_in_progress, ResetsInQueues, OwnAnswer, unanswered, retried, was_performed, has_failed, parameters_handled_in, answered_in, reset_events_of, resets_handled, responses_outcome, responses_by, ResponseAnswers, WorksResets, ResetTurn}
 use Rattle.dcsctp_spec_lemmas.specs.spec.endpoint.ShutdownOutcomes.{shutdown_ack_outcome, shutdown_complete_outcome}
+use Rattle.dcsctp_spec_lemmas.proofs.AbortLemmas.{by_abort_outcome}
 use Rattle.dcsctp_spec_laws.proofs.LeftLemmas.{is_there, Stays, Ends, StaysIn, LeavesIn, unmoved, stays_then, begins_then, emits_stays, flush_stays}
 
 -- ---- INIT
@@ -44,8 +45,8 @@ init_leaves e theirs o turn = subst (LeavesIn e) (sym turn.2) (inl (init_stays e
 
 refused_ends : (b : Bool) (e : Endpoint) (tag : ℕ)
     → Ends e (ended_outcome (if b then sends e [] [] (abort_emission tag) else quiet e [] []) (aborted ProtocolViolation no_cookie_text)).after
-refused_ends true e tag = record { left = refl; none = refl }
-refused_ends false e tag = record { left = refl; none = refl }
+refused_ends true e tag = record { left = refl; none = refl; last = refl }
+refused_ends false e tag = record { left = refl; none = refl; last = refl }
 
 pub echo_stays : (b : Bool) (e : Endpoint) (words : List Word) (tag : ℕ) (cookie : List ℕ) (answers : List Answer) → EchoAnswers b e tag cookie answers
     → StaysIn e (if b then flush_answered answers e words [] true tag (cookie_echo cookie ∷ []) else quiet e words [])
@@ -58,7 +59,7 @@ init_ack_at e closed theirs cookie word answers h = inl (unmoved e)
 init_ack_at e (cookie_wait mine) theirs None word answers h = inr (inr (refused_ends (fits e (abort_emission theirs.pair.tag)) e theirs.pair.tag))
 init_ack_at e (cookie_wait mine) theirs (Some cookie) word answers h =
     let begun : Endpoint = awaits_cookie_ack e mine theirs cookie word in
-    inr (inl (begins_then begun _ (record { left = refl; there = refl })
+    inr (inl (begins_then e begun _ (record { left = refl; there = refl; last = refl })
     (echo_stays (fits begun (echo_emission theirs.pair.tag cookie)) begun (U64 word ∷ []) theirs.pair.tag cookie answers h)))
 init_ack_at e (cookie_echoed mine held echoed) theirs cookie word answers h = inl (unmoved e)
 init_ack_at e (open_in phase mine held) theirs cookie word answers h = inl (unmoved e)
@@ -72,7 +73,7 @@ established_begins : (e : Endpoint) (cookie : Cookie) (queue : SendQueueState) (
     → LeavesIn e (establish_by (flush_answered answers) e cookie queue tie events)
 established_begins e cookie queue tie events answers h =
     let begun : Endpoint = established_by e cookie queue tie in
-    inr (inl (begins_then begun _ (record { left = refl; there = refl }) (flush_stays begun (cookie_ack_emission (held_by_cookie e.options cookie) cookie) answers h)))
+    inr (inl (begins_then e begun _ (record { left = refl; there = refl; last = refl }) (flush_stays begun (cookie_ack_emission (held_by_cookie e.options cookie) cookie) answers h)))
 
 restart_in : (e : Endpoint) (cookie : Cookie) (tie : ℕ) (phase : OpenPhase) (held : Held) (answers : List Answer) → RestartAnswersIn e cookie tie phase answers
     → LeavesIn e (restart_by_in (flush_answered answers) e cookie tie phase held)
@@ -80,7 +81,7 @@ restart_in e cookie tie established held answers h = established_begins e cookie
 restart_in e cookie tie shutdown_pending held answers h = established_begins e cookie (queue_begun e cookie) tie (connection_restarted ∷ connected ∷ []) answers h
 restart_in e cookie tie shutdown_sent held answers h = established_begins e cookie (queue_begun e cookie) tie (connection_restarted ∷ connected ∷ []) answers h
 restart_in e cookie tie shutdown_received held answers h = established_begins e cookie (queue_begun e cookie) tie (connection_restarted ∷ connected ∷ []) answers h
-restart_in e cookie tie shutdown_ack_sent held answers h = inl (record { left = refl; there = refl })
+restart_in e cookie tie shutdown_ack_sent held answers h = inl (record { left = refl; there = refl; last = refl })
 
 restart_at : (e : Endpoint) (cookie : Cookie) (tie : ℕ) (core : Core) (answers : List Answer) → RestartAnswers e cookie tie core answers
     → LeavesIn e (restart_by_where (flush_answered answers) e cookie tie core)
@@ -90,7 +91,7 @@ restart_at e cookie tie (cookie_echoed mine held echoed) answers h = established
 restart_at e cookie tie (open_in phase mine held) answers h = restart_in e cookie tie phase held answers h
 
 connected_stays : (e : Endpoint) (mine : Pair) (held : Held) → Stays e (connected_after e mine held)
-connected_stays e mine held = record { left = refl; there = refl }
+connected_stays e mine held = record { left = refl; there = refl; last = refl }
 
 maintain_stays : (e : Endpoint) (cookie : Cookie) (core : Core) (answers : List Answer) → MaintainAnswers e cookie core answers → StaysIn e (maintain_by (flush_answered answers) e cookie core)
 maintain_stays e cookie closed answers h = unmoved e
@@ -141,10 +142,10 @@ below_there false true None old new h = ap is_there h
 below_there false false reset old new h = ap is_there h
 
 worked_stays : (e : Endpoint) (answer : OwnAnswer) (held : Held) (left : Option Transfer) → is_there left ≡ is_there e.queues.transfer → Stays e (resets_handled e answer held left)
-worked_stays e unanswered held left same = record { left = refl; there = same }
-worked_stays e retried held left same = record { left = refl; there = same }
-worked_stays e was_performed held left same = record { left = refl; there = same }
-worked_stays e has_failed held left same = record { left = refl; there = same }
+worked_stays e unanswered held left same = record { left = refl; there = same; last = refl }
+worked_stays e retried held left same = record { left = refl; there = same; last = refl }
+worked_stays e was_performed held left same = record { left = refl; there = same; last = refl }
+worked_stays e has_failed held left same = record { left = refl; there = same; last = refl }
 
 response_stays : (e : Endpoint) (held : Held) (responses : List ResetParameter) → StaysIn e (responses_outcome e held responses)
 response_stays e held [] = unmoved e
@@ -178,20 +179,17 @@ reset_leaves e parameters o turn = inl (resets_stay e e.core parameters o turn)
 -- ---- what ends an association
 
 pub abort_leaves : (e : Endpoint) (causes : List Cause) (core : Core) → LeavesIn e (abort_outcome e causes core)
-abort_leaves e causes closed = inl (unmoved e)
-abort_leaves e causes (cookie_wait my) = inl (unmoved e)
-abort_leaves e causes (cookie_echoed my held cookie) = inr (inr (record { left = refl; none = refl }))
-abort_leaves e causes (open_in phase my held) = inr (inr (record { left = refl; none = refl }))
+abort_leaves e causes core = by_abort_outcome (LeavesIn e) e causes core (inr (inr (record { left = refl; none = refl; last = refl }))) (inl (unmoved e))
 
 pub shutdown_ack_leaves : (e : Endpoint) (core : Core) (tag : ℕ) → LeavesIn e (shutdown_ack_outcome e core tag)
-shutdown_ack_leaves e closed tag = inl (record { left = refl; there = refl })
-shutdown_ack_leaves e (cookie_wait my) tag = inl (record { left = refl; there = refl })
-shutdown_ack_leaves e (cookie_echoed my held cookie) tag = inl (record { left = refl; there = refl })
-shutdown_ack_leaves e (open_in established my held) tag = inl (record { left = refl; there = refl })
-shutdown_ack_leaves e (open_in shutdown_pending my held) tag = inl (record { left = refl; there = refl })
-shutdown_ack_leaves e (open_in shutdown_sent my held) tag = inr (inr (record { left = refl; none = refl }))
-shutdown_ack_leaves e (open_in shutdown_received my held) tag = inl (record { left = refl; there = refl })
-shutdown_ack_leaves e (open_in shutdown_ack_sent my held) tag = inr (inr (record { left = refl; none = refl }))
+shutdown_ack_leaves e closed tag = inl (record { left = refl; there = refl; last = refl })
+shutdown_ack_leaves e (cookie_wait my) tag = inl (record { left = refl; there = refl; last = refl })
+shutdown_ack_leaves e (cookie_echoed my held cookie) tag = inl (record { left = refl; there = refl; last = refl })
+shutdown_ack_leaves e (open_in established my held) tag = inl (record { left = refl; there = refl; last = refl })
+shutdown_ack_leaves e (open_in shutdown_pending my held) tag = inl (record { left = refl; there = refl; last = refl })
+shutdown_ack_leaves e (open_in shutdown_sent my held) tag = inr (inr (record { left = refl; none = refl; last = refl }))
+shutdown_ack_leaves e (open_in shutdown_received my held) tag = inl (record { left = refl; there = refl; last = refl })
+shutdown_ack_leaves e (open_in shutdown_ack_sent my held) tag = inr (inr (record { left = refl; none = refl; last = refl }))
 
 pub shutdown_complete_leaves : (e : Endpoint) (core : Core) → LeavesIn e (shutdown_complete_outcome e core)
 shutdown_complete_leaves e closed = inl (unmoved e)
@@ -201,4 +199,4 @@ shutdown_complete_leaves e (open_in established my held) = inl (unmoved e)
 shutdown_complete_leaves e (open_in shutdown_pending my held) = inl (unmoved e)
 shutdown_complete_leaves e (open_in shutdown_sent my held) = inl (unmoved e)
 shutdown_complete_leaves e (open_in shutdown_received my held) = inl (unmoved e)
-shutdown_complete_leaves e (open_in shutdown_ack_sent my held) = inr (inr (record { left = refl; none = refl }))
+shutdown_complete_leaves e (open_in shutdown_ack_sent my held) = inr (inr (record { left = refl; none = refl; last = refl }))

@@ -15,7 +15,7 @@ use Rattle.dcsctp_spec_lemmas.specs.spec.queues.Tracker.{TrackerState, after_pac
 use Rattle.dcsctp_spec_lemmas.specs.spec.queues.Transfer.{Transfer}
 use Rattle.dcsctp_spec_lemmas.specs.spec.endpoint.Endpoint.{Endpoint, Core, closed, cookie_wait, cookie_echoed, open_in, OpenPhase, established, shutdown_pending, shutdown_sent, shutdown_received, shutdown_ack_sent, held_in}
 use Rattle.dcsctp_spec_lemmas.specs.spec.endpoint.Outcome.{Outcome, to_peer}
-use Rattle.dcsctp_spec_lemmas.specs.spec.endpoint.FlushOutcomes.{Answer, draft_to, own_sack}
+use Rattle.dcsctp_spec_lemmas.specs.spec.endpoint.FlushOutcomes.{Answer, draft_to, own_sack, room_in}
 use Rattle.dcsctp_spec_lemmas.specs.spec.endpoint.DataOutcomes.{with_transfer, endpoint_with_tracker, no_user_data_outcome, ReceiveTurn, DataWhere, DataTurn, ForwardTurn, FastRetransmits, sack_taken, AcknowledgesBy, SackWhere, SackBy, SackTurn, acknowledging, EndWhere, EndsBy, TakeWhere, TakeLeft, TakeTurn, delay_outcome, LossTurn, FlushTurn}
 use Rattle.dcsctp_spec_lemmas.specs.spec.endpoint.HeardShutdown.{said_by_shutdown, ShutdownTurn}
 use Rattle.dcsctp_spec_lemmas.specs.spec.endpoint.MessageOutcomes.{MessageRefusal, Sending, sending_refusal, queue_by, queue_one, queue_all, takes_any, SendAnswers, send_by, SendTurn}
@@ -30,7 +30,7 @@ use Rattle.dcsctp_spec_laws.proofs.LeftLemmas.{is_there, Stays, StaysIn, unmoved
 
 -- There is an association before and after it.
 pub moved_stays : (e : Endpoint) (transfer left : Transfer) → e.queues.transfer ≡ Some transfer → Stays e (with_transfer e left)
-moved_stays e transfer left is = record { left = refl; there = sym (ap is_there is) }
+moved_stays e transfer left is = record { left = refl; there = sym (ap is_there is); last = refl }
 
 no_data_stays : (e : Endpoint) (peer : Option Held) (tsn : ℕ) → StaysIn e (no_user_data_outcome e peer tsn)
 no_data_stays e None tsn = unmoved e
@@ -58,9 +58,9 @@ forward_stays e tsn entries o turn = forward_where_stays e e.queues.transfer tsn
 
 step_by_stays : (b : Bool) (e : Endpoint) (phase : OpenPhase) (my : Pair) (held : Held) → StaysIn e (step_by b e phase my held)
 step_by_stays true e established my held = unmoved e
-step_by_stays true e shutdown_pending my held = record { left = refl; there = refl }
+step_by_stays true e shutdown_pending my held = record { left = refl; there = refl; last = refl }
 step_by_stays true e shutdown_sent my held = unmoved e
-step_by_stays true e shutdown_received my held = record { left = refl; there = refl }
+step_by_stays true e shutdown_received my held = record { left = refl; there = refl; last = refl }
 step_by_stays true e shutdown_ack_sent my held = unmoved e
 step_by_stays false e phase my held = unmoved e
 
@@ -72,7 +72,7 @@ step_stays e (open_in phase my held) = step_by_stays (may_go_on e) e phase my he
 
 -- the association in another phase, and a step from there
 pub step_from_stays : (b : Bool) (e : Endpoint) (phase : OpenPhase) (my : Pair) (held : Held) → StaysIn e (step_by b (phase_at e phase my held) phase my held)
-step_from_stays b e phase my held = stays_then e (phase_at e phase my held) _ (record { left = refl; there = refl }) (step_by_stays b (phase_at e phase my held) phase my held)
+step_from_stays b e phase my held = stays_then e (phase_at e phase my held) _ (record { left = refl; there = refl; last = refl }) (step_by_stays b (phase_at e phase my held) phase my held)
 
 -- ---- SACK, and a SHUTDOWN that acknowledges
 
@@ -81,13 +81,13 @@ fast_stays false e held transfer o there turn = subst (StaysIn e) (sym turn) (un
 fast_stays true e held transfer o there turn =
     let moved : Endpoint = with_transfer e (record transfer { retransmission = turn.left }) in
     subst (StaysIn e) (sym turn.is)
-    (stays_then e moved _ (record { left = refl; there = sym there })
+    (stays_then e moved _ (record { left = refl; there = sym there; last = refl })
     (goes_out_stays moved [] (draft_to held).with_checksum (draft_to held).packet.tag (plain_contents turn.chunks)))
 
 acknowledges_stay : (e : Endpoint) (held : Held) (transfer : Transfer) (sack : SackContent) (o : Outcome) → e.queues.transfer ≡ Some transfer → AcknowledgesBy e held transfer sack o → StaysIn e o
 acknowledges_stay e held transfer sack o is turn =
     let base : Endpoint = sack_taken e transfer turn.left in
-    let taken : Stays e base = record { left = refl; there = sym (ap is_there is) } in
+    let taken : Stays e base = record { left = refl; there = sym (ap is_there is); last = refl } in
     let step : Stays base turn.stepped.after = subst (StaysIn base) (sym turn.steps) (step_stays base e.core) in
     let fast : Stays turn.stepped.after turn.fast.after = fast_stays (has_fast_retransmit turn.left.retransmission) turn.stepped.after held turn.left turn.fast step.there turn.resends in
     subst (StaysIn e) (sym turn.is)
@@ -116,14 +116,14 @@ shutdown_at e (cookie_wait my) = unmoved e
 shutdown_at e (cookie_echoed my held cookie) = unmoved e
 shutdown_at e (open_in established my held) = step_from_stays (may_go_on e) e shutdown_received my held
 shutdown_at e (open_in shutdown_pending my held) = step_from_stays (may_go_on e) e shutdown_received my held
-shutdown_at e (open_in shutdown_sent my held) = record { left = refl; there = refl }
+shutdown_at e (open_in shutdown_sent my held) = record { left = refl; there = refl; last = refl }
 shutdown_at e (open_in shutdown_received my held) = unmoved e
-shutdown_at e (open_in shutdown_ack_sent my held) = record { left = refl; there = refl }
+shutdown_at e (open_in shutdown_ack_sent my held) = record { left = refl; there = refl; last = refl }
 
 heeds_stays : (e : Endpoint) (tsn : ℕ) (o : Outcome) → Heeds e e.core tsn o → StaysIn e o
 heeds_stays e tsn o h =
     let moved : Endpoint = phase_at e shutdown_received h.my h.held in
-    stays_then e moved o.after (record { left = refl; there = refl })
+    stays_then e moved o.after (record { left = refl; there = refl; last = refl })
     (acknowledges_stay moved h.held h.transfer (said_by_shutdown tsn h.transfer.retransmission) o h.stands h.acknowledges)
 
 pub shutdown_stays : (e : Endpoint) (tsn : ℕ) (o : Outcome) → ShutdownTurn e e.core tsn o → StaysIn e o
@@ -140,7 +140,7 @@ end_where_stays true e (Some held) transfer tracker o is turn =
     let moved : Endpoint = endpoint_with_tracker e transfer (sacked tracker) in
     subst (StaysIn e) (sym turn.is)
     (stays_then e moved _ (moved_stays e transfer (record transfer { tracker = sacked tracker }) is)
-    (flush_stays moved (acknowledging e held (own_sack (record transfer { tracker = tracker }))) turn.answers turn.allowed))
+    (flush_stays moved (acknowledging e held (own_sack (room_in e (draft_to held)) (record transfer { tracker = tracker }))) turn.answers turn.allowed))
 end_where_stays true e None transfer tracker o is turn = subst (StaysIn e) (sym turn) (moved_stays e transfer (record transfer { tracker = tracker }) is)
 end_where_stays false e peer transfer tracker o is turn = subst (StaysIn e) (sym turn) (moved_stays e transfer (record transfer { tracker = tracker }) is)
 
@@ -158,7 +158,7 @@ pub flush_turn_stays : (e : Endpoint) (o : Outcome) → FlushTurn e o → StaysI
 flush_turn_stays e o turn = subst (StaysIn e) (sym turn.2) (flush_by_stays e (held_in e.core) turn.0 turn.1)
 
 queues_one : (e : Endpoint) (message : Sending) (refusal : Option MessageRefusal) → StaysIn e (queue_by e message refusal)
-queues_one e message None = record { left = refl; there = refl }
+queues_one e message None = record { left = refl; there = refl; last = refl }
 queues_one e message (Some refusal) = unmoved e
 
 queues_all : (e : Endpoint) (messages : List Sending) → StaysIn e (queue_all e messages)
@@ -182,7 +182,7 @@ resets_where_stay (Some refusal) e ids o turn = subst (StaysIn e) (sym turn) (un
 resets_where_stay None e ids o turn =
     let prepared : Endpoint = endpoint_with_queue e (prepared_all ids e.queues.queue) in
     subst (StaysIn e) (sym turn.is)
-    (stays_then e prepared turn.flushed.after (record { left = refl; there = refl }) (flush_turn_stays prepared turn.flushed turn.flushes))
+    (stays_then e prepared turn.flushed.after (record { left = refl; there = refl; last = refl }) (flush_turn_stays prepared turn.flushed turn.flushes))
 
 pub own_resets_stay : (e : Endpoint) (ids : List ℕ) (o : Outcome) → OwnResetsTurn e ids o → StaysIn e o
 own_resets_stay e ids o turn = resets_where_stay (reset_refusal e) e ids o turn
@@ -215,8 +215,8 @@ take_leaves e o turn = take_by e e.queues.transfer o refl turn
 
 pub delay_stays : (e : Endpoint) (transfer : Option Transfer) → e.queues.transfer ≡ transfer → StaysIn e (delay_outcome e transfer)
 delay_stays e None is = unmoved e
-delay_stays e (Some transfer) is = record { left = refl; there = sym (ap is_there is) }
+delay_stays e (Some transfer) is = record { left = refl; there = sym (ap is_there is); last = refl }
 
 pub loss_stays : (e : Endpoint) (transfer : Option Transfer) (o : Outcome) → e.queues.transfer ≡ transfer → LossTurn e transfer o → StaysIn e o
 loss_stays e None o is turn = subst (StaysIn e) (sym turn) (unmoved e)
-loss_stays e (Some transfer) o is turn = subst (StaysIn e) (sym turn) (record { left = refl; there = sym (ap is_there is) })
+loss_stays e (Some transfer) o is turn = subst (StaysIn e) (sym turn) (record { left = refl; there = sym (ap is_there is); last = refl })

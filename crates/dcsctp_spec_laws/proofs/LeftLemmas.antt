@@ -6,7 +6,7 @@ use Rattle.dcsctp_spec_lemmas.specs.types.declared.word.Word.{Word}
 use Rattle.dcsctp_spec_lemmas.specs.spec.Packet.{Content, Emission}
 use Rattle.dcsctp_spec_lemmas.specs.spec.queues.Transfer.{Transfer, EndpointQueues, is_idle}
 use Rattle.dcsctp_spec_lemmas.specs.spec.endpoint.BegunResets.{BegunReset, after_begun}
-use Rattle.dcsctp_spec_lemmas.specs.spec.endpoint.EndOutcomes.{left_by}
+use Rattle.dcsctp_spec_lemmas.specs.spec.endpoint.EndOutcomes.{left_by, ended_tag}
 use Rattle.dcsctp_spec_lemmas.specs.spec.endpoint.Endpoint.{Endpoint}
 use Rattle.dcsctp_spec_lemmas.specs.spec.endpoint.Event.{Event}
 use Rattle.dcsctp_spec_lemmas.specs.spec.endpoint.Outcome.{Outcome, quiet, sends, emits, fits}
@@ -25,19 +25,22 @@ is_there (Some transfer) = true
 pub record Stays (e after : Endpoint) : Type 0 where
   pub left : after.left ≡ e.left
   pub there : is_there after.queues.transfer ≡ is_there e.queues.transfer
+  pub last : after.last_tag ≡ e.last_tag
 
 -- An association begins.
-pub record Begins (after : Endpoint) : Type 0 where
+pub record Begins (e after : Endpoint) : Type 0 where
   pub left : after.left ≡ []
   pub there : is_there after.queues.transfer ≡ true
+  pub last : after.last_tag ≡ e.last_tag
 
 -- There is none any more.
 pub record Ends (e after : Endpoint) : Type 0 where
   pub left : after.left ≡ left_by e.options e.queues.transfer e.left
   pub none : after.queues.transfer ≡ None
+  pub last : after.last_tag ≡ ended_tag e.core e.last_tag
 
 abbrev pub Leaves : Endpoint → Endpoint → Type 0
-Leaves e after = Stays e after ⊎ (Begins after ⊎ Ends e after)
+Leaves e after = Stays e after ⊎ (Begins e after ⊎ Ends e after)
 
 -- of an outcome
 abbrev pub StaysIn : Endpoint → Outcome → Type 0
@@ -47,13 +50,13 @@ abbrev pub LeavesIn : Endpoint → Outcome → Type 0
 LeavesIn e o = Leaves e o.after
 
 pub unmoved : (e : Endpoint) → Stays e e
-unmoved e = record { left = refl; there = refl }
+unmoved e = record { left = refl; there = refl; last = refl }
 
 pub stays_then : (e between after : Endpoint) → Stays e between → Stays between after → Stays e after
-stays_then e between after first second = record { left = second.left ∙ first.left; there = second.there ∙ first.there }
+stays_then e between after first second = record { left = second.left ∙ first.left; there = second.there ∙ first.there; last = second.last ∙ first.last }
 
-pub begins_then : (begun after : Endpoint) → Begins begun → Stays begun after → Begins after
-begins_then begun after first second = record { left = second.left ∙ first.left; there = second.there ∙ first.there }
+pub begins_then : (e begun after : Endpoint) → Begins e begun → Stays begun after → Begins e after
+begins_then e begun after first second = record { left = second.left ∙ first.left; there = second.there ∙ first.there; last = second.last ∙ first.last }
 
 -- ---- what the law says of each
 
@@ -66,7 +69,7 @@ stays_where e after input (Some old) None keeps before behind h =
     let same : false ≡ true = sym (ap is_there behind) ∙ h.there ∙ ap is_there before in absurd (cc)
 stays_where e after input (Some old) (Some new) keeps before behind h = inl h.left
 
-begins_where : (e after : Endpoint) (input : Input) (old new : Option Transfer) → after.queues.transfer ≡ new → Begins after → LeftWhere e input old new after.left
+begins_where : (e after : Endpoint) (input : Input) (old new : Option Transfer) → after.queues.transfer ≡ new → Begins e after → LeftWhere e input old new after.left
 begins_where e after input None None behind h = let same : false ≡ true = sym (ap is_there behind) ∙ h.there in absurd (cc)
 begins_where e after input None (Some new) behind h = h.left
 begins_where e after input (Some old) None behind h = let same : false ≡ true = sym (ap is_there behind) ∙ h.there in absurd (cc)
@@ -91,21 +94,25 @@ left_where e input o keeps h = elim h [
 -- ---- a packet
 
 emits_where : (b : Bool) (e : Endpoint) (words : List Word) (emission : Emission) → Stays e (if b then sends e words [] emission else quiet e words []).after
-emits_where true e words emission = record { left = refl; there = refl }
-emits_where false e words emission = record { left = refl; there = refl }
+emits_where true e words emission = record { left = refl; there = refl; last = refl }
+emits_where false e words emission = record { left = refl; there = refl; last = refl }
 
 pub emits_stays : (e : Endpoint) (words : List Word) (emission : Emission) → Stays e (emits e words emission).after
 emits_stays e words emission = emits_where (fits e emission) e words emission
 
 pub goes_out_stays : (e : Endpoint) (told : List (Event Emission)) (with_checksum : Bool) (tag : ℕ) (contents : List Content) → Stays e (goes_out e told with_checksum tag contents).after
-goes_out_stays e told with_checksum tag [] = record { left = refl; there = refl }
-goes_out_stays e told with_checksum tag (content ∷ contents) = record { left = refl; there = refl }
+goes_out_stays e told with_checksum tag [] = record { left = refl; there = refl; last = refl }
+goes_out_stays e told with_checksum tag (content ∷ contents) = record { left = refl; there = refl; last = refl }
 
 -- ---- a flush
 
 begun_left : (begun : Option BegunReset) (e : Endpoint) → (after_begun begun e).left ≡ e.left
 begun_left None e = refl
 begun_left (Some begun) e = refl
+
+begun_last : (begun : Option BegunReset) (e : Endpoint) → (after_begun begun e).last_tag ≡ e.last_tag
+begun_last None e = refl
+begun_last (Some begun) e = refl
 
 given_there : (b : Bool) (ask : Ask) (e : Endpoint) (draft : Emission) (transfer : Transfer) (answer : Answer) → e.queues.transfer ≡ Some transfer → GivesWhere b ask e draft transfer answer
     → is_there answer.after.queues.transfer ≡ is_there e.queues.transfer
@@ -120,7 +127,11 @@ answered_there ask e draft answer (Some transfer) is h = given_there (is_idle e.
 asked_stays : (ask : Ask) (e : Endpoint) (draft : Emission) (answer : Answer) → IsFlushAnswer ask e draft answer → Stays e (asked e draft answer).after
 asked_stays ask e draft answer h =
     stays_then e answer.after (asked e draft answer).after
-    (record { left = ap (λ (x : Endpoint). x.left) h.kept ∙ begun_left answer.begun e; there = answered_there ask e draft answer e.queues.transfer refl h.by_transfer })
+    (record {
+      left = ap (λ (x : Endpoint). x.left) h.kept ∙ begun_left answer.begun e;
+      there = answered_there ask e draft answer e.queues.transfer refl h.by_transfer;
+      last = ap (λ (x : Endpoint). x.last_tag) h.kept ∙ begun_last answer.begun e;
+    })
     (goes_out_stays answer.after (map filling_event answer.told) draft.with_checksum draft.packet.tag (filled draft (answer_contents answer)).packet.contents)
 
 pub answers_stay : (ask : Ask) (n : ℕ) (e : Endpoint) (draft : Emission) (answers : List Answer) → AreFlushAnswers ask n e draft answers → Stays e (flush_of e draft answers).after

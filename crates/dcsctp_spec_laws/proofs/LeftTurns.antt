@@ -1,6 +1,7 @@
 -- The messages that an association leaves stay in every turn until they are taken or the next one begins.
 use Rattle.std.proofs.Common.{◌≡◌, ◌==◌, ℕ, Bool, true, false, Option, None, Some, List, [], inl, inr, refl, sym, subst}
 use Rattle.std.specs.Prelude.{if◌then◌else◌}
+use Rattle.std.specs.Option.{option_map}
 use Rattle.dcsctp_spec_lemmas.specs.wire.Content.{ParameterContent, data_chunk, init_chunk, init_ack_chunk, sack_chunk, heartbeat_chunk, heartbeat_ack_chunk, abort_chunk, shutdown_chunk, shutdown_ack_chunk, error_chunk, cookie_echo_chunk, cookie_ack_chunk, shutdown_complete_chunk, i_data_chunk, re_config_chunk, forward_tsn_chunk, i_forward_tsn_chunk, unknown_chunk}
 use Rattle.dcsctp_spec_lemmas.specs.types.Snapshot.{Snapshot}
 use Rattle.dcsctp_spec_lemmas.specs.types.declared.ends.AbortReason.TheVariants as reasons
@@ -9,13 +10,15 @@ use Rattle.dcsctp_spec_lemmas.specs.spec.Packet.{Content, init, init_ack, cookie
 use Rattle.dcsctp_spec_lemmas.specs.spec.endpoint.Cause.{Cause}
 use Rattle.dcsctp_spec_lemmas.specs.spec.endpoint.Endpoint.{Endpoint, Core, closed, cookie_wait, cookie_echoed, open_in, established, shutdown_pending, shutdown_sent, shutdown_received, shutdown_ack_sent}
 use Rattle.dcsctp_spec_lemmas.specs.spec.endpoint.Outcome.{Outcome, still, to_peer}
-use Rattle.dcsctp_spec_lemmas.specs.spec.endpoint.HeartbeatOutcomes.{heartbeat_outcome, heartbeat_ack_outcome, answered, info_in, counter_of}
+use Rattle.dcsctp_spec_lemmas.specs.spec.endpoint.HeartbeatOutcomes.{heartbeat_outcome, heartbeat_ack_outcome, answered, heartbeat_round_trip, info_in, counter_of}
 use Rattle.dcsctp_spec_lemmas.specs.spec.endpoint.PlainOutcomes.{PlainTurnBy, violation_at, is_reported, after_unknown, unknown_bytes, unknown_chunk_outcome, error_outcome}
 use Rattle.dcsctp_spec_lemmas.specs.spec.endpoint.RestoreOutcomes.{RestoreTurn}
-use Rattle.dcsctp_spec_lemmas.specs.spec.endpoint.Turn.{arrival, refusal, packet_begins, chunk_input, packet_ends, act_input, user_sets, user_sends, user_resets, user_takes, timer_expires, time_passes, restores, has_data_chunk, BeginTurn, ContentTurn}
+use Rattle.dcsctp_spec_lemmas.specs.spec.endpoint.Turn.{Input, Turn, arrival, refusal, packet_begins, chunk_input, packet_ends, act_input, user_sets, user_sends, user_resets, user_takes, timer_expires, time_passes, restores, has_data_chunk, BeginTurn, ContentTurn}
 use Rattle.dcsctp_spec_lemmas.specs.spec.queues.Arrivals.{data_arrival, i_data_arrival, skipped_in, messages_skipped_in}
-use Rattle.dcsctp_spec_laws.specs.LeftLaws.{MessagesLeftStay}
-use Rattle.dcsctp_spec_laws.proofs.LeftLemmas.{StaysIn, LeavesIn, unmoved, emits_stays, left_where}
+use Rattle.dcsctp_spec_laws.specs.LeftLaws.{IsOwnInput, MessagesLeftStay}
+use Rattle.dcsctp_spec_lemmas.specs.spec.endpoint.TransferMoves.{timed_by}
+use Rattle.dcsctp_spec_lemmas.specs.spec.queues.Transfer.{Transfer}
+use Rattle.dcsctp_spec_laws.proofs.LeftLemmas.{is_there, StaysIn, LeavesIn, unmoved, emits_stays, left_where}
 use Rattle.dcsctp_spec_laws.proofs.LeftActs.{aborting_leaves, act_leaves, timer_stays}
 use Rattle.dcsctp_spec_laws.proofs.LeftChunks.{init_leaves, init_ack_leaves, cookie_echo_leaves, cookie_ack_leaves, reset_leaves, abort_leaves, shutdown_ack_leaves, shutdown_complete_leaves}
 use Rattle.dcsctp_spec_laws.proofs.LeftData.{data_stays, forward_stays, sack_stays, shutdown_stays, end_stays, send_stays, own_resets_stay, take_leaves}
@@ -25,8 +28,8 @@ use Rattle.dcsctp_spec_laws.proofs.LeftData.{data_stays, forward_stays, sack_sta
 told_stays : (e : Endpoint) (core : Core) (type : ℕ) (chunk : List ℕ) → StaysIn e (unknown_chunk_outcome e core type chunk)
 told_stays e closed type chunk = unmoved e
 told_stays e (cookie_wait my) type chunk = unmoved e
-told_stays e (cookie_echoed my held cookie) type chunk = record { left = refl; there = refl }
-told_stays e (open_in phase my held) type chunk = record { left = refl; there = refl }
+told_stays e (cookie_echoed my held cookie) type chunk = record { left = refl; there = refl; last = refl }
+told_stays e (open_in phase my held) type chunk = record { left = refl; there = refl; last = refl }
 
 unknown_where : (reported : Bool) (e : Endpoint) (core : Core) (type : ℕ) (chunk : List ℕ)
     → StaysIn e (record (if reported then unknown_chunk_outcome e core type chunk else still e) { following = after_unknown type })
@@ -39,8 +42,12 @@ heartbeat_stays e (cookie_wait my) parameters = unmoved e
 heartbeat_stays e (cookie_echoed my held cookie) parameters = emits_stays e [] (to_peer held (plain (heartbeat_ack parameters)))
 heartbeat_stays e (open_in phase my held) parameters = emits_stays e [] (to_peer held (plain (heartbeat_ack parameters)))
 
+timed_there : (change : Transfer → Transfer) (transfer : Option Transfer) → is_there (option_map change transfer) ≡ is_there transfer
+timed_there change None = refl
+timed_there change (Some transfer) = refl
+
 ack_where : (b : Bool) (e : Endpoint) → StaysIn e (if b then still (answered e) else still e)
-ack_where true e = record { left = refl; there = refl }
+ack_where true e = record { left = refl; there = timed_there (timed_by (heartbeat_round_trip e)) e.queues.transfer; last = refl }
 ack_where false e = unmoved e
 
 heartbeat_ack_stays : (e : Endpoint) (counter : Option ℕ) → StaysIn e (heartbeat_ack_outcome e counter)
@@ -100,28 +107,49 @@ begin_stays e (cookie_wait my) has o turn = subst (StaysIn e) (sym turn) (unmove
 begin_stays e (cookie_echoed my held cookie) has o turn = subst (StaysIn e) (sym turn) (unmoved e)
 begin_stays e (open_in established my held) has o turn = subst (StaysIn e) (sym turn) (unmoved e)
 begin_stays e (open_in shutdown_pending my held) has o turn = subst (StaysIn e) (sym turn) (unmoved e)
-begin_stays e (open_in shutdown_sent my held) true o turn = subst (StaysIn e) (sym turn) (record { left = refl; there = refl })
+begin_stays e (open_in shutdown_sent my held) true o turn = subst (StaysIn e) (sym turn) (record { left = refl; there = refl; last = refl })
 begin_stays e (open_in shutdown_sent my held) false o turn = subst (StaysIn e) (sym turn) (unmoved e)
 begin_stays e (open_in shutdown_received my held) has o turn = subst (StaysIn e) (sym turn) (unmoved e)
 begin_stays e (open_in shutdown_ack_sent my held) has o turn = subst (StaysIn e) (sym turn) (unmoved e)
 
 restore_leaves : (e : Endpoint) (core : Core) (state : Snapshot) (o : Outcome) → RestoreTurn e core state o → LeavesIn e o
-restore_leaves e closed state o turn = subst (LeavesIn e) (sym turn.2) (inr (inl (record { left = refl; there = refl })))
+restore_leaves e closed state o turn = subst (LeavesIn e) (sym turn.2) (inr (inl (record { left = refl; there = refl; last = refl })))
 restore_leaves e (cookie_wait my) state o turn = rests e o turn
 restore_leaves e (cookie_echoed my held cookie) state o turn = rests e o turn
 restore_leaves e (open_in phase my held) state o turn = rests e o turn
 
+-- Does the user take a message?
+abbrev pub takes : Input → Bool
+takes user_takes = true
+takes input = false
+
+-- every turn but that
+pub turn_leaves : (e : Endpoint) (input : Input) (o : Outcome) → takes input ≡ false → IsOwnInput input → Turn e input o → LeavesIn e o
+turn_leaves e arrival o other own turn = subst (LeavesIn e) (sym turn) (inl (record { left = refl; there = refl; last = refl }))
+turn_leaves e (refusal text) o other own turn = subst (LeavesIn e) (sym turn) (inl (unmoved e))
+turn_leaves e (packet_begins contents) o other own turn = inl (begin_stays e e.core (has_data_chunk contents) o turn)
+turn_leaves e (chunk_input tag content) o other own turn = content_leaves e tag content o turn
+turn_leaves e packet_ends o other own turn = inl (end_stays e o turn)
+turn_leaves e (act_input act) o other own turn = act_leaves e act o own turn
+turn_leaves e (user_sets setting) o other own turn = subst (LeavesIn e) (sym turn) (inl (record { left = refl; there = refl; last = refl }))
+turn_leaves e (user_sends messages) o other own turn = inl (send_stays e messages o turn)
+turn_leaves e (user_resets ids) o other own turn = inl (own_resets_stay e ids o turn)
+turn_leaves e user_takes o other own turn = absurd (cc)
+turn_leaves e (timer_expires timer) o other own turn = inl (timer_stays e timer o turn)
+turn_leaves e (time_passes moment) o other own turn = subst (LeavesIn e) (sym turn) (inl (record { left = refl; there = refl; last = refl }))
+turn_leaves e (restores state) o other own turn = restore_leaves e e.core state o turn
+
 pub messages_left_stay : MessagesLeftStay
-messages_left_stay e arrival o own turn = left_where e arrival o refl (subst (LeavesIn e) (sym turn) (inl (record { left = refl; there = refl })))
-messages_left_stay e (refusal text) o own turn = left_where e (refusal text) o refl (subst (LeavesIn e) (sym turn) (inl (unmoved e)))
-messages_left_stay e (packet_begins contents) o own turn = left_where e (packet_begins contents) o refl (inl (begin_stays e e.core (has_data_chunk contents) o turn))
-messages_left_stay e (chunk_input tag content) o own turn = left_where e (chunk_input tag content) o refl (content_leaves e tag content o turn)
-messages_left_stay e packet_ends o own turn = left_where e packet_ends o refl (inl (end_stays e o turn))
-messages_left_stay e (act_input act) o own turn = left_where e (act_input act) o refl (act_leaves e act o own turn)
-messages_left_stay e (user_sets setting) o own turn = left_where e (user_sets setting) o refl (subst (LeavesIn e) (sym turn) (inl (record { left = refl; there = refl })))
-messages_left_stay e (user_sends messages) o own turn = left_where e (user_sends messages) o refl (inl (send_stays e messages o turn))
-messages_left_stay e (user_resets ids) o own turn = left_where e (user_resets ids) o refl (inl (own_resets_stay e ids o turn))
+messages_left_stay e arrival o own turn = left_where e arrival o refl (turn_leaves e arrival o refl own turn)
+messages_left_stay e (refusal text) o own turn = left_where e (refusal text) o refl (turn_leaves e (refusal text) o refl own turn)
+messages_left_stay e (packet_begins contents) o own turn = left_where e (packet_begins contents) o refl (turn_leaves e (packet_begins contents) o refl own turn)
+messages_left_stay e (chunk_input tag content) o own turn = left_where e (chunk_input tag content) o refl (turn_leaves e (chunk_input tag content) o refl own turn)
+messages_left_stay e packet_ends o own turn = left_where e packet_ends o refl (turn_leaves e packet_ends o refl own turn)
+messages_left_stay e (act_input act) o own turn = left_where e (act_input act) o refl (turn_leaves e (act_input act) o refl own turn)
+messages_left_stay e (user_sets setting) o own turn = left_where e (user_sets setting) o refl (turn_leaves e (user_sets setting) o refl own turn)
+messages_left_stay e (user_sends messages) o own turn = left_where e (user_sends messages) o refl (turn_leaves e (user_sends messages) o refl own turn)
+messages_left_stay e (user_resets ids) o own turn = left_where e (user_resets ids) o refl (turn_leaves e (user_resets ids) o refl own turn)
 messages_left_stay e user_takes o own turn = take_leaves e o turn
-messages_left_stay e (timer_expires timer) o own turn = left_where e (timer_expires timer) o refl (inl (timer_stays e timer o turn))
-messages_left_stay e (time_passes moment) o own turn = left_where e (time_passes moment) o refl (subst (LeavesIn e) (sym turn) (inl (record { left = refl; there = refl })))
-messages_left_stay e (restores state) o own turn = left_where e (restores state) o refl (restore_leaves e e.core state o turn)
+messages_left_stay e (timer_expires timer) o own turn = left_where e (timer_expires timer) o refl (turn_leaves e (timer_expires timer) o refl own turn)
+messages_left_stay e (time_passes moment) o own turn = left_where e (time_passes moment) o refl (turn_leaves e (time_passes moment) o refl own turn)
+messages_left_stay e (restores state) o own turn = left_where e (restores state) o refl (turn_leaves e (restores state) o refl own turn)

@@ -5,6 +5,7 @@ pub mod ControlRestores
 pub mod DataLemmas
 pub mod HeardShutdownLemmas
 pub mod HeartbeatLemmas
+pub mod LastTagLemmas
 pub mod LeftActs
 pub mod LeftChunks
 pub mod LeftData

@@ -1,7 +1,7 @@
 -- The gap ack blocks of a SACK, read back, are the first ranges that were received.
-use Rattle.std.proofs.Common.{◌≡◌, ◌⊎◌, inl, inr, ℕ, zero, suc, ◌+◌, ◌-◌, ◌*◌, ◌/◌, ◌^◌, ◌<◌, ◌≤◌, nat_le, Bool, true, false, ◌&&◌, ◌||◌, List, [], ◌∷◌, ◌++◌, map, length, take, drop, refl, sym, ◌∙◌, ap, arith}
+use Rattle.std.proofs.Common.{◌≡◌, ◌⊎◌, inl, inr, ℕ, zero, suc, ◌+◌, ◌-◌, ◌*◌, ◌/◌, ◌^◌, ◌<◌, ◌≤◌, nat_le, Bool, true, false, ◌&&◌, ◌||◌, List, [], ◌∷◌, ◌++◌, map, length, take, drop, min, max, if◌then◌else◌, refl, sym, ◌∙◌, ap, arith}
 use Rattle.std.specs.List.{flat_map, list_any, range_with_len, AllByRecursion}
-use Rattle.std.specs.Int.{w16, from_be_bytes}
+use Rattle.std.specs.Int.{w16, w32, to_be_bytes, from_be_bytes}
 use Rattle.std.proofs.lemmas.Bool.Decides.{nat_tests}
 use Rattle.std.proofs.lemmas.List.{length-take, length-map}
 use Rattle.std.proofs.lemmas.Nat.{from_be_bytes-to_be_bytes_2}
@@ -10,8 +10,8 @@ use Rattle.dcsctp_spec_lemmas.specs.wire.Fields.{gap_ack_block_at}
 use Rattle.dcsctp_spec_lemmas.specs.wire.declared.chunk.sack.GapAckBlock.{GapAckBlock}
 use Rattle.dcsctp_spec_lemmas.specs.types.declared.tracking.TsnRange.{TsnRange}
 use Rattle.dcsctp_spec_lemmas.specs.spec.queues.Ranges.{IsBeyond, is_in}
-use Rattle.dcsctp_spec_lemmas.specs.spec.queues.Tracker.{block_bytes, most_blocks, greatest_distance}
-use Rattle.dcsctp_spec_laws.specs.SackLaws.{sack_blocks, SacksCoverReceived}
+use Rattle.dcsctp_spec_lemmas.specs.spec.queues.Tracker.{block_bytes, most_blocks, most_duplicates, blocks_that_fit, duplicates_left, sack_of, sack_header_size, forward_tsn_room, greatest_distance}
+use Rattle.dcsctp_spec_laws.specs.SackLaws.{sack_blocks, sack_size, SacksCoverReceived, SacksFit}
 
 -- ---- reading back
 
@@ -26,7 +26,7 @@ abbrev AreNear : ℕ → List TsnRange → Type 0
 AreNear cumulative [] = Unit {0}
 AreNear cumulative (range ∷ ranges) = (range.first ≤ range.last) × (range.last ≤ cumulative + greatest_distance) × AreNear cumulative ranges
 
-blocks_len : (cumulative : ℕ) (ranges : List TsnRange) → length (flat_map (block_bytes cumulative) ranges) ≡ 4 * length ranges
+pub blocks_len : (cumulative : ℕ) (ranges : List TsnRange) → length (flat_map (block_bytes cumulative) ranges) ≡ 4 * length ranges
 blocks_len cumulative [] = refl
 blocks_len cumulative (range ∷ ranges) = let rest = blocks_len cumulative ranges in omega (arith, rest)
 
@@ -199,12 +199,13 @@ blocks_short cumulative (range ∷ ranges) near = (omega (arith, near.1), blocks
 -- ---- the SACK
 
 pub sacks_cover_received : SacksCoverReceived
-sacks_cover_received tracker window tracked =
+sacks_cover_received room tracker window tracked =
     let c : ℕ = tracker.cumulative in
-    let first : List TsnRange = take most_blocks tracker.ranges in
-    let beyond : IsBeyond c first = beyond_take most_blocks c tracker.ranges tracked.beyond in
-    let near : AreNear c first = near_of c c first beyond (λ number is. tracked.near number (in_take most_blocks number tracker.ranges is)) in
-    let read : sack_blocks tracker window ≡ map (block_of c) first = blocks_read c first near in
+    let most : ℕ = most_blocks tracker.follows_rfc room in
+    let first : List TsnRange = take most tracker.ranges in
+    let beyond : IsBeyond c first = beyond_take most c tracker.ranges tracked.beyond in
+    let near : AreNear c first = near_of c c first beyond (λ number is. tracked.near number (in_take most number tracker.ranges is)) in
+    let read : sack_blocks room tracker window ≡ map (block_of c) first = blocks_read c first near in
     let same = λ (offset : ℕ). ap (λ (blocks : List GapAckBlock). list_any (names offset) blocks) read ∙ names_in c c offset first
     (omega arith) beyond in
     record {
@@ -212,11 +213,11 @@ sacks_cover_received tracker window tracked =
       gap = same 1 ∙ none_next c first beyond;
       short = rw read (blocks_short c first near);
       many = ap (λ (blocks : List GapAckBlock). length blocks) read ∙ length-map first (block_of c) ∙ omega
-          (arith, length-take most_blocks tracker.ranges);
-      received = λ offset covered. in_take most_blocks (c + offset) tracker.ranges (sym (same offset) ∙ covered);
-      all = λ few offset is. same offset ∙ ap (λ (ranges : List TsnRange). is_in (c + offset) ranges) (take_all most_blocks tracker.ranges few) ∙ is;
+          (arith, length-take most tracker.ranges);
+      received = λ offset covered. in_take most (c + offset) tracker.ranges (sym (same offset) ∙ covered);
+      all = λ few offset is. same offset ∙ ap (λ (ranges : List TsnRange). is_in (c + offset) ranges) (take_all most tracker.ranges few) ∙ is;
       lowest = λ offset other covered is not_covered.
-          let less : c + offset < c + other = after_first most_blocks c (c + offset) (c + other) tracker.ranges tracked.beyond
+          let less : c + offset < c + other = after_first most c (c + offset) (c + other) tracker.ranges tracked.beyond
           (sym (same offset) ∙ covered) is (sym (same other) ∙ not_covered) in
           omega (arith, less);
     }
@@ -227,3 +228,25 @@ sacks_cover_received tracker window tracked =
         go : (b : Bool) → is_in (cumulative + 1) ranges ≡ b → is_in (cumulative + 1) ranges ≡ false
         go true is = absurd (omega (arith, above cumulative (cumulative + 1) ranges beyond is))
         go false is = is
+
+-- ---- its size
+
+pub tsns_len : (tsns : List ℕ) → length (flat_map (to_be_bytes w32) tsns) ≡ 4 * length tsns
+tsns_len [] = refl
+tsns_len (tsn ∷ tsns) = let rest = tsns_len tsns in omega (arith, rest)
+
+pub sacks_fit : SacksFit
+sacks_fit room tracker window follows = go tracker.follows_rfc refl follows
+  where
+    go : (b : Bool) → tracker.follows_rfc ≡ b → b ≡ true
+        → sack_header_size + sack_size (sack_of room tracker window) ≤ max sack_header_size (min room 65535 - forward_tsn_room)
+    go false is clash = absurd (cc)
+    go true is same =
+        let most : ℕ = most_blocks tracker.follows_rfc room in
+        let left : ℕ = duplicates_left tracker room in
+        let blocks = blocks_len tracker.cumulative (take most tracker.ranges) in
+        let tsns = tsns_len (take left tracker.duplicates) in
+        let fewer : most ≡ blocks_that_fit room = ap (λ (b : Bool). most_blocks b room) is in
+        let few : left ≡ min most_duplicates (blocks_that_fit room - length tracker.ranges) = ap
+        (λ (b : Bool). if b then min most_duplicates (blocks_that_fit room - length tracker.ranges) else most_duplicates) is in
+        omega (arith, blocks, tsns, fewer, few, length-take most tracker.ranges, length-take left tracker.duplicates)

@@ -9,6 +9,7 @@ use Rattle.dcsctp_spec_lemmas.specs.spec.endpoint.Following.{Following}
 use Rattle.dcsctp_spec_lemmas.specs.spec.Soundness.{IsSoundCore}
 use Rattle.dcsctp_spec_lemmas.specs.spec.association.Acts.{hand_over_change}
 use Rattle.dcsctp_spec_lemmas.specs.spec.association.ShutdownChanges.{shutdown_step_change, shutdown_step_change_in, shutdown_call_change, abort_call_change, shutdown_again_change, abort_change, shutdown_change, shutdown_ack_change, shutdown_complete_change}
+use Rattle.dcsctp_spec_lemmas.proofs.AbortLemmas.{by_abort}
 
 module _ (p : Options) where
   step_in_sound : (phase : OpenPhase) (my : Pair) (held : Held) (tsn : ℕ) (is_acknowledged : Bool) → IsSoundCore p (open_in phase my held)
@@ -53,11 +54,8 @@ module _ (p : Options) where
   shutdown_again_sound (open_in shutdown_received my held) tsn h = h
   shutdown_again_sound (open_in shutdown_ack_sent my held) tsn h = h
 
-  pub abort_sound : (core : Core) → IsSoundCore p core → IsSoundCore p (abort_change core).core
-  abort_sound closed h = h
-  abort_sound (cookie_wait my) h = h
-  abort_sound (cookie_echoed my held cookie) h = tt
-  abort_sound (open_in phase my held) h = tt
+  pub abort_sound : (core : Core) → IsSoundCore p core → IsSoundCore p (abort_change p core).core
+  abort_sound core h = by_abort (λ change. IsSoundCore p change.core) p core tt h
 
   pub shutdown_sound : (core : Core) (tsn : ℕ) (is_acknowledged : Bool) → IsSoundCore p core → IsSoundCore p (shutdown_change core tsn is_acknowledged).core
   shutdown_sound closed tsn is_acknowledged h = h

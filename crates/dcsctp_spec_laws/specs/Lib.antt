@@ -1,4 +1,5 @@
 pub mod CongestionLaws
+pub mod LastTagLaws
 pub mod LeftLaws
 pub mod RangeLaws
 pub mod SackLaws

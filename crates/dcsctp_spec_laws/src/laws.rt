@@ -2,10 +2,11 @@
 
 ghost use Rattle.std.specs.Prelude.{◌^◌};
 ghost use Rattle.dcsctp_spec_laws.specs.TurnLaws.{InitLeavesAssociation, ChunksAreControlled, ActsAreControlled, TimersAreControlled};
+ghost use Rattle.dcsctp_spec_laws.specs.LastTagLaws.{LastTagIsSpent, LastTagStays};
 ghost use Rattle.dcsctp_spec_laws.specs.LeftLaws.{MessagesLeftStay};
 ghost use Rattle.dcsctp_spec_laws.specs.SoundnessLaws.{CallsKeepSoundness, SnapshotsAreValid};
 ghost use Rattle.dcsctp_spec_laws.specs.RangeLaws.{SetsFollowRule};
-ghost use Rattle.dcsctp_spec_laws.specs.SackLaws.{SacksCoverReceived, TrackersStayTracked};
+ghost use Rattle.dcsctp_spec_laws.specs.SackLaws.{SacksCoverReceived, SacksFit, TrackersStayTracked};
 ghost use Rattle.dcsctp_spec_laws.specs.CongestionLaws.{WindowIsBounded};
 ghost use Rattle.dcsctp_spec_laws.specs.WindowLaws.{PacketsKeepWindow, FlushesKeepWindow};
 ghost use Rattle.dcsctp_spec_lemmas.specs.spec.endpoint.TimeTurns.{TimePassesQuietly};
@@ -59,6 +60,14 @@ pub fn messages_left_stay()
     ensures { MessagesLeftStay }
 {}
 
+/// Each turn leaves our verification tag of the last association as it is, or ends an association with a peer and
+/// records its tag. With `Options::follow_rfc` a COOKIE ECHO under that tag makes nothing where there is no
+/// association (RFC 9260, section 5.3.1): a copy that comes late doesn't deliver its messages again.
+pub fn last_tag_is_spent()
+    ensures stays { LastTagStays }
+    ensures spent { LastTagIsSpent }
+{}
+
 /// What was received is a set of TSNs, kept in its one canonical form. After a TSN it has that one and what it
 /// had before; after a FORWARD-TSN all up to a TSN too. The rule determines the set, and the definitions compute
 /// it (RFC 9260, section 6.2; RFC 3758, section 3.6).
@@ -70,6 +79,12 @@ pub fn sets_follow_rule()
 /// Where there are more ranges than a SACK lists, they cover the lowest (RFC 9260, section 3.3.4).
 pub fn sacks_cover_received()
     ensures { SacksCoverReceived }
+{}
+
+/// With `Options::follow_rfc` a SACK is cut to the room of its packet, and leaves some of it for a FORWARD-TSN. It is
+/// never longer, so it is left out only where not even its header fits (RFC 9260, section 6.2).
+pub fn sacks_fit()
+    ensures { SacksFit }
 {}
 
 /// What the law on SACKs asks of a tracker is so when it is made, and data and FORWARD-TSNs leave it so.

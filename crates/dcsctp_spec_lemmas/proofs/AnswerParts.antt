@@ -25,7 +25,7 @@ use Rattle.dcsctp_spec_lemmas.proofs.TellingLemmas.{TellsMore, tells_same, tells
 -- ---- what acknowledges
 
 abbrev pub sacks_where : Bool → ℕ → Transfer → List Plain
-sacks_where true room transfer = where_fits room (own_sack transfer)
+sacks_where true room transfer = where_fits room (own_sack room transfer)
 sacks_where false room transfer = []
 
 abbrev pub tracker_where : Bool → Transfer → TrackerState
@@ -38,7 +38,7 @@ acknowledges_where true room transfer = (refl, refl)
 
 sacks_len : (b : Bool) (room : ℕ) (transfer : Transfer) (after : TrackerState) (chunks : List Plain) → Acknowledges b room transfer after chunks → contents_len (plain_contents chunks) ≤ room
 sacks_len false room transfer after chunks h = rw h.1 (omega arith)
-sacks_len true room transfer after chunks h = rw h.1 (where_fits_len room (own_sack transfer))
+sacks_len true room transfer after chunks h = rw h.1 (where_fits_len room (own_sack room transfer))
 
 -- ---- what abandons messages
 

@@ -2,7 +2,6 @@
 use Rattle.std.proofs.Common.{◌≡◌, ◌==◌, ℕ, Bool, true, false, List, [], ◌∷◌, refl, sym, subst, arith}
 use Rattle.std.specs.Prelude.{Result, Ok, Err}
 use Rattle.std.proofs.lemmas.Bool.Decides.{nat_tests}
-use Rattle.std.specs.Duration.{as_nanos}
 use Rattle.dcsctp_spec.specs.types.declared.association.Pair.{Pair}
 use Rattle.dcsctp_spec.specs.types.declared.association.Held.{Held}
 use Rattle.dcsctp_spec.specs.types.declared.word.Word.TheVariants.{U64}
@@ -14,7 +13,7 @@ use Rattle.dcsctp_spec.specs.endpoint.Endpoint.{Endpoint, Core, closed, cookie_w
 use Rattle.dcsctp_spec.specs.endpoint.Outcome.{Outcome}
 use Rattle.dcsctp_spec.specs.endpoint.FlushOutcomes.{Answer, flush_answered}
 use Rattle.dcsctp_spec.specs.endpoint.HandshakeOutcomes.{connected_after}
-use Rattle.dcsctp_spec.specs.endpoint.CookieEchoOutcomes.{established_by, cookie_ack_emission, establish_by, queue_kept, queue_begun, restart_by_in, restart_by_where, maintain_by, resolved_by, resolved_now, cookie_echo_by, EstablishAnswers, RestartAnswersIn, RestartAnswers, MaintainAnswers, ResolvedAnswers, EchoedAnswers, CookieEchoTurn}
+use Rattle.dcsctp_spec.specs.endpoint.CookieEchoOutcomes.{is_spent, established_by, cookie_ack_emission, establish_by, queue_kept, queue_begun, restart_by_in, restart_by_where, maintain_by, resolved_by, resolved_now, cookie_echo_by, EstablishAnswers, RestartAnswersIn, RestartAnswers, MaintainAnswers, ResolvedAnswers, EchoedAnswers, CookieEchoTurn}
 use Rattle.dcsctp_spec.specs.association.Effect.{holds, connects, identity_of}
 use Rattle.dcsctp_spec.specs.association.CookieEchoChanges.{Resolution, establish_new, restart, simultaneous_init, discard, maintain_existing, invalid_tag, stale, aged, case_by, case_with_peer, held_by_cookie, new_association_change, restart_change_where_open, restart_change, maintain_change, resolved_change, read_echo_change}
 use Rattle.dcsctp_spec.specs.association.Choices.{Choices}
@@ -32,26 +31,26 @@ made e cookie queue tie events answers told h =
     (holds (identity_of cookie.maker held) ∷ connects (identity_of cookie.maker held) ∷ []) (holds (identity_of cookie.maker held) ∷ connects (identity_of cookie.maker held) ∷ [])
     (rebuilds_open established cookie.maker held) refl refl refl h told refl refl
 
--- the choices of an endpoint that judges the cookie's age
-abbrev pub judging : Endpoint → Cookie → List Answer → Choices
-judging e cookie answers = record (choosing e true answers) { is_stale = is_stale (as_nanos e.options.cookie_lifetime) e.moment cookie }
+-- the choices of an endpoint that judges whether the cookie is spent
+abbrev pub judging : Endpoint → Bool → List Answer → Choices
+judging e spent answers = record (choosing e true answers) { is_stale = spent }
 
 -- ---- a restart
 
-restart_in : (e : Endpoint) (cookie : Cookie) (tie : ℕ) (phase : OpenPhase) (mine : Pair) (held : Held) (answers : List Answer) → e.core ≡ open_in phase mine held → RestartAnswersIn e cookie tie phase answers
-    → IsControlled e (restart_by_in (flush_answered answers) e cookie tie phase held) (restart_change_where_open e.options phase mine held cookie (judging e cookie answers))
-restart_in e cookie tie established mine held answers is h = made e cookie (queue_begun e cookie) tie (connection_restarted ∷ connected ∷ []) answers refl h
-restart_in e cookie tie shutdown_pending mine held answers is h = made e cookie (queue_begun e cookie) tie (connection_restarted ∷ connected ∷ []) answers refl h
-restart_in e cookie tie shutdown_sent mine held answers is h = made e cookie (queue_begun e cookie) tie (connection_restarted ∷ connected ∷ []) answers refl h
-restart_in e cookie tie shutdown_received mine held answers is h = made e cookie (queue_begun e cookie) tie (connection_restarted ∷ connected ∷ []) answers refl h
-restart_in e cookie tie shutdown_ack_sent mine held answers is h = record { core = is; options = refl; observations = refl; effects = refl; following = refl }
+restart_in : (e : Endpoint) (cookie : Cookie) (tie : ℕ) (phase : OpenPhase) (mine : Pair) (held : Held) (spent : Bool) (answers : List Answer) → e.core ≡ open_in phase mine held → RestartAnswersIn e cookie tie phase answers
+    → IsControlled e (restart_by_in (flush_answered answers) e cookie tie phase held) (restart_change_where_open e.options phase mine held cookie (judging e spent answers))
+restart_in e cookie tie established mine held spent answers is h = made e cookie (queue_begun e cookie) tie (connection_restarted ∷ connected ∷ []) answers refl h
+restart_in e cookie tie shutdown_pending mine held spent answers is h = made e cookie (queue_begun e cookie) tie (connection_restarted ∷ connected ∷ []) answers refl h
+restart_in e cookie tie shutdown_sent mine held spent answers is h = made e cookie (queue_begun e cookie) tie (connection_restarted ∷ connected ∷ []) answers refl h
+restart_in e cookie tie shutdown_received mine held spent answers is h = made e cookie (queue_begun e cookie) tie (connection_restarted ∷ connected ∷ []) answers refl h
+restart_in e cookie tie shutdown_ack_sent mine held spent answers is h = record { core = is; options = refl; observations = refl; effects = refl; following = refl }
 
-restart_at : (e : Endpoint) (cookie : Cookie) (tie : ℕ) (core : Core) (answers : List Answer) → e.core ≡ core → RestartAnswers e cookie tie core answers
-    → IsControlled e (restart_by_where (flush_answered answers) e cookie tie core) (restart_change e.options core cookie (judging e cookie answers))
-restart_at e cookie tie closed answers is h = made e cookie (queue_begun e cookie) tie (connection_restarted ∷ connected ∷ []) answers refl h
-restart_at e cookie tie (cookie_wait mine) answers is h = made e cookie (queue_begun e cookie) tie (connection_restarted ∷ connected ∷ []) answers refl h
-restart_at e cookie tie (cookie_echoed mine held echoed) answers is h = made e cookie (queue_begun e cookie) tie (connection_restarted ∷ connected ∷ []) answers refl h
-restart_at e cookie tie (open_in phase mine held) answers is h = restart_in e cookie tie phase mine held answers is h
+restart_at : (e : Endpoint) (cookie : Cookie) (tie : ℕ) (core : Core) (spent : Bool) (answers : List Answer) → e.core ≡ core → RestartAnswers e cookie tie core answers
+    → IsControlled e (restart_by_where (flush_answered answers) e cookie tie core) (restart_change e.options core cookie (judging e spent answers))
+restart_at e cookie tie closed spent answers is h = made e cookie (queue_begun e cookie) tie (connection_restarted ∷ connected ∷ []) answers refl h
+restart_at e cookie tie (cookie_wait mine) spent answers is h = made e cookie (queue_begun e cookie) tie (connection_restarted ∷ connected ∷ []) answers refl h
+restart_at e cookie tie (cookie_echoed mine held echoed) spent answers is h = made e cookie (queue_begun e cookie) tie (connection_restarted ∷ connected ∷ []) answers refl h
+restart_at e cookie tie (open_in phase mine held) spent answers is h = restart_in e cookie tie phase mine held spent answers is h
 
 -- ---- the association that is held
 
@@ -82,34 +81,37 @@ kept_by_age true invalid_tag is = is
 kept_by_age true stale is = is
 kept_by_age false resolution is = is
 
-pub maintain_at : (e : Endpoint) (cookie : Cookie) (core : Core) (header : ℕ) (answers : List Answer) → e.core ≡ core → resolved_now e core header cookie ≡ maintain_existing → MaintainAnswers e cookie core answers
-    → IsControlled e (maintain_by (flush_answered answers) e cookie core) (maintain_change core cookie (judging e cookie answers))
-maintain_at e cookie closed header answers is case h = still_controlled e closed is
-maintain_at e cookie (cookie_wait mine) header answers is case h = still_controlled e (cookie_wait mine) is
-maintain_at e cookie (cookie_echoed mine held echoed) header answers is case h =
+pub maintain_at : (e : Endpoint) (cookie : Cookie) (core : Core) (header : ℕ) (spent : Bool) (answers : List Answer) → e.core ≡ core → resolved_now e core header cookie ≡ maintain_existing → MaintainAnswers e cookie core answers
+    → IsControlled e (maintain_by (flush_answered answers) e cookie core) (maintain_change core cookie (judging e spent answers))
+maintain_at e cookie closed header spent answers is case h = still_controlled e closed is
+maintain_at e cookie (cookie_wait mine) header spent answers is case h = still_controlled e (cookie_wait mine) is
+maintain_at e cookie (cookie_echoed mine held echoed) header spent answers is case h =
     flush_controlled e (connected_after e mine held) [] (connected ∷ []) (cookie_ack_emission held cookie) answers (λ x. open_in established mine x) held (connects (identity_of mine held) ∷ []) (connects (identity_of mine held) ∷ [])
     (rebuilds_open established mine held) refl refl (peer_of mine held e.tie header cookie (kept_by_age _ _ case)) h refl refl refl
-maintain_at e cookie (open_in phase mine held) header answers is case h =
+maintain_at e cookie (open_in phase mine held) header spent answers is case h =
     flush_controlled e e [] [] (cookie_ack_emission held cookie) answers (λ x. open_in phase mine x) held [] [] (rebuilds_open phase mine held)
     is refl (subst (λ (core : Core). IsPeerTag core cookie.addressee.tag) (sym is) (peer_of mine held e.tie header cookie (kept_by_age _ _ case))) h refl refl refl
 
 -- ---- every case
 
-resolved_at : (e : Endpoint) (cookie : Cookie) (core : Core) (word header : ℕ) (resolution : Resolution) (answers : List Answer) → e.core ≡ core → resolved_now e core header cookie ≡ resolution
+resolved_at : (e : Endpoint) (cookie : Cookie) (core : Core) (word header : ℕ) (resolution : Resolution) (spent : Bool) (answers : List Answer) → e.core ≡ core → resolved_now e core header cookie ≡ resolution
     → ResolvedAnswers e cookie core word resolution answers
-    → IsControlled e (resolved_by (flush_answered answers) e cookie core word resolution) (resolved_change e.options core cookie (judging e cookie answers) resolution)
-resolved_at e cookie core word header establish_new answers is case h = made e cookie (queue_kept e cookie) word (connected ∷ []) answers refl h
-resolved_at e cookie core word header restart answers is case h = restart_at e cookie word core answers is h
-resolved_at e cookie core word header simultaneous_init answers is case h = made e cookie (queue_begun e cookie) word (connected ∷ []) answers refl h
-resolved_at e cookie core word header discard answers is case h = record { core = is; options = refl; observations = refl; effects = refl; following = refl }
-resolved_at e cookie core word header maintain_existing answers is case h = maintain_at e cookie core header answers is case h
-resolved_at e cookie core word header invalid_tag answers is case h = record { core = is; options = refl; observations = refl; effects = refl; following = refl }
-resolved_at e cookie core word header stale answers is case h = record { core = is; options = refl; observations = refl; effects = refl; following = refl }
+    → IsControlled e (resolved_by (flush_answered answers) e cookie core word resolution) (resolved_change e.options core cookie (judging e spent answers) resolution)
+resolved_at e cookie core word header establish_new spent answers is case h = made e cookie (queue_kept e cookie) word (connected ∷ []) answers refl h
+resolved_at e cookie core word header restart spent answers is case h = restart_at e cookie word core spent answers is h
+resolved_at e cookie core word header simultaneous_init spent answers is case h = made e cookie (queue_begun e cookie) word (connected ∷ []) answers refl h
+resolved_at e cookie core word header discard spent answers is case h = record { core = is; options = refl; observations = refl; effects = refl; following = refl }
+resolved_at e cookie core word header maintain_existing spent answers is case h = maintain_at e cookie core header spent answers is case h
+resolved_at e cookie core word header invalid_tag spent answers is case h = record { core = is; options = refl; observations = refl; effects = refl; following = refl }
+resolved_at e cookie core word header stale spent answers is case h = record { core = is; options = refl; observations = refl; effects = refl; following = refl }
 
 echo_at : (e : Endpoint) (core : Core) (header : ℕ) (read : Result Cookie (List ℕ)) (word : ℕ) (answers : List Answer) → e.core ≡ core → EchoedAnswers e core header read word answers
     → (choices : Choices) × IsControlled e (cookie_echo_by (flush_answered answers) e core header read word) (read_echo_change e.options core header read choices)
 echo_at e core header (Err text) word answers is h = (choosing e true answers, record { core = is; options = refl; observations = refl; effects = refl; following = refl })
-echo_at e core header (Ok cookie) word answers is h = (judging e cookie answers, resolved_at e cookie core word header (resolved_now e core header cookie) answers is refl h)
+echo_at e core header (Ok cookie) word answers is h = (
+  judging e (is_spent e core header cookie) answers,
+  resolved_at e cookie core word header (resolved_now e core header cookie) (is_spent e core header cookie) answers is refl h,
+)
 
 pub cookie_echo_controlled : (e : Endpoint) (tag : ℕ) (bytes : List ℕ) (o : Outcome) → CookieEchoTurn e tag bytes o → ControlledChunk e tag (cookie_echo bytes) o
 cookie_echo_controlled e tag bytes o turn =

@@ -1,11 +1,12 @@
 -- Turns of the handshake at an endpoint are turns of its association: INIT ACK, COOKIE ACK and connect.
 use Rattle.std.proofs.Common.{◌≡◌, ℕ, Bool, true, false, Option, None, Some, List, [], ◌∷◌, refl, sym, subst}
 use Rattle.std.specs.Prelude.{if◌then◌else◌}
+use Rattle.dcsctp_spec.specs.wire.Texts.{causes_text}
 use Rattle.dcsctp_spec.specs.types.declared.association.Pair.{Pair}
 use Rattle.dcsctp_spec.specs.types.declared.association.Held.{Held}
 use Rattle.dcsctp_spec.specs.types.declared.word.Word.{Word}
 use Rattle.dcsctp_spec.specs.types.declared.word.Word.TheVariants.{U32, U64}
-use Rattle.dcsctp_spec.specs.types.declared.kinds.ErrorKind.TheVariants.{ProtocolViolation}
+use Rattle.dcsctp_spec.specs.types.declared.kinds.ErrorKind.TheVariants.{ProtocolViolation, PeerReported}
 use Rattle.dcsctp_spec.specs.endpoint.Cause.{Cause}
 use Rattle.dcsctp_spec.specs.endpoint.Event.{aborted, connected}
 use Rattle.dcsctp_spec.specs.Packet.{Introduction, Content, init_ack, cookie_echo, cookie_ack, abort}
@@ -14,9 +15,10 @@ use Rattle.dcsctp_spec.specs.endpoint.Outcome.{Outcome, noting, still, quiet, se
 use Rattle.dcsctp_spec.specs.endpoint.FlushOutcomes.{Answer, draft_to, flush_answered, allows_packet}
 use Rattle.dcsctp_spec.specs.endpoint.EndOutcomes.{ended_outcome, abort_outcome}
 use Rattle.dcsctp_spec.specs.endpoint.HandshakeOutcomes.{pair_from, init_emission, awaits_init_ack, connect_outcome, ConnectTurn, no_cookie_text, abort_emission, awaits_cookie_ack, echo_emission, EchoAnswers, init_ack_by, InitAckAnswers, InitAckTurn, CookieAckAnswers, CookieAckTurn, connected_after, cookie_ack_by}
-use Rattle.dcsctp_spec.specs.association.Effect.{holds, connects, Change, unchanged, identity_of}
+use Rattle.dcsctp_spec.specs.association.Effect.{holds, connects, Change, unchanged, ended, identity_of}
 use Rattle.dcsctp_spec.specs.association.Choices.{Filling, Choices, nothing_to_send, idle_choices}
 use Rattle.dcsctp_spec.specs.association.HandshakeChanges.{connect_change, init_ack_change, held_by_init_ack}
+use Rattle.dcsctp_spec.specs.association.ShutdownChanges.{is_ended_by_abort}
 use Rattle.dcsctp_spec.specs.association.Acts.{connect, ChunkChange}
 use Rattle.dcsctp_spec.specs.association.Controlled.{IsControlled, ControlledChunk, ControlledAct}
 use Rattle.dcsctp_spec_lemmas.proofs.FlushKeeps.{filling_of, rebuilds_open, rebuilds_echoed, flush_controlled}
@@ -124,11 +126,13 @@ cookie_ack_controlled e tag o turn = subst (ControlledChunk e tag cookie_ack) (s
 
 -- ---- ABORT
 
+abort_where : (ends : Bool) (e : Endpoint) (core : Core) (causes : List Cause) → e.core ≡ core
+    → IsControlled e (if ends then ended_outcome (quiet e [] []) (aborted PeerReported (causes_text causes)) else still e) (if ends then ended [] else unchanged core)
+abort_where true e core causes is = record { core = refl; options = refl; observations = refl; effects = refl; following = refl }
+abort_where false e core causes is = still_controlled e core is
+
 abort_at : (e : Endpoint) (core : Core) (tag : ℕ) (reflected : Bool) (causes : List Cause) → e.core ≡ core → ControlledAt e core tag (abort reflected causes) (abort_outcome e causes core)
-abort_at e closed tag reflected causes is = (_, (no_choices e true, tt, refl), still_controlled e closed is)
-abort_at e (cookie_wait mine) tag reflected causes is = (_, (no_choices e true, tt, refl), still_controlled e (cookie_wait mine) is)
-abort_at e (cookie_echoed mine held cookie) tag reflected causes is = (_, (no_choices e true, tt, refl), record { core = refl; options = refl; observations = refl; effects = refl; following = refl })
-abort_at e (open_in phase mine held) tag reflected causes is = (_, (no_choices e true, tt, refl), record { core = refl; options = refl; observations = refl; effects = refl; following = refl })
+abort_at e core tag reflected causes is = (_, (no_choices e true, tt, refl), abort_where (is_ended_by_abort e.options core) e core causes is)
 
 pub abort_controlled : (e : Endpoint) (tag : ℕ) (reflected : Bool) (causes : List Cause) (o : Outcome) → o ≡ abort_outcome e causes e.core → ControlledChunk e tag (abort reflected causes) o
 abort_controlled e tag reflected causes o turn = subst (ControlledChunk e tag (abort reflected causes)) (sym turn) (abort_at e e.core tag reflected causes refl)

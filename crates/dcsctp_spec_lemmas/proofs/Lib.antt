@@ -1,5 +1,6 @@
 pub use Rattle.dcsctp_spec.proofs.wire_lemmas as wire_lemmas
 pub use Rattle.dcsctp_spec.proofs.types_lemmas as types_lemmas
+pub mod AbortLemmas
 pub mod AnswerLemmas
 pub mod AnswerParts
 pub mod ChunkOutcomes

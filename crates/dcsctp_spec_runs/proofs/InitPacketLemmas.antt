@@ -13,7 +13,7 @@ use Rattle.dcsctp_spec_lemmas.specs.spec.endpoint.Outcome.{Outcome, still}
 use Rattle.dcsctp_spec_lemmas.specs.spec.endpoint.Turn.{arrival, refusal, packet_ends, BeginTurn, unreadable_text}
 use Rattle.dcsctp_spec_lemmas.specs.spec.endpoint.CallTurns.{Transition, IsTurn, Turns, ChunkTurns, WholeTurns, AdmittedTurns, unreadable, readable, after_all}
 use Rattle.dcsctp_spec_lemmas.specs.spec.endpoint.BegunResets.{BegunReset, after_begun}
-use Rattle.dcsctp_spec_lemmas.specs.spec.endpoint.FlushOutcomes.{own_sack, first_ask, packets_allowed}
+use Rattle.dcsctp_spec_lemmas.specs.spec.endpoint.FlushOutcomes.{own_sack, first_ask, packets_allowed, room_in, draft_to}
 use Rattle.dcsctp_spec_lemmas.specs.spec.endpoint.DataOutcomes.{endpoint_with_tracker, acknowledging, EndWhere, EndsBy}
 use Rattle.dcsctp_spec_runs.specs.Laws.{CountsSentOnly, is_earlier_acknowledgement_due, StaysAs, unchanged_core, asking_core, InitPacketLeavesAssociation}
 use Rattle.dcsctp_spec_lemmas.proofs.FlushKeeps.{begun_by, flush_keeps}
@@ -37,7 +37,7 @@ begun_stays (Some begun) e is_sack_due new due is = asking_core due is
 end_where_stays : (b : Bool) (e : Endpoint) (peer : Option Held) (transfer : Transfer) (tracker : TrackerState) (o : Outcome) → EndWhere b e peer transfer tracker o → StaysAs b e.core o.after.core
 end_where_stays true e (Some held) transfer tracker o turn =
     let base : Endpoint = endpoint_with_tracker e transfer (sacked tracker) in
-    let draft = acknowledging e held (own_sack (record transfer { tracker = tracker })) in
+    let draft = acknowledging e held (own_sack (room_in e (draft_to held)) (record transfer { tracker = tracker })) in
     let kept = flush_keeps first_ask (packets_allowed base.options.max_burst base.core) base draft turn.answers turn.allowed in
     begun_stays (begun_by turn.answers) base true o.after.core refl (ap (λ (x : Outcome). x.after.core) turn.is ∙ kept.core)
 end_where_stays true e None transfer tracker o turn = unchanged_core (ap (λ (x : Outcome). x.after.core) turn)

@@ -19,6 +19,7 @@ use Rattle.dcsctp_spec_lemmas.specs.spec.association.ResetChanges.{re_config_cha
 use Rattle.dcsctp_spec_lemmas.specs.spec.association.ShutdownChanges.{shutdown_step_change_in, shutdown_step_change, shutdown_call_change, abort_call_change, shutdown_again_change, abort_change, shutdown_change, shutdown_ack_change, shutdown_complete_change}
 use Rattle.dcsctp_spec_lemmas.specs.spec.association.Acts.{Act, connect, t1_expires, shut_down, step_of_shutdown, shutdown_repeats, abort_with, hands_over, flushes, request_again, request_renewed, sent_then_flushed, flush_change, hand_over_change, request_sent, request_again_change, renewed_by, request_renewed_change, act_change, violation_change, plain_change, chunk_change}
 use Rattle.dcsctp_theorem_association.specs.OneSide.{parameters_in, AnswersEndRequests}
+use Rattle.dcsctp_spec_lemmas.proofs.AbortLemmas.{by_abort}
 use Rattle.dcsctp_theorem_association.proofs.AnswerEnds.{AllAnswer, answer_of, all_answer-append, alone_answers, end_answers-alone, further_answer, flush_answers, reset_answers}
 
 -- Without responses no request of ours ends.
@@ -154,10 +155,8 @@ again_ends (open_in shutdown_sent my held) tsn = (tt, tt)
 again_ends (open_in shutdown_ack_sent my held) tsn = (tt, tt)
 again_ends core tsn = tt
 
-abort_ends : (core : Core) → EndsNone (abort_change core).effects
-abort_ends (cookie_echoed my held cookie) = (tt, tt)
-abort_ends (open_in phase my held) = (tt, tt)
-abort_ends core = tt
+abort_ends : (options : Options) (core : Core) → EndsNone (abort_change options core).effects
+abort_ends options core = by_abort (λ change. EndsNone change.effects) options core (tt, tt) tt
 
 shutdown_ends : (core : Core) (tsn : ℕ) (is_acknowledged : Bool) → EndsNone (shutdown_change core tsn is_acknowledged).effects
 shutdown_ends (open_in established my held) tsn is_acknowledged = step_ends_in shutdown_received my held tsn is_acknowledged
@@ -213,7 +212,7 @@ chunk_answers options core header (init_ack theirs cookie) choices = init_ack_en
 chunk_answers options core header (cookie_echo cookie) choices = echo_ends options core header (cookie_at cookie) choices
 chunk_answers options core header cookie_ack choices = cookie_ack_ends core choices
 chunk_answers options core header (re_config parameters) choices = re_config_answers core parameters choices
-chunk_answers options core header (abort reflected causes) choices = abort_ends core
+chunk_answers options core header (abort reflected causes) choices = abort_ends options core
 chunk_answers options core header (shutdown cumulative_tsn) choices =
     let stepped : Change = shutdown_change core choices.tsn choices.is_acknowledged in
     all_answer-append [] stepped.effects (flush_change stepped.core choices).effects (shutdown_ends core choices.tsn choices.is_acknowledged) (flush_ends stepped.core choices)

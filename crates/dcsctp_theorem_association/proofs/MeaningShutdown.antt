@@ -6,9 +6,11 @@ use Rattle.dcsctp_spec_lemmas.specs.spec.endpoint.Cause.{Cause}
 use Rattle.dcsctp_spec_lemmas.specs.spec.Packet.{abort}
 use Rattle.dcsctp_spec_lemmas.specs.spec.endpoint.Endpoint.{Core, cookie_wait, cookie_echoed, open_in, OpenPhase, established, shutdown_pending, shutdown_sent, shutdown_received, shutdown_ack_sent}
 use Rattle.dcsctp_spec_lemmas.specs.spec.endpoint.Following.{Following}
+use Rattle.dcsctp_spec_lemmas.specs.types.declared.options.Options.{Options}
 use Rattle.dcsctp_spec_lemmas.specs.spec.association.Effect.{Change, identity_of, identity_in}
 use Rattle.dcsctp_spec_lemmas.specs.spec.association.ShutdownChanges.{shutdown_step_change_in, shutdown_step_change, shutdown_call_change, abort_call_change, shutdown_again_change, abort_change, shutdown_change, shutdown_ack_change, shutdown_complete_change}
 use Rattle.dcsctp_spec_lemmas.specs.spec.association.Acts.{hand_over_change}
+use Rattle.dcsctp_spec_lemmas.proofs.AbortLemmas.{by_abort}
 use Rattle.dcsctp_theorem_association.proofs.Meaning.{AllSay, Meant, same_meant, ended_meant, end_says-alone}
 
 step_link_in : (phase : OpenPhase) (my : Pair) (held : Held) (tsn : ℕ) (is_acknowledged : Bool)
@@ -62,10 +64,8 @@ again_meant (open_in shutdown_sent my held) tsn = same_meant refl (tt, tt)
 again_meant (open_in shutdown_ack_sent my held) tsn = same_meant refl (tt, tt)
 again_meant core tsn = same_meant refl tt
 
-pub abort_meant : (core : Core) → Meant core (abort_change core)
-abort_meant (cookie_echoed my held cookie) = ended_meant (refl, tt)
-abort_meant (open_in phase my held) = ended_meant (refl, tt)
-abort_meant core = same_meant refl tt
+pub abort_meant : (options : Options) (core : Core) → Meant core (abort_change options core)
+abort_meant options core = by_abort (Meant core) options core (ended_meant (refl, tt)) (same_meant refl tt)
 
 pub shutdown_link : (core : Core) (tsn : ℕ) (is_acknowledged : Bool) → identity_in (shutdown_change core tsn is_acknowledged).core ≡ identity_in core
 shutdown_link (open_in established my held) tsn is_acknowledged = step_link_in shutdown_received my held tsn is_acknowledged

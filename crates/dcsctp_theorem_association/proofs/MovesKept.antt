@@ -114,7 +114,7 @@ front_kept law options their_offer mine theirs core header cookie_ack behind cho
 front_kept law options their_offer mine theirs core header (re_config parameters) behind choices my_tags their_tags h delivered is own makes =
     re_config_kept (offer_of options) their_offer mine theirs core parameters choices header my_tags h is own
 front_kept law options their_offer mine theirs core header (abort reflected causes) behind choices my_tags their_tags h delivered is own makes =
-    abort_kept (offer_of options) their_offer mine theirs core h
+    abort_kept (offer_of options) their_offer mine theirs options core h
 front_kept law options their_offer mine theirs core header (shutdown tsn) behind choices my_tags their_tags h delivered is own makes =
     heard_kept (offer_of options) their_offer mine theirs core choices h
 front_kept law options their_offer mine theirs core header shutdown_ack behind choices my_tags their_tags h delivered is own makes =

@@ -19,6 +19,7 @@ use Rattle.dcsctp_spec_lemmas.specs.spec.association.ShutdownChanges.{shutdown_s
 use Rattle.dcsctp_spec_lemmas.specs.spec.association.Acts.{Act, connect, t1_expires, shut_down, step_of_shutdown, shutdown_repeats, abort_with, hands_over, flushes, request_again, request_renewed, flush_change, hand_over_change, request_sent, request_again_change, renewed_by, request_renewed_change, act_change, then_changes, violation_change, plain_change, chunk_change, shutdown_chunk_change}
 use Rattle.dcsctp_spec_runs.specs.World.{acted, worked, resumed}
 use Rattle.dcsctp_theorem_association.specs.OneSide.{ends_in, OneEnd, it_ends, it_stays, EndsOnce}
+use Rattle.dcsctp_spec_lemmas.proofs.AbortLemmas.{by_abort}
 use Rattle.dcsctp_theorem_association.proofs.OneSideNoEnds.{no_ends-alone, one_end-alone, no_ends-flush, no_ends-sent, no_ends-reset}
 
 -- ---- how a turn may go
@@ -173,10 +174,11 @@ again_ends_once : (core : Core) (tsn : ℕ) → OneEnd core (shutdown_again_chan
 again_ends_once (open_in shutdown_sent my held) tsn = stays refl
 again_ends_once core tsn = stays refl
 
-abort_ends_once : (core : Core) → OneEnd core (abort_change core)
-abort_ends_once (cookie_echoed my held cookie) = ends_echoed refl
-abort_ends_once (open_in phase my held) = ends_open refl
-abort_ends_once core = stays refl
+abort_ends_once : (options : Options) (core : Core) → OneEnd core (abort_change options core)
+abort_ends_once options closed = stays refl
+abort_ends_once options (cookie_wait my) = by_abort (OneEnd (cookie_wait my)) options (cookie_wait my) (ends_wait refl) (stays refl)
+abort_ends_once options (cookie_echoed my held cookie) = ends_echoed refl
+abort_ends_once options (open_in phase my held) = ends_open refl
 
 shutdown_ack_ends_once : (core : Core) (header : ℕ) (following : Following) → OneEnd core (shutdown_ack_change core header following)
 shutdown_ack_ends_once (open_in shutdown_sent my held) header following = ends_open refl
@@ -244,7 +246,7 @@ chunk_ends_once options core header (init_ack theirs cookie) choices = init_ack_
 chunk_ends_once options core header (cookie_echo cookie) choices = echo_ends_once options core header (cookie_at cookie) choices
 chunk_ends_once options core header cookie_ack choices = cookie_ack_ends_once core choices
 chunk_ends_once options core header (re_config parameters) choices = re_config_ends_once core parameters choices
-chunk_ends_once options core header (abort reflected causes) choices = abort_ends_once core
+chunk_ends_once options core header (abort reflected causes) choices = abort_ends_once options core
 chunk_ends_once options core header (shutdown cumulative_tsn) choices = heard_ends_once core choices
 chunk_ends_once options core header shutdown_ack choices = shutdown_ack_ends_once core header choices.following
 chunk_ends_once options core header (shutdown_complete reflected) choices = shutdown_complete_ends_once core

@@ -20,6 +20,7 @@ use Rattle.dcsctp_spec_lemmas.specs.spec.association.Acts.{Act, connect, t1_expi
 use Rattle.dcsctp_spec_lemmas.specs.spec.association.ResumeChanges.{resumed_held, resume_change}
 use Rattle.dcsctp_spec_runs.specs.World.{SideState, after_effects, after_change, after_changes, ControlTurn, acted, worked, resumed, ControlTurns, SideRun, side_after}
 use Rattle.dcsctp_theorem_association.specs.OneSide.{EffectsInPlace, LeavesCore, PastIsState}
+use Rattle.dcsctp_spec_lemmas.proofs.AbortLemmas.{by_abort}
 use Rattle.dcsctp_theorem_association.proofs.OneSideLemmas.{Stands, after_effects-append, stands-connects, stands-resumed, sent_leads, renewed_leads}
 use Rattle.dcsctp_theorem_association.proofs.OneSideResets.{reset_leads}
 use Rattle.dcsctp_theorem_association.proofs.OneSideHandshake.{Good, Keeps, good_in_place, good-sends, good-emitted, good-emitted_alone, good-ends, good-ended_alone, stands_open, stands_echoed, connect_keeps, init_keeps, init_ack_keeps, cookie_ack_keeps, t1_again_keeps, t1_gives_up_keeps, echo_keeps}
@@ -82,10 +83,8 @@ again_keeps (open_in shutdown_sent my held) tsn past good = good-sends (open_in 
 again_keeps (open_in shutdown_ack_sent my held) tsn past good = good-sends (open_in shutdown_ack_sent my held) _ past good
 again_keeps core tsn past good = good
 
-abort_keeps : (core : Core) → Keeps core (abort_change core)
-abort_keeps (cookie_echoed my held cookie) past good = good-ends (cookie_echoed my held cookie) past good
-abort_keeps (open_in phase my held) past good = good-ends (open_in phase my held) past good
-abort_keeps core past good = good
+abort_keeps : (options : Options) (core : Core) → Keeps core (abort_change options core)
+abort_keeps options core = by_abort (Keeps core) options core (λ past good. good-ends core past good) (λ past good. good)
 
 shutdown_keeps : (core : Core) (tsn : ℕ) (is_acknowledged : Bool) → Keeps core (shutdown_change core tsn is_acknowledged)
 shutdown_keeps (open_in established my held) tsn is_acknowledged past good = step_keeps_open shutdown_received my held tsn is_acknowledged past good
@@ -144,7 +143,7 @@ chunk_keeps options core header (init_ack theirs cookie) choices past good = ini
 chunk_keeps options core header (cookie_echo cookie) choices past good = echo_keeps options core header (cookie_at cookie) choices past good
 chunk_keeps options core header cookie_ack choices past good = cookie_ack_keeps core choices past good
 chunk_keeps options core header (re_config parameters) choices past good = re_config_keeps core parameters choices past good
-chunk_keeps options core header (abort reflected causes) choices past good = abort_keeps core past good
+chunk_keeps options core header (abort reflected causes) choices past good = abort_keeps options core past good
 chunk_keeps options core header (shutdown cumulative_tsn) choices past good =
     let stepped : Change = shutdown_change core choices.tsn choices.is_acknowledged in
     then_keeps core stepped (flush_change stepped.core choices) next_chunk (shutdown_keeps core choices.tsn choices.is_acknowledged) (flush_keeps stepped.core choices) past good

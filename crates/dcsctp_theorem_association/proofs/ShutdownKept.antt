@@ -7,8 +7,10 @@ use Rattle.dcsctp_spec_lemmas.specs.spec.endpoint.Cause.{Cause}
 use Rattle.dcsctp_spec_lemmas.specs.spec.Packet.{Content, abort, shutdown, shutdown_ack, shutdown_complete}
 use Rattle.dcsctp_spec_lemmas.specs.spec.endpoint.Endpoint.{Core, closed, cookie_wait, cookie_echoed, open_in, OpenPhase, established, shutdown_pending, shutdown_sent, shutdown_received, shutdown_ack_sent}
 use Rattle.dcsctp_spec_lemmas.specs.spec.endpoint.Following.{Following, next_chunk}
+use Rattle.dcsctp_spec_lemmas.specs.types.declared.options.Options.{Options}
 use Rattle.dcsctp_spec_lemmas.specs.spec.association.Effect.{Effect, emitted}
 use Rattle.dcsctp_spec_lemmas.specs.spec.association.ShutdownChanges.{sending_change, shutdown_step_change_in, shutdown_step_change, shutdown_call_change_in, shutdown_call_change, abort_call_change, shutdown_again_change_in, shutdown_again_change, abort_change, shutdown_change_in, shutdown_change, reflected_change, shutdown_ack_change_in, shutdown_ack_change, shutdown_complete_change_in, shutdown_complete_change}
+use Rattle.dcsctp_spec_lemmas.proofs.AbortLemmas.{by_abort}
 use Rattle.dcsctp_theorem_association.proofs.Facts.{TrueContents, PeerFacts, TrueCore}
 use Rattle.dcsctp_theorem_association.proofs.Flushes.{alone_true, emitted_true}
 use Rattle.dcsctp_theorem_association.proofs.Turns.{Kept, stays_kept, unchanged_kept, ended_kept, open_kept}
@@ -107,12 +109,11 @@ again_kept my_offer their_offer mine theirs (cookie_wait my) tsn h = unchanged_k
 again_kept my_offer their_offer mine theirs (cookie_echoed my held bytes) tsn h = unchanged_kept my_offer their_offer mine theirs (cookie_echoed my held bytes) h
 again_kept my_offer their_offer mine theirs (open_in phase my held) tsn h = again_in_kept my_offer their_offer mine theirs phase my held tsn h
 
-pub abort_kept : (my_offer their_offer : Offer) (mine theirs : List Effect) (core : Core)
-    → TrueCore my_offer their_offer mine theirs core → Kept my_offer their_offer mine theirs (abort_change core)
-abort_kept my_offer their_offer mine theirs closed h = unchanged_kept my_offer their_offer mine theirs closed h
-abort_kept my_offer their_offer mine theirs (cookie_wait my) h = unchanged_kept my_offer their_offer mine theirs (cookie_wait my) h
-abort_kept my_offer their_offer mine theirs (cookie_echoed my held bytes) h = ended_kept my_offer their_offer mine theirs [] tt
-abort_kept my_offer their_offer mine theirs (open_in phase my held) h = ended_kept my_offer their_offer mine theirs [] tt
+pub abort_kept : (my_offer their_offer : Offer) (mine theirs : List Effect) (options : Options) (core : Core)
+    → TrueCore my_offer their_offer mine theirs core → Kept my_offer their_offer mine theirs (abort_change options core)
+abort_kept my_offer their_offer mine theirs options core h =
+    by_abort (Kept my_offer their_offer mine theirs) options core (ended_kept my_offer their_offer mine theirs [] tt)
+    (unchanged_kept my_offer their_offer mine theirs core h)
 
 pub shutdown_kept : (my_offer their_offer : Offer) (mine theirs : List Effect) (core : Core) (tsn : ℕ) (is_acknowledged : Bool)
     → TrueCore my_offer their_offer mine theirs core → Kept my_offer their_offer mine theirs (shutdown_change core tsn is_acknowledged)

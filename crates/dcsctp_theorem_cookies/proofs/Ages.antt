@@ -1,6 +1,6 @@
 -- A cookie carries the moment of the turn that gave it away, and one that makes an association
 -- isn't stale: so an association is made within the lifetime of its cookie.
-use Rattle.std.proofs.Common.{◌≡◌, ◌≤◌, ◌<◌, ◌^◌, ◌+◌, ◌-◌, ℕ, Bool, true, false, cond, not, eqb, None, Some, Result, Ok, Err, List, [], ◌∷◌, ◌++◌, length, inl, inr, refl, sym, subst, ap, ◌∙◌, arith}
+use Rattle.std.proofs.Common.{◌≡◌, ◌≤◌, ◌<◌, ◌^◌, ◌+◌, ◌-◌, ℕ, Bool, true, false, cond, not, eqb, None, Some, Result, Ok, Err, List, [], ◌∷◌, ◌++◌, length, inl, inr, refl, sym, subst, ap, ◌∙◌, arith, ◌||◌}
 use Rattle.std.specs.Prelude.{nat_le, ◌⊎◌}
 use Rattle.std.specs.Duration.{as_nanos}
 use Rattle.std.proofs.lemmas.List.{append-nil}
@@ -26,7 +26,7 @@ use Rattle.dcsctp_spec_runs.specs.Fitting.{AllSent}
 use Rattle.dcsctp_spec_runs.specs.Sockets.{PerformedAct, Both, of_side, turns_after, endpoint_after, SocketRun}
 use Rattle.dcsctp_spec_lemmas.specs.spec.endpoint.FlushOutcomes.{Answer, flush_answered}
 use Rattle.dcsctp_spec_lemmas.specs.spec.endpoint.HandshakeOutcomes.{cookie_for}
-use Rattle.dcsctp_spec_lemmas.specs.spec.endpoint.CookieEchoOutcomes.{resolved_by, resolved_now, cookie_echo_by, ResolvedAnswers, EchoedAnswers, CookieEchoTurn, maintain_by}
+use Rattle.dcsctp_spec_lemmas.specs.spec.endpoint.CookieEchoOutcomes.{is_tag_over, is_spent, resolved_by, resolved_now, cookie_echo_by, ResolvedAnswers, EchoedAnswers, CookieEchoTurn, maintain_by}
 use Rattle.dcsctp_spec_laws.proofs.AlongLemmas.{along_append}
 use Rattle.dcsctp_spec_runs.proofs.RunsAlong.{run_along}
 use Rattle.dcsctp_spec_lemmas.proofs.ControlEcho.{judging, maintain_at}
@@ -164,8 +164,8 @@ not_noted (resumes other own last ∷ effects) link none (inr has) = not_noted e
 kept_is_none : (e : Endpoint) (cookie : Cookie) (header word : ℕ) (answers : List Answer) (link : AssociationIdentity) → resolved_now e e.core header cookie ≡ maintain_existing
     → ResolvedAnswers e cookie e.core word maintain_existing answers → HasEffect (holds link) (maintain_by (flush_answered answers) e cookie e.core).effects → ⊥
 kept_is_none e cookie header word answers link case h has =
-    let choices : Choices = judging e cookie answers in
-    let controlled : IsControlled e (maintain_by (flush_answered answers) e cookie e.core) (maintain_change e.core cookie choices) = maintain_at e cookie e.core header answers refl case h in
+    let choices : Choices = judging e false answers in
+    let controlled : IsControlled e (maintain_by (flush_answered answers) e cookie e.core) (maintain_change e.core cookie choices) = maintain_at e cookie e.core header false answers refl case h in
     not_noted (maintain_change e.core cookie choices).effects link (maintain_none e.core cookie choices) (subst (HasEffect (holds link)) controlled.effects has)
 
 -- where its case isn't that of a stale one
@@ -183,6 +183,10 @@ made_fresh e cookie header word answers link true maintain_existing case h has =
 made_fresh e cookie header word answers link true invalid_tag case h has = absurd has
 made_fresh e cookie header word answers link true stale case h has = absurd has
 
+neither : (a b : Bool) → (a || b) ≡ false → b ≡ false
+neither false b is = is
+neither true b is = absurd (cc)
+
 in_lifetime : (lifetime now moment : ℕ) → not (nat_le (cut now - moment) lifetime) ≡ false → cut now ≤ moment + lifetime
 in_lifetime lifetime now moment is = grind (arith, nat_tests)
 
@@ -193,7 +197,8 @@ young_at : (e : Endpoint) (header : ℕ) (bytes : List ℕ) (found : Result Cook
 young_at e header bytes (Err text) word answers link reads h has = absurd has
 young_at e header bytes (Ok cookie) word answers link reads h has =
     let fresh : is_stale (as_nanos e.options.cookie_lifetime) e.moment cookie ≡ false =
-    made_fresh e cookie header word answers link (is_stale (as_nanos e.options.cookie_lifetime) e.moment cookie) (resolve e.core e.tie header cookie) refl h has in
+    neither (is_tag_over e e.core header) (is_stale (as_nanos e.options.cookie_lifetime) e.moment cookie)
+    (made_fresh e cookie header word answers link (is_spent e e.core header cookie) (resolve e.core e.tie header cookie) refl h has) in
     subst (λ (moment : ℕ). cut e.moment ≤ moment + as_nanos e.options.cookie_lifetime) (sym (moment_read bytes cookie reads)) (in_lifetime (as_nanos e.options.cookie_lifetime) e.moment cookie.moment fresh)
 
 abbrev Young : Endpoint → Transition → Type 0

@@ -15,6 +15,7 @@ use Rattle.dcsctp_spec_lemmas.specs.spec.association.HandshakeChanges.{introduct
 use Rattle.dcsctp_spec_lemmas.specs.spec.association.CookieEchoChanges.{Resolution, establish_new, restart, simultaneous_init, discard, maintain_existing, invalid_tag, stale, aged, resolve, held_by_cookie, new_association_change, restart_change, maintain_change, resolved_change, read_echo_change}
 use Rattle.dcsctp_spec_lemmas.specs.spec.association.ShutdownChanges.{shutdown_step_change_in, shutdown_step_change, shutdown_call_change, abort_call_change, shutdown_again_change, abort_change, shutdown_change, shutdown_ack_change, shutdown_complete_change}
 use Rattle.dcsctp_spec_lemmas.specs.spec.association.Acts.{Act, connect, t1_expires, shut_down, step_of_shutdown, shutdown_repeats, abort_with, hands_over, flushes, request_again, request_renewed, flush_change, hand_over_change, act_change, violation_change, plain_change, shutdown_chunk_change, chunk_change}
+use Rattle.dcsctp_spec_lemmas.proofs.AbortLemmas.{by_abort}
 use Rattle.dcsctp_theorem_cookies.proofs.CookieRules.{Rules, EffectsKeep, CoreKeeps, ChangeKeeps, TakenKeeps, AnswerKeeps, unchanged_keeps, effects_append, alone_keeps, flush_keeps, sent_keeps}
 use Rattle.dcsctp_theorem_cookies.proofs.ResetsKeep.{re_config_keeps, request_again_keeps, request_renewed_keeps}
 
@@ -124,10 +125,8 @@ module _ (rules : Rules) where
   again_keeps (open_in shutdown_ack_sent my held) tsn h = record { effects = ((tt, tt), tt); core = tt }
   again_keeps core tsn h = unchanged_keeps rules core h
 
-  abort_keeps : (core : Core) → CoreKeeps rules core → ChangeKeeps rules (abort_change core)
-  abort_keeps (cookie_echoed my held bytes) h = ended_keeps [] tt
-  abort_keeps (open_in phase my held) h = ended_keeps [] tt
-  abort_keeps core h = unchanged_keeps rules core h
+  abort_keeps : (options : Options) (core : Core) → CoreKeeps rules core → ChangeKeeps rules (abort_change options core)
+  abort_keeps options core h = by_abort (ChangeKeeps rules) options core (ended_keeps [] tt) (unchanged_keeps rules core h)
 
   shutdown_keeps : (core : Core) (tsn : ℕ) (is_acknowledged : Bool) → CoreKeeps rules core → ChangeKeeps rules (shutdown_change core tsn is_acknowledged)
   shutdown_keeps (open_in established my held) tsn is_acknowledged h = step_keeps_in shutdown_received my held tsn is_acknowledged
@@ -199,7 +198,7 @@ module _ (rules : Rules) where
   chunk_keeps options core header (cookie_echo bytes) choices h k made = cookie_echo_keeps options core header (cookie_at bytes) choices h
   chunk_keeps options core header cookie_ack choices h k made = cookie_ack_keeps core choices h
   chunk_keeps options core header (re_config parameters) choices h k made = re_config_keeps rules core parameters choices h
-  chunk_keeps options core header (abort reflected causes) choices h k made = abort_keeps core h
+  chunk_keeps options core header (abort reflected causes) choices h k made = abort_keeps options core h
   chunk_keeps options core header (shutdown tsn) choices h k made = heard_keeps core choices h
   chunk_keeps options core header shutdown_ack choices h k made = shutdown_ack_keeps core header choices.following h
   chunk_keeps options core header (shutdown_complete reflected) choices h k made = shutdown_complete_keeps core h

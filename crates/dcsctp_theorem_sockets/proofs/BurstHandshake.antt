@@ -19,6 +19,7 @@ use Rattle.dcsctp_spec_lemmas.specs.spec.endpoint.TimerOutcomes.{AgainAnswers, a
 use Rattle.dcsctp_spec_lemmas.specs.spec.endpoint.CookieEchoOutcomes.{resolved_now, established_by, cookie_ack_emission, EstablishAnswers, queue_kept, queue_begun, RestartAnswers, restart_by_where, MaintainAnswers, maintain_by, ResolvedAnswers, resolved_by, EchoedAnswers, cookie_echo_by}
 use Rattle.dcsctp_spec_lemmas.specs.spec.association.CookieEchoChanges.{held_by_cookie, Resolution, establish_new, restart, simultaneous_init, discard, maintain_existing, invalid_tag, stale}
 use Rattle.dcsctp_theorem_sockets.specs.Bursts.{packets_of_chunk, packets_of_t1}
+use Rattle.dcsctp_spec_lemmas.proofs.AbortLemmas.{by_abort_outcome}
 use Rattle.dcsctp_theorem_sockets.proofs.Bursts.{count, append_few, Few, none, emits_few, HasPeer, allowed_after, IsBurst, flush_is_burst, echo_is_burst}
 
 -- ---- the handshake
@@ -114,10 +115,7 @@ echo_counts e core header (Ok cookie) word answers is allowed = resolved_echoed 
 -- ---- ends, and T1
 
 pub abort_few : (e : Endpoint) (causes : List Cause) (core : Core) → Few 0 (abort_outcome e causes core)
-abort_few e causes closed = none 0
-abort_few e causes (cookie_wait my) = none 0
-abort_few e causes (cookie_echoed my held cookie) = none 0
-abort_few e causes (open_in phase my held) = none 0
+abort_few e causes core = by_abort_outcome (Few 0) e causes core (none 0) (none 0)
 
 -- The event that ends an association is no packet.
 end_few : (reason : AbortReason) → count (end_of reason ∷ []) ≤ 0

@@ -5,7 +5,7 @@ use Rattle.dcsctp_spec_lemmas.specs.types.declared.association.Held.{Held}
 use Rattle.dcsctp_spec_lemmas.specs.spec.endpoint.Endpoint.{Endpoint, Core, closed, cookie_wait, cookie_echoed, open_in, OpenPhase, established, shutdown_pending, shutdown_sent, shutdown_received, shutdown_ack_sent}
 use Rattle.dcsctp_spec_lemmas.specs.spec.endpoint.Outcome.{Outcome}
 use Rattle.dcsctp_spec_lemmas.specs.spec.endpoint.Turn.{BeginTurn}
-use Rattle.dcsctp_spec_lemmas.specs.spec.endpoint.ShutdownOutcomes.{phase_at, is_all_acknowledged, waits_for_queue, may_go_on, step_by, step_outcome, t1_stopped, shut_down_outcome, shutdown_outcome, shutdown_ack_outcome, shutdown_complete_outcome, t2_goes_on, shutdown_sent_again, t2_again_outcome}
+use Rattle.dcsctp_spec_lemmas.specs.spec.endpoint.ShutdownOutcomes.{phase_at, is_all_acknowledged, waits_for_abandoned, waits_for_queue, may_go_on, step_by, step_outcome, t1_stopped, shut_down_outcome, shutdown_outcome, shutdown_ack_outcome, shutdown_complete_outcome, t2_goes_on, shutdown_sent_again, t2_again_outcome}
 use Rattle.dcsctp_theorem_sockets.proofs.Bursts.{Few, none, one, HasPeer}
 
 -- ---- a step of it
@@ -33,7 +33,7 @@ pub step_waits : (e : Endpoint) (core : Core) → is_all_acknowledged e.queues.t
 step_waits e closed is = none 0
 step_waits e (cookie_wait my) is = none 0
 step_waits e (cookie_echoed my held cookie) is = none 0
-step_waits e (open_in phase my held) is = waits_by (may_go_on e) e phase my held (ap (λ (b : Bool). b && not (waits_for_queue e)) is)
+step_waits e (open_in phase my held) is = waits_by (may_go_on e) e phase my held (ap (λ (b : Bool). b && not (waits_for_queue e) && not (waits_for_abandoned e)) is)
 
 -- The peer stays known.
 step_by_peer : (b : Bool) (e : Endpoint) (phase : OpenPhase) (my : Pair) (held : Held) → HasPeer e.core → HasPeer (step_by b e phase my held).after.core

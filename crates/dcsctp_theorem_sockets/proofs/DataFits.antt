@@ -148,11 +148,11 @@ sack_fits e (Some transfer) sack o turn h = sack_by_fits e (held_in e.core) tran
 
 answers_fit : (e : Endpoint) (held : Held) (transfer : Transfer) (tracker : TrackerState) (o : Outcome) → AnswersPacket e held transfer tracker o → FitsEndpoint e → FitsHeld held → TurnFits o
 answers_fit e held transfer tracker o turn h fits =
-    let sack : Plain = own_sack (record transfer { tracker = tracker }) in
+    let sack : Plain = own_sack (room_in e (draft_to held)) (record transfer { tracker = tracker }) in
     subst TurnFits (sym turn.is)
     (flush_fits (endpoint_with_tracker e transfer (sacked tracker)) (acknowledging e held sack) turn.answers turn.allowed
     (transfer_fits e (record transfer { tracker = sacked tracker }) h)
-    (record { tag = fits.peer.tag; contents = where_fits_sendable (room_in e (draft_to held)) sack (own_sack_sendable (record transfer { tracker = tracker })) }))
+    (record { tag = fits.peer.tag; contents = where_fits_sendable (room_in e (draft_to held)) sack (own_sack_sendable (room_in e (draft_to held)) (record transfer { tracker = tracker })) }))
 
 end_where_fits : (b : Bool) (e : Endpoint) (peer : Option Held) (transfer : Transfer) (tracker : TrackerState) (o : Outcome) → EndWhere b e peer transfer tracker o → FitsEndpoint e → FitsPeer peer → TurnFits o
 end_where_fits true e (Some held) transfer tracker o turn h fits = answers_fit e held transfer tracker o turn h fits

@@ -78,15 +78,15 @@ one_sendable false chunk good = tt
 pub where_fits_sendable : (room : ℕ) (chunk : Plain) → Sendable (plain chunk) → AllByRecursion Sendable (plain_contents (where_fits room chunk))
 where_fits_sendable room chunk good = one_sendable (nat_le (length (chunk_bytes (plain_out chunk))) room) chunk good
 
-pub own_sack_sendable : (transfer : Transfer) → Sendable (plain (own_sack transfer))
-own_sack_sendable transfer = record { fits = sack_fits transfer.tracker (advertised_window transfer); reads = refl; said = tt }
+pub own_sack_sendable : (room : ℕ) (transfer : Transfer) → Sendable (plain (own_sack room transfer))
+own_sack_sendable room transfer = record { fits = sack_fits room transfer.tracker (advertised_window transfer); reads = refl; said = tt }
 
 sacks_sendable : (wants : Bool) (room : ℕ) (transfer : Transfer) (after : TrackerState) (chunks : List Plain) → Acknowledges wants room transfer after chunks
     → AllByRecursion Sendable (plain_contents chunks)
 sacks_sendable false room transfer after chunks h = subst (λ (cs : List Plain). AllByRecursion Sendable (plain_contents cs)) (sym h.1) tt
 sacks_sendable true room transfer after chunks h =
     subst (λ (cs : List Plain). AllByRecursion Sendable (plain_contents cs)) (sym h.1)
-    (where_fits_sendable room (own_sack transfer) (own_sack_sendable transfer))
+    (where_fits_sendable room (own_sack room transfer) (own_sack_sendable room transfer))
 
 -- chunks, and others after them
 plain_sendable : (first second : List Plain) → AllByRecursion Sendable (plain_contents first) → AllByRecursion Sendable (plain_contents second)

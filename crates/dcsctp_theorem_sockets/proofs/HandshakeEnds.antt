@@ -109,12 +109,12 @@ establishes_by law a b p q turns good_a good_b mine own h =
     let flush : FlushKind = flush_answered h.comes.1 in
     let reads : cookie_at bytes ≡ Ok cookie = cookie_reads law a p q good_a mine own in
     let allowed : EstablishAnswers e cookie (queue_kept e cookie) word h.comes.1 =
-    subst (λ (case : Resolution). ResolvedAnswers e cookie closed word case h.comes.1) (case_at_start e a p q refl)
+    subst (λ (case : Resolution). ResolvedAnswers e cookie closed word case h.comes.1) (case_at_start e a p q refl refl)
     (subst (λ (found : Result Cookie (List ℕ)). EchoedAnswers e closed q.tag found word h.comes.1) reads h.comes.2) in
     let is : h.outcome ≡ establish_outcome e cookie (queue_kept e cookie) word (connected ∷ []) =
     h.comes.3
     ∙ ap (λ (found : Result Cookie (List ℕ)). cookie_echo_by flush e closed q.tag found word) reads
-    ∙ ap (λ (case : Resolution). resolved_by flush e cookie closed word case) (case_at_start e a p q refl)
+    ∙ ap (λ (case : Resolution). resolved_by flush e cookie closed word case) (case_at_start e a p q refl refl)
     ∙ establish_now e cookie (queue_kept e cookie) word (connected ∷ []) h.comes.1 (established_idle a b p q word) allowed in
     record { tie = word; only = taken_as (answered b) q.tag (cookie_echo bytes) turns h _ (is ∙ established_sends a b p q word good_b) refl (refl, refl) }
 

@@ -1,6 +1,6 @@
 -- The five calls of a handshake between two fitting sockets, one after another. The one that
 -- connects has the options a and the pair p, the other the options b and the pair q.
-use Rattle.std.proofs.Common.{◌≡◌, ◌≢◌, ◌≤◌, ℕ, Bool, true, false, cond, not, eqb, None, Some, List, [], ◌∷◌, ◌⊎◌, inl, inr, refl, sym, subst, ap, ◌∙◌, arith}
+use Rattle.std.proofs.Common.{◌≡◌, ◌≢◌, ◌≤◌, ℕ, Bool, true, false, cond, not, eqb, None, Some, List, [], ◌∷◌, ◌⊎◌, inl, inr, refl, sym, subst, ap, ◌∙◌, arith, ◌&&◌, ◌||◌, Option}
 use Rattle.std.specs.Prelude.{nat_le}
 use Rattle.std.specs.Duration.{as_nanos}
 use Rattle.std.proofs.lemmas.Bool.Decides.{nat_tests}
@@ -17,7 +17,7 @@ use Rattle.dcsctp_spec_lemmas.specs.spec.endpoint.Outcome.{Outcome, noting, quie
 use Rattle.dcsctp_spec_lemmas.specs.spec.endpoint.Turn.{act_input}
 use Rattle.dcsctp_spec_lemmas.specs.spec.endpoint.FlushOutcomes.{allows_packet}
 use Rattle.dcsctp_spec_lemmas.specs.spec.association.CookieEchoChanges.{establish_new, aged, case_without_peer}
-use Rattle.dcsctp_spec_lemmas.specs.spec.endpoint.CookieEchoOutcomes.{resolved_now}
+use Rattle.dcsctp_spec_lemmas.specs.spec.endpoint.CookieEchoOutcomes.{is_last_tag, resolved_now}
 use Rattle.dcsctp_spec_lemmas.specs.spec.endpoint.HandshakeOutcomes.{pair_from, init_emission, awaits_init_ack, init_ack_emission, cookie_for, awaits_cookie_ack, echo_emission, init_outcome, init_ack_outcome, connect_outcome}
 use Rattle.dcsctp_spec_lemmas.specs.spec.association.HandshakeChanges.{introduction_of, answering_introduction, held_by_init_ack}
 use Rattle.dcsctp_spec_lemmas.specs.spec.association.Acts.{connect}
@@ -161,10 +161,18 @@ made_cookie a p q = cookie_for 0 (introduction_of a p) q 0
 zero_age : (lifetime : ℕ) → not (nat_le 0 lifetime) ≡ false
 zero_age lifetime = grind (arith, nat_tests)
 
-pub case_at_start : (e : Endpoint) (a : Options) (p q : Pair) → e.moment ≡ 0 → resolved_now e closed q.tag (made_cookie a p q) ≡ establish_new
-case_at_start e a p q at =
+and_never : (b : Bool) → (b && false) ≡ false
+and_never true = refl
+and_never false = refl
+
+-- A socket that had no association yet makes one of it.
+pub case_at_start : (e : Endpoint) (a : Options) (p q : Pair) → e.moment ≡ 0 → e.last_tag ≡ None → resolved_now e closed q.tag (made_cookie a p q) ≡ establish_new
+case_at_start e a p q at none =
     let lifetime : ℕ = as_nanos e.options.cookie_lifetime in
-    ap (λ (now : ℕ). aged (is_stale lifetime now (made_cookie a p q)) (case_without_peer (eqb q.tag q.tag))) at
+    let old : Bool = is_stale lifetime e.moment (made_cookie a p q) in
+    ap (λ (last : Option ℕ). aged ((e.options.follow_rfc && is_last_tag last q.tag) || old) (case_without_peer (eqb q.tag q.tag))) none
+    ∙ ap (λ (over : Bool). aged (over || old) (case_without_peer (eqb q.tag q.tag))) (and_never e.options.follow_rfc)
+    ∙ ap (λ (now : ℕ). aged (is_stale lifetime now (made_cookie a p q)) (case_without_peer (eqb q.tag q.tag))) at
     ∙ ap (λ (old : Bool). aged old (case_without_peer (eqb q.tag q.tag))) (zero_age lifetime)
     ∙ ap case_without_peer (same_tag q.tag)
 

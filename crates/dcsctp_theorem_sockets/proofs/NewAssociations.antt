@@ -16,6 +16,7 @@ use Rattle.dcsctp_spec_lemmas.specs.spec.association.ResumeChanges.{resumed_held
 use Rattle.dcsctp_spec_lemmas.specs.spec.association.Acts.{chunk_change}
 use Rattle.dcsctp_spec_runs.specs.Past.{HasEffect}
 use Rattle.dcsctp_spec_runs.specs.World.{ControlTurn, acted, worked, resumed}
+use Rattle.dcsctp_spec_lemmas.proofs.AbortLemmas.{by_abort}
 use Rattle.dcsctp_theorem_sockets.proofs.NoHolding.{IsNoHolding, HoldsNone, none-alone, none-flush, none-sent, none-reset}
 use Rattle.dcsctp_theorem_sockets.proofs.NoHoldingTurns.{ended_none, again_echo_none, init_none, heard_none, shutdown_ack_none, complete_none, plain_none, closed_plain_none, waiting_plain_none, echoed_plain_none, act_none}
 
@@ -184,7 +185,8 @@ waiting_chunk_anew options my header (init_ack theirs cookie) choices = init_ack
 waiting_chunk_anew options my header (cookie_echo cookie) choices = echo_anew options (cookie_wait my) header (cookie_at cookie) choices
 waiting_chunk_anew options my header cookie_ack choices = none_anew (cookie_wait my) [] tt
 waiting_chunk_anew options my header (re_config parameters) choices = none_anew (cookie_wait my) [] tt
-waiting_chunk_anew options my header (abort reflected causes) choices = none_anew (cookie_wait my) [] tt
+waiting_chunk_anew options my header (abort reflected causes) choices =
+    by_abort (λ change. New (cookie_wait my) change.effects) options (cookie_wait my) (none_anew (cookie_wait my) _ (ended_none [] tt)) (none_anew (cookie_wait my) [] tt)
 waiting_chunk_anew options my header (shutdown tsn) choices = none_anew (cookie_wait my) [] tt
 waiting_chunk_anew options my header shutdown_ack choices = none_anew (cookie_wait my) (emitted header (shutdown_complete true ∷ [])) (tt, tt)
 waiting_chunk_anew options my header (shutdown_complete reflected) choices = none_anew (cookie_wait my) [] tt

@@ -170,7 +170,7 @@ handshake_runs law a b w good_a good_b to_b to_a =
     (init_ack_turn_of (counted_at (waiting a p)) (answer_to a b p q) bytes p w.tie (echoing a b p q w.tie) refl refl (sym (echo_sends a b p q w.tie good_a))) refl (refl, refl) in
     let fourth = gives law.wire (answered_once b) a true q.tag (cookie_echo bytes) (establishing a b p q w.tie') (echo_is_taken a b p q good_a other to_b) refl refl
     (cookie_echo_turn_of (counted_at (answered_once b)) q.tag bytes (made_cookie a p q) w.tie' (establishing a b p q w.tie') refl (cookie_reads law a p q good_a own other)
-    (case_at_start (counted_at (answered_once b)) a p q refl) (established_idle a b p q w.tie') (sym (established_sends a b p q w.tie' good_b))) refl (refl, refl) in
+    (case_at_start (counted_at (answered_once b)) a p q refl refl) (established_idle a b p q w.tie') (sym (established_sends a b p q w.tie' good_b))) refl (refl, refl) in
     let fifth = gives law.wire (awaited a b p q w.tie) b (acknowledgement a b p q).with_checksum p.tag cookie_ack (connecting_last a b p q w.tie) (ack_is_taken a b p q good_b own to_a)
     (cookie_ack_admitted (cookie_echoed p (held_here a b p q) bytes) p.tag refl own.tag_is_not_zero) refl
     (cookie_ack_turn_of (counted_at (awaited a b p q w.tie)) p (held_here a b p q) bytes (connecting_last a b p q w.tie) refl refl refl) refl (refl, refl) in

@@ -134,7 +134,7 @@ acknowledging_short limit e held sack h =
 
 end_where_sizes : (b : Bool) (limit : ℕ) (e : Endpoint) (peer : Option Held) (transfer : Transfer) (tracker : TrackerState) (o : Outcome) → EndWhere b e peer transfer tracker o → AtLimit limit e → TurnSizes limit o
 end_where_sizes true limit e (Some held) transfer tracker o turn h =
-    let sack : Plain = own_sack (record transfer { tracker = tracker }) in
+    let sack : Plain = own_sack (room_in e (draft_to held)) (record transfer { tracker = tracker }) in
     subst (TurnSizes limit) (sym turn.is)
     (flush_sizes limit (endpoint_with_tracker e transfer (sacked tracker)) (acknowledging e held sack) turn.answers turn.allowed h (acknowledging_short limit e held sack h))
 end_where_sizes true limit e None transfer tracker o turn h = subst (TurnSizes limit) (sym turn) (h, tt)

@@ -22,6 +22,7 @@ use Rattle.dcsctp_spec_lemmas.specs.spec.endpoint.HandshakeOutcomes.{pair_from, 
 use Rattle.dcsctp_spec_lemmas.specs.spec.endpoint.TimerOutcomes.{AgainAnswers, again_by, t1_gives_up_outcome}
 use Rattle.dcsctp_spec_lemmas.specs.spec.endpoint.CookieEchoOutcomes.{resolved_now, established_by, cookie_ack_emission, EstablishAnswers, establish_by, queue_kept, queue_begun, restart_by, RestartAnswers, restart_by_where, MaintainAnswers, maintain_by, ResolvedAnswers, resolved_by, EchoedAnswers, cookie_echo_by}
 use Rattle.dcsctp_spec_lemmas.specs.spec.association.CookieEchoChanges.{held_by_cookie, shutting_down_error, Resolution, establish_new, restart, simultaneous_init, discard, maintain_existing, invalid_tag, stale}
+use Rattle.dcsctp_spec_lemmas.proofs.AbortLemmas.{by_abort_outcome}
 use Rattle.dcsctp_theorem_sockets.proofs.Sizes.{AtLimit, AllShort, TurnSizes, short_append, emits_sizes, flushed_sizes, echoed_sizes}
 
 -- ---- the handshake
@@ -130,10 +131,7 @@ echo_sizes limit e core header (Ok cookie) word answers allowed h = resolved_siz
 -- ---- ends, and T1
 
 pub abort_sizes : (limit : ℕ) (e : Endpoint) (causes : List Cause) (core : Core) → AtLimit limit e → TurnSizes limit (abort_outcome e causes core)
-abort_sizes limit e causes closed h = (h, tt)
-abort_sizes limit e causes (cookie_wait my) h = (h, tt)
-abort_sizes limit e causes (cookie_echoed my held cookie) h = (h, tt)
-abort_sizes limit e causes (open_in phase my held) h = (h, tt)
+abort_sizes limit e causes core h = by_abort_outcome (TurnSizes limit) e causes core (h, tt) (h, tt)
 
 -- The event that ends an association is no packet.
 end_short : (limit : ℕ) (reason : AbortReason) → AllShort limit (end_of reason ∷ [])

@@ -12,7 +12,7 @@ use Rattle.dcsctp_spec_lemmas.specs.spec.queues.Transfer.{Transfer}
 use Rattle.dcsctp_spec_lemmas.specs.spec.endpoint.Endpoint.{Endpoint, held_in}
 use Rattle.dcsctp_spec_lemmas.specs.spec.endpoint.Outcome.{Outcome, quiet, sends, fits, to_peer, behind}
 use Rattle.dcsctp_spec_lemmas.specs.spec.association.Choices.{plain_contents}
-use Rattle.dcsctp_spec_lemmas.specs.spec.endpoint.FlushOutcomes.{own_sack, Answer, goes_out, draft_to}
+use Rattle.dcsctp_spec_lemmas.specs.spec.endpoint.FlushOutcomes.{own_sack, Answer, goes_out, draft_to, room_in}
 use Rattle.dcsctp_spec_lemmas.specs.spec.queues.OwnResets.{prepared_all}
 use Rattle.dcsctp_spec_lemmas.specs.spec.endpoint.MessageOutcomes.{MessageRefusal, sending_refusal, Sending, queue_by, queue_one, queue_all, takes_any, SendAnswers, send_by, SendTurn}
 use Rattle.dcsctp_spec_lemmas.specs.spec.endpoint.PreparedResets.{ResetRefusal, reset_refusal, endpoint_with_queue, OwnResetsWhere, OwnResetsTurn}
@@ -91,7 +91,7 @@ sack_up e (Some transfer) sack o turn h = sack_by_up e (held_in e.core) transfer
 
 end_where_up : (b : Bool) (e : Endpoint) (peer : Option Held) (transfer : Transfer) (tracker : TrackerState) (o : Outcome) → EndWhere b e peer transfer tracker o → Up e → UpAfter o
 end_where_up true e (Some held) transfer tracker o turn h =
-    subst UpAfter (sym turn.is) (flush_up (endpoint_with_tracker e transfer (sacked tracker)) (acknowledging e held (own_sack (record transfer { tracker = tracker }))) turn.answers turn.allowed h)
+    subst UpAfter (sym turn.is) (flush_up (endpoint_with_tracker e transfer (sacked tracker)) (acknowledging e held (own_sack (room_in e (draft_to held)) (record transfer { tracker = tracker }))) turn.answers turn.allowed h)
 end_where_up true e None transfer tracker o turn h = subst UpAfter (sym turn) h
 end_where_up false e peer transfer tracker o turn h = subst UpAfter (sym turn) h
 

@@ -18,6 +18,7 @@ use Rattle.dcsctp_spec_lemmas.specs.spec.endpoint.HandshakeOutcomes.{pair_from, 
 use Rattle.dcsctp_spec_lemmas.specs.spec.endpoint.TimerOutcomes.{AgainAnswers, again_by, t1_gives_up_outcome}
 use Rattle.dcsctp_spec_lemmas.specs.spec.endpoint.CookieEchoOutcomes.{resolved_now, established_by, cookie_ack_emission, EstablishAnswers, establish_by, queue_kept, queue_begun, RestartAnswers, restart_by_where, MaintainAnswers, maintain_by, ResolvedAnswers, resolved_by, EchoedAnswers, cookie_echo_by}
 use Rattle.dcsctp_spec_lemmas.specs.spec.association.CookieEchoChanges.{held_by_cookie, Resolution, establish_new, restart, simultaneous_init, discard, maintain_existing, invalid_tag, stale}
+use Rattle.dcsctp_spec_lemmas.proofs.AbortLemmas.{by_abort_outcome}
 use Rattle.dcsctp_spec_lemmas.proofs.FlushKeeps.{Keeps, begun_by, flush_keeps}
 use Rattle.dcsctp_spec_lemmas.specs.spec.endpoint.BegunResets.{BegunReset}
 use Rattle.dcsctp_theorem_sockets.proofs.BegunSends.{begun_runs}
@@ -132,10 +133,7 @@ echo_up e core header (Ok cookie) word answers allowed h = resolved_up e cookie 
 -- ---- ends, and T1
 
 pub abort_up : (e : Endpoint) (causes : List Cause) (core : Core) → Up e → Up (abort_outcome e causes core).after
-abort_up e causes closed h = h
-abort_up e causes (cookie_wait my) h = h
-abort_up e causes (cookie_echoed my held cookie) h = tt
-abort_up e causes (open_in phase my held) h = tt
+abort_up e causes core h = by_abort_outcome (λ o. Up o.after) e causes core tt h
 
 pub aborting_up : (e : Endpoint) (core : Core) (reason : AbortReason) → Up e → Up (aborting_outcome e core reason).after
 aborting_up e closed reason h = h

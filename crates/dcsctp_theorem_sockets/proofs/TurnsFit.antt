@@ -26,6 +26,7 @@ use Rattle.dcsctp_spec_runs.specs.Laws.{OfferReadsBack}
 use Rattle.dcsctp_spec_lemmas.specs.types.declared.capabilities.Capabilities.{Capabilities}
 use Rattle.dcsctp_spec_lemmas.specs.types.Offer.{offer_of, negotiated}
 use Rattle.dcsctp_spec_runs.specs.Fitting.{AllSent, FitsHeld, FitsCore, FitsEndpoint, IsSendable, Sendable, TurnFits}
+use Rattle.dcsctp_spec_lemmas.proofs.AbortLemmas.{by_abort_outcome}
 use Rattle.dcsctp_theorem_sockets.proofs.Bytes.{ReadPairs, read_pairs_fit}
 use Rattle.dcsctp_theorem_sockets.proofs.FlushFits.{still_fits, draft_sendable, flushed_fits}
 use Rattle.dcsctp_theorem_sockets.proofs.PlainFits.{plain_fits}
@@ -215,10 +216,8 @@ cookie_ack_fits e (cookie_echoed my held cookie) answers allowed h own =
 cookie_ack_fits e (open_in phase my held) answers allowed h own = still_fits e h
 
 abort_fits : (e : Endpoint) (causes : List Cause) (core : Core) → FitsEndpoint e → TurnFits (abort_outcome e causes core)
-abort_fits e causes closed h = still_fits e h
-abort_fits e causes (cookie_wait my) h = still_fits e h
-abort_fits e causes (cookie_echoed my held cookie) h = record { after = record { valid = h.valid; options = h.options; core = tt; t1 = tt }; sends = (tt, tt) }
-abort_fits e causes (open_in phase my held) h = record { after = record { valid = h.valid; options = h.options; core = tt; t1 = tt }; sends = (tt, tt) }
+abort_fits e causes core h =
+    by_abort_outcome TurnFits e causes core (record { after = record { valid = h.valid; options = h.options; core = tt; t1 = tt }; sends = (tt, tt) }) (still_fits e h)
 
 -- ---- each chunk that is read of what a socket sent
 

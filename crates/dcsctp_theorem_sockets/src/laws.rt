@@ -21,7 +21,7 @@ use dcsctp_wire_laws::{built_packet_reads_as_itself, built_packet_reads_back};
 /// Two sockets agree, over every schedule that loses, repeats, delays and reorders their packets, as long as
 /// no act comes from outside. When one reports OnConnected, its peer has, or had, the matching association
 /// with what the two have in common. When a request of one to reset streams was performed, the other
-/// performed it.
+/// performed one of that number, if it is one of the first 2^32 - 1 of a lifetime.
 pub fn sockets_agree()
     ensures { SocketsAgree }
 {

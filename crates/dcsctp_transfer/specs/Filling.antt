@@ -64,5 +64,5 @@ with_chunk packet chunk = if nat_le (length (chunk_bytes chunk)) (bytes_remainin
 -- A SACK was made, or none was asked for.
 abbrev pub FillsRequestedSack : Bool → Transfer → Building → Transfer → Building → Type 0
 FillsRequestedSack true old packet new filled =
-    (new ≡ record old { tracker = sacked old.tracker }) × (filled ≡ with_chunk packet (sack_chunk (sack_of old.tracker (advertised_window old))))
+    (new ≡ record old { tracker = sacked old.tracker }) × (filled ≡ with_chunk packet (sack_chunk (sack_of (bytes_remaining packet) old.tracker (advertised_window old))))
 FillsRequestedSack false old packet new filled = (new ≡ old) × (filled ≡ packet)

@@ -20,7 +20,9 @@ use std::collections::VecDeque;
 
 impl Transfer {
     // Is there room for data with this TSN: are less than nine tenths of the receive window in use? With
-    // `Options::follow_rfc` data that fills a gap is taken while some of the window is left.
+    // `Options::follow_rfc` data that fills a gap is taken while some of the window is left. So is the first that is
+    // missing while less than twice the window is held, since nothing else would free it: what a SACK has reported
+    // isn't given up again (RFC 9260, section 6.2).
     fn has_room(&self, tsn: u32) -> bool
         requires { is_valid_tsn self.now.tracker.cumulative tsn ≡ true }
         ensures { result ≡ has_room tsn self.now }
@@ -28,7 +30,9 @@ impl Transfer {
         !self.reassembly_queue.is_above_watermark()
             || (self.data_tracker.follows_rfc()
                 && self.data_tracker.is_below_highest(tsn)
-                && 0 < self.reassembly_queue.remaining_bytes())
+                && (0 < self.reassembly_queue.remaining_bytes()
+                    || (self.data_tracker.is_first_missing(tsn)
+                        && self.reassembly_queue.is_below_double())))
     }
 
     // Drops data for which there is no room. With `Options::follow_rfc` it is answered at once.

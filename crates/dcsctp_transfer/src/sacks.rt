@@ -96,14 +96,15 @@ impl Transfer {
         self.retransmission_queue.handle_timeout(now)
     }
 
-    // Takes a round trip into account, if one was measured.
-    fn observe_round_trip(&mut self, rtt: Option<Duration>)
+    /// Takes a round trip into account, if one was measured.
+    pub fn observe_round_trip(&mut self, rtt: Option<Duration>)
         ensures { self.new ≡ timed_by (option_map as_nanos rtt) self.old }
     {
         if let Some(rtt) = rtt {
             self.rto.observe_rto(rtt);
             let rto = self.rto.rto();
-            self.retransmission_queue.update_rto(rto);
+            self.retransmission_queue
+                .update_rto(rto, self.rto.is_measured());
             self.data_tracker.update_rto(rto);
         }
     }

@@ -91,7 +91,7 @@ impl Transfer {
 
     /// Puts a SACK into the packet if one is due. A delayed one counts if `also_if_delayed`, since other
     /// chunks are sent with it (RFC 9260, sections 6.1 and 6.2). All that was received is acknowledged by it;
-    /// it is left out if it doesn't fit.
+    /// it is left out if it doesn't fit. With `Options::follow_rfc` it is cut to what fits, from 16 bytes on.
     ///
     /// `Err`: an allocation failed; the packet is unchanged.
     pub fn acknowledge(
@@ -107,7 +107,8 @@ impl Transfer {
             return Ok(());
         }
         let window = self.window_told() % 0x1_0000_0000;
-        let sack = self.data_tracker.create_selective_ack(window as u32)?;
+        let room = packet.bytes_remaining();
+        let sack = self.data_tracker.create_selective_ack(window as u32, room)?;
         add_sack(&sack, packet);
         Ok(())
     }

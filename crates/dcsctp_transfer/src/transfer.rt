@@ -7,6 +7,7 @@ use dcsctp_send_retransmission::send_timer::RetransmissionTimeout;
 use dcsctp_send_retransmission::types::{Capabilities, Options};
 use std::alloc::Global;
 use std::marker::Model;
+use std::time::Duration;
 
 /// What an association has in flight and has received, and how long it awaits an acknowledgement.
 pub struct Transfer {
@@ -45,9 +46,13 @@ impl Model for Transfer {
 }
 
 impl Transfer {
-    ghost use Rattle.std.specs.Prelude.{◌≡◌, ◌==◌, ◌%◌, ◌^◌, not};
+    ghost use Rattle.std.specs.Prelude.{◌≡◌, ◌==◌, ◌%◌, ◌^◌, not, Some};
+    ghost use Rattle.std.specs.Duration.{as_nanos};
+    ghost use Rattle.std.specs.Option.{option_map};
+    ghost use Rattle.dcsctp_send_retransmission.specs.spec.endpoint.BegunResets.{longest_wait_of};
     ghost use Rattle.dcsctp_send_retransmission.specs.spec.queues.Items.{unacknowledged_items};
     ghost use Rattle.dcsctp_send_retransmission.specs.spec.queues.Outstanding.{next_tsn};
+    ghost use Rattle.dcsctp_send_retransmission.specs.spec.queues.Retransmission.{outstanding_count};
     ghost use Rattle.dcsctp_send_retransmission.specs.spec.queues.Transfer.{new_transfer};
     ghost use Rattle.dcsctp_send_retransmission.specs.spec.queues.Tracker.{cumulative_tsn};
 
@@ -92,6 +97,20 @@ impl Transfer {
         ensures { result ≡ not (unacknowledged_items self.now.retransmission.outstanding.items == 0) }
     {
         self.retransmission_queue.unacked_items() != 0
+    }
+
+    /// The longest that the reconfiguration timer waits once it has expired; `None` is no limit. Allocates nothing.
+    pub fn longest_wait(&self) -> Option<Duration>
+        ensures { option_map as_nanos result ≡ longest_wait_of (Some self.now) }
+    {
+        self.rto.longest_wait()
+    }
+
+    /// Was something sent that the cumulative TSN ack hasn't passed, abandoned or not?
+    pub fn has_outstanding_items(&self) -> bool
+        ensures { result ≡ not (outstanding_count self.now.retransmission == 0) }
+    {
+        self.retransmission_queue.outstanding_items() != 0
     }
 
     /// The last TSN before the first that is missing (RFC 9260, section 3.3.8).

@@ -70,7 +70,7 @@ impl Receiver {
             return Ok(());
         }
         let window = self.queue.remaining_bytes().min(200_000) as u32;
-        let sack = self.tracker.create_selective_ack(window)?;
+        let sack = self.tracker.create_selective_ack(window, 1179)?;
         let blocks = clean_sack(self.alloc, &sack.chunk())?;
         let cumulative = sack.cumulative_tsn_ack;
         link.put(

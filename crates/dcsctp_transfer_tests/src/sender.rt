@@ -170,7 +170,7 @@ impl Sender {
         if let HandleSackResult::Valid { rtt, .. } = outcome {
             if let Some(rtt) = rtt {
                 self.rto.observe_rto(rtt);
-                self.sent.update_rto(self.rto.rto());
+                self.sent.update_rto(self.rto.rto(), self.rto.is_measured());
             }
             if self.sent.has_data_to_be_fast_retransmitted() {
                 let tsns = self.sent.get_chunks_for_fast_retransmit(at(now), 1176)?;

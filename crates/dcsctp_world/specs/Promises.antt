@@ -53,7 +53,7 @@ pub record Promises {R : Type 0} (world : WorldView (Recording R)) : Type 0 wher
   -- If the acts shown are honest, so are those of the run.
   pub honest : AreHonest world.acts → AreHonest (acts_of run.steps)
   -- When one side reports OnConnected, its peer has, or had, the matching association. When one side's request to reset streams
-  -- was performed, its peer performed it.
+  -- was performed, its peer performed one of that number, if it is one of the first 2^32 - 1 of a lifetime.
   pub agree : AgreeThroughout (options_of world) run.steps
   -- Each COOKIE ECHO that a side handles has a cookie that this side gave away in an earlier turn.
   pub given : GivenThroughout run.steps

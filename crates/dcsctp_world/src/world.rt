@@ -225,11 +225,11 @@ impl<R: Rng + Drop> World<R> {
     /// two premises. No act comes from outside, so no socket was restored either; `is_honest` tests that. And no
     /// side draws a verification tag twice, which `pairs` shows. When one side reports OnConnected, its peer has,
     /// or had, the matching association, with what the two have in common. When it reports
-    /// OnStreamsResetPerformed, its peer has performed that request. The four packets of a handshake, delivered in
-    /// turn, connect two fresh sockets that fit each other (RFC 9260, section 5.1). By the first premise alone,
-    /// each COOKIE ECHO that a side handles has a cookie that this side gave away before, in an INIT ACK. A cookie
-    /// that makes an association was given away at most `cookie_lifetime` before, by that side's clock (section
-    /// 5.1.5).
+    /// OnStreamsResetPerformed, its peer has performed one of that number, if it is one of the first 2^32 - 1 of
+    /// a lifetime. The four packets of a handshake, delivered in turn, connect two fresh sockets that fit each
+    /// other (RFC 9260, section 5.1). By the first premise alone, each COOKIE ECHO that a side handles has a
+    /// cookie that this side gave away before, in an INIT ACK. A cookie that makes an association was given away
+    /// at most `cookie_lifetime` before, by that side's clock (section 5.1.5).
     ///
     /// What a side's user read (`read`) is what the other's user sent (`sent`): stream, protocol identifier and
     /// bytes, and no message is read twice, in any association. That has further premises. Each verification tag

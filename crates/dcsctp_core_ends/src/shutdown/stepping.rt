@@ -3,22 +3,23 @@
 ghost use Rattle.std.specs.Prelude.{◌≡◌, true};
 ghost use Rattle.std.specs.Duration.{as_nanos};
 ghost use Rattle.dcsctp_core.specs.spec.endpoint.Timers.{started};
-ghost use Rattle.dcsctp_core.specs.spec.endpoint.ShutdownOutcomes.{t2_settings, waits_for_queue};
+ghost use Rattle.dcsctp_core.specs.spec.endpoint.ShutdownOutcomes.{t2_settings, waits_for_abandoned, waits_for_queue};
 ghost use Rattle.dcsctp_core.specs.Handling.{Tries};
 ghost use Rattle.dcsctp_core.specs.View.{core_of, endpoint_of};
 ghost use Rattle.dcsctp_core_ends.specs.Shutdown.{ack_sent_turn, is_open_core, shutdown_sent_turn, step_turn};
 
 use crate::shutdown::sending::{send_shutdown, send_shutdown_ack};
-use dcsctp_core::send_timer::{BackoffAlgorithm, Timer};
+use dcsctp_core::send_timer::{BackoffAlgorithm, Timer, longest_wait};
 use dcsctp_core::types::{Options, SocketTime};
 use dcsctp_core::{Context, OpenPhase, ShutdownState, State};
 use rand_core::Rng;
 use std::alloc::AllocError;
 use std::time::Duration;
 
-// T2-shutdown, started now with this retransmission timeout. Each wait is twice the last one, without a
-// limit; the options say how often a packet is sent again. Unlike RFC 9260, section 9.2,
-// `t2_shutdown_timeout` is not used (docs/design/decisions.md, Shutdown).
+// T2-shutdown, started now with this retransmission timeout. Each wait is twice the last one, and with
+// `Options::follow_rfc` no longer than the retransmission timer's (RFC 9260, section 6.3.3). The options say
+// how often a packet is sent again. Unlike RFC 9260, section 9.2, `t2_shutdown_timeout` is not used
+// (docs/design/decisions.md, Shutdown).
 fn started_t2(options: &Options, rto: Duration, now: SocketTime) -> ShutdownState
     ensures { result.t2_shutdown.running ≡ started now (t2_settings options.now (as_nanos rto)) }
 {
@@ -26,7 +27,7 @@ fn started_t2(options: &Options, rto: Duration, now: SocketTime) -> ShutdownStat
         rto,
         BackoffAlgorithm::Exponential,
         options.max_retransmissions,
-        None,
+        longest_wait(options),
     );
     t2_shutdown.start(now);
     ShutdownState { t2_shutdown }
@@ -68,15 +69,28 @@ fn waits_for_queue<R: Rng>(context: &Context<R>) -> bool
         && context.send_queue.waits_at(context.moment)
 }
 
+// Does a shutdown wait for what was abandoned? Only with `Options::follow_rfc`, until the peer has
+// acknowledged that it was: before, the peer delivers nothing that came after it (RFC 9260, section 9.2;
+// RFC 3758, section 3.5).
+fn waits_for_abandoned<R: Rng>(context: &Context<R>) -> bool
+    ensures { result ≡ waits_for_abandoned (endpoint_of context.now) }
+{
+    context.state.has_outstanding_items() && context.options.follow_rfc
+}
+
 /// Continues a shutdown that is under way, if all that was sent is acknowledged or abandoned. SHUTDOWN is
-/// sent if the user asked for it, SHUTDOWN ACK if the peer did. With `Options::follow_rfc` what waits in the
-/// queue and can be sent goes first; else it isn't looked at (docs/design/decisions.md, Shutdown).
+/// sent if the user asked for it, SHUTDOWN ACK if the peer did. With `Options::follow_rfc` queued messages
+/// that can be sent go first, and the peer must have acknowledged what was abandoned; else neither counts
+/// (docs/design/decisions.md, Shutdown).
 ///
 /// `Err`: an allocation failed; nothing has changed.
 pub fn step_shutdown<R: Rng>(context: &mut Context<R>) -> Result<(), AllocError>
     ensures { Tries R.stream step_turn context.old result context.new }
 {
     if context.state.has_unacknowledged_items() || waits_for_queue(context) {
+        return Ok(());
+    }
+    if waits_for_abandoned(context) {
         return Ok(());
     }
     match &context.state {

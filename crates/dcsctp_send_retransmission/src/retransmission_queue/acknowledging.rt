@@ -76,11 +76,19 @@ impl RetransmissionQueue {
     }
 
     // Takes the peer's window from a SACK, and updates the timer; the cumulative TSN has passed that many
-    // items (RFC 9260, section 6.3.2).
+    // items (RFC 9260, section 6.3.2). With `Options::follow_rfc` a window that opens has what is in flight sent
+    // again at once, if the timer has expired since it was started: those were probes, for which there was no room
+    // (section 6.1, rule A).
     fn settle(&mut self, now: SocketTime, a_rwnd: u32, count: usize)
         ensures { self.new ≡ window_settled_at now a_rwnd count self.old }
     {
+        let was_closed = self.is_window_closed();
         self.peer_window = a_rwnd as usize;
+        if self.follows_rfc && was_closed && !self.is_window_closed() && self.timer.has_expired() {
+            let len = self.outstanding.len();
+            self.outstanding.change_between(Change::Mark, 0, len);
+            self.timer.stop();
+        }
         if 0 < count {
             self.timer.stop();
         }

@@ -1,7 +1,8 @@
 -- How an association shuts down and ends (RFC 9260, sections 8.5, 9.1 and 9.2).
-use Rattle.std.specs.Prelude.{ℕ, Bool, true, false, List, [], ◌∷◌}
+use Rattle.std.specs.Prelude.{ℕ, Bool, true, false, List, [], ◌∷◌, if◌then◌else◌}
 use Rattle.dcsctp_types.specs.declared.association.Pair.{Pair}
 use Rattle.dcsctp_types.specs.declared.association.Held.{Held}
+use Rattle.dcsctp_types.specs.declared.options.Options.{Options}
 use Rattle.dcsctp_spec.specs.endpoint.Cause.{Cause}
 use Rattle.dcsctp_spec.specs.Packet.{Content, abort, shutdown, shutdown_ack, shutdown_complete}
 use Rattle.dcsctp_spec.specs.endpoint.Endpoint.{Core, closed, cookie_wait, cookie_echoed, open_in, OpenPhase, established, shutdown_pending, shutdown_sent, shutdown_received, shutdown_ack_sent}
@@ -57,11 +58,16 @@ shutdown_again_change core tsn = unchanged core
 
 -- ---- chunks
 
--- An ABORT ends the association with a peer.
-abbrev pub abort_change : Core → Change
-abort_change (cookie_echoed my held cookie) = ended []
-abort_change (open_in phase my held) = ended []
-abort_change core = unchanged core
+-- Does an ABORT end the association? It ends one with a peer, and by the RFC also an attempt to connect (RFC 9260, sections 5.1 and
+-- 9.1).
+abbrev pub is_ended_by_abort : Options → Core → Bool
+is_ended_by_abort options closed = false
+is_ended_by_abort options (cookie_wait my) = options.follow_rfc
+is_ended_by_abort options (cookie_echoed my held cookie) = true
+is_ended_by_abort options (open_in phase my held) = true
+
+abbrev pub abort_change : Options → Core → Change
+abort_change options core = if is_ended_by_abort options core then ended [] else unchanged core
 
 -- The peer shuts the association down. What it acknowledges may be the last.
 abbrev pub shutdown_change_in : OpenPhase → Pair → Held → ℕ → Bool → Change

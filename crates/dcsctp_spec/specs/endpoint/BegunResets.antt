@@ -75,15 +75,20 @@ retransmission_begun (Some begun) state = with_reset_begun state
 abbrev pub transfer_reset_begun : Option BegunReset → Transfer → Transfer
 transfer_reset_begun begun transfer = record transfer { retransmission = retransmission_begun begun transfer.retransmission }
 
--- the reconfiguration timer: each wait is twice the last one, without a limit, and it never stops by itself (RFC 6525, section
--- 5.1.1)
-abbrev pub reconfiguration_settings : ℕ → TimerSettings
-reconfiguration_settings rto = record { duration = rto; terms = record { backoff = Exponential; max_restarts = None; max_backoff = None } }
-
 -- the retransmission timeout, if there is an association
 abbrev pub rto_of : Option Transfer → ℕ
 rto_of None = 0
 rto_of (Some transfer) = transfer.timeout.rto
+
+-- the longest that the reconfiguration timer waits once it has expired
+abbrev pub longest_wait_of : Option Transfer → Option ℕ
+longest_wait_of None = None
+longest_wait_of (Some transfer) = transfer.timeout.longest_wait
+
+-- The reconfiguration timer: each wait is twice the last one, and it never stops by itself (RFC 6525, section 5.1.1).
+abbrev pub reconfiguration_settings : Option Transfer → TimerSettings
+reconfiguration_settings transfer =
+    record { duration = rto_of transfer; terms = record { backoff = Exponential; max_restarts = None; max_backoff = longest_wait_of transfer } }
 
 abbrev pub held_begun : Option BegunReset → Held → Held
 held_begun None held = held
@@ -101,5 +106,5 @@ after_begun (Some begun) e =
     record e {
       core = core_asking e.core;
       outstanding = Some (record { last_tsn = begun.reset.last_tsn; streams = begun.reset.streams; waits_for_retry = false });
-      timers = record e.timers { reconfiguration = started e.moment (reconfiguration_settings (rto_of e.queues.transfer)) };
+      timers = record e.timers { reconfiguration = started e.moment (reconfiguration_settings e.queues.transfer) };
     }

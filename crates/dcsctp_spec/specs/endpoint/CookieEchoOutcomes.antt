@@ -1,5 +1,5 @@
 -- The turn of a COOKIE ECHO (RFC 9260, sections 5.1 and 5.2.4). association/CookieEchoChanges says which case it is.
-use Rattle.std.specs.Prelude.{◌≡◌, ◌==◌, ℕ, min, Bool, true, false, None, Some, List, [], ◌∷◌, codes, Result, Ok, Err}
+use Rattle.std.specs.Prelude.{◌≡◌, ◌==◌, ◌&&◌, ◌||◌, ℕ, min, Bool, true, false, Option, None, Some, List, [], ◌∷◌, codes, Result, Ok, Err}
 use Rattle.std.specs.Duration.{as_nanos}
 use Rattle.dcsctp_types.specs.declared.association.Held.{Held}
 use Rattle.dcsctp_types.specs.declared.options.Options.{Options}
@@ -10,7 +10,7 @@ use Rattle.dcsctp_spec.specs.endpoint.Event.{Event, sent, connected, connection_
 use Rattle.dcsctp_spec.specs.Packet.{cookie_ack, shutdown_ack, Emission}
 use Rattle.dcsctp_spec.specs.queues.SendQueue.{SendQueueState, numbered_for}
 use Rattle.dcsctp_spec.specs.queues.Transfer.{new_transfer}
-use Rattle.dcsctp_spec.specs.endpoint.Endpoint.{Endpoint, Core, cookie_echoed, open_in, OpenPhase, established, shutdown_ack_sent, stopped_timers, heartbeats_begun}
+use Rattle.dcsctp_spec.specs.endpoint.Endpoint.{Endpoint, Core, cookie_echoed, open_in, OpenPhase, established, shutdown_ack_sent, stopped_timers, heartbeats_begun, errors_begun}
 use Rattle.dcsctp_spec.specs.endpoint.Outcome.{Outcome, noting, still, packet_counted}
 use Rattle.dcsctp_spec.specs.endpoint.Following.{dropped_rest}
 use Rattle.dcsctp_spec.specs.association.CookieEchoChanges.{Resolution, establish_new, restart, simultaneous_init, discard, maintain_existing, invalid_tag, stale, aged, resolve, held_by_cookie, shutting_down_error}
@@ -69,6 +69,8 @@ established_by e cookie queue tie =
       core = open_in established cookie.maker (held_by_cookie e.options cookie);
       tie = tie;
       outstanding = None;
+      error_count = errors_begun e;
+      heartbeat_sent = None;
       timers = heartbeats_begun e (record stopped_timers { heartbeat_interval = e.timers.heartbeat_interval; heartbeat_timeout = e.timers.heartbeat_timeout });
       queues = record {
         queue = queue;
@@ -145,9 +147,23 @@ resolved_by flush e cookie core word maintain_existing = maintain_by flush e coo
 resolved_by flush e cookie core word invalid_tag = refused_echo_outcome e invalid_tag_text
 resolved_by flush e cookie core word stale = refused_echo_outcome e stale_text
 
--- the case, by the age of the cookie too
+abbrev pub is_last_tag : Option ℕ → ℕ → Bool
+is_last_tag None header = false
+is_last_tag (Some tag) header = header == tag
+
+-- Is there no association, and is this the own tag of the last one? By the RFC none begins under it again (RFC 9260, section 5.3.1).
+abbrev pub is_tag_over : Endpoint → Core → ℕ → Bool
+is_tag_over e (cookie_echoed my held cookie) header = false
+is_tag_over e (open_in phase my held) header = false
+is_tag_over e core header = e.options.follow_rfc && is_last_tag e.last_tag header
+
+-- Is a cookie too old to make an association, or has it made one that is over?
+abbrev pub is_spent : Endpoint → Core → ℕ → Cookie → Bool
+is_spent e core header cookie = is_tag_over e core header || is_stale (as_nanos e.options.cookie_lifetime) e.moment cookie
+
+-- the case, by that too
 abbrev pub resolved_now : Endpoint → Core → ℕ → Cookie → Resolution
-resolved_now e core header cookie = aged (is_stale (as_nanos e.options.cookie_lifetime) e.moment cookie) (resolve core e.tie header cookie)
+resolved_now e core header cookie = aged (is_spent e core header cookie) (resolve core e.tie header cookie)
 
 -- By the association, the header tag and what the bytes read as; the word is the one that comes next, drawn or not. Its change is
 -- `cookie_echo_change`.

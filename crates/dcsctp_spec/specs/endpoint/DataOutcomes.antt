@@ -150,8 +150,8 @@ acknowledging e held sack = filled (draft_to held) (plain_contents (where_fits (
 -- Its data is acknowledged at once: a flush that begins with a SACK, if that fits.
 pub record AnswersPacket (e : Endpoint) (held : Held) (transfer : Transfer) (tracker : TrackerState) (o : Outcome) : Type 0 where
   pub answers : List Answer
-  pub allowed : FlushAnswers (endpoint_with_tracker e transfer (sacked tracker)) (acknowledging e held (own_sack (record transfer { tracker = tracker }))) answers
-  pub is : o ≡ flush_of (endpoint_with_tracker e transfer (sacked tracker)) (acknowledging e held (own_sack (record transfer { tracker = tracker }))) answers
+  pub allowed : FlushAnswers (endpoint_with_tracker e transfer (sacked tracker)) (acknowledging e held (own_sack (room_in e (draft_to held)) (record transfer { tracker = tracker }))) answers
+  pub is : o ≡ flush_of (endpoint_with_tracker e transfer (sacked tracker)) (acknowledging e held (own_sack (room_in e (draft_to held)) (record transfer { tracker = tracker }))) answers
 
 abbrev pub EndWhere : Bool → Endpoint → Option Held → Transfer → TrackerState → Outcome → Type 0
 EndWhere true e (Some held) transfer tracker o = AnswersPacket e held transfer tracker o

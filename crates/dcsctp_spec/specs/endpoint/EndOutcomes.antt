@@ -13,6 +13,7 @@ use Rattle.dcsctp_spec.specs.endpoint.Event as events
 use Rattle.dcsctp_spec.specs.Packet.{Emission, abort, shutdown_complete}
 use Rattle.dcsctp_spec.specs.endpoint.Endpoint.{Endpoint, Core, closed, cookie_echoed, open_in, stopped_timers}
 use Rattle.dcsctp_spec.specs.association.Effect.{ends}
+use Rattle.dcsctp_spec.specs.association.ShutdownChanges.{is_ended_by_abort}
 use Rattle.dcsctp_spec.specs.queues.Transfer.{Transfer}
 use Rattle.dcsctp_spec.specs.endpoint.Outcome.{Outcome, still, quiet, to_peer, sends, emits}
 use Rattle.dcsctp_spec.specs.endpoint.Following.{Following, next_chunk, packet_end, dropped_rest}
@@ -23,13 +24,21 @@ abbrev pub left_by : Options → Option Transfer → List MessageContent → Lis
 left_by options None left = left
 left_by options (Some transfer) left = if options.follow_rfc then transfer.reassembly.incoming.ready else left
 
+-- the own tag of the association that ends now, if it has a peer
+abbrev pub ended_tag : Core → Option ℕ → Option ℕ
+ended_tag (cookie_echoed my held cookie) last = Some my.tag
+ended_tag (open_in phase my held) last = Some my.tag
+ended_tag core last = last
+
 -- No association, and no timer. What waits to be sent is kept, and so is the error count.
 abbrev pub closed_after : Endpoint → Endpoint
 closed_after e =
     record e {
       core = closed;
+      last_tag = ended_tag e.core e.last_tag;
       tie = 0;
       outstanding = None;
+      heartbeat_sent = None;
       timers = stopped_timers;
       queues = record e.queues { transfer = None };
       left = left_by e.options e.queues.transfer e.left;
@@ -50,11 +59,10 @@ abbrev pub close_outcome : Endpoint → Core → Event Emission → Outcome
 close_outcome e closed event = still e
 close_outcome e core event = ended_outcome (quiet e [] []) event
 
--- An ABORT ends the association with a peer (RFC 9260, section 9.1). Without a peer nothing happens.
+-- An ABORT ends the association with a peer (RFC 9260, section 9.1).
 abbrev pub abort_outcome : Endpoint → List Cause → Core → Outcome
-abort_outcome e causes (cookie_echoed my held cookie) = ended_outcome (quiet e [] []) (aborted PeerReported (causes_text causes))
-abort_outcome e causes (open_in phase my held) = ended_outcome (quiet e [] []) (aborted PeerReported (causes_text causes))
-abort_outcome e causes core = still e
+abort_outcome e causes core =
+    if is_ended_by_abort e.options core then ended_outcome (quiet e [] []) (aborted PeerReported (causes_text causes)) else still e
 
 -- ---- its own abort
 

@@ -101,9 +101,13 @@ pub record Endpoint : Type 0 where
   -- the association's tie tag (RFC 9260, section 5.2.2), 0 if the peer isn't known
   pub tie : ℕ
   pub outstanding : Option OutstandingRequest
+  -- the own tag of the last association that had a peer and has ended; None: of none
+  pub last_tag : Option ℕ
   -- RFC 9260, section 8.1
   pub error_count : ℕ
   pub heartbeat_counter : ℕ
+  -- when the last HEARTBEAT was sent, until it is answered or its association ends
+  pub heartbeat_sent : Option ℕ
   pub timers : Timers
   -- No FORWARD-TSN is sent before.
   pub no_forward_tsn_before : ℕ
@@ -112,6 +116,10 @@ pub record Endpoint : Type 0 where
   pub queues : EndpointQueues
   -- the messages that were ready when the last association ended, and aren't taken yet
   pub left : List MessageContent
+
+-- The errors that count as an association begins: by the RFC none (RFC 9260, section 8.1).
+abbrev pub errors_begun : Endpoint → ℕ
+errors_begun e = if e.options.follow_rfc then 0 else e.error_count
 
 -- The heartbeat interval starts again. One of zero switches heartbeats off.
 abbrev pub heartbeats_begun : Endpoint → Timers → Timers
@@ -128,8 +136,10 @@ fresh_endpoint options =
       core = closed;
       tie = 0;
       outstanding = None;
+      last_tag = None;
       error_count = 0;
       heartbeat_counter = 0;
+      heartbeat_sent = None;
       timers = stopped_timers;
       no_forward_tsn_before = 0;
       counts = record { packets_received = 0; packets_sent = 0; messages_queued = 0 };

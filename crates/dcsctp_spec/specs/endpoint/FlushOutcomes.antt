@@ -137,14 +137,14 @@ wants_sack first_ask queue transfer =
     is_acknowledgement_due transfer.tracker
     || (owes_acknowledgement transfer.tracker && (has_queued_data queue || can_send transfer.retransmission))
 
--- the SACK of what was received, with what is left of the receive window (RFC 9260, section 3.3.4)
-abbrev pub own_sack : Transfer → Plain
-own_sack transfer = unworked (sack_chunk (sack_of transfer.tracker (advertised_window transfer)))
+-- the SACK of what was received, for that much room, with what is left of the receive window (RFC 9260, section 3.3.4)
+abbrev pub own_sack : ℕ → Transfer → Plain
+own_sack room transfer = unworked (sack_chunk (sack_of room transfer.tracker (advertised_window transfer)))
 
 -- It is sent if it is asked for and fits. Then all received data counts as acknowledged.
 abbrev pub Acknowledges : Bool → ℕ → Transfer → TrackerState → List Plain → Type 0
 Acknowledges false room transfer after chunks = (after ≡ transfer.tracker) × (chunks ≡ [])
-Acknowledges true room transfer after chunks = (after ≡ sacked transfer.tracker) × (chunks ≡ where_fits room (own_sack transfer))
+Acknowledges true room transfer after chunks = (after ≡ sacked transfer.tracker) × (chunks ≡ where_fits room (own_sack room transfer))
 
 -- Its numbers fit their fields.
 abbrev pub FitsPlain : Plain → Type 0

@@ -17,7 +17,7 @@ use Rattle.dcsctp_spec.specs.endpoint.Event.{aborted, connected}
 use Rattle.dcsctp_spec.specs.Packet.{Introduction, Content, init, init_ack, cookie_echo, abort, shutdown_ack, Emission}
 use Rattle.dcsctp_spec.specs.queues.SendQueue.{SendQueueState, queue_restarted, numbered_for}
 use Rattle.dcsctp_spec.specs.queues.Transfer.{new_transfer, next_tsn_of}
-use Rattle.dcsctp_spec.specs.endpoint.Endpoint.{Endpoint, Core, closed, cookie_wait, cookie_echoed, open_in, OpenPhase, established, shutdown_ack_sent, heartbeats_begun, t1_settings}
+use Rattle.dcsctp_spec.specs.endpoint.Endpoint.{Endpoint, Core, closed, cookie_wait, cookie_echoed, open_in, OpenPhase, established, shutdown_ack_sent, heartbeats_begun, t1_settings, errors_begun}
 use Rattle.dcsctp_spec.specs.endpoint.Timers.{started}
 use Rattle.dcsctp_spec.specs.endpoint.Outcome.{Outcome, still, quiet, fits, to_peer, emits, noting, drawing}
 use Rattle.dcsctp_spec.specs.association.Effect.{holds, connects, identity_of}
@@ -155,6 +155,7 @@ awaits_cookie_ack e mine theirs cookie tie =
       core = cookie_echoed mine held cookie;
       tie = tie;
       outstanding = None;
+      error_count = errors_begun e;
       timers = record e.timers { t1 = started e.moment (t1_settings e.options (as_nanos e.options.t1_cookie_timeout)); reconfiguration = None };
       peer_implementation = implementation_of cookie;
       queues = record {

@@ -2,6 +2,7 @@
 -- 3.3.5, 3.3.6, 8.1 and 8.3).
 use Rattle.std.specs.Prelude.{◌==◌, ℕ, ◌+◌, ◌-◌, ◌%◌, ◌^◌, min, Bool, false, nat_lt, Option, None, Some, List, [], ◌∷◌, length, codes, if◌then◌else◌}
 use Rattle.std.specs.Duration.{as_nanos}
+use Rattle.std.specs.Option.{option_map}
 use Rattle.std.specs.Int.{w32, to_be_bytes}
 use Rattle.dcsctp_types.specs.wire.Content.{ParameterContent, heartbeat_info}
 use Rattle.dcsctp_types.specs.wire.Fields.{u32_at}
@@ -13,6 +14,7 @@ use Rattle.dcsctp_types.specs.Sizes.{word_size}
 use Rattle.dcsctp_spec.specs.Packet.{heartbeat, heartbeat_ack, plain, Emission}
 use Rattle.dcsctp_spec.specs.endpoint.Endpoint.{Endpoint, Core, cookie_echoed, open_in}
 use Rattle.dcsctp_spec.specs.endpoint.Timers.{RunningTimer, TimerSettings, started, expired}
+use Rattle.dcsctp_spec.specs.endpoint.TransferMoves.{timed_by}
 use Rattle.dcsctp_spec.specs.endpoint.Outcome.{Outcome, still, reports, emits, to_peer}
 
 -- ---- the count of errors (RFC 9260, section 8.1)
@@ -49,9 +51,19 @@ counter_of (Some info) = if length info == word_size then Some (u32_at 0 info) e
 abbrev pub invalid_info_text : List ℕ
 invalid_info_text = codes "Failed to parse HEARTBEAT-ACK; Invalid info parameter"
 
+-- the round trip that a HEARTBEAT's answer measures: by the RFC its first one (RFC 9260, section 8.3)
+abbrev pub heartbeat_round_trip : Endpoint → Option ℕ
+heartbeat_round_trip e = if e.options.follow_rfc then option_map (λ sent. e.moment - sent) e.heartbeat_sent else None
+
 -- The peer is there: no answer is awaited, and no error counts.
 abbrev pub answered : Endpoint → Endpoint
-answered e = record e { error_count = 0; timers = record e.timers { heartbeat_timeout = None } }
+answered e =
+    record e {
+      error_count = 0;
+      heartbeat_sent = None;
+      timers = record e.timers { heartbeat_timeout = None };
+      queues = record e.queues { transfer = option_map (timed_by (heartbeat_round_trip e)) e.queues.transfer };
+    }
 
 -- A HEARTBEAT ACK counts if it carries the present counter.
 abbrev pub heartbeat_ack_outcome : Endpoint → Option ℕ → Outcome
@@ -79,6 +91,7 @@ abbrev pub beating : Endpoint → Endpoint
 beating e =
     record e {
       heartbeat_counter = (e.heartbeat_counter + 1) % 2 ^ 32;
+      heartbeat_sent = Some e.moment;
       timers = record e.timers { heartbeat_timeout = started e.moment (heartbeat_timeout_settings e.options) };
     }
 

@@ -22,7 +22,7 @@ use Rattle.dcsctp_spec.specs.association.Effect.{Effect, completes, fails, perfo
 use Rattle.dcsctp_spec.specs.association.ResetChanges.{HandledParameters, work_chunk}
 use Rattle.dcsctp_spec.specs.endpoint.FlushOutcomes.{Answer, draft_to, flush_of, FlushAnswers}
 use Rattle.dcsctp_spec.specs.queues.Numbers.{is_tsn_beyond}
-use Rattle.dcsctp_spec.specs.endpoint.BegunResets.{reconfiguration_settings, rto_of}
+use Rattle.dcsctp_spec.specs.endpoint.BegunResets.{reconfiguration_settings}
 
 -- ---- when a reset is due
 
@@ -149,7 +149,7 @@ own_moved unanswered e = e
 own_moved retried e =
     record e {
       outstanding = option_map waiting e.outstanding;
-      timers = record e.timers { reconfiguration = started e.moment (reconfiguration_settings (rto_of e.queues.transfer)) };
+      timers = record e.timers { reconfiguration = started e.moment (reconfiguration_settings e.queues.transfer) };
       error_count = errors_heeded e;
     }
 own_moved was_performed e = own_request_ended (queue_committed e.queues.queue) e

@@ -10,9 +10,10 @@ use Rattle.dcsctp_spec.specs.Packet.{shutdown, shutdown_ack, shutdown_complete}
 use Rattle.dcsctp_spec.specs.queues.Tracker.{cumulative_tsn}
 use Rattle.dcsctp_spec.specs.queues.Transfer.{Transfer}
 use Rattle.dcsctp_spec.specs.queues.Items.{unacknowledged_items}
+use Rattle.dcsctp_spec.specs.queues.Retransmission.{outstanding_count}
 use Rattle.dcsctp_spec.specs.queues.SendQueue.{waits_at}
 use Rattle.dcsctp_spec.specs.endpoint.Endpoint.{Endpoint, Core, closed, cookie_wait, cookie_echoed, open_in, OpenPhase, established, shutdown_pending, shutdown_sent, shutdown_received, shutdown_ack_sent}
-use Rattle.dcsctp_spec.specs.endpoint.Timers.{TimerSettings, started, going_on}
+use Rattle.dcsctp_spec.specs.endpoint.Timers.{BackoffTerms, TimerSettings, started, going_on, longest_wait}
 use Rattle.dcsctp_spec.specs.endpoint.Outcome.{Outcome, still, quiet, sends, to_peer}
 use Rattle.dcsctp_spec.specs.endpoint.BegunResets.{rto_of}
 use Rattle.dcsctp_spec.specs.endpoint.FlushOutcomes.{allows_packet}
@@ -20,9 +21,18 @@ use Rattle.dcsctp_spec.specs.endpoint.EndOutcomes.{ended_outcome, reflected_outc
 
 -- ---- T2-shutdown
 
--- Each wait is twice the last one, without a limit, and the options say how often a packet is sent again.
+-- Each wait is twice the last one, and the options say how often a packet is sent again. By the RFC no wait is longer than a
+-- retransmission's (RFC 9260, section 6.3.3, E2).
+abbrev pub t2_terms : Options → BackoffTerms
+t2_terms options =
+    record {
+      backoff = Exponential;
+      max_restarts = options.max_retransmissions;
+      max_backoff = longest_wait options;
+    }
+
 abbrev pub t2_settings : Options → ℕ → TimerSettings
-t2_settings options rto = record { duration = rto; terms = record { backoff = Exponential; max_restarts = options.max_retransmissions; max_backoff = None } }
+t2_settings options rto = record { duration = rto; terms = t2_terms options }
 
 -- It starts again, with the present retransmission timeout.
 abbrev pub t2_begun : Endpoint → Endpoint
@@ -69,9 +79,19 @@ is_all_acknowledged (Some transfer) = unacknowledged_items transfer.retransmissi
 abbrev pub waits_for_queue : Endpoint → Bool
 waits_for_queue e = e.options.follow_rfc && (allows_packet e.options.max_burst && waits_at e.moment e.queues.queue)
 
+-- Has the peer's cumulative TSN ack passed all that was sent, abandoned or not?
+abbrev pub is_all_passed : Option Transfer → Bool
+is_all_passed None = true
+is_all_passed (Some transfer) = outstanding_count transfer.retransmission == 0
+
+-- By the RFC a shutdown waits for what was abandoned, too: the peer delivers what came after that once it knows (RFC 3758, section
+-- 3.5).
+abbrev pub waits_for_abandoned : Endpoint → Bool
+waits_for_abandoned e = e.options.follow_rfc && not (is_all_passed e.queues.transfer)
+
 -- May a shutdown continue?
 abbrev pub may_go_on : Endpoint → Bool
-may_go_on e = is_all_acknowledged e.queues.transfer && not (waits_for_queue e)
+may_go_on e = is_all_acknowledged e.queues.transfer && not (waits_for_queue e) && not (waits_for_abandoned e)
 
 abbrev pub step_by : Bool → Endpoint → OpenPhase → Pair → Held → Outcome
 step_by true e shutdown_pending my held = shutdown_is_sent e my held

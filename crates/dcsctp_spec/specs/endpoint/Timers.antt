@@ -1,6 +1,8 @@
 -- Timers (RFC 9260, section 6.3). Moments and durations are nanoseconds.
-use Rattle.std.specs.Prelude.{ℕ, ◌+◌, ◌*◌, ◌-◌, ◌^◌, min, nat_le, Bool, true, false, if◌then◌else◌, Option, None, Some}
-use Rattle.std.specs.Duration.{max_nanos}
+use Rattle.std.specs.Prelude.{ℕ, ◌+◌, ◌*◌, ◌-◌, ◌^◌, min, max, nat_le, nat_lt, Bool, true, false, if◌then◌else◌, Option, None, Some}
+use Rattle.std.specs.Duration.{as_nanos, max_nanos}
+use Rattle.std.specs.Option.{option_map}
+use Rattle.dcsctp_types.specs.declared.options.Options.{Options}
 use Rattle.dcsctp_types.specs.declared.kinds.BackoffAlgorithm.{BackoffAlgorithm}
 use Rattle.dcsctp_types.specs.declared.kinds.BackoffAlgorithm.TheVariants.{Fixed, Exponential}
 
@@ -45,6 +47,17 @@ next_wait Exponential wait = min (wait * 2) max_nanos
 abbrev pub bounded : Option ℕ → ℕ → ℕ
 bounded None wait = wait
 bounded (Some bound) wait = min wait bound
+
+-- The longest that the retransmission timer runs once it has expired. By the RFC no longer than the greatest timeout (RFC 9260,
+-- section 6.3.3, E2).
+abbrev pub longest_backoff : Options → Option ℕ
+longest_backoff options =
+    let limit : Option ℕ = option_map as_nanos options.max_timer_backoff_duration in
+    if options.follow_rfc then Some (bounded limit (as_nanos options.rto_max)) else limit
+
+-- The same of a timer that repeats a control chunk of the association: only by the RFC it has a bound.
+abbrev pub longest_wait : Options → Option ℕ
+longest_wait options = if options.follow_rfc then longest_backoff options else None
 
 -- May a timer that has expired that often continue?
 abbrev pub may_restart : Option ℕ → ℕ → Bool
@@ -95,3 +108,15 @@ expires_at moment (Some timer) = is_timer_expired moment timer
 abbrev pub running_after : ℕ → Option RunningTimer → Option RunningTimer
 running_after moment None = None
 running_after moment (Some timer) = if is_timer_expired moment timer then expired moment timer else Some timer
+
+-- Has it expired since it was started?
+abbrev pub has_expired : Option RunningTimer → Bool
+has_expired None = false
+has_expired (Some timer) = nat_lt 0 timer.expiries
+
+-- From its next start on it runs twice as long, and no longer than the bound; one that was longer stays.
+abbrev pub backed_off : TimerModel → TimerModel
+backed_off timer =
+    let settings : TimerSettings = timer.settings in
+    let wait : ℕ = bounded settings.terms.max_backoff (next_wait settings.terms.backoff settings.duration) in
+    record timer { settings = record settings { duration = max wait settings.duration } }

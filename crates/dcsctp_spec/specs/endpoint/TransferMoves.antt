@@ -1,5 +1,5 @@
 -- What the transfer layer does with its inputs.
-use Rattle.std.specs.Prelude.{◌≡◌, ℕ, nat_lt, Bool, true, false, not, ◌&&◌, ◌||◌, Option, None, Some, List}
+use Rattle.std.specs.Prelude.{◌≡◌, ℕ, nat_lt, Bool, true, false, not, ◌&&◌, ◌||◌, Option, None, Some, is_some, List}
 use Rattle.dcsctp_types.specs.wire.CleanBlocks.{blocks_in, AreCleaned}
 use Rattle.dcsctp_types.specs.wire.Content.{SackContent}
 use Rattle.dcsctp_types.specs.wire.declared.chunk.sack.GapAckBlock.{GapAckBlock}
@@ -7,13 +7,13 @@ use Rattle.dcsctp_types.specs.declared.arrivals.SkippedTo.{SkippedTo}
 use Rattle.dcsctp_spec.specs.queues.Acknowledging.{AcknowledgesItems}
 use Rattle.dcsctp_spec.specs.queues.Arrivals.{Arrival}
 use Rattle.dcsctp_spec.specs.queues.IncomingStreams.{ChunkModel}
-use Rattle.dcsctp_spec.specs.queues.Reassembly.{ReassemblyState, is_above_watermark, remaining_bytes, AddsData, SkipsData}
+use Rattle.dcsctp_spec.specs.queues.Reassembly.{ReassemblyState, is_above_watermark, is_below_double, remaining_bytes, AddsData, SkipsData}
 use Rattle.dcsctp_spec.specs.queues.Outstanding.{acknowledged_count}
 use Rattle.dcsctp_spec.specs.queues.Retransmission.{RetransmissionState, with_duration, after_expiry}
 use Rattle.dcsctp_spec.specs.queues.RoundTrip.{MeasuresRoundTrip}
 use Rattle.dcsctp_spec.specs.queues.Timeout.{TimeoutState, timeout_after}
 use Rattle.dcsctp_spec.specs.queues.Transfer.{Transfer}
-use Rattle.dcsctp_spec.specs.queues.Tracker.{is_new_tsn, observed, is_below_highest, delay_over, is_forward, after_forward, is_valid_tsn, with_timeout}
+use Rattle.dcsctp_spec.specs.queues.Tracker.{is_new_tsn, observed, is_below_highest, is_first_missing, delay_over, is_forward, after_forward, is_valid_tsn, with_timeout}
 
 -- ---- data that is received
 
@@ -28,11 +28,14 @@ pub record TakesData (arrival : Arrival) (old new : Transfer) : Type 0 where
   pub rest : new ≡ record old { tracker = observed arrival.tsn arrival.immediate_ack old.tracker; reassembly = new.reassembly }
 
 -- Is there room for data of this TSN: is the window not nearly used up? By the RFC data that fills a gap is taken while some of the
--- window is left (RFC 9260, section 6.2).
+-- window is left, and the first that is missing while less than twice the window is held (RFC 9260, section 6.2).
+abbrev pub fills_gap : ℕ → Transfer → Bool
+fills_gap tsn transfer =
+    is_below_highest tsn transfer.tracker
+    && (nat_lt 0 (remaining_bytes transfer.reassembly) || (is_first_missing tsn transfer.tracker && is_below_double transfer.reassembly))
+
 abbrev pub has_room : ℕ → Transfer → Bool
-has_room tsn transfer =
-    not (is_above_watermark transfer.reassembly)
-    || (transfer.tracker.follows_rfc && is_below_highest tsn transfer.tracker && nat_lt 0 (remaining_bytes transfer.reassembly))
+has_room tsn transfer = not (is_above_watermark transfer.reassembly) || (transfer.tracker.follows_rfc && fills_gap tsn transfer)
 
 -- Data is dropped. By the RFC it is answered at once if there was no room for it.
 abbrev pub dropping : Bool → Transfer → Transfer
@@ -75,7 +78,7 @@ timed_by None transfer = transfer
 timed_by (Some round_trip) transfer =
     let timeout : TimeoutState = timeout_after round_trip transfer.timeout in
     record transfer {
-      retransmission = with_duration timeout.rto transfer.retransmission;
+      retransmission = with_duration timeout.rto (is_some timeout.variance) transfer.retransmission;
       timeout = timeout;
       tracker = with_timeout timeout.rto transfer.tracker;
     }

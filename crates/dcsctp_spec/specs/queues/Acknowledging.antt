@@ -5,13 +5,13 @@ use Rattle.dcsctp_types.specs.wire.declared.chunk.sack.GapAckBlock.{GapAckBlock}
 use Rattle.dcsctp_types.specs.declared.congestion.Acknowledged.{Acknowledged}
 use Rattle.dcsctp_types.specs.declared.progress.Change.TheVariants.{Miss, Acknowledge}
 use Rattle.dcsctp_spec.specs.endpoint.Event.{Event, lifecycle_message_delivered, lifecycle_end}
-use Rattle.dcsctp_spec.specs.endpoint.Timers.{TimerModel}
+use Rattle.dcsctp_spec.specs.endpoint.Timers.{TimerModel, has_expired}
 use Rattle.dcsctp_types.specs.queues.Congestion.{after_loss, after_acknowledgement, exit_after}
 use Rattle.dcsctp_spec.specs.queues.Items.{Item, unacknowledged_bytes, unacknowledged_items, never_acknowledged_items, marked_items, changed_between}
 use Rattle.dcsctp_spec.specs.queues.Outstanding.{header, tsn_at, next_tsn, acknowledged_count, reported}
 use Rattle.dcsctp_types.specs.queues.Progress.{is_abandoned}
 use Rattle.dcsctp_spec.specs.queues.Reports.{IsNewlyAcknowledged, IsLastPlace, MissesUntil}
-use Rattle.dcsctp_spec.specs.queues.Retransmission.{RetransmissionState, outstanding_count, chunk_bytes_in_flight, with_items, timer_with}
+use Rattle.dcsctp_spec.specs.queues.Retransmission.{RetransmissionState, outstanding_count, chunk_bytes_in_flight, with_items, timer_with, is_window_closed, all_lost}
 
 -- Is its cumulative TSN ack neither old nor of a TSN that was never sent (RFC 9260, section 6.2.1)?
 abbrev pub is_sack_valid : RetransmissionState → ℕ → Bool
@@ -76,10 +76,21 @@ exiting cumulative state =
 abbrev pub rewound : ℕ → TimerModel → TimerModel
 rewound count timer = if nat_lt 0 count then record timer { running = None } else timer
 
+-- Does the peer's window open, by the RFC, after probes of it have found no room?
+abbrev pub opens : RetransmissionState → RetransmissionState → Bool
+opens old new = old.follows_rfc && is_window_closed old && not (is_window_closed new) && has_expired old.timer.running
+
+-- Then what is in flight is sent again at once, and the timer starts anew (RFC 9260, section 6.1, rule A).
+abbrev pub probes_lost : Bool → RetransmissionState → RetransmissionState
+probes_lost true state = record (all_lost state) { timer = record state.timer { running = None } }
+probes_lost false state = state
+
 -- The peer's window is this now, and the timer runs while something is outstanding.
 abbrev pub window_settled_at : ℕ → ℕ → ℕ → RetransmissionState → RetransmissionState
 window_settled_at now window count state =
-    record state { peer_window = window; timer = timer_with now state.outstanding.items (rewound count state.timer) }
+    let told : RetransmissionState = record state { peer_window = window } in
+    let left : RetransmissionState = probes_lost (opens state told) told in
+    record left { timer = timer_with now left.outstanding.items (rewound count left.timer) }
 
 -- Is fast recovery under way, and does the cumulative TSN move?
 abbrev pub is_recovering : ℕ → RetransmissionState → Bool

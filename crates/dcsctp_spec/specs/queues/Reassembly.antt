@@ -1,6 +1,6 @@
 -- The reassembly queue as callers see it: what was received, and the receive window. Also a reset of streams that waits for data
 -- that was sent before it (RFC 6525, section 5.2.2).
-use Rattle.std.specs.Prelude.{◌≡◌, ◌==◌, ℕ, ◌+◌, ◌-◌, ◌*◌, ◌/◌, ◌^◌, nat_le, nat_lt, Bool, true, false, not, ◌&&◌, Option, None, Some, List, [], ◌∷◌, ◌++◌, length, map}
+use Rattle.std.specs.Prelude.{◌≡◌, ◌==◌, ℕ, ◌+◌, ◌-◌, ◌*◌, ◌/◌, ◌^◌, min, nat_le, nat_lt, Bool, true, false, not, ◌&&◌, Option, None, Some, List, [], ◌∷◌, ◌++◌, length, map}
 use Rattle.std.specs.BTreeMap.{insert_entry}
 use Rattle.std.specs.List.{filter, list_any, sum_by}
 use Rattle.std.specs.Ordering.{nat_cmp}
@@ -56,6 +56,10 @@ can_count size queue = nat_lt (reassembly_bytes queue + size) (2 ^ 64)
 -- the bytes that are left of the receive window
 abbrev pub remaining_bytes : ReassemblyState → ℕ
 remaining_bytes queue = queue.max_size - reassembly_bytes queue
+
+-- Is less than twice the receive window in use, and less than 2^63 bytes?
+abbrev pub is_below_double : ReassemblyState → Bool
+is_below_double queue = nat_lt (reassembly_bytes queue) (min (2 * queue.max_size) (2 ^ 63))
 
 -- Is nine tenths of the receive window in use, or more? Then data is dropped.
 abbrev pub is_above_watermark : ReassemblyState → Bool

@@ -1,12 +1,11 @@
 -- What is in flight, and how much more may be sent (RFC 9260, sections 6 and 7).
-use Rattle.std.specs.Prelude.{ℕ, ◌+◌, ◌-◌, ◌^◌, ◌==◌, ◌&&◌, ◌||◌, min, Bool, true, false, Option, None, List, [], ◌∷◌, length, nat_lt, is_some, if◌then◌else◌}
-use Rattle.std.specs.Option.{option_map}
+use Rattle.std.specs.Prelude.{ℕ, ◌+◌, ◌-◌, ◌%◌, ◌^◌, ◌==◌, ◌&&◌, ◌||◌, min, Bool, true, false, not, Option, None, List, [], ◌∷◌, length, nat_lt, is_some, if◌then◌else◌}
 use Rattle.std.specs.Duration.{as_nanos}
 use Rattle.dcsctp_types.specs.declared.congestion.CongestionControl.{CongestionControl}
 use Rattle.dcsctp_types.specs.declared.kinds.BackoffAlgorithm.TheVariants.{Exponential}
 use Rattle.dcsctp_types.specs.declared.options.Options.{Options}
 use Rattle.dcsctp_types.specs.declared.progress.Change.TheVariants.{Mark}
-use Rattle.dcsctp_spec.specs.endpoint.Timers.{TimerModel, started, running_deadline, running_after}
+use Rattle.dcsctp_spec.specs.endpoint.Timers.{TimerModel, started, running_deadline, running_after, longest_backoff, backed_off}
 use Rattle.dcsctp_types.specs.queues.Congestion.{new_congestion, after_timeout}
 use Rattle.dcsctp_spec.specs.queues.Items.{Item, bytes_in_flight, marked_items, changed_between}
 use Rattle.dcsctp_spec.specs.queues.Outstanding.{OutstandingState, header}
@@ -23,6 +22,10 @@ pub record RetransmissionState : Type 0 where
   pub fast_retransmit_due : Bool
   -- Were streams reset since the last item was sent?
   pub reset_begun : Bool
+  -- Is the RFC followed where the port doesn't (`Options::follow_rfc`)?
+  pub follows_rfc : Bool
+  -- Was a round trip measured?
+  pub has_measured : Bool
   pub packets_retransmitted : ℕ
   -- chunk headers and padding included
   pub bytes_retransmitted : ℕ
@@ -37,7 +40,7 @@ new_timer options =
         terms = record {
           backoff = Exponential;
           max_restarts = None;
-          max_backoff = option_map as_nanos options.max_timer_backoff_duration;
+          max_backoff = longest_backoff options;
         };
       };
     }
@@ -53,6 +56,8 @@ new_retransmission options first_tsn window partial_reliability is_interleaved =
       partial_reliability = partial_reliability;
       fast_retransmit_due = false;
       reset_begun = false;
+      follows_rfc = options.follow_rfc;
+      has_measured = false;
       packets_retransmitted = 0;
       bytes_retransmitted = 0;
     }
@@ -99,18 +104,32 @@ abbrev pub timer_with : ℕ → List Item → TimerModel → TimerModel
 timer_with now [] timer = record timer { running = None }
 timer_with now (item ∷ items) timer = kept_running now timer
 
+-- Is the peer's window smaller than a packet? Then what is sent is a probe of it (RFC 9260, section 6.1, rule A).
+abbrev pub is_window_closed : RetransmissionState → Bool
+is_window_closed state = nat_lt state.peer_window (state.congestion.mtu - state.congestion.mtu % 4)
+
+-- All that was in flight is lost.
+abbrev pub all_lost : RetransmissionState → RetransmissionState
+all_lost state = with_items (changed_between Mark 0 (outstanding_count state) state.outstanding.items) state
+
+-- The timer that has expired. By the RFC the timeout stays doubled until a round trip is measured (RFC 9260, section 6.3.3): here
+-- until the first one is, and not by probes of a closed window, which aren't lost.
+abbrev pub expired_timer : ℕ → RetransmissionState → TimerModel
+expired_timer now state =
+    let timer : TimerModel = record state.timer { running = running_after now state.timer.running } in
+    if state.follows_rfc && not state.has_measured && not (is_window_closed state) then backed_off timer else timer
+
 -- The retransmission timer has expired (RFC 9260, section 6.3.3): all that was in flight is lost.
 abbrev pub after_expiry : ℕ → RetransmissionState → RetransmissionState
-after_expiry now state =
-    record state {
-      outstanding = record state.outstanding { items = changed_between Mark 0 (outstanding_count state) state.outstanding.items };
-      congestion = after_timeout state.congestion;
-      timer = record state.timer { running = running_after now state.timer.running };
-    }
+after_expiry now state = record (all_lost state) { congestion = after_timeout state.congestion; timer = expired_timer now state }
 
 -- how long an acknowledgement is awaited when the timer is started next (RFC 9260, section 6.3.2)
-abbrev pub with_duration : ℕ → RetransmissionState → RetransmissionState
-with_duration rto state = record state { timer = record state.timer { settings = record state.timer.settings { duration = rto } } }
+abbrev pub with_duration : ℕ → Bool → RetransmissionState → RetransmissionState
+with_duration rto measured state =
+    record state {
+      has_measured = state.has_measured || measured;
+      timer = record state.timer { settings = record state.timer.settings { duration = if measured then rto else state.timer.settings.duration } };
+    }
 
 -- Outgoing streams are reset: numbers start again after the last assigned TSN (RFC 6525, section 5.1.2).
 abbrev pub with_reset_begun : RetransmissionState → RetransmissionState

@@ -3,6 +3,7 @@
 use Rattle.std.specs.Prelude.{ℕ, ◌+◌, ◌-◌, ◌*◌, ◌/◌, min, max, Option, None, Some, nat_lt, if◌then◌else◌}
 use Rattle.std.specs.Duration.{as_nanos}
 use Rattle.dcsctp_types.specs.declared.options.Options.{Options}
+use Rattle.dcsctp_spec.specs.endpoint.Timers.{longest_wait}
 
 -- the bounds that the options set
 pub record TimeoutBounds : Type 0 where
@@ -21,6 +22,8 @@ pub record TimeoutState : Type 0 where
   -- None: no round trip was measured yet
   pub variance : Option ℕ
   pub bounds : TimeoutBounds
+  -- the longest that a timer which began with this timeout waits once it has expired, if it repeats a request; None: no limit
+  pub longest_wait : Option ℕ
 
 -- before any round trip was measured: neither duration is cut
 abbrev pub new_timeout : Options → TimeoutState
@@ -35,6 +38,7 @@ new_timeout options =
         rto_max = as_nanos options.rto_max;
         min_rtt_variance = as_nanos options.min_rtt_variance;
       };
+      longest_wait = longest_wait options;
     }
 
 -- |a - b|

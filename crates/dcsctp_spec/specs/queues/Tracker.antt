@@ -1,6 +1,6 @@
 -- Which TSNs were received, and when that is acknowledged (RFC 9260, sections 6.2 and 6.7; RFC 3758, section 3.6). Moments and
 -- durations are nanoseconds. TSNs are numbered without wrap: the number of a TSN modulo 2^32 is the TSN.
-use Rattle.std.specs.Prelude.{ℕ, ◌+◌, ◌-◌, ◌/◌, ◌%◌, ◌^◌, min, nat_le, nat_lt, Bool, true, false, not, ◌&&◌, ◌||◌, if◌then◌else◌, Option, None, Some, List, [], ◌∷◌, ◌++◌, length, take}
+use Rattle.std.specs.Prelude.{ℕ, ◌+◌, ◌-◌, ◌/◌, ◌%◌, ◌^◌, ◌==◌, min, nat_le, nat_lt, Bool, true, false, not, ◌&&◌, ◌||◌, if◌then◌else◌, Option, None, Some, List, [], ◌∷◌, ◌++◌, length, take}
 use Rattle.std.specs.List.{flat_map}
 use Rattle.std.specs.Int.{w16, w32, to_be_bytes}
 use Rattle.std.specs.Duration.{as_nanos}
@@ -136,9 +136,22 @@ new_tracker options peer_first_tsn =
 abbrev pub most_duplicates : ℕ
 most_duplicates = 20
 
--- the most gap ack blocks that a SACK lists
-abbrev pub most_blocks : ℕ
-most_blocks = 20
+-- a SACK without gap ack blocks and duplicates (RFC 9260, section 3.3.4)
+abbrev pub sack_header_size : ℕ
+sack_header_size = 16
+
+-- what a SACK leaves free for a FORWARD-TSN behind it
+abbrev pub forward_tsn_room : ℕ
+forward_tsn_room = 20
+
+-- how many gap ack blocks and duplicates, four bytes each, fit into a SACK of that many bytes
+abbrev pub blocks_that_fit : ℕ → ℕ
+blocks_that_fit room = (min room 65535 - (sack_header_size + forward_tsn_room)) / 4
+
+-- the most gap ack blocks that a SACK lists: by the RFC as many as fit (RFC 9260, section 6.2)
+abbrev pub most_blocks : Bool → ℕ → ℕ
+most_blocks false room = 20
+most_blocks true room = blocks_that_fit room
 
 -- the duplicates with a TSN that isn't new, if there is room
 abbrev pub with_duplicate : ℕ → Bool → List ℕ → List ℕ
@@ -149,7 +162,7 @@ with_duplicate tsn false duplicates = if nat_lt (length duplicates) most_duplica
 abbrev pub is_new_tsn : ℕ → TrackerState → Bool
 is_new_tsn tsn tracker = not (has_received tracker (nearest_number tracker.cumulative tsn))
 
--- Does data that comes while these ranges are there come into a gap? By the RFC that counts (RFC 9260, section 6.7).
+-- Does data that comes while these ranges are there come into a gap? By the RFC that counts (RFC 5681, section 4.2).
 abbrev pub heeds_gap : Bool → List TsnRange → Bool
 heeds_gap follows_rfc ranges = follows_rfc && has_ranges ranges
 
@@ -176,6 +189,10 @@ observed tsn immediate tracker =
 -- Was a later TSN received than this one?
 abbrev pub is_below_highest : ℕ → TrackerState → Bool
 is_below_highest tsn tracker = nat_lt (nearest_number tracker.cumulative tsn) (highest tracker.cumulative tracker.ranges)
+
+-- Is it the first TSN that is missing?
+abbrev pub is_first_missing : ℕ → TrackerState → Bool
+is_first_missing tsn tracker = nearest_number tracker.cumulative tsn == tracker.cumulative + 1
 
 -- Does a FORWARD TSN with this TSN move the cumulative one?
 abbrev pub is_forward : ℕ → ℕ → Bool
@@ -242,15 +259,20 @@ with_timeout rto tracker =
 abbrev pub block_bytes : ℕ → TsnRange → List ℕ
 block_bytes cumulative range = to_be_bytes w16 (range.first - cumulative) ++ to_be_bytes w16 (range.last - cumulative)
 
--- What a SACK says: the first gap ack blocks, up to the most that it lists, and the TSNs that came again. A law in
--- dcsctp_spec_laws says which TSNs the blocks cover (`sacks_cover_received`).
-abbrev pub sack_of : TrackerState → ℕ → SackContent
-sack_of tracker window =
+-- How many TSNs that came again it lists: by the RFC those that fit after the blocks.
+abbrev pub duplicates_left : TrackerState → ℕ → ℕ
+duplicates_left tracker room =
+    if tracker.follows_rfc then min most_duplicates (blocks_that_fit room - length tracker.ranges) else most_duplicates
+
+-- What a SACK of at most that many bytes says: the first gap ack blocks, up to the most that it lists, and the TSNs that came again.
+-- A law in dcsctp_spec_laws says which TSNs the blocks cover (`sacks_cover_received`).
+abbrev pub sack_of : ℕ → TrackerState → ℕ → SackContent
+sack_of room tracker window =
     record {
       cumulative_tsn_ack = cumulative_tsn tracker;
       a_rwnd = window % 2 ^ 32;
-      gap_ack_blocks = flat_map (block_bytes tracker.cumulative) (take most_blocks tracker.ranges);
-      duplicate_tsns = flat_map (to_be_bytes w32) (take most_duplicates tracker.duplicates);
+      gap_ack_blocks = flat_map (block_bytes tracker.cumulative) (take (most_blocks tracker.follows_rfc room) tracker.ranges);
+      duplicate_tsns = flat_map (to_be_bytes w32) (take (duplicates_left tracker room) tracker.duplicates);
     }
 
 -- A SACK was made: all is acknowledged, and what came again is forgotten.

@@ -10,7 +10,7 @@ pub loop-first-init : goal.loop-first-init
 loop-first-init c =
     let left : take_source c.into_iter-first-iterator.result ≡ c.args.received.now.ranges.entries =
     ap take_source c.into_iter-first-iterator.ensures.into_iter_gives ∙ (c.take-first-items.ensures.source ∙ c.iter.ensures.rest) in
-    let count : take_count c.into_iter-first-iterator.result ≡ 20 =
+    let count : take_count c.into_iter-first-iterator.result ≡ c.args.most =
     ap take_count c.into_iter-first-iterator.ensures.into_iter_gives ∙ c.take-first-items.ensures.count in
     rw (left, count) (record {
       bytes = rw c.in_ok-blocks.ensures.items refl;

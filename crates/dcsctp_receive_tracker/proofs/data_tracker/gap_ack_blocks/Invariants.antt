@@ -9,6 +9,6 @@ use Rattle.dcsctp_receive_tracker.proofs.data_tracker.gap_ack_blocks.Given as go
 abbrev pub invariant-loop-first : goal.invariant-loop-first
 invariant-loop-first l =
     record {
-      bytes : l.blocks.items ++ flat_map (block_bytes l.received.cumulative) (take (take_count l.first-iterator) (map range_of (take_source l.first-iterator))) ≡ flat_map (block_bytes l.received.cumulative) (take 20 (ranges_of l.received.ranges));
+      bytes : l.blocks.items ++ flat_map (block_bytes l.received.cumulative) (take (take_count l.first-iterator) (map range_of (take_source l.first-iterator))) ≡ flat_map (block_bytes l.received.cumulative) (take l.most (ranges_of l.received.ranges));
       near : AreNear l.received.cumulative (map range_of (take_source l.first-iterator));
     }

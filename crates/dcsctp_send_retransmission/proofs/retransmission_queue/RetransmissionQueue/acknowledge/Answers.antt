@@ -23,6 +23,8 @@ remove_first-requires c =
       partial_reliability = c.self.inside.partial_reliability;
       fast_retransmit_due = c.self.inside.fast_retransmit_due;
       reset_begun = c.self.inside.reset_begun;
+      follows_rfc = c.self.inside.follows_rfc;
+      has_measured = c.self.inside.has_measured;
       packets_retransmitted = c.self.inside.packets_retransmitted;
       bytes_retransmitted = c.self.inside.bytes_retransmitted;
     } in
@@ -46,6 +48,8 @@ returns c =
       partial_reliability = c.self.inside.partial_reliability;
       fast_retransmit_due = c.self.inside.fast_retransmit_due;
       reset_begun = c.self.inside.reset_begun;
+      follows_rfc = c.self.inside.follows_rfc;
+      has_measured = c.self.inside.has_measured;
       packets_retransmitted = c.self.inside.packets_retransmitted;
       bytes_retransmitted = c.self.inside.bytes_retransmitted;
     } in
@@ -57,6 +61,8 @@ returns c =
       partial_reliability = c.self-2.inside.partial_reliability;
       fast_retransmit_due = c.self-2.inside.fast_retransmit_due;
       reset_begun = c.self-2.inside.reset_begun;
+      follows_rfc = c.self-2.inside.follows_rfc;
+      has_measured = c.self-2.inside.has_measured;
       packets_retransmitted = c.self-2.inside.packets_retransmitted;
       bytes_retransmitted = c.self-2.inside.bytes_retransmitted;
     } in
@@ -68,6 +74,8 @@ returns c =
       partial_reliability = c.self-2.inside.partial_reliability;
       fast_retransmit_due = c.self-2.inside.fast_retransmit_due;
       reset_begun = c.self-2.inside.reset_begun;
+      follows_rfc = c.self-2.inside.follows_rfc;
+      has_measured = c.self-2.inside.has_measured;
       packets_retransmitted = c.self-2.inside.packets_retransmitted;
       bytes_retransmitted = c.self-2.inside.bytes_retransmitted;
     } in

@@ -21,6 +21,8 @@ returns-clause-fills c =
       partial_reliability = c.self.inside.partial_reliability;
       fast_retransmit_due = c.self.inside.fast_retransmit_due;
       reset_begun = c.self.inside.reset_begun;
+      follows_rfc = c.self.inside.follows_rfc;
+      has_measured = c.self.inside.has_measured;
       packets_retransmitted = c.self.inside.packets_retransmitted;
       bytes_retransmitted = c.self.inside.bytes_retransmitted;
     } in

@@ -28,6 +28,8 @@ returns-in_err-sent-clause-fills c =
       partial_reliability = c.self.inside.partial_reliability;
       fast_retransmit_due = c.self.inside.fast_retransmit_due;
       reset_begun = c.self.inside.reset_begun;
+      follows_rfc = c.self.inside.follows_rfc;
+      has_measured = c.self.inside.has_measured;
       packets_retransmitted = c.self.inside.packets_retransmitted;
       bytes_retransmitted = c.self.inside.bytes_retransmitted;
     } in
@@ -44,6 +46,8 @@ returns-in-None-clause-fills c =
       partial_reliability = c.self.inside.partial_reliability;
       fast_retransmit_due = c.self.inside.fast_retransmit_due;
       reset_begun = c.self.inside.reset_begun;
+      follows_rfc = c.self.inside.follows_rfc;
+      has_measured = c.self.inside.has_measured;
       packets_retransmitted = c.self.inside.packets_retransmitted;
       bytes_retransmitted = c.self.inside.bytes_retransmitted;
     } in
@@ -61,6 +65,8 @@ returns-in_ok-push-in-Some-clause-fills c =
       partial_reliability = c.self.inside.partial_reliability;
       fast_retransmit_due = c.self.inside.fast_retransmit_due;
       reset_begun = c.self.inside.reset_begun;
+      follows_rfc = c.self.inside.follows_rfc;
+      has_measured = c.self.inside.has_measured;
       packets_retransmitted = c.self.inside.packets_retransmitted;
       bytes_retransmitted = c.self.inside.bytes_retransmitted;
     } in
@@ -82,6 +88,8 @@ returns-in_ok-push-in-Some-clause-less c = λ is_true.
       partial_reliability = c.self.inside.partial_reliability;
       fast_retransmit_due = c.self.inside.fast_retransmit_due;
       reset_begun = c.self.inside.reset_begun;
+      follows_rfc = c.self.inside.follows_rfc;
+      has_measured = c.self.inside.has_measured;
       packets_retransmitted = c.self.inside.packets_retransmitted;
       bytes_retransmitted = c.self.inside.bytes_retransmitted;
     } in

@@ -1,0 +1,28 @@
+-- Our verification tag in the last association serves no other one (RFC 9260, section 5.3.1).
+use Rattle.std.specs.Prelude.{◌≡◌, ◌⊎◌, ℕ, true, Option, None, Some, List, []}
+use Rattle.dcsctp_spec_lemmas.specs.spec.endpoint.CookieEchoOutcomes.{CookieEchoTurn}
+use Rattle.dcsctp_spec_lemmas.specs.spec.endpoint.EndOutcomes.{ended_tag}
+use Rattle.dcsctp_spec_lemmas.specs.spec.endpoint.Endpoint.{Endpoint, held_in}
+use Rattle.dcsctp_spec_lemmas.specs.spec.endpoint.Outcome.{Outcome}
+use Rattle.dcsctp_spec_lemmas.specs.spec.endpoint.Turn.{Input, Turn}
+use Rattle.dcsctp_spec_lemmas.specs.spec.queues.Transfer.{Transfer}
+use Rattle.dcsctp_spec_laws.specs.LeftLaws.{IsOwnInput}
+
+-- What is recorded after a turn, by what there is before and after it.
+abbrev pub LastTagWhere : Endpoint → Option Transfer → Option Transfer → Option ℕ → Type 0
+-- No association. If an attempt to connect ends, it had no peer, and so both are the same.
+LastTagWhere e None None last = (last ≡ e.last_tag) ⊎ (last ≡ ended_tag e.core e.last_tag)
+-- It ends.
+LastTagWhere e (Some old) None last = last ≡ ended_tag e.core e.last_tag
+-- One begins or continues, or another one takes its place.
+LastTagWhere e before (Some new) last = last ≡ e.last_tag
+
+-- So it is of each turn.
+abbrev pub LastTagStays : Type 0
+LastTagStays = (e : Endpoint) (input : Input) (o : Outcome) → IsOwnInput input → Turn e input o → LastTagWhere e e.queues.transfer o.after.queues.transfer o.after.last_tag
+
+-- By the RFC a COOKIE ECHO under it makes nothing where there is no association.
+abbrev pub LastTagIsSpent : Type 0
+LastTagIsSpent =
+    (e : Endpoint) (tag : ℕ) (bytes : List ℕ) (o : Outcome) → e.options.follow_rfc ≡ true → e.last_tag ≡ Some tag → held_in e.core ≡ None
+    → CookieEchoTurn e tag bytes o → (o.after ≡ e) × (o.effects ≡ [])
