@@ -61,9 +61,9 @@
  * After DCSCTP_EVENT_ABORTED stop at once. After DCSCTP_EVENT_CLOSED continue for 4 s, or for ten
  * round trips if that is longer. The end that gets CLOSED first has sent the last packet of the
  * shutdown, and that may be lost. Then the peer repeats its SHUTDOWN ACK: by default after 500 ms,
- * then after 1 s more, 2 s and so on. A closed socket answers each one, and 4 s cover three losses
- * in a row. A peer without an answer stays in DCSCTP_STATE_SHUTTING_DOWN for up to 330.5 s, and
- * then gets ABORTED.
+ * then after 1 s more, 2 s, and each 3 s from then on. A closed socket answers each one, and 4 s
+ * cover three losses in a row. A peer without an answer stays in DCSCTP_STATE_SHUTTING_DOWN for
+ * about three minutes, and then gets ABORTED.
  *
  *
  * RULES
@@ -337,20 +337,31 @@ typedef struct dcsctp_socket {
  *     what the peer doesn't answer                 by default       heartbeat_interval 0
  *     INIT                                         511 s            511 s
  *     COOKIE ECHO                                  511 s            511 s
- *     HEARTBEAT, with nothing else to send         330.5 s          never
- *     data, before a round trip was measured       127.5 s          1,023.5 s
- *     data, at the least timeout (400 ms)          162.5 s          818.8 s
- *     data, at longer timeouts                     up to 5.5 min    longer
- *     SHUTDOWN                                     up to 330.5 s    1,023.5 s
+ *     HEARTBEAT, with nothing else to send         1,830.5 s        never
+ *     data, before a round trip was measured       177.5 s          177.5 s
+ *     data, at the least timeout (400 ms)          176.8 s          176.8 s
+ *     data, at longer timeouts                     up to 4 min      up to 4 min
+ *     SHUTDOWN                                     up to 4 min      up to 4 min
  *
- *   Smaller `max_init_retransmits`, `max_retransmissions`, `heartbeat_interval` or
- *   `max_timer_backoff_duration` make it shorter. `rto_max` doesn't cap the backoff. If
- *   `heartbeat_interval` is above 0 but no longer than `rto_initial`, no HEARTBEAT counts as lost.
+ *   So an association outlasts 150 s without a link, and then continues within 3 s. The price: a
+ *   peer that is gone is noticed late, and while nothing is sent only after half an hour. Smaller
+ *   `max_init_retransmits`, `max_retransmissions`, `heartbeat_interval` or
+ *   `max_timer_backoff_duration` make it shorter. With 10 as `max_retransmissions` it takes 330.5 s
+ *   for a HEARTBEAT, and 27.5 s or 26.8 s for data: then 25 s without a link may end it.
+ *   If `heartbeat_interval` is above 0 but no longer than `rto_initial`, no HEARTBEAT is an error.
  *
- * `max_timer_backoff_duration`: set it to a few seconds if the peer may stop taking messages for a
- *   while. As long as its window is full, each probe doubles the retransmission timeout, and by
- *   default nothing caps that. If the packet that reports the open window is lost, the next probe
- *   may come only after as long as the pause was.
+ * `max_timer_backoff_duration`: each wait for an answer to data or SHUTDOWN is twice the last one,
+ *   but no longer than this, nor than `rto_max`. Only the first may be longer than this. Without
+ *   `follow_rfc` only this is a limit, and for data alone: a peer that doesn't answer a SHUTDOWN is
+ *   given up by HEARTBEATs. For requests to reset streams there is never a limit.
+ *   A full window is probed after the same waits. With DCSCTP_NEVER, if the packet that reports the
+ *   open window is lost, the next probe may come only after as long as the pause was, or after
+ *   `rto_max` with `follow_rfc`.
+ *   A peer whose user takes nothing for three minutes is given up as if it were silent, unless it
+ *   answers data that it has no room for, and this end has `follow_rfc`. This library without
+ *   `follow_rfc` doesn't answer, nor does dcsctp 0.1.16. For longer pauses of such peers use
+ *   upstream's limits, DCSCTP_NEVER and 10 as `max_retransmissions`: then HEARTBEATs go out between
+ *   the probes.
  * `max_burst`: how many packets are sent at once, however large the windows are. A peer that
  *   acknowledges once a round trip gets that many in each. By default pion got 83 kB/s at a round
  *   trip of 50 ms. Raise it for such peers.
@@ -368,8 +379,9 @@ typedef struct dcsctp_socket {
  *   at once. A full receive window that opens is reported to the peer. A peer's SHUTDOWN
  *   acknowledges data. Streams of equal priority take turns. A repeated request to reset a stream
  *   that is in progress gets the next number. Messages that are ready can be taken after their
- *   association has ended. At 0 the socket behaves as upstream, but for a few differences:
- *   docs/design/differences.md has a row for each, and for each rule. */
+ *   association has ended. At 0, and with upstream's limits (above), the socket behaves as
+ *   upstream, but for a few differences: docs/design/differences.md has a row for each, and for
+ *   each rule. */
 typedef struct dcsctp_options {
     size_t size;                                         /* sizeof(dcsctp_options) */
     size_t mtu;                                          /* longest packet that is sent: 1,191 */
@@ -383,17 +395,17 @@ typedef struct dcsctp_options {
     size_t cwnd_mtus_min;                                /* its minimum after a loss, in MTUs: 4 */
     uint64_t rtt_max;                                    /* longer round trips are ignored: 60 s */
     uint64_t rto_initial;                                /* first retransmission timeout: 500 ms */
-    uint64_t rto_max;                                    /* its maximum without backoff: 60 s */
+    uint64_t rto_max;                                    /* its maximum: 60 s */
     uint64_t rto_min;                                    /* its minimum: 400 ms */
     uint64_t t1_init_timeout;                            /* first wait for an INIT ACK: 1 s */
     uint64_t t1_cookie_timeout;                          /* first wait for a COOKIE ACK: 1 s */
     uint64_t cookie_lifetime;                            /* older cookies are rejected: 60 s */
-    uint64_t max_timer_backoff_duration;                 /* limit of backoff: DCSCTP_NEVER */
+    uint64_t max_timer_backoff_duration;                 /* limit of waits; or DCSCTP_NEVER: 3 s */
     uint64_t heartbeat_interval;                         /* 0: none are sent; 30 s */
     uint64_t delayed_ack_max_timeout;                    /* SACKs wait up to this: 200 ms */
     uint64_t min_rtt_variance;                           /* minimum of 4 * RTTVAR: 220 ms */
     int32_t max_burst;                                   /* packets sent at once: 4 */
-    uint32_t max_retransmissions;                        /* of data; or DCSCTP_NO_LIMIT: 10 */
+    uint32_t max_retransmissions;                        /* of data; or DCSCTP_NO_LIMIT: 60 */
     uint32_t max_init_retransmits;                       /* of INIT, COOKIE ECHO; or no limit: 8 */
     uint32_t zero_checksum_method;                       /* RFC 9653; 0 none, 1 DTLS: 0 */
     uint32_t enable_partial_reliability;                 /* switch, RFC 3758: 1 */
@@ -734,8 +746,8 @@ int32_t dcsctp_send_many(dcsctp_socket *socket, const dcsctp_outgoing_message *m
  * request comes doesn't perform it yet, and without `follow_rfc` some peers never do: then neither
  * event comes. If it lacks data because its user takes no messages, the request is sent again and
  * again. Each one that is lost counts as an error, and without `follow_rfc` no answer clears that
- * count: a live association can be aborted within a minute. With `follow_rfc` the peer's user may
- * get the event of one reset twice.
+ * count: a live association can be aborted within three minutes. With `follow_rfc` the peer's user
+ * may get the event of one reset twice.
  *
  * Errors: NO_SOCKET, NOT_CONNECTED, NOT_SUPPORTED, FAILED, OUT_OF_MEMORY. OUT_OF_MEMORY: if the
  * numbers can't be copied, nothing has changed, and the call may be tried again. */

@@ -100,7 +100,8 @@ func TestForgottenSocketsAreFreed(t *testing.T) {
 
 func TestOptionsComeBack(t *testing.T) {
 	options := DefaultOptions()
-	if options.MTU != 1191 || options.MaxTimerBackoffDuration != Never || !options.FollowRFC {
+	if options.MTU != 1191 || options.MaxTimerBackoffDuration != 3*time.Second || options.MaxRetransmissions != 60 ||
+		!options.FollowRFC {
 		t.Errorf("other defaults: %+v", options)
 	}
 	// each field has another value

@@ -437,12 +437,12 @@ class Options:
     t1_init_timeout: int = 1_000_000_000
     t1_cookie_timeout: int = 1_000_000_000
     cookie_lifetime: int = 60_000_000_000
-    max_timer_backoff_duration: int = NEVER
+    max_timer_backoff_duration: int = 3_000_000_000
     heartbeat_interval: int = 30_000_000_000
     delayed_ack_max_timeout: int = 200_000_000
     min_rtt_variance: int = 220_000_000
     max_burst: int = 4
-    max_retransmissions: int = 10
+    max_retransmissions: int = 60
     max_init_retransmits: int = 8
     zero_checksum_method: int = 0
     enable_partial_reliability: bool = True

@@ -602,7 +602,7 @@ static void lost_message_is_abandoned_by_the_channel_type(void) {
         const char *name;
         uint8_t type;
         uint32_t reliability;
-        size_t data; /* how often it is sent: 0, 1,000, 3,000 and 7,000 ms later */
+        size_t data; /* how often it is sent: 0, 1,000, 3,000 and 6,000 ms later */
         int is_abandoned;
     } rows[] = {
         {"reliable", DATA_CHANNEL_RELIABLE, 0, 4, 0},
@@ -614,14 +614,14 @@ static void lost_message_is_abandoned_by_the_channel_type(void) {
     };
     for (size_t i = 0; i < sizeof rows / sizeof rows[0]; i++) {
         dcsctp_options options = quiet_options();
-        options.rto_initial = options.rto_min = options.rto_max = SECONDS;
+        options.rto_initial = options.rto_min = SECONDS;
         connect_both(&options, 0);
         struct data_channel *channel = open_channel(&a, rows[i].type, rows[i].reliability);
         pass_time(SECONDS);
         a.chunk_count = 0;
         a.is_losing = 1;
         EQUAL("send", data_channel_send_text(channel, "lost", 4), 0);
-        pass_time(9 * SECONDS);
+        pass_time(8 * SECONDS);
         EQUAL(rows[i].name, count_of(&a, DATA), rows[i].data);
         EQUAL(rows[i].name, count_of(&a, FORWARD_TSN) > 0, rows[i].is_abandoned);
         a.is_losing = 0;

@@ -46,14 +46,20 @@ static void no_handshake(void) {
     destroy_pair(&pair);
 }
 
-/* Nothing is sent but a HEARTBEAT each 30 s. Half a second after the eleventh, which is one more
- * than `max_retransmissions`, an ABORT follows. */
+/* Nothing is sent but a HEARTBEAT each 30 s. Half a second after the 61st, which is one more than
+ * `max_retransmissions`, an ABORT follows. With 10 it is the eleventh. */
 static void idle(void) {
-    const dcsctp_options options = default_options(), quiet = quiet_options();
+    const dcsctp_options quiet = quiet_options();
+    dcsctp_options options = default_options();
     connect_pair(&pair, &options, &options);
     size_t before = pair.a.packets;
-    EQUAL("idle", given_up(&pair.a, BEGIN), 11 * 30 * SECONDS + 500 * MILLISECONDS);
-    EQUAL("11 HEARTBEAT and an ABORT", pair.a.packets - before, 12);
+    EQUAL("idle", given_up(&pair.a, BEGIN), 61 * 30 * SECONDS + 500 * MILLISECONDS);
+    EQUAL("as dcsctp.h says", 61 * 30000 + 500, 1830500);
+    EQUAL("61 HEARTBEAT and an ABORT", pair.a.packets - before, 62);
+    destroy_pair(&pair);
+    options.max_retransmissions = 10;
+    connect_pair(&pair, &options, &options);
+    EQUAL("10", given_up(&pair.a, BEGIN), 11 * 30 * SECONDS + 500 * MILLISECONDS);
     destroy_pair(&pair);
     connect_pair(&pair, &quiet, &quiet);
     EQUAL("without heartbeats it waits forever",
@@ -76,58 +82,109 @@ static void too_many_heartbeats(void) {
     destroy_pair(&pair);
     options.heartbeat_interval++;
     connect_pair(&pair, &options, &options);
-    EQUAL("longer", given_up(&pair.a, BEGIN), 12 * 500 * MILLISECONDS + 11);
+    EQUAL("longer", given_up(&pair.a, BEGIN), 62 * 500 * MILLISECONDS + 61);
     destroy_pair(&pair);
 }
 
-/* A message is lost however often it is sent. The timeout is 500 ms at first, and doubles: 7 of
- * them end by 63.5 s, and the eighth at 127.5 s. A HEARTBEAT goes out 30 s after the last packet of
- * data, at 61.5 s, 93.5 s and 123.5 s. So the eleventh error comes at 127.5 s. Without heartbeats
- * it is the eleventh timeout. */
+/* 61 waits for an answer to data or SHUTDOWN, which is one more than `max_retransmissions`. Each is
+ * twice the last one, and at most 3 s, the default of `max_timer_backoff_duration`. The first is
+ * `rto_initial`, or `rto_min` after a round trip of no time. */
+#define FROM_INITIAL ((500 + 1000 + 2000 + 58 * 3000) * MILLISECONDS) /* 177.5 s */
+#define FROM_LEAST ((400 + 800 + 1600 + 58 * 3000) * MILLISECONDS)    /* 176.8 s */
+
+/* A message is lost however often it is sent. A HEARTBEAT would go out 30 s after the last packet of
+ * data, and none is due: it takes as long without. With 10 retransmissions the eleventh wait ends at
+ * 3.5 + 8 * 3 s. */
 static void data_before_a_round_trip(void) {
-    const dcsctp_options options = default_options(), quiet = quiet_options();
+    dcsctp_options options = default_options();
+    const dcsctp_options quiet = quiet_options();
+    EQUAL("as dcsctp.h says", FROM_INITIAL, 177500 * MILLISECONDS);
+    EQUAL("as dcsctp.h says", FROM_LEAST, 176800 * MILLISECONDS);
     connect_pair(&pair, &options, &options);
     EQUAL("send", send_bytes(&pair.a, 1, 10), DCSCTP_OK);
-    EQUAL("with heartbeats", given_up(&pair.a, BEGIN), 127500 * MILLISECONDS);
+    EQUAL("with heartbeats", given_up(&pair.a, BEGIN), FROM_INITIAL);
     destroy_pair(&pair);
     connect_pair(&pair, &quiet, &quiet);
     EQUAL("send", send_bytes(&pair.a, 1, 10), DCSCTP_OK);
-    EQUAL("without", given_up(&pair.a, BEGIN), 500 * MILLISECONDS * ((1 << 11) - 1));
+    EQUAL("without", given_up(&pair.a, BEGIN), FROM_INITIAL);
+    destroy_pair(&pair);
+    options.max_retransmissions = 10;
+    connect_pair(&pair, &options, &options);
+    EQUAL("send", send_bytes(&pair.a, 1, 10), DCSCTP_OK);
+    EQUAL("10", given_up(&pair.a, BEGIN), 27500 * MILLISECONDS);
     destroy_pair(&pair);
 }
 
-/* The same with the least timeout, 400 ms. Eight of them end by 102 s, and a HEARTBEAT at 80.8 s
- * isn't answered. The ninth would end at 204.4 s: before that HEARTBEATs go out at 132 s and 162 s,
- * and the wait for the second ends half a second later. */
-static void data_after_a_round_trip(void) {
-    const dcsctp_options options = default_options();
-    connect_pair(&pair, &options, &options);
+/* Connects, and sends a message that takes no time there and back, so that the round trip is known.
+ * The next message is lost. */
+static void lose_after_a_round_trip(const dcsctp_options *options) {
+    connect_pair(&pair, options, options);
     EQUAL("send", send_bytes(&pair.a, 1, 10), DCSCTP_OK);
     settle(&pair);
     EQUAL("a round trip of no time", metrics_of(&pair.a).srtt, 0);
     EQUAL("acknowledged", metrics_of(&pair.a).unack_data_count, 0);
-    EQUAL("send", send_bytes(&pair.a, 1, 10), DCSCTP_OK);
+    EQUAL("send", send_bytes(&pair.a, 1, 20), DCSCTP_OK);
+    EQUAL("lost", carry(&pair.a, NULL), 1);
+}
+
+/* The same with the least timeout. */
+static void data_after_a_round_trip(void) {
+    dcsctp_options options = default_options();
+    const dcsctp_options quiet = quiet_options();
+    lose_after_a_round_trip(&options);
     EQUAL("the least timeout", until_deadline(&pair, &pair.a), 400 * MILLISECONDS);
-    EQUAL("with heartbeats", given_up(&pair.a, BEGIN), 162500 * MILLISECONDS);
+    EQUAL("with heartbeats", given_up(&pair.a, BEGIN), FROM_LEAST);
+    destroy_pair(&pair);
+    lose_after_a_round_trip(&quiet);
+    EQUAL("without", given_up(&pair.a, BEGIN), FROM_LEAST);
+    destroy_pair(&pair);
+    options.max_retransmissions = 10;
+    lose_after_a_round_trip(&options);
+    EQUAL("10", given_up(&pair.a, BEGIN), (2800 + 8 * 3000) * MILLISECONDS);
     destroy_pair(&pair);
 }
 
-/* A SHUTDOWN that isn't answered. Its own timer would expire for the eleventh time at 1,023.5 s, as
- * that of a message; the eleventh HEARTBEAT that isn't answered comes first. */
+/* The longest timeout there may be, 60 s. Waits after the first alone are cut, so the 61st ends
+ * after 60 + 60 * 3 s. A HEARTBEAT goes out 30 s after data, and isn't answered: that is an error,
+ * too, so the 60th wait is the last. A SHUTDOWN has a count of its own. */
+static void at_the_longest_timeout(void) {
+    dcsctp_options options = quiet_options();
+    options.rto_initial = options.rto_max;
+    for (int has_heartbeats = 0; has_heartbeats <= 1; has_heartbeats++) {
+        options.heartbeat_interval = has_heartbeats ? 30 * SECONDS : 0;
+        connect_pair(&pair, &options, &options);
+        EQUAL("send", send_bytes(&pair.a, 1, 10), DCSCTP_OK);
+        EQUAL("data", given_up(&pair.a, BEGIN), (has_heartbeats ? 237 : 240) * SECONDS);
+        destroy_pair(&pair);
+        connect_pair(&pair, &options, &options);
+        EQUAL("shutdown", dcsctp_shutdown(&pair.a.socket), DCSCTP_OK);
+        EQUAL("SHUTDOWN", given_up(&pair.a, BEGIN), 240 * SECONDS);
+        destroy_pair(&pair);
+    }
+}
+
+/* A SHUTDOWN that isn't answered is sent again as data is. Without `follow_rfc` its waits double
+ * without a limit, and the 61st HEARTBEAT that isn't answered ends it. */
 static void no_end_of_a_shutdown(void) {
-    const dcsctp_options options = default_options(), quiet = quiet_options();
+    const dcsctp_options quiet = quiet_options();
+    dcsctp_options options = default_options();
     connect_pair(&pair, &options, &options);
     EQUAL("shutdown", dcsctp_shutdown(&pair.a.socket), DCSCTP_OK);
-    EQUAL("with heartbeats", given_up(&pair.a, BEGIN), 330500 * MILLISECONDS);
+    EQUAL("with heartbeats", given_up(&pair.a, BEGIN), FROM_INITIAL);
     destroy_pair(&pair);
     connect_pair(&pair, &quiet, &quiet);
     EQUAL("shutdown", dcsctp_shutdown(&pair.a.socket), DCSCTP_OK);
-    EQUAL("without", given_up(&pair.a, BEGIN), 500 * MILLISECONDS * ((1 << 11) - 1));
+    EQUAL("without", given_up(&pair.a, BEGIN), FROM_INITIAL);
+    destroy_pair(&pair);
+    options.follow_rfc = 0;
+    connect_pair(&pair, &options, &options);
+    EQUAL("shutdown", dcsctp_shutdown(&pair.a.socket), DCSCTP_OK);
+    EQUAL("without follow_rfc", given_up(&pair.a, BEGIN), 1830500 * MILLISECONDS);
     destroy_pair(&pair);
 }
 
-/* The other columns of the table at dcsctp_options: without heartbeats. */
-static void without_heartbeats(void) {
+/* The other column of the table at dcsctp_options, without heartbeats: the handshake. */
+static void no_handshake_without_heartbeats(void) {
     const dcsctp_options quiet = quiet_options();
     create_pair(&pair, &quiet, &quiet);
     EQUAL("connect", dcsctp_connect(&pair.a.socket), DCSCTP_OK);
@@ -139,12 +196,90 @@ static void without_heartbeats(void) {
     EQUAL("INIT ACK", carry(&pair.b, &pair.a), 1);
     EQUAL("no COOKIE ACK", given_up(&pair.a, BEGIN), 511 * SECONDS);
     destroy_pair(&pair);
-    connect_pair(&pair, &quiet, &quiet);
-    EQUAL("send", send_bytes(&pair.a, 1, 10), DCSCTP_OK);
-    settle(&pair);
-    EQUAL("send", send_bytes(&pair.a, 1, 10), DCSCTP_OK);
-    EQUAL("at the least timeout", given_up(&pair.a, BEGIN), 400 * MILLISECONDS * ((1 << 11) - 1));
+}
+
+/* Upstream's defaults: no wait is cut, and the eleventh error ends it. Of data the waits are 0.5, 1,
+ * 2 s and so on. Seven of them end by 63.5 s, and the eighth at 127.5 s. A HEARTBEAT goes out 30 s
+ * after the last packet of data, at 61.5 s, 93.5 s and 123.5 s. So the eleventh error comes at
+ * 127.5 s. At the least timeout eight waits end by 102 s, and a HEARTBEAT at 80.8 s isn't answered.
+ * The ninth would end at 204.4 s: before that HEARTBEATs go out at 132 s and 162 s, and the wait for
+ * the second ends half a second later. Without heartbeats it is the eleventh wait. */
+static void as_upstream(void) {
+    dcsctp_options options = default_options();
+    options.follow_rfc = 0;
+    options.max_timer_backoff_duration = DCSCTP_NEVER;
+    options.max_retransmissions = 10;
+    for (int has_heartbeats = 0; has_heartbeats <= 1; has_heartbeats++) {
+        options.heartbeat_interval = has_heartbeats ? 30 * SECONDS : 0;
+        connect_pair(&pair, &options, &options);
+        EQUAL("send", send_bytes(&pair.a, 1, 10), DCSCTP_OK);
+        EQUAL("data", given_up(&pair.a, BEGIN),
+              has_heartbeats ? 127500 * MILLISECONDS : 500 * MILLISECONDS * ((1 << 11) - 1));
+        destroy_pair(&pair);
+        lose_after_a_round_trip(&options);
+        EQUAL("at the least timeout", given_up(&pair.a, BEGIN),
+              has_heartbeats ? 162500 * MILLISECONDS : 400 * MILLISECONDS * ((1 << 11) - 1));
+        destroy_pair(&pair);
+        connect_pair(&pair, &options, &options);
+        EQUAL("shutdown", dcsctp_shutdown(&pair.a.socket), DCSCTP_OK);
+        EQUAL("SHUTDOWN", given_up(&pair.a, BEGIN),
+              has_heartbeats ? 330500 * MILLISECONDS : 500 * MILLISECONDS * ((1 << 11) - 1));
+        destroy_pair(&pair);
+    }
+}
+
+/* What docs/guide/c.md has for who must know soon: a HEARTBEAT each 2 s, and the fourth error ends
+ * it. The fourth HEARTBEAT goes out after 8 s. At the least timeout data goes out after 0.4, 1.2 and
+ * 2.8 s, and a HEARTBEAT 2 s later. An answer is awaited for 500 ms. */
+static void soon(void) {
+    dcsctp_options options = default_options();
+    options.heartbeat_interval = 2 * SECONDS;
+    options.max_retransmissions = 3;
+    connect_pair(&pair, &options, &options);
+    EQUAL("idle", given_up(&pair.a, BEGIN), 8500 * MILLISECONDS);
     destroy_pair(&pair);
+    lose_after_a_round_trip(&options);
+    EQUAL("data", given_up(&pair.a, BEGIN), 5300 * MILLISECONDS);
+    destroy_pair(&pair);
+}
+
+/* A link is down: nothing arrives, either way. A message of that time arrives by the first packet
+ * that goes out afterwards, unless the sender has given up. At the least timeout the 60th wait ends
+ * at 2.8 + 57 * 3 s, and the tenth at 2.8 + 7 * 3 s. */
+static void link_is_down(void) {
+    static const struct {
+        uint32_t max_retransmissions;
+        uint64_t down, again; /* milliseconds, and those until it is sent again */
+    } rows[] = {
+        {60, 150000, 152800}, {60, 173700, 173800}, {60, 173900, 0},
+        {10, 23700, 23800},   {10, 25000, 0},
+    };
+    for (size_t i = 0; i < sizeof rows / sizeof rows[0]; i++) {
+        dcsctp_options options = default_options();
+        options.max_retransmissions = rows[i].max_retransmissions;
+        lose_after_a_round_trip(&options);
+        EQUAL("taken before", take_messages(&pair.b, 10), 1);
+        for (uint64_t wait; (wait = until_deadline(&pair, &pair.a)) != DCSCTP_NEVER &&
+                            pair.now + wait <= BEGIN + rows[i].down * MILLISECONDS;) {
+            pass(&pair, wait);
+            carry(&pair.a, NULL);
+            carry(&pair.b, NULL);
+        }
+        if (rows[i].again) {
+            pass(&pair, until_deadline(&pair, &pair.a));
+            EQUAL("sent again", pair.now - BEGIN, rows[i].again * MILLISECONDS);
+            settle(&pair);
+            EQUAL("it arrives", take_messages(&pair.b, 20), 1);
+            pass(&pair, 1 * SECONDS);
+            settle(&pair);
+            EQUAL("acknowledged", metrics_of(&pair.a).unack_data_count, 0);
+        } else {
+            pass(&pair, until_deadline(&pair, &pair.a));
+            carry(&pair.a, NULL);
+            EQUAL("given up", pair.a.seen[DCSCTP_EVENT_ABORTED], 1);
+        }
+        destroy_pair(&pair);
+    }
 }
 
 /* ---- The last packets ----------------------------------------------------------------------- */
@@ -187,7 +322,7 @@ static void first_to_close_has_stopped(void) {
     EQUAL("shutdown", dcsctp_shutdown(&pair.a.socket), DCSCTP_OK);
     EQUAL("SHUTDOWN", carry(&pair.a, &pair.b), 1);
     EQUAL("SHUTDOWN ACK", carry(&pair.b, &pair.a), 1);
-    EQUAL("B is aborted", given_up(&pair.b, BEGIN), 330500 * MILLISECONDS);
+    EQUAL("B is aborted", given_up(&pair.b, BEGIN), FROM_INITIAL);
     destroy_pair(&pair);
 }
 
@@ -218,37 +353,82 @@ static void shutdown_before_connected(uint32_t follow_rfc) {
 
 /* ---- A reader that pauses ------------------------------------------------------------------- */
 
-/* B takes no messages for 15 minutes, so that its window is full. It answers each probe of A. The
- * wait for the next probe doubles each time, past `rto_max`: only `max_timer_backoff_duration` caps
- * it. Then B takes all, and the packet that reports it is lost. The probes came at 400 ms * (2^n - 1),
- * at least, the last one before 15 minutes at 818.8 s, and so the next one at 1,638 s. */
-static void paused_reader(uint64_t cap) {
-    dcsctp_options options = quiet_options(), small = quiet_options();
-    uint64_t longest = 0;
+/* A sends to B, which takes nothing, until the window is full, and more. */
+static void fill_window(const dcsctp_options *of_a, const dcsctp_options *of_b) {
+    dcsctp_options small = *of_b;
     small.max_receiver_window_buffer_size = 10000;
-    options.max_timer_backoff_duration = cap;
-    connect_pair(&pair, &options, &small);
+    connect_pair(&pair, of_a, &small);
     for (int i = 0; i < 40; i++)
         EQUAL("send", send_bytes(&pair.a, 1, 1000), DCSCTP_OK);
+}
+
+/* B takes no messages for at least 15 minutes, and answers each probe of A. The wait for the next
+ * probe doubles each time, up to `max_timer_backoff_duration`, and with `follow_rfc` up to `rto_max`.
+ * After a probe B takes all, and the packet that reports it is lost. Where nothing limits the waits,
+ * probes came at 400 ms * (2^n - 1): at 818.8 s and, after a wait of 819.2 s, at 1,638 s. The next
+ * wait is 1,638.4 s. */
+static void paused_reader(uint64_t cap, uint32_t follow_rfc, uint64_t longest_in_seconds,
+                          uint64_t next_in_seconds) {
+    dcsctp_options options = quiet_options();
+    const dcsctp_options of_b = quiet_options();
+    uint64_t longest = 0;
+    options.max_timer_backoff_duration = cap;
+    options.follow_rfc = follow_rfc;
+    fill_window(&options, &of_b);
     while (pair.now < BEGIN + 900 * SECONDS) {
         settle(&pair);
-        const uint64_t of_a = until_deadline(&pair, &pair.a), of_b = until_deadline(&pair, &pair.b);
+        const uint64_t of_a = until_deadline(&pair, &pair.a), to_b = until_deadline(&pair, &pair.b);
         if (of_a != DCSCTP_NEVER && of_a > longest)
             longest = of_a;
-        pass(&pair, of_a < of_b ? of_a : of_b);
+        pass(&pair, of_a < to_b ? of_a : to_b);
     }
     EQUAL("still connected", dcsctp_state(&pair.a.socket), DCSCTP_STATE_CONNECTED);
     EQUAL("the window was full", take_messages(&pair.b, 1000) < 40, 1);
     pass(&pair, 0);
     EQUAL("the window is reported, and that is lost", carry(&pair.b, NULL), 1);
-    if (cap == DCSCTP_NEVER) {
-        EQUAL("the longest wait", longest / SECONDS, 819);
-        EQUAL("until the next probe", until_deadline(&pair, &pair.a) > 600 * SECONDS, 1);
-    } else {
-        EQUAL("the longest wait", longest, cap);
-        EQUAL("until the next probe", until_deadline(&pair, &pair.a) <= cap, 1);
-    }
+    EQUAL("the longest wait", longest / SECONDS, longest_in_seconds);
+    EQUAL("until the next probe", until_deadline(&pair, &pair.a) / SECONDS, next_in_seconds);
     destroy_pair(&pair);
+}
+
+/* The same without `follow_rfc` at one end: each probe is an error, since B doesn't answer it, or A
+ * doesn't count the answer. And no HEARTBEAT goes out, since data does each 3 s. So a live peer is
+ * given up, after as long as a silent one: 2.8 + 58 * 3 s. At A with `follow_rfc` the answers to a
+ * request to reset another stream count. By upstream's limits waits grow, and HEARTBEATs go out
+ * between. */
+static void paused_reader_without_the_option(void) {
+    static const struct {
+        uint32_t at_a, at_b;
+        int resets, by_upstream, is_given_up;
+    } rows[] = {
+        {0, 0, 0, 0, 1}, {1, 0, 0, 0, 1}, {0, 1, 0, 0, 1}, {1, 1, 0, 0, 0},
+        {0, 0, 1, 0, 1}, {1, 0, 1, 0, 0}, {0, 1, 1, 0, 1}, {1, 1, 1, 0, 0},
+        {0, 0, 0, 1, 0}, {1, 0, 0, 1, 0}, {0, 1, 0, 1, 0}, {1, 1, 0, 1, 0},
+    };
+    for (size_t i = 0; i < sizeof rows / sizeof rows[0]; i++) {
+        const uint16_t stream = 2;
+        dcsctp_options of_a = default_options(), of_b = default_options();
+        of_a.follow_rfc = rows[i].at_a;
+        of_b.follow_rfc = rows[i].at_b;
+        if (rows[i].by_upstream) {
+            of_a.max_timer_backoff_duration = DCSCTP_NEVER;
+            of_a.max_retransmissions = 10;
+        }
+        fill_window(&of_a, &of_b);
+        settle(&pair);
+        if (rows[i].resets)
+            EQUAL("reset", dcsctp_reset_streams(&pair.a.socket, &stream, 1), DCSCTP_OK);
+        while (pair.now < BEGIN + 900 * SECONDS && !pair.a.seen[DCSCTP_EVENT_ABORTED]) {
+            settle(&pair);
+            const uint64_t to_a = until_deadline(&pair, &pair.a), to_b = until_deadline(&pair, &pair.b);
+            pass(&pair, to_a < to_b ? to_a : to_b);
+            carry(&pair.a, &pair.b);
+        }
+        EQUAL("given up", pair.a.seen[DCSCTP_EVENT_ABORTED], rows[i].is_given_up);
+        if (rows[i].is_given_up)
+            EQUAL("when", pair.now - BEGIN, FROM_LEAST);
+        destroy_pair(&pair);
+    }
 }
 
 /* ---- Messages that nobody has taken --------------------------------------------------------- */
@@ -274,7 +454,7 @@ static void b_shuts_down(void) {
 
 static void b_gives_up(void) {
     EQUAL("send", send_bytes(&pair.b, 1, 10), DCSCTP_OK);
-    EQUAL("no answer", given_up(&pair.b, pair.now), 500 * MILLISECONDS * ((1 << 11) - 1));
+    EQUAL("no answer", given_up(&pair.b, pair.now), FROM_INITIAL);
 }
 
 static void a_restarts(void) {
@@ -375,12 +555,19 @@ int main(void) {
     too_many_heartbeats();
     data_before_a_round_trip();
     data_after_a_round_trip();
+    at_the_longest_timeout();
     no_end_of_a_shutdown();
-    without_heartbeats();
+    no_handshake_without_heartbeats();
+    as_upstream();
+    soon();
+    link_is_down();
     last_packet_is_lost();
     first_to_close_has_stopped();
-    paused_reader(DCSCTP_NEVER);
-    paused_reader(5 * SECONDS);
+    paused_reader(default_options().max_timer_backoff_duration, 1, 3, 3);
+    paused_reader(5 * SECONDS, 1, 5, 5);
+    paused_reader(DCSCTP_NEVER, 1, 60, 60);
+    paused_reader(DCSCTP_NEVER, 0, 819, 1638);
+    paused_reader_without_the_option();
     for (uint32_t follow_rfc = 0; follow_rfc <= 1; follow_rfc++) {
         shutdown_before_connected(follow_rfc);
         untaken_messages(follow_rfc);

@@ -3,7 +3,7 @@ use Rattle.std.specs.Prelude.{◌≡◌, ◌==◌, ◌-◌, ◌^◌, ◌&&◌, n
 use Rattle.std.specs.Duration.{as_nanos}
 use Rattle.std.specs.declared.time.Duration.{Duration}
 use Rattle.dcsctp_core.specs.types.Ids.{lifecycle_number}
-use Rattle.dcsctp_core.specs.types.Settings.{IsDefault}
+use Rattle.dcsctp_core.specs.types.Settings.{IsDefault, milliseconds}
 use Rattle.dcsctp_core.specs.types.declared.ids.LifecycleId.{LifecycleId}
 use Rattle.dcsctp_core.specs.types.declared.options.Options.{Options}
 use Rattle.dcsctp_core.specs.types.declared.message.SendOptions.{SendOptions}
@@ -134,11 +134,18 @@ pub record ShowsOptions (numbers : OptionsRecord) (options : Options) : Type 0 w
   pub offers : SaysOffers numbers options
   pub flags : ShowsFlags numbers options
 
--- The numbers are written for the default options, but that the RFCs are followed where the port doesn't.
+-- The options of a caller in C who sets none: the default ones, but that the RFCs are followed where the port doesn't, that no wait
+-- for an answer but the first is longer than this, and that 60 of them may be in vain.
+abbrev pub standard_options : Duration → Options → Options
+standard_options longest options = record options { follow_rfc = true; max_timer_backoff_duration = Some longest; max_retransmissions = Some 60 }
+
+-- The numbers are written for these, and the longest wait is 3 s.
 pub record ShowsDefault (numbers : OptionsRecord) : Type 0 where
   pub options : Options
-  pub shows : ShowsOptions numbers (record options { follow_rfc = true })
+  pub longest : Duration
+  pub shows : ShowsOptions numbers (standard_options longest options)
   pub default : IsDefault options
+  pub wait : as_nanos longest ≡ milliseconds 3000
 
 -- a value that counts if the bit is set
 abbrev pub where_set : {T : Type 0} → Bool → T → Option T

@@ -33,7 +33,7 @@ pub struct Options {
     pub rtt_max: Duration,
     /// The first retransmission timeout: 500 ms. Make it longer than any round trip.
     pub rto_initial: Duration,
-    /// Its maximum without backoff: 60 s.
+    /// Its maximum: 60 s.
     pub rto_max: Duration,
     /// Its minimum: 400 ms.
     pub rto_min: Duration,
@@ -43,7 +43,7 @@ pub struct Options {
     pub t1_cookie_timeout: Duration,
     /// Older cookies are rejected: 60 s.
     pub cookie_lifetime: Duration,
-    /// The limit of backoff: none. Set it to a few seconds if the peer may pause.
+    /// The limit of waits but the first; `None`: no limit. 3 s.
     pub max_timer_backoff_duration: Option<Duration>,
     /// Between HEARTBEATs; zero: none are sent. 30 s.
     pub heartbeat_interval: Duration,
@@ -53,7 +53,7 @@ pub struct Options {
     pub min_rtt_variance: Duration,
     /// Packets sent at once: 4. Raise it for a peer that acknowledges once a round trip.
     pub max_burst: i32,
-    /// Of data; `None`: no limit. 10.
+    /// Of data; `None`: no limit. 60.
     pub max_retransmissions: Option<u32>,
     /// Of INIT and COOKIE ECHO; `None`: no limit. 8.
     pub max_init_retransmits: Option<u32>,
@@ -100,12 +100,12 @@ impl Default for Options {
             t1_init_timeout: Duration::from_secs(1),
             t1_cookie_timeout: Duration::from_secs(1),
             cookie_lifetime: Duration::from_secs(60),
-            max_timer_backoff_duration: None,
+            max_timer_backoff_duration: Some(Duration::from_secs(3)),
             heartbeat_interval: Duration::from_secs(30),
             delayed_ack_max_timeout: Duration::from_millis(200),
             min_rtt_variance: Duration::from_millis(220),
             max_burst: 4,
-            max_retransmissions: Some(10),
+            max_retransmissions: Some(60),
             max_init_retransmits: Some(8),
             zero_checksum_method: 0,
             enable_partial_reliability: true,
