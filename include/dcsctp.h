@@ -96,7 +96,8 @@
  *   moments of a socket are by the same clock. Advance the time before you hand in a packet.
  *
  * Seed. All random numbers of a socket come from its 32 bytes of seed. Use new ones for each socket
- *   (dcsctp_random_seed): whoever knows them can forge packets.
+ *   (dcsctp_random_seed): whoever knows them can forge packets. A seed of zeros is refused: it was
+ *   never filled.
  *
  * DTLS. Run it over DTLS, or over another layer that delivers only what the peer has sent.
  *   Otherwise anyone can connect to a closed socket with one forged COOKIE ECHO: cookies aren't
@@ -193,7 +194,7 @@ DCSCTP_ENUM(dcsctp_error, int32_t) {
     /* The socket was created already. */
     DCSCTP_ERROR_ALREADY_CREATED = -4,
 
-    /* The options aren't valid: see dcsctp_options. */
+    /* The options aren't valid (see dcsctp_options), or all bytes of the seed are 0. */
     DCSCTP_ERROR_INVALID_OPTIONS = -5,
 
     /* The buffer is too small. The needed number of elements was written if the call has a
@@ -261,7 +262,7 @@ static inline const char *dcsctp_error_text(int32_t result) {
     case DCSCTP_ERROR_ALREADY_CREATED:
         return "there is a socket already";
     case DCSCTP_ERROR_INVALID_OPTIONS:
-        return "no socket can be made with these options";
+        return "no socket can be made with these options or this seed";
     case DCSCTP_ERROR_BUFFER_TOO_SMALL:
         return "the buffer is too small";
     case DCSCTP_ERROR_NOTHING_TO_COPY:
@@ -455,7 +456,7 @@ static inline int32_t dcsctp_random_seed(uint8_t seed[32]) {
  * before a peer connects.
  *
  * Errors: ALREADY_CREATED, WRONG_SIZE, INVALID_OPTIONS, OUT_OF_MEMORY. In each case `socket` is as
- * before, and the call may be tried again. */
+ * before, and the call may be tried again. INVALID_OPTIONS: also if all bytes of the seed are 0. */
 int32_t dcsctp_create(dcsctp_socket *socket, const dcsctp_options *options, const uint8_t seed[32],
                       uint64_t now) DCSCTP_CHECKED_CALL;
 

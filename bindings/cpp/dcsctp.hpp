@@ -288,7 +288,7 @@ public:
     socket &operator=(const socket &) = delete;
 
     // Creates a closed socket whose clock is at `now`, with a seed from the system, or with yours, which must be
-    // secret and new.
+    // secret and new. One of zeros is refused: error::invalid_options.
     error create(const dcsctp_options &how, nanoseconds now) {
         const std::optional<seed> drawn = random_seed();
         return drawn ? create(how, *drawn, now) : error::no_seed;

@@ -125,6 +125,8 @@ void errors() {
     other.size -= 8;
     dcsctp::socket none;
     EXPECT(none.create(other, 1h) == error::wrong_size);
+    EXPECT(none.create(dcsctp::options(), dcsctp::seed{}, 1h) == error::invalid_options);
+    EXPECT(none.create(dcsctp::options(), dcsctp::seed{1}, 1h) == error::ok);
     EXPECT(socket.handover_bytes(*std::make_unique<bytes>()) == error::nothing_to_copy);
 }
 

@@ -116,13 +116,28 @@ func TestOptionsComeBack(t *testing.T) {
 			field.SetUint(uint64(at) + 100)
 		}
 	}
-	s, err := New(options, new([32]byte), 0)
+	s, err := New(options, &[32]byte{1}, 0)
 	if err != nil {
 		t.Fatal(err)
 	}
 	defer s.Destroy()
 	if s.Options() != options {
 		t.Errorf("%+v, not %+v", s.Options(), options)
+	}
+}
+
+func TestSeedOfZerosIsRefused(t *testing.T) {
+	if _, err := New(DefaultOptions(), new([32]byte), 0); err != ErrInvalidOptions {
+		t.Errorf("%v, not %v", err, ErrInvalidOptions)
+	}
+	for at := 0; at < 32; at++ {
+		seed := new([32]byte)
+		seed[at] = 1
+		s, err := New(DefaultOptions(), seed, 0)
+		if err != nil {
+			t.Fatal(at, err)
+		}
+		s.Destroy()
 	}
 }
 

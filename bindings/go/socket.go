@@ -45,7 +45,7 @@ var nowhere [1]uint16
 
 // New creates a closed socket whose clock is at now, which is the time since any other moment, the same for all
 // calls on the socket. The seed is secret and never used twice; if it is nil, the system's generator makes one. Errors:
-// ErrInvalidOptions, ErrOutOfMemory, ErrWrongVersion, and those of crypto/rand.
+// ErrInvalidOptions, also if the seed is all zeros, ErrOutOfMemory, ErrWrongVersion, and those of crypto/rand.
 func New(options Options, seed *[32]byte, now time.Duration) (*Socket, error) {
 	if C.dcsctp_version() & ^C.uint32_t(C.DCSCTP_VERSION_UNPROVED) != C.DCSCTP_VERSION {
 		return nil, ErrWrongVersion

@@ -107,10 +107,10 @@ class AlreadyCreated(Error):
 
 
 class InvalidOptions(Error):
-    """The options aren't valid."""
+    """The options aren't valid, or all bytes of the seed are 0."""
 
     number = -5
-    text = "no socket can be made with these options"
+    text = "no socket can be made with these options or this seed"
 
 
 class BufferTooSmall(Error):
@@ -854,7 +854,7 @@ class Socket:
     copied. A destroyed socket raises `NoSocket`.
 
     It begins closed, with its clock at `now`. The seed has 32 bytes, is secret and never used twice: without one the
-    system's generator makes it. Raises `InvalidOptions` and `OutOfMemory`."""
+    system's generator makes it. Raises `InvalidOptions`, also if the seed is all zeros, and `OutOfMemory`."""
 
     def __init__(self, options: Optional[Options] = None, seed: Optional[bytes] = None, now: int = 0) -> None:
         self._socket = _Socket()

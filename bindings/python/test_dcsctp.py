@@ -282,6 +282,14 @@ class Misuse(unittest.TestCase):
                 self.assertRaises(TypeError, call)
             self.assertIsNone(socket.poll_event(), "nothing has changed")
 
+    def test_seed_of_zeros_is_refused(self):
+        self.assertRaises(dcsctp.InvalidOptions, dcsctp.Socket, seed=bytes(32))
+        for at in range(32):
+            seed = bytearray(32)
+            seed[at] = 1
+            with dcsctp.Socket(seed=seed) as socket:
+                self.assertEqual(socket.state(), dcsctp.State.CLOSED)
+
     def test_no_messages_and_no_streams(self):
         with dcsctp.Socket() as socket:
             self.assertEqual(socket.send_many([]), [])

@@ -146,6 +146,32 @@ static void seeds(void) {
     dcsctp_destroy(&other.socket);
 }
 
+/* A seed of zeros is refused, and nothing is created. Each other one is taken: here one bit is set. */
+static void zero_seed(void) {
+    dcsctp_options options = quiet_options(), invalid = options;
+    dcsctp_socket socket = DCSCTP_SOCKET_INIT;
+    uint8_t seed[32] = {0};
+    invalid.mtu = 31;
+    for (int tries = 0; tries < 2; tries++) {
+        EQUAL("zeros", dcsctp_create(&socket, &options, seed, BEGIN), DCSCTP_ERROR_INVALID_OPTIONS);
+        EQUAL("state", dcsctp_state(&socket), DCSCTP_ERROR_NO_SOCKET);
+        EQUAL("at moment 0", dcsctp_create(&socket, &options, seed, 0),
+              DCSCTP_ERROR_INVALID_OPTIONS);
+        EQUAL("and options", dcsctp_create(&socket, &invalid, seed, BEGIN),
+              DCSCTP_ERROR_INVALID_OPTIONS);
+    }
+    for (int bit = 0; bit < 256; bit++) {
+        seed[bit / 8] = (uint8_t)(1 << bit % 8);
+        EQUAL("one bit", dcsctp_create(&socket, &options, seed, BEGIN), DCSCTP_OK);
+        seed[bit / 8] = 0;
+        EQUAL("second", dcsctp_create(&socket, &options, seed, BEGIN), DCSCTP_ERROR_ALREADY_CREATED);
+        EQUAL("state", dcsctp_state(&socket), DCSCTP_STATE_CLOSED);
+        dcsctp_destroy(&socket);
+    }
+    options.size = 0;
+    EQUAL("size first", dcsctp_create(&socket, &options, seed, BEGIN), DCSCTP_ERROR_WRONG_SIZE);
+}
+
 /* A packet is copied into buffers of each length. One that is too small isn't written to, and
  * nothing is written behind the packet. */
 static void packet_buffers(void) {
@@ -384,6 +410,7 @@ int main(void) {
     no_socket();
     second_socket();
     seeds();
+    zero_seed();
     packet_buffers();
     message_buffers();
     refused_messages();

@@ -56,7 +56,7 @@ static void options_init(void) {
 }
 
 static void create_and_destroy(void) {
-    static const uint8_t seed[32];
+    static const uint8_t seed[32] = {1};
     dcsctp_socket socket = DCSCTP_SOCKET_INIT;
     EQUAL("create", dcsctp_create(&socket, &options, seed, BEGIN), DCSCTP_OK);
     dcsctp_destroy(&socket);

@@ -494,6 +494,7 @@ static void reset(struct side *side) {
 static void create_socket(dcsctp_socket *socket, const dcsctp_options *options, uint8_t seed) {
     uint8_t seeds[32];
     memset(seeds, seed, sizeof seeds);
+    seeds[31] = 1; /* all zeros are refused */
     EXPECT("dcsctp_create", dcsctp_create(socket, options, seeds, now) == DCSCTP_OK);
     EXPECT("dcsctp_create",
            dcsctp_create(socket, options, seeds, now) == DCSCTP_ERROR_ALREADY_CREATED);

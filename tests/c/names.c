@@ -25,7 +25,7 @@ static void errors(void) {
         {DCSCTP_ERROR_FAILED, -2, "an allocation failed in an earlier call"},
         {DCSCTP_ERROR_NO_SOCKET, -3, "there is no socket"},
         {DCSCTP_ERROR_ALREADY_CREATED, -4, "there is a socket already"},
-        {DCSCTP_ERROR_INVALID_OPTIONS, -5, "no socket can be made with these options"},
+        {DCSCTP_ERROR_INVALID_OPTIONS, -5, "no socket can be made with these options or this seed"},
         {DCSCTP_ERROR_BUFFER_TOO_SMALL, -6, "the buffer is too small"},
         {DCSCTP_ERROR_NOTHING_TO_COPY, -7, "there is nothing to copy"},
         {DCSCTP_ERROR_EMPTY_PAYLOAD, -8, "the message has no bytes"},

@@ -10,5 +10,5 @@ use Rattle.dcsctp_c.specs.Exports.{CreatedIn}
 -- by a handle that is left as it was, since an allocation failed
 pub not_created : (numbers : OptionsRecord) (seed : List ℕ) (moment : ℕ) (made : Session) (held : Option Session) (result : ℤ)
     → Creates numbers seed moment (Ok made) → (IsSome held → ⊥) → result ≡ status_number statuses.OutOfMemory → CreatedIn numbers seed moment held result held
-not_created numbers seed moment made None result creates closed is = inr (statuses.OutOfMemory, inr (inr (refl, creates.sized)), is, refl)
+not_created numbers seed moment made None result creates closed is = inr (statuses.OutOfMemory, inr (inr (inr (refl, creates.sized))), is, refl)
 not_created numbers seed moment made (Some session) result creates closed is = absurd (closed refl)

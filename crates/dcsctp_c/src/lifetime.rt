@@ -19,8 +19,7 @@ pub extern "C" fn dcsctp_get_default_options(options: &mut OptionsRecord) -> i32
     Status::Done.number()
 }
 
-/// Gives a handle a closed socket, whose clock is at `now`.
-#[tactic(auto, using(crate::proofs::ExportLemmas::not_created))]
+/// Gives a handle a closed socket, whose clock is at `now`. A seed of zeros is refused.
 #[unsafe(no_mangle)]
 pub extern "C" fn dcsctp_create(
     alloc: Global,

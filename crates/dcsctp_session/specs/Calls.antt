@@ -1,6 +1,7 @@
 -- What the calls of a session do: the call of its socket takes place, what was taken is kept, and
 -- the status says how it ended.
-use Rattle.std.specs.Prelude.{◌≡◌, ◌⊎◌, ◌<◌, ℕ, Bool, true, false, IsOk, List, Option, Some, None, Result, Ok, Err, option_map}
+use Rattle.std.specs.Prelude.{◌≡◌, ◌==◌, ◌⊎◌, ◌<◌, ℕ, Bool, true, false, IsOk, List, Option, Some, None, Result, Ok, Err, option_map}
+use Rattle.std.specs.List.{list_all}
 use Rattle.rand_chacha.specs.ChaCha.{of_seed}
 use Rattle.dcsctp_core.specs.types.Settings.{IsValid}
 use Rattle.dcsctp_core.specs.types.declared.options.Options.{Options}
@@ -32,10 +33,15 @@ use Rattle.dcsctp_session.specs.Views.{view, words_ahead, nothing_taken}
 
 -- ---- the first call
 
+-- Are all bytes of a seed 0, as before it is filled?
+abbrev pub is_zero_seed : List ℕ → Bool
+is_zero_seed seed = list_all (λ byte. byte == 0) seed
+
 -- A closed socket with these options, whose random words come from the seed. Its clock was set to a moment, and nothing was
 -- taken.
 pub record IsCreated (numbers : OptionsRecord) (seed : List ℕ) (moment : ℕ) (session : Session) : Type 0 where
   pub sized : has_options_size numbers ≡ true
+  pub filled : is_zero_seed seed ≡ false
   pub options : Options
   pub says : SaysOptions numbers options
   pub moves : AdvancesClock (user_view_of words_ahead (fresh_socket options (of_seed seed))) moment (Ok tt) (view session)
@@ -48,12 +54,18 @@ pub record AreOptionsRefused (numbers : OptionsRecord) : Type 0 where
   pub says : SaysOptions numbers options
   pub refused : IsValid options → ⊥
 
--- A session is made; or the record has another size; or the options are refused; or an allocation failed.
+-- No socket is made with a seed that wasn't filled.
+pub record IsSeedRefused (numbers : OptionsRecord) (seed : List ℕ) : Type 0 where
+  pub sized : has_options_size numbers ≡ true
+  pub zero : is_zero_seed seed ≡ true
+
+-- A session is made; or the record has another size; or the options are refused, or the seed; or an allocation failed.
 abbrev pub Creates : OptionsRecord → List ℕ → ℕ → Result Session Status → Type 0
 Creates numbers seed moment (Ok session) = IsCreated numbers seed moment session
 Creates numbers seed moment (Err status) =
     (status ≡ statuses.WrongSize) × (has_options_size numbers ≡ false)
     ⊎ (status ≡ statuses.InvalidOptions) × AreOptionsRefused numbers
+    ⊎ (status ≡ statuses.InvalidOptions) × IsSeedRefused numbers seed
     ⊎ (status ≡ statuses.OutOfMemory) × (has_options_size numbers ≡ true)
 
 -- ---- calls that the socket may refuse

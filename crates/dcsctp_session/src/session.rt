@@ -8,7 +8,7 @@ ghost use Rattle.dcsctp_core.specs.api.Calls.{stream_shown, socket_state_of};
 ghost use Rattle.dcsctp_core.specs.api.Messages.{ready_messages};
 ghost use Rattle.dcsctp_session.specs.Options.{ShowsOptions, never};
 ghost use Rattle.dcsctp_session.specs.Views.{view};
-ghost use Rattle.dcsctp_session.specs.Calls.{Creates, ConnectsSession, ShutDown, Closed, InputHandled, Advanced, SettingMade, SizeLimited, MessageSent, StreamsReset};
+ghost use Rattle.dcsctp_session.specs.Calls.{Creates, is_zero_seed, ConnectsSession, ShutDown, Closed, InputHandled, Advanced, SettingMade, SizeLimited, MessageSent, StreamsReset};
 
 use crate::copying::{front, stream_ids};
 use crate::options::{OptionsRecord, SendOptionsRecord};
@@ -61,13 +61,21 @@ fn moment(nanos: u64) -> SocketTime
     SocketTime::zero() + Duration::from_nanos(nanos)
 }
 
+// Are all bytes of a seed 0, as before it is filled?
+fn is_zero(seed: &[u8]) -> bool
+    ensures { result ≡ is_zero_seed seed.now }
+{
+    seed.iter().all(|byte| *byte == 0)
+}
+
 impl Session {
     /// A closed socket, whose clock is at `now`, in nanoseconds. Its random words come from ChaCha20 with
     /// this seed.
     ///
     /// `Status::WrongSize`: the record has another size than that of this library, and nothing else of it was
-    /// read. `Status::InvalidOptions`: no socket can be made with these options. `Status::OutOfMemory`: an
-    /// allocation failed.
+    /// read. `Status::InvalidOptions`: no socket can be made with these options, or all bytes of the seed are
+    /// 0: it was never filled, and whoever knows that can forge packets. `Status::OutOfMemory`: an allocation
+    /// failed.
     pub fn new(
         alloc: Global,
         options: &OptionsRecord,
@@ -78,6 +86,9 @@ impl Session {
     {
         if !options.is_sized() {
             return Err(Status::WrongSize);
+        }
+        if is_zero(&seed) {
+            return Err(Status::InvalidOptions);
         }
         let options = options.options();
         if !options.is_valid() {

@@ -27,7 +27,7 @@ pub enum Status {
     /// There is a socket already.
     AlreadyCreated,
 
-    /// No socket can be made with these options.
+    /// No socket can be made with these options, or with this seed.
     InvalidOptions,
 
     /// The buffer is too small.

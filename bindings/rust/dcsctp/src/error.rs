@@ -16,7 +16,7 @@ pub enum Error {
     NoSocket,
     /// The socket was created already. No method of `Socket` returns it.
     AlreadyCreated,
-    /// The options aren't valid.
+    /// The options aren't valid, or all bytes of the seed are 0.
     InvalidOptions,
     /// The buffer is too small. No method of `Socket` returns it.
     BufferTooSmall,
@@ -96,7 +96,7 @@ impl fmt::Display for Error {
             Error::Failed => "an allocation failed in an earlier call",
             Error::NoSocket => "there is no socket",
             Error::AlreadyCreated => "there is a socket already",
-            Error::InvalidOptions => "no socket can be made with these options",
+            Error::InvalidOptions => "no socket can be made with these options or this seed",
             Error::BufferTooSmall => "the buffer is too small",
             Error::NothingToCopy => "there is nothing to copy",
             Error::EmptyPayload => "the message has no bytes",

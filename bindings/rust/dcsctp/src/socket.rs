@@ -48,7 +48,7 @@ impl Socket {
     /// Creates a closed socket, whose clock is at `now`. The seed is secret and never used twice: `random_seed`
     /// makes one. A moment is the time since any other moment, which is the same for all calls on the socket.
     ///
-    /// Errors: `InvalidOptions`, `OutOfMemory`, `WrongVersion`, `WrongSize`.
+    /// Errors: `InvalidOptions`, also if the seed is all zeros, `OutOfMemory`, `WrongVersion`, `WrongSize`.
     pub fn new(options: &Options, seed: &[u8; 32], now: Duration) -> Result<Socket, Error> {
         if !version::is_ours() {
             return Err(Error::WrongVersion);

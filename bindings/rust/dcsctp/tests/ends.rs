@@ -114,6 +114,17 @@ fn message_is_lost_when_the_next_association_begins() {
 }
 
 #[test]
+fn seed_of_zeros_is_refused() {
+    let created = |seed: [u8; 32]| Socket::new(&Options::default(), &seed, NOW).map(drop);
+    assert_eq!(created([0; 32]), Err(Error::InvalidOptions));
+    for at in 0..32 {
+        let mut seed = [0; 32];
+        seed[at] = 1;
+        assert_eq!(created(seed), Ok(()));
+    }
+}
+
+#[test]
 fn snapshot_is_for_the_options_that_it_was_made_with() {
     let usual = Options::default();
     let [mut a, mut b] = connected(&usual);
