@@ -351,10 +351,10 @@ typedef struct dcsctp_socket {
  *   for a HEARTBEAT, and 27.5 s or 26.8 s for data: then 25 s without a link may end it.
  *   If `heartbeat_interval` is above 0 but no longer than `rto_initial`, no HEARTBEAT is an error.
  *
- * `max_timer_backoff_duration`: each wait for an answer to data or SHUTDOWN is twice the last one,
- *   but no longer than this, nor than `rto_max`. Only the first may be longer than this. Without
- *   `follow_rfc` only this is a limit, and for data alone: a peer that doesn't answer a SHUTDOWN is
- *   given up by HEARTBEATs. For requests to reset streams there is never a limit.
+ * `max_timer_backoff_duration`: each wait for an answer to data, to SHUTDOWN or to a request to
+ *   reset streams is twice the last one, but no longer than this, nor than `rto_max`. Only the
+ *   first may be longer than this. Without `follow_rfc` only this is a limit, and for data alone: a
+ *   peer that doesn't answer a SHUTDOWN is given up by HEARTBEATs.
  *   A full window is probed after the same waits. With DCSCTP_NEVER, if the packet that reports the
  *   open window is lost, the next probe may come only after as long as the pause was, or after
  *   `rto_max` with `follow_rfc`.
@@ -367,22 +367,28 @@ typedef struct dcsctp_socket {
  *   acknowledges once a round trip gets that many in each. By default pion got 83 kB/s at a round
  *   trip of 50 ms. Raise it for such peers.
  * `max_receiver_window_buffer_size`: above nine tenths of it, new data is dropped. Retransmitted
- *   data that fills a gap is accepted until it is full. Without `follow_rfc` that is dropped, too,
- *   and no dropped data is answered. If the window is full of parts whose missing parts are
- *   dropped, nothing is delivered any more, though both ends stay connected. So make it far more
- *   than a peer has in flight, and more than its longest message.
+ *   data that fills a gap is accepted until it is full, and the first that is missing until twice
+ *   that is held. Without `follow_rfc` these are dropped, too, and no dropped data is answered: if
+ *   the window is full of parts whose missing parts are dropped, nothing is delivered any more,
+ *   though both ends stay connected. So make it far more than a peer has in flight, and more than
+ *   its longest message.
  * `total_buffered_amount_low_threshold`: DCSCTP_EVENT_TOTAL_BUFFERED_AMOUNT_LOW comes only after
  *   more than this was queued. So keep it below `max_send_buffer_size`, also if you lower that.
- * `rto_initial`: make it longer than any round trip. Otherwise the first flight is sent twice. If
- *   the round trip is twice as long or more, all data is, for the whole association.
+ * `rto_initial`: make it longer than any round trip. Otherwise the first flight is sent twice or
+ *   more. Without `follow_rfc`, if the round trip is twice as long or more, all data is, for the
+ *   whole association.
  * `follow_rfc`: the socket keeps rules of the RFCs that upstream, dcsctp 0.1.16, doesn't. A
  *   shutdown first sends queued messages. Data without room, or that fills a gap, is acknowledged
  *   at once. A full receive window that opens is reported to the peer. A peer's SHUTDOWN
  *   acknowledges data. Streams of equal priority take turns. A repeated request to reset a stream
  *   that is in progress gets the next number. Messages that are ready can be taken after their
- *   association has ended. At 0, and with upstream's limits (above), the socket behaves as
- *   upstream, but for a few differences: docs/design/differences.md has a row for each, and for
- *   each rule. */
+ *   association has ended. A timeout that was doubled stays so until a round trip is measured, and
+ *   a HEARTBEAT's first answer measures one. Data that a full window had no room for is sent again
+ *   once it opens. Errors are counted for each association. A shutdown also waits until the peer
+ *   knows what was abandoned. A SACK lists as many gaps as fit. An ABORT ends an attempt to
+ *   connect. A late COOKIE ECHO of the last association begins none. At 0, and with upstream's
+ *   limits (above), the socket behaves as upstream, but for a few differences:
+ *   docs/design/differences.md has a row for each, and for each rule. */
 typedef struct dcsctp_options {
     size_t size;                                         /* sizeof(dcsctp_options) */
     size_t mtu;                                          /* longest packet that is sent: 1,191 */
@@ -467,7 +473,8 @@ void dcsctp_destroy(dcsctp_socket *socket) DCSCTP_CALL;
 /* ---- Commands ------------------------------------------------------------------------------- */
 
 /* Begins an association: DCSCTP_EVENT_CONNECTED follows, or DCSCTP_EVENT_ABORTED, by default after
- * 511 s if nobody answers (see dcsctp_options). If the socket isn't closed, it does nothing.
+ * 511 s if nobody answers (see dcsctp_options), and with `follow_rfc` at once if the peer answers
+ * by an ABORT. If the socket isn't closed, it does nothing.
  * Errors: NO_SOCKET, FAILED, OUT_OF_MEMORY. */
 int32_t dcsctp_connect(dcsctp_socket *socket) DCSCTP_CHECKED_CALL;
 
@@ -476,8 +483,9 @@ int32_t dcsctp_connect(dcsctp_socket *socket) DCSCTP_CHECKED_CALL;
  * handshake it shuts down as below, without DCSCTP_EVENT_CONNECTED. On a closed socket it does
  * nothing.
  *
- * It ends the association in an orderly way. All data that was sent is acknowledged first, and with
- * `follow_rfc` queued messages are sent before that. From now on dcsctp_send fails. Messages that
+ * It ends the association in an orderly way. All data that was sent is acknowledged first. With
+ * `follow_rfc` queued messages are sent before that, and the peer acknowledges what was abandoned,
+ * so that it delivers all that came after it. From now on dcsctp_send fails. Messages that
  * are queued behind a reset of their stream may be lost, and without `follow_rfc` all queued ones:
  * wait until dcsctp_buffered_amount is 0, then shut down.
  *
