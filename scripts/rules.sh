@@ -18,35 +18,9 @@ runs() {
     done
 }
 
-# values NAME [CONDITION]: that value of each run in which the condition holds on its values, in ascending order. A run
-# that doesn't print it doesn't count.
-values() {
-    awk -v name="$1" "{ delete it; for (i = 1; i < NF; i += 2) it[\$i] = \$(i + 1) }
-        (${2:-1}) && name in it { print it[name] }" | sort -g
-}
-
 # number CONDITION: in how many runs it holds.
 number() {
     values complete "$1" | wc -l
-}
-
-# spread FORM UNIT: the least of the values that come, the median and the greatest, by their unit; one of them if they
-# are the same, and a dash if there is none.
-spread() {
-    awk -v form="$1" -v unit="$2" '{ all[NR] = $1 / unit }
-        END {
-            if (NR == 0) { print "-"; exit }
-            median = (all[int((NR + 1) / 2)] + all[int(NR / 2) + 1]) / 2
-            least = sprintf(form, all[1])
-            most = sprintf(form, all[NR])
-            if (least == most) print least
-            else print least "/" sprintf(form, median) "/" most
-        }'
-}
-
-# sum: of the values that come.
-sum() {
-    awk '{ sum += $1 } END { print sum + 0 }'
 }
 
 aborted='it["aborts"] > 0'
