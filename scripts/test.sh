@@ -34,7 +34,8 @@ counted() {
     fi
 }
 
-# each TEST..: runs tests, each a program and what it takes, a line each. The last line has the counts.
+# each NAME: runs tests, each a program and what it takes, a line each. The last line has the counts; no test at all is
+# a failure.
 each() {
     local it good=0 bad=0
     while read -r it; do
@@ -47,6 +48,7 @@ each() {
             cat "$logs/one"
         fi
     done
+    [ $((good + bad)) -gt 0 ] || { echo "$1: there is no test"; bad=1; }
     echo "$1: $good passed, $bad failed"
 }
 
