@@ -48,9 +48,9 @@ try_rust() {
     cargo test --offline --quiet >"$folder/log" 2>&1 || { cat "$folder/log" >&2; return 1; }
     tours cargo run --offline --quiet --example tour
     under_valgrind tours "$CARGO_TARGET_DIR/debug/examples/tour"
-    { echo "//! Shown." && shown rust; } >dcsctp/examples/shown.rs
+    { echo "//! Shown." && shown rust; } >dcsctp-socket/examples/shown.rs
     says_hello cargo run --offline --quiet --example shown
-    rm dcsctp/examples/shown.rs
+    rm dcsctp-socket/examples/shown.rs
     packaged
 }
 

@@ -37,7 +37,7 @@ if has cargo Rust cargo && has cc Rust gcc; then
         --manifest-path bindings/rust/Cargo.toml --target-dir out/cargo-doc
     mv out/cargo-doc/doc "$to/rust"
     rm -rf out/cargo-doc
-    made rust/dcsctp/index.html 'Rust: the crate dcsctp'
+    made rust/dcsctp_socket/index.html 'Rust: the crate dcsctp-socket'
     made rust/dcsctp_sys/index.html 'Rust: the crate dcsctp-sys'
 fi
 

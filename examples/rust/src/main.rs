@@ -2,7 +2,7 @@
 //! `cargo run -- [--loss PERMILLE] [BYTES]`. BYTES is 10 MB by default, and PERMILLE is how many of 1,000 packets each
 //! end loses. This process starts the receiver, which compares the bytes.
 
-use dcsctp::{random_seed, Event, Options, SendOptions, Socket};
+use dcsctp_socket::{random_seed, Event, Options, SendOptions, Socket};
 use std::error::Error;
 use std::io::{BufRead, BufReader, ErrorKind, Write};
 use std::net::UdpSocket;

@@ -1,5 +1,5 @@
 //! `dcsctp.h` in Rust, by its own names. The header describes each call, struct and number, and the rules of their
-//! callers. The crate `dcsctp` keeps these rules; it has a safe socket.
+//! callers. The crate `dcsctp-socket` keeps these rules; it has a safe socket.
 //!
 //! `tests/header.rs` compares this file with the header.
 #![no_std]

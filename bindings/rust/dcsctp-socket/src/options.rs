@@ -6,7 +6,7 @@ use std::time::Duration;
 /// What can be set. Sizes are in bytes. `dcsctp.h` describes each at `dcsctp_options`, and says which values connect.
 ///
 /// ```
-/// let options = dcsctp::Options { mtu: 1200, ..Default::default() };
+/// let options = dcsctp_socket::Options { mtu: 1200, ..Default::default() };
 /// assert!(options.follow_rfc);
 /// ```
 #[derive(Clone, Debug, PartialEq, Eq)]

@@ -1,6 +1,6 @@
 //! Calls in any order, with any bytes: each returns, and no error comes that a `Socket` rules out.
 
-use dcsctp::{Error, Event, Options, OutgoingMessage, SendOptions, Socket};
+use dcsctp_socket::{Error, Event, Options, OutgoingMessage, SendOptions, Socket};
 use std::collections::VecDeque;
 use std::time::Duration;
 
@@ -238,7 +238,7 @@ fn two_words_can_be_moved() {
     sockets.swap(0, 3);
     sockets.truncate(4);
     let moved = Box::new(sockets.remove(3));
-    assert_eq!(moved.state(), dcsctp::State::Connecting);
+    assert_eq!(moved.state(), dcsctp_socket::State::Connecting);
 }
 
 #[test]

@@ -2,7 +2,7 @@
 //! arrive, and the time. It hands you the packets to send, the messages that have arrived, and events.
 //!
 //! ```
-//! use dcsctp::{random_seed, Error, Event, Options, SendOptions, Socket};
+//! use dcsctp_socket::{random_seed, Error, Event, Options, SendOptions, Socket};
 //! use std::time::Duration;
 //!
 //! // Takes all events and messages of a socket. Its packets go to the other one; in a program, to the peer.

@@ -1,7 +1,7 @@
 //! What a socket can do, as small programs of two sockets, A and B, in one process. `cargo run --example tour` runs all
 //! of them. They print `bindings/expected.txt`, as those of the other languages do.
 
-use dcsctp::{
+use dcsctp_socket::{
     random_seed, Error, Event, HandoverReadiness, Options, OutgoingMessage, SendOptions, Socket,
     State,
 };

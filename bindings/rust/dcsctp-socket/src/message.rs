@@ -29,7 +29,7 @@ pub struct OutgoingMessage<'a> {
 /// How a message is sent. By default: in order, until it is acknowledged.
 ///
 /// ```
-/// let how = dcsctp::SendOptions::default().unordered().max_retransmissions(0);
+/// let how = dcsctp_socket::SendOptions::default().unordered().max_retransmissions(0);
 /// assert_eq!(how.max_retransmissions, Some(0));
 /// ```
 #[derive(Clone, Copy, Debug, Default, PartialEq, Eq)]

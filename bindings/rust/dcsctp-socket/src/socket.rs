@@ -15,17 +15,17 @@ use std::{ptr, slice};
 ///
 /// ```compile_fail,E0277
 /// fn shared<T: Sync>() {}
-/// shared::<dcsctp::Socket>();
+/// shared::<dcsctp_socket::Socket>();
 /// ```
 ///
 /// ```compile_fail,E0277
 /// fn copied<T: Clone>() {}
-/// copied::<dcsctp::Socket>();
+/// copied::<dcsctp_socket::Socket>();
 /// ```
 ///
 /// ```
 /// fn moved<T: Send>() {}
-/// moved::<dcsctp::Socket>();
+/// moved::<dcsctp_socket::Socket>();
 /// ```
 // It has no `Sync`: a query is a call, too, and there is one call at a time.
 #[derive(Debug)]

@@ -1,6 +1,6 @@
 //! What is left of an association that has ended: counts, messages that are ready, and its snapshot.
 
-use dcsctp::{random_seed, Counts, Error, Event, Options, SendOptions, Socket, State};
+use dcsctp_socket::{random_seed, Counts, Error, Event, Options, SendOptions, Socket, State};
 use std::time::Duration;
 
 /// Past a minute, as `restore_from_state` wants it.
