@@ -45,7 +45,10 @@ under_valgrind() {
 try_rust() {
     cd "$bindings/rust"
     export CARGO_TARGET_DIR=$folder/cargo
-    cargo test --offline --quiet >"$folder/log" 2>&1 || { cat "$folder/log" >&2; return 1; }
+    local it
+    for it in '' dcsctp/follow_rfc; do
+        cargo test --offline --quiet --features "$it" >"$folder/log" 2>&1 || { cat "$folder/log" >&2; return 1; }
+    done
     tours cargo run --offline --quiet --example tour
     under_valgrind tours "$CARGO_TARGET_DIR/debug/examples/tour"
     { echo "//! Shown." && shown rust; } >dcsctp-socket/examples/shown.rs
@@ -54,7 +57,7 @@ try_rust() {
     packaged
 }
 
-# packaged: both crates can be packed. Cargo warns of nothing but the missing repository. (Before 1.84 it packs no two
+# packaged: all crates can be packed. Cargo warns of nothing but the missing repository. (Before 1.84 it packs no two
 # crates of which one needs the other.)
 packaged() {
     local version

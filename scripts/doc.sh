@@ -39,6 +39,7 @@ if has cargo Rust cargo && has cc Rust gcc; then
     rm -rf out/cargo-doc
     made rust/dcsctp_socket/index.html 'Rust: the crate dcsctp-socket'
     made rust/dcsctp_sys/index.html 'Rust: the crate dcsctp-sys'
+    made rust/dcsctp/index.html 'Rust: the crate dcsctp, by the names of dcsctp 0.1.16'
 fi
 
 if has python3 'Python and the sources' python3; then
