@@ -64,6 +64,7 @@ help:
 	@echo "make dist              packs the library with bindings and examples"
 	@echo "make deb               packages for Debian: libdcsctp0, libdcsctp-dev 20 s"
 	@echo "make wheel             a wheel for Python, with the library inside   10 s"
+	@echo "make crate             crates for Rust, with the library inside      20 s"
 	@echo "make reference         pages of all contracts and definitions         10 s, into out/reference"
 	@echo "make doc               pages of C, Rust and Python, too               1 min, into out/doc"
 	@echo "make fuzz MINUTES=5    calls the C library as libFuzzer's inputs say"
@@ -170,12 +171,15 @@ dist: all
 	$(TAR) -C $(OUT) -c $(DIST) | gzip -n9 >$(OUT)/$(DIST).tar.gz
 	@echo "Packed $(OUT)/$(DIST).tar.gz, $(HOW)"
 
-# Packages of Debian, and a wheel of Python, of what was packed.
+# Packages of Debian, a wheel of Python and crates of Rust, of what was packed.
 deb: dist
 	CC='$(CC)' bash scripts/deb.sh $(OUT)/$(DIST).tar.gz
 
 wheel: dist
 	bash scripts/wheel.sh $(OUT)/$(DIST).tar.gz
+
+crate: dist
+	bash scripts/crate.sh $(OUT)/$(DIST).tar.gz
 
 clean:
 	rm -rf out
@@ -397,6 +401,6 @@ bench: $(if $(MARK),$(FAST) $(FAST_BENCH),$(LIBRARY) $(or $(PROVED_BENCH),$(FAST
 # (dist and install write the same files)
 .NOTPARALLEL:
 .PHONY: FORCE help demo test prove unproved all no-library examples c-programs reference doc install uninstall dist \
-    deb wheel clean check check-header check-symbols check-tests \
+    deb wheel crate clean check check-header check-symbols check-tests \
     check-cpp check-cffi check-examples check-install check-dist check-valgrind check-sanitizers \
     check-bindings check-rust check-browser fuzz bench

@@ -54,18 +54,6 @@ try_rust() {
     { echo "//! Shown." && shown rust; } >dcsctp-socket/examples/shown.rs
     says_hello cargo run --offline --quiet --example shown
     rm dcsctp-socket/examples/shown.rs
-    packaged
-}
-
-# packaged: all crates can be packed. Cargo warns of nothing but the missing repository. (Before 1.84 it packs no two
-# crates of which one needs the other.)
-packaged() {
-    local version
-    version=$(cargo --version | cut -d ' ' -f 2)
-    [ "$(printf '%s\n' 1.84 "$version" | sort -V | head -1)" = 1.84 ] || return 0
-    DCSCTP_LIB_DIR=$folder/lib DCSCTP_LIB_NAME=$name cargo package --offline --workspace >"$folder/log" 2>&1 ||
-        { cat "$folder/log" >&2; return 1; }
-    ! grep '^warning' "$folder/log" | grep -v 'manifest has no documentation, homepage or repository$'
 }
 
 command -v valgrind >/dev/null || echo "skipped: bindings under valgrind: no valgrind (apt install valgrind)"

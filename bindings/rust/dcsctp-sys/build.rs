@@ -2,9 +2,10 @@
 //! of these, and in each place the proved library first:
 //!
 //! 1. in the folder that DCSCTP_LIB_DIR names, if it is set;
-//! 2. in `lib` of the package that this crate was unpacked with;
-//! 3. where `make` of the repository puts it;
-//! 4. where pkg-config finds it.
+//! 2. in `lib/TARGET` of this crate, as `make crate` packs it;
+//! 3. in `lib` of the package that this crate was unpacked with;
+//! 4. where `make` of the repository puts it;
+//! 5. where pkg-config finds it.
 //!
 //! DCSCTP_LIB_NAME, `dcsctp` or `dcsctp-unproved`, chooses one of the two. If it isn't set and the unproved library is
 //! taken, a warning says so. With DOCS_RS, as docs.rs sets it, nothing is linked: documents need no library.
@@ -49,8 +50,11 @@ fn find(names: &[&str]) -> Option<(PathBuf, String)> {
     if let Some(folder) = std::env::var_os("DCSCTP_LIB_DIR").map(PathBuf::from) {
         return in_folders([folder.clone(), folder]);
     }
-    let top = Path::new(env!("CARGO_MANIFEST_DIR")).join("../../..");
-    in_folders([top.join("lib"), top.join("lib")])
+    let own = Path::new(env!("CARGO_MANIFEST_DIR"));
+    let packed = own.join("lib").join(std::env::var_os("TARGET")?);
+    let top = own.join("../../..");
+    in_folders([packed.clone(), packed])
+        .or_else(|| in_folders([top.join("lib"), top.join("lib")]))
         .or_else(|| in_folders([top.join("out"), top.join("out/unproved")]))
         .or_else(|| names.iter().filter_map(|name| by_pkg_config(name)).find(has))
 }

@@ -34,6 +34,9 @@
 //! dcsctp = { path = ".../bindings/rust/port" }
 //! ```
 //!
+//! Or from a folder of vendored crates. `make crate` packs three for it, one with the library inside: unpack them there,
+//! and write `{"files":{}}` to the file `.cargo-checksum.json` of each.
+//!
 //! # The feature `follow_rfc`
 //!
 //! Without it a socket behaves as upstream's. With it, the socket keeps rules of the RFCs that upstream doesn't:
