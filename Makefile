@@ -231,7 +231,7 @@ test:
 	@OUT=$(OUT) TESTS='$(TESTS)' bash scripts/test.sh $(KIND)
 
 check: check-header check-symbols check-tests check-cpp check-cffi check-examples check-install check-dist \
-    check-valgrind check-sanitizers check-bindings check-rust
+    check-valgrind check-sanitizers check-bindings check-webrtc check-rust
 
 # The header alone, in C and C++, and of which lines a compiler warns.
 WARNED = tests/c/warned.c 2>&1 | sed -n 's/^[^:]*warned.c:\([0-9]*\):.* warning: .*/\1/p' | sort -nu | \
@@ -370,6 +370,10 @@ check-sanitizers: $(LIBRARY)
 check-bindings: dist
 	CXX='$(CXX)' bash scripts/bindings.sh $(OUT)/$(DIST).tar.gz $(NAME)
 
+# WebRTC's interface of a socket, over the library and over WebRTC's own sockets.
+check-webrtc: $(LIBRARY)
+	@CXX='$(CXX)' bash scripts/check-webrtc.sh $(LIBRARY) $(OUT)/webrtc
+
 check-rust: $(LIBRARY)
 	@if command -v cargo >/dev/null; then set -e; cd examples/rust; \
 	export DCSCTP_LIB_DIR=$(abspath $(OUT)) DCSCTP_LIB_NAME=$(NAME) \
@@ -403,4 +407,4 @@ bench: $(if $(MARK),$(FAST) $(FAST_BENCH),$(LIBRARY) $(or $(PROVED_BENCH),$(FAST
 .PHONY: FORCE help demo test prove unproved all no-library examples c-programs reference doc install uninstall dist \
     deb wheel crate clean check check-header check-symbols check-tests \
     check-cpp check-cffi check-examples check-install check-dist check-valgrind check-sanitizers \
-    check-bindings check-rust check-browser fuzz bench
+    check-bindings check-webrtc check-rust check-browser fuzz bench

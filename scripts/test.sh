@@ -94,7 +94,7 @@ counted "tests in C" each "tests in C" < <(printf "$OUT/tests/%s\n" $TESTS)
 counted "header, symbols, C++, cffi" checks check-header check-symbols check-cpp check-cffi
 counted "examples" checks check-examples check-rust
 counted "installed, packed" checks check-install check-dist
-counted "bindings" checks check-bindings
+counted "bindings" checks check-bindings check-webrtc
 counted "packages of Debian, Python and Rust" checks deb wheel crate
 
 sed -n 's/^skipped: /skipped: /p' "$logs"/*.log | sort -u
