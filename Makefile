@@ -70,6 +70,8 @@ help:
 	@echo "make fuzz MINUTES=5    calls the C library as libFuzzer's inputs say"
 	@echo "make bench             instructions, beside those of docs/figures.md  5 min"
 	@echo "make check-browser     a page in Chromium uses data channels          1 min"
+	@echo "make check-usrsctp     programs for usrsctp run over this library     1 min"
+	@echo "make check-janus       Debian's Janus serves a text room over it      10 s"
 	@echo "make clean             removes out/"
 	@echo
 	@echo "Targets take the proved library where 'make prove' has built it, else the other;"
@@ -385,6 +387,13 @@ check-rust: $(LIBRARY)
 check-browser: $(SHARED)
 	CC='$(CC)' bash scripts/browser.sh $(SHARED) $(OUT)/browser
 
+# Programs for usrsctp, unedited. OUT/usrsctp gets libusrsctp.so.2 and libusrsctp.a.
+check-usrsctp: $(LIBRARY)
+	CC='$(CC)' LD='$(LD)' OBJCOPY='$(OBJCOPY)' NM='$(NM)' bash scripts/check-usrsctp.sh $(LIBRARY) $(OUT)/usrsctp
+
+check-janus: $(LIBRARY)
+	CC='$(CC)' LD='$(LD)' OBJCOPY='$(OBJCOPY)' bash scripts/check-janus.sh $(LIBRARY) $(OUT)/usrsctp
+
 # Any calls, by libFuzzer. out/fuzz keeps its inputs.
 MINUTES ?= 5
 fuzz: $(LIBRARY)
@@ -407,4 +416,4 @@ bench: $(if $(MARK),$(FAST) $(FAST_BENCH),$(LIBRARY) $(or $(PROVED_BENCH),$(FAST
 .PHONY: FORCE help demo test prove unproved all no-library examples c-programs reference doc install uninstall dist \
     deb wheel crate clean check check-header check-symbols check-tests \
     check-cpp check-cffi check-examples check-install check-dist check-valgrind check-sanitizers \
-    check-bindings check-webrtc check-rust check-browser fuzz bench
+    check-bindings check-webrtc check-rust check-browser check-usrsctp check-janus fuzz bench

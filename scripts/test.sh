@@ -95,6 +95,7 @@ counted "header, symbols, C++, cffi" checks check-header check-symbols check-cpp
 counted "examples" checks check-examples check-rust
 counted "installed, packed" checks check-install check-dist
 counted "bindings" checks check-bindings check-webrtc
+counted "programs for usrsctp" checks check-usrsctp
 counted "packages of Debian, Python and Rust" checks deb wheel crate
 
 sed -n 's/^skipped: /skipped: /p' "$logs"/*.log | sort -u
