@@ -7,12 +7,8 @@
 set -euo pipefail
 shopt -s inherit_errexit
 [ $# = 1 ] || { sed -n '/^# *scripts/s/^# *//p' "$0" >&2; exit 2; }
-archive=$(realpath "$1")
-dist=$(basename "$archive" .tar.gz)
-[[ $dist =~ ^dcsctp-([0-9.]+)(-unproved)?-linux-x86_64-v2$ ]] ||
-    { echo "crate: $dist isn't an archive of make dist" >&2; exit 2; }
-name=dcsctp${BASH_REMATCH[2]} version=${BASH_REMATCH[1]} how='proved in Rattle'
-[ "$name" = dcsctp ] || how='built without proofs'
+. "$(dirname "$0")/archive.bash"
+read_archive crate "$1"
 
 command -v cargo >/dev/null || { echo "skipped: crates for Rust: no cargo (apt install cargo)"; exit 0; }
 # (before 1.84 it packs no two crates of which one needs the other)
@@ -25,11 +21,6 @@ rust=$folder/unpacked/bindings/rust
 # A user has none of these, and nothing from crates.io.
 unset DCSCTP_LIB_DIR DCSCTP_LIB_NAME PKG_CONFIG_PATH PKG_CONFIG_LIBDIR
 export CARGO_HOME=$folder/home CARGO_TARGET_DIR=$folder/target CARGO_NET_OFFLINE=true
-
-# quiet COMMAND..: what it prints is of interest if it fails.
-quiet() {
-    "$@" >"$folder/log" 2>&1 || { cat "$folder/log" >&2; exit 1; }
-}
 
 # make_crates: packs them in $folder/target/package. Cargo builds each from what it has packed, and warns of nothing but
 # the missing repository. What isn't proved has another version.

@@ -8,14 +8,11 @@
 set -euo pipefail
 shopt -s inherit_errexit
 [ $# = 1 ] || { sed -n '/^# *scripts/s/^# *//p' "$0" >&2; exit 2; }
-archive=$(realpath "$1")
+. "$(dirname "$0")/archive.bash"
+read_archive deb "$1"
 cd "$(dirname "$0")/.."
-dist=$(basename "$archive" .tar.gz)
-[[ $dist =~ ^dcsctp-([0-9.]+)(-unproved)?-linux-x86_64-v2$ ]] ||
-    { echo "deb: $dist isn't an archive of make dist" >&2; exit 2; }
-version=${BASH_REMATCH[1]} name=dcsctp${BASH_REMATCH[2]}
-how='proved in Rattle' include=usr/include
-[ "$name" = dcsctp ] || how='built without proofs' include=usr/include/$name
+include=usr/include
+[ "$name" = dcsctp ] || include=usr/include/$name
 
 # has COMMAND PACKAGE: is it installed?
 has() {
@@ -53,13 +50,13 @@ make_packages() {
     fill dev.lintian-overrides.in >"$debian/lib$name-dev.lintian-overrides"
     # (debian/rules is a Makefile, to which nothing of another make belongs)
     unset MAKEFLAGS MFLAGS MAKELEVEL MAKEOVERRIDES
-    (cd "$folder/build" && dpkg-buildpackage -b -us -uc -tc) >"$folder/log" 2>&1 || { cat "$folder/log" >&2; exit 1; }
+    (cd "$folder/build" && quiet dpkg-buildpackage -b -us -uc -tc)
 }
 
 make_packages
 library=lib${name}0_$version-1_amd64.deb dev=lib${name}-dev_$version-1_amd64.deb
 if command -v lintian >/dev/null; then
-    lintian --fail-on error "$folder"/*.deb >"$folder/log" 2>&1 || { cat "$folder/log" >&2; exit 1; }
+    quiet lintian --fail-on error "$folder"/*.deb
     grep '^W: ' "$folder/log" || true
     echo "check: lintian"
 else
@@ -84,7 +81,7 @@ fi
 lib=$(dirname "$(find "$root" -name "lib$name.a")")
 (cd "$folder/build" && sha256sum "lib/lib$name.a" "lib/lib$name.so.0" include/dcsctp.h) | sed \
     -e "s|  lib/|  $lib/|" -e "s|  include/|  $root/$include/|" | sha256sum -c --quiet
-bash scripts/links.sh "$root/usr/share/doc/lib$name-dev" >"$folder/log" || { cat "$folder/log" >&2; exit 1; }
+quiet bash scripts/links.sh "$root/usr/share/doc/lib$name-dev"
 echo "check: $library and $dev"
 
 if command -v pkg-config >/dev/null; then

@@ -6,13 +6,11 @@
 set -euo pipefail
 shopt -s inherit_errexit
 [ $# = 1 ] || { sed -n '/^# *scripts/s/^# *//p' "$0" >&2; exit 2; }
-archive=$(realpath "$1")
+. "$(dirname "$0")/archive.bash"
+read_archive wheel "$1"
 cd "$(dirname "$0")/.."
-dist=$(basename "$archive" .tar.gz)
-[[ $dist =~ ^dcsctp-([0-9.]+)(-unproved)?-linux-x86_64-v2$ ]] ||
-    { echo "wheel: $dist isn't an archive of make dist" >&2; exit 2; }
-name=dcsctp${BASH_REMATCH[2]} version=${BASH_REMATCH[1]} how='proved in Rattle' proved=True
-[ "$name" = dcsctp ] || version=$version+unproved how='built without proofs' proved=False
+proved=True
+[ "$name" = dcsctp ] || version=$version+unproved proved=False
 
 # The first Python that has all that is needed.
 for python in python3 /usr/bin/python3 none; do
@@ -28,11 +26,6 @@ trap 'rm -rf "$folder"' EXIT
 # A user has none of these.
 unset DCSCTP_LIBRARY LD_LIBRARY_PATH PYTHONPATH
 export PIP_DISABLE_PIP_VERSION_CHECK=1 PIP_CONFIG_FILE=/dev/null PYTHONDONTWRITEBYTECODE=1
-
-# quiet COMMAND..: what it prints is of interest if it fails.
-quiet() {
-    "$@" >"$folder/log" 2>&1 || { cat "$folder/log" >&2; exit 1; }
-}
 
 # make_wheel: makes it in $folder/wheel.
 make_wheel() {
