@@ -82,7 +82,7 @@ struct side {
     size_t next[STREAMS];     /* of each stream, the ordered message that is read next */
     uint8_t snapshot[SNAPSHOT];
     size_t snapshot_length;
-    int has_failed, was_open;
+    int has_failed, was_open, has_connected;
 };
 
 static struct side sides[2];
@@ -491,10 +491,12 @@ static void reset(struct side *side) {
          count);
 }
 
-static void create_socket(dcsctp_socket *socket, const dcsctp_options *options, uint8_t seed) {
-    uint8_t seeds[32];
-    memset(seeds, seed, sizeof seeds);
-    seeds[31] = 1; /* all zeros are refused */
+static uint32_t created; /* how many sockets, in this run */
+
+/* Each has another seed, so no verification tag is drawn again. */
+static void create_socket(dcsctp_socket *socket, const dcsctp_options *options) {
+    uint8_t seeds[32] = { 0 };
+    put_u32(seeds, ++created);
     EXPECT("dcsctp_create", dcsctp_create(socket, options, seeds, now) == DCSCTP_OK);
     EXPECT("dcsctp_create",
            dcsctp_create(socket, options, seeds, now) == DCSCTP_ERROR_ALREADY_CREATED);
@@ -507,7 +509,7 @@ static void create_again(struct side *side) {
     dcsctp_destroy(&side->socket);
     EXPECT("no socket", dcsctp_poll_event(&side->socket, &event) == DCSCTP_ERROR_NO_SOCKET);
     EXPECT("no socket", dcsctp_connect(&side->socket) == DCSCTP_ERROR_NO_SOCKET);
-    create_socket(&side->socket, &side->options, (uint8_t)(50 + side->sent_count));
+    create_socket(&side->socket, &side->options);
     side->has_failed = 0;
     is_faithful = 0;
 }
@@ -541,7 +543,7 @@ static void hand_over(struct side *side) {
     EXPECT("a socket that was handed over", dcsctp_state(&side->socket) == DCSCTP_STATE_CLOSED);
     take_events(side);
     dcsctp_destroy(&side->socket);
-    create_socket(&side->socket, &side->options, (uint8_t)(100 + side->sent_count));
+    create_socket(&side->socket, &side->options);
     if (length > 0 &&
         CALL(side, RESTORE_ERRORS, dcsctp_restore_from_state, side->snapshot, length) == DCSCTP_OK)
         EXPECT("a socket that continues", dcsctp_state(&side->socket) == state);
@@ -571,7 +573,7 @@ static void restore_changed(struct side *side) {
     memset(&third, 0, offsetof(struct side, snapshot));
     third.has_failed = third.was_open = 0;
     third.options = side->options;
-    create_socket(&third.socket, &third.options, 3);
+    create_socket(&third.socket, &third.options);
     const int32_t result = CALL(&third, RESTORE_ERRORS, dcsctp_restore_from_state, changed, length);
     EXPECT("a changed snapshot", how & 16 || !is_changed ||
                                      result == DCSCTP_ERROR_INVALID_SNAPSHOT ||
@@ -626,6 +628,15 @@ static void set(struct side *side) {
     }
 }
 
+/* If both ends connect, what one has in flight may be lost (RFC 9260, section 5.2.4, action B). */
+static void connect_one(struct side *side) {
+    if (is_honest && other(side)->has_connected)
+        return;
+    side->has_connected = 1;
+    is_faithful &= !other(side)->has_connected;
+    CALL_ALONE(side, COMMAND, dcsctp_connect);
+}
+
 static void operate(uint8_t code) {
     static const uint64_t steps[] = { 200 * MILLISECONDS, 1,       MILLISECONDS, 20 * MILLISECONDS,
                                       500 * MILLISECONDS, SECONDS, 10 * SECONDS, 60 * SECONDS,
@@ -640,7 +651,7 @@ static void operate(uint8_t code) {
         settle_all();
         break;
     case 1:
-        CALL_ALONE(side, COMMAND, dcsctp_connect);
+        connect_one(side);
         break;
     case 2:
     case 3:
@@ -811,13 +822,14 @@ int LLVMFuzzerTestOneInput(const uint8_t *bytes, size_t length) {
     is_eager = !(switches & 1);
     is_honest = switches & 2;
     until_refused = 0;
+    created = 0;
     for (uint8_t i = 0; i < 2; i++) {
         struct side *side = &sides[i];
         memset(side, 0, offsetof(struct side, snapshot));
         side->snapshot_length = 0;
-        side->has_failed = side->was_open = 0;
+        side->has_failed = side->was_open = side->has_connected = 0;
         can_connect &= choose_options(&side->options);
-        create_socket(&side->socket, &side->options, (uint8_t)(i + 1));
+        create_socket(&side->socket, &side->options);
     }
     for (int i = 0; i < OPERATIONS && input_left > 0; i++) {
         operate(byte());
