@@ -368,10 +368,12 @@ typedef struct dcsctp_socket {
  *   trip of 50 ms. Raise it for such peers.
  * `max_receiver_window_buffer_size`: above nine tenths of it, new data is dropped. Retransmitted
  *   data that fills a gap is accepted until it is full, and the first that is missing until twice
- *   that is held. Without `follow_rfc` these are dropped, too, and no dropped data is answered: if
- *   the window is full of parts whose missing parts are dropped, nothing is delivered any more,
- *   though both ends stay connected. So make it far more than a peer has in flight, and more than
- *   its longest message.
+ *   that is held. Each part of a message that is held, and each whole one that waits, counts 256
+ *   bytes more, so that small parts can't take much more memory than this. Without `follow_rfc`
+ *   payloads alone count, these chunks are dropped, too, and no dropped data is answered: if the
+ *   window is full of parts whose missing parts are dropped, nothing is delivered any more, though
+ *   both ends stay connected. So make it far more than a peer has in flight, and more than its
+ *   longest message with 256 bytes for each packet that carries a part of it.
  * `total_buffered_amount_low_threshold`: DCSCTP_EVENT_TOTAL_BUFFERED_AMOUNT_LOW comes only after
  *   more than this was queued. So keep it below `max_send_buffer_size`, also if you lower that.
  * `rto_initial`: make it longer than any round trip. Otherwise the first flight is sent twice or
@@ -386,9 +388,10 @@ typedef struct dcsctp_socket {
  *   a HEARTBEAT's first answer measures one. Data that a full window had no room for is sent again
  *   once it opens. Errors are counted for each association. A shutdown also waits until the peer
  *   knows what was abandoned. A SACK lists as many gaps as fit. An ABORT ends an attempt to
- *   connect. A late COOKIE ECHO of the last association begins none. At 0, and with upstream's
- *   limits (above), the socket behaves as upstream, but for a few differences:
- *   docs/design/differences.md has a row for each, and for each rule. */
+ *   connect. A late COOKIE ECHO of the last association begins none. Parts of messages count 256
+ *   bytes more in the receive window. At 0, and with upstream's limits (above), the socket behaves
+ *   as upstream, but for a few differences: docs/design/differences.md has a row for each, and for
+ *   each rule. */
 typedef struct dcsctp_options {
     size_t size;                                         /* sizeof(dcsctp_options) */
     size_t mtu;                                          /* longest packet that is sent: 1,191 */
@@ -708,8 +711,8 @@ typedef struct dcsctp_send_options {
  * section 6.5), unless it is this library.
  *
  * A message longer than nine tenths of the peer's receive window may never arrive, and one longer
- * than all of it can't, whatever `follow_rfc` is at either end. No event reports it, and later
- * messages aren't delivered either.
+ * than all of it can't, whatever `follow_rfc` is at either end. A peer with `follow_rfc` counts 256
+ * bytes more for each part. No event reports it, and later messages aren't delivered either.
  *
  * Errors: NO_SOCKET, INVALID_SEND_OPTIONS, EMPTY_PAYLOAD, MESSAGE_TOO_LARGE, SHUTTING_DOWN,
  * RESOURCE_EXHAUSTION, FAILED, OUT_OF_MEMORY. */

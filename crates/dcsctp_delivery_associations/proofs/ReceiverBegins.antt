@@ -13,7 +13,7 @@ use Rattle.dcsctp_spec_runs.specs.World.{after_effects}
 use Rattle.dcsctp_spec_lemmas.specs.spec.association.Effect.{AssociationIdentity, Effect, holds, identity_of, identity_in}
 use Rattle.dcsctp_spec_lemmas.specs.spec.queues.Reassembly.{new_reassembly}
 use Rattle.dcsctp_spec_lemmas.specs.spec.queues.Tracker.{new_tracker}
-use Rattle.dcsctp_spec_lemmas.specs.spec.queues.Transfer.{Transfer, EndpointQueues}
+use Rattle.dcsctp_spec_lemmas.specs.spec.queues.Transfer.{Transfer, EndpointQueues, part_overhead}
 use Rattle.dcsctp_theorem_association.proofs.Growth.{after_within}
 use Rattle.dcsctp_delivery_sending.specs.Places.{set_at}
 use Rattle.dcsctp_delivery_sending.specs.Log.{Message}
@@ -36,9 +36,9 @@ use Rattle.dcsctp_delivery_associations.proofs.ReceiverStays.{tag_later, sender_
 
 -- What an association has received that just begins.
 begun_end : (options other : Options) (first : ℕ) → SameOptions options other
-    → ◌≡◌ {A = ReceivingEnd} (record { tracker = new_tracker other first; reassembly = new_reassembly other.max_receiver_window_buffer_size; read = [] }) (new_end options first)
+    → ◌≡◌ {A = ReceivingEnd} (record { tracker = new_tracker other first; reassembly = new_reassembly other.max_receiver_window_buffer_size (part_overhead other); read = [] }) (new_end options first)
 begun_end options other first same =
-    ap (λ (o : Options). record { tracker = new_tracker o first; reassembly = new_reassembly o.max_receiver_window_buffer_size; read = [] }) same
+    ap (λ (o : Options). record { tracker = new_tracker o first; reassembly = new_reassembly o.max_receiver_window_buffer_size (part_overhead o); read = [] }) same
 
 -- At the sender there is the matching association, or none yet.
 data Known (ends : Ends) (key : ℕ) (new : AssociationIdentity) : Type 0 where

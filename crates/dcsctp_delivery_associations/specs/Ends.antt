@@ -10,7 +10,7 @@ use Rattle.dcsctp_spec_lemmas.specs.spec.association.Effect.{AssociationIdentity
 use Rattle.dcsctp_spec_lemmas.specs.types.queues.Messages.{MessageContent}
 use Rattle.dcsctp_spec_lemmas.specs.spec.queues.Reassembly.{ReassemblyState, new_reassembly}
 use Rattle.dcsctp_spec_lemmas.specs.spec.queues.Tracker.{TrackerState, new_tracker}
-use Rattle.dcsctp_spec_lemmas.specs.spec.queues.Transfer.{Transfer, EndpointQueues}
+use Rattle.dcsctp_spec_lemmas.specs.spec.queues.Transfer.{Transfer, EndpointQueues, part_overhead}
 use Rattle.dcsctp_delivery_sending.specs.Places as places
 use Rattle.dcsctp_delivery_sending.specs.Places.{at_place}
 use Rattle.dcsctp_delivery_sending.specs.Log.{Message}
@@ -55,7 +55,7 @@ joined sends gets =
 
 -- one at which nothing was received yet
 abbrev pub new_end : Options → ℕ → ReceivingEnd
-new_end options first = record { tracker = new_tracker options first; reassembly = new_reassembly options.max_receiver_window_buffer_size; read = [] }
+new_end options first = record { tracker = new_tracker options first; reassembly = new_reassembly options.max_receiver_window_buffer_size (part_overhead options); read = [] }
 
 -- for each tag of the receiver both ends, and the first TSN of the sender
 pub record Ends : Type 0 where

@@ -23,7 +23,7 @@ use Rattle.dcsctp_spec.specs.types.queues.Messages.{MessageContent}
 use Rattle.dcsctp_spec.specs.queues.Outstanding.{acknowledged_count}
 use Rattle.dcsctp_spec.specs.queues.Reassembly.{ReassemblyState, new_reassembly, with_ready, deferring, EndsDeferral}
 use Rattle.dcsctp_spec.specs.queues.Tracker.{TrackerState, new_tracker, cumulative_tsn}
-use Rattle.dcsctp_spec.specs.queues.Transfer.{Transfer, EndpointQueues}
+use Rattle.dcsctp_spec.specs.queues.Transfer.{Transfer, EndpointQueues, part_overhead}
 use Rattle.dcsctp_spec.specs.endpoint.FlushOutcomes.{Answer, FlushAnswers, flush_of}
 use Rattle.dcsctp_spec.specs.endpoint.MessageOutcomes.{Sending, sending_queued}
 use Rattle.dcsctp_spec.specs.endpoint.TransferMoves.{ReceivesData, MovesForward, TakesSack, lost_all}
@@ -222,7 +222,7 @@ pub record BeginsDirection (options : Options) (first size : ℕ) (direction : D
   pub acknowledged : direction.acknowledged ≡ 0
   pub sent : direction.sent ≡ []
   pub tracker : direction.tracker ≡ new_tracker options first
-  pub reassembly : direction.reassembly ≡ new_reassembly size
+  pub reassembly : direction.reassembly ≡ new_reassembly size (part_overhead options)
   pub read : direction.read ≡ []
   pub asking : direction.asking ≡ nothing_asked
   pub begun : BeginsAs direction.beginning direction.queues.queue

@@ -9,7 +9,7 @@ use Rattle.dcsctp_spec_lemmas.specs.spec.queues.Numbers.{number_near}
 use Rattle.dcsctp_spec_lemmas.specs.spec.queues.Ranges.{IsBeyond, is_received}
 use Rattle.dcsctp_spec_lemmas.specs.spec.queues.IncomingStreams.{ChunkModel}
 use Rattle.dcsctp_spec_lemmas.specs.spec.queues.Incoming.{IncomingModel, TakesIncomingChunk}
-use Rattle.dcsctp_spec_lemmas.specs.spec.queues.Reassembly.{ReassemblyState, DeferralModel, can_count, reassembly_bytes, is_data_deferred, AddsData}
+use Rattle.dcsctp_spec_lemmas.specs.spec.queues.Reassembly.{ReassemblyState, DeferralModel, can_count, window_used, is_data_deferred, AddsData}
 use Rattle.dcsctp_spec_lemmas.specs.spec.queues.Tracker.{TrackerState, has_received, is_new_tsn, observed, is_valid_tsn, delay_over, nearest_number, is_below_highest, is_first_missing}
 use Rattle.dcsctp_spec_lemmas.specs.spec.queues.Transfer.{Transfer}
 use Rattle.dcsctp_spec_lemmas.specs.spec.endpoint.TransferMoves.{AddsWhere, has_room, dropping, ReceivesWhere, ReceivesData, TakesData as TakesArrival}
@@ -143,7 +143,7 @@ window_left bytes max size follows below first room counts = go (nat_le (9 * max
 -- where there is room, data can be counted
 counted_so : (tsn size : ℕ) (transfer : Transfer) → has_room tsn transfer ≡ true → IsCounted transfer.reassembly.max_size size → can_count size transfer.reassembly ≡ true
 counted_so tsn size transfer room counts =
-    let less = window_left (reassembly_bytes transfer.reassembly) transfer.reassembly.max_size size transfer.tracker.follows_rfc
+    let less = window_left (window_used transfer.reassembly) transfer.reassembly.max_size size transfer.tracker.follows_rfc
     (is_below_highest tsn transfer.tracker) (is_first_missing tsn transfer.tracker) room counts in
     grind (arith, nat_tests, less)
 

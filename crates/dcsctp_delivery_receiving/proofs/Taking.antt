@@ -10,7 +10,7 @@ use Rattle.dcsctp_spec_lemmas.specs.spec.queues.Reassembly.{entered, deferring, 
 use Rattle.dcsctp_spec_lemmas.specs.types.declared.tracking.TsnRange.{TsnRange}
 use Rattle.dcsctp_spec_lemmas.specs.spec.queues.Ranges.{IsBeyond, is_received}
 use Rattle.dcsctp_spec_lemmas.specs.spec.queues.Tracker.{has_received, TrackerState, new_tracker, is_forward, is_valid_tsn, after_forward, delay_over, moved_forward}
-use Rattle.dcsctp_spec_lemmas.specs.spec.queues.Transfer.{Transfer}
+use Rattle.dcsctp_spec_lemmas.specs.spec.queues.Transfer.{Transfer, part_overhead}
 use Rattle.dcsctp_spec_lemmas.specs.spec.endpoint.TransferMoves.{SkipsWhere, MovesWhere, MovesForward}
 use Rattle.dcsctp_delivery_sending.specs.Places.{HasEntry}
 use Rattle.dcsctp_delivery_sending.specs.Log.{Message, History}
@@ -144,7 +144,7 @@ reads_on queued history first read tracker reassembly message messages is r = go
 -- ---- a new association
 
 pub nothing_received : (options : Options) (queued : List Message) (history : History) (first size : ℕ) → first < 2 ^ 32 → AreCurrent history history.log
-    → HasReceived queued history first [] (new_tracker options first) (new_reassembly size)
+    → HasReceived queued history first [] (new_tracker options first) (new_reassembly size (part_overhead options))
 nothing_received options queued history first size small are =
     record {
       taken = [];

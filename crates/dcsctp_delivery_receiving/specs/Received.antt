@@ -10,7 +10,7 @@ use Rattle.dcsctp_spec_lemmas.specs.spec.queues.IncomingStreams.{ChunkModel}
 use Rattle.dcsctp_spec_lemmas.specs.spec.queues.Incoming.{IncomingModel}
 use Rattle.dcsctp_spec_lemmas.specs.spec.queues.Reassembly.{WaitingModel, WaitingSkips, DeferralModel, ReassemblyState, entries_of, waiting_of, with_ready, new_reassembly, EndsDeferral}
 use Rattle.dcsctp_spec_lemmas.specs.spec.queues.Tracker.{TrackerState, new_tracker}
-use Rattle.dcsctp_spec_lemmas.specs.spec.queues.Transfer.{Transfer}
+use Rattle.dcsctp_spec_lemmas.specs.spec.queues.Transfer.{Transfer, part_overhead}
 use Rattle.dcsctp_spec_lemmas.specs.spec.endpoint.TransferMoves.{ReceivesData, MovesForward}
 use Rattle.dcsctp_delivery_sending.specs.Places.{HasEntry, at_place}
 use Rattle.dcsctp_spec_lemmas.specs.spec.queues.Numbers.{is_tsn_beyond}
@@ -163,7 +163,7 @@ AskingKeeps =
 abbrev pub BeginningReceives : Type 0
 BeginningReceives =
     (options : Options) (queued : List Message) (history : History) (first size : ℕ) → first < 2 ^ 32 → AreCurrent history history.log
-    → HasReceived queued history first [] (new_tracker options first) (new_reassembly size)
+    → HasReceived queued history first [] (new_tracker options first) (new_reassembly size (part_overhead options))
 
 -- What was received of a peer that has assigned no TSN yet may begin with any floors.
 abbrev pub AwaitingReceives : Type 0

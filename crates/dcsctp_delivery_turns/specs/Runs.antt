@@ -11,7 +11,7 @@ use Rattle.dcsctp_spec_lemmas.specs.types.queues.Messages.{MessageContent}
 use Rattle.dcsctp_spec_lemmas.specs.spec.queues.Reassembly.{new_reassembly}
 use Rattle.dcsctp_spec_lemmas.specs.spec.queues.SendQueue.{empty_queue}
 use Rattle.dcsctp_spec_lemmas.specs.spec.queues.Tracker.{new_tracker}
-use Rattle.dcsctp_spec_lemmas.specs.spec.queues.Transfer.{Transfer, EndpointQueues}
+use Rattle.dcsctp_spec_lemmas.specs.spec.queues.Transfer.{Transfer, EndpointQueues, part_overhead}
 use Rattle.std.specs.List.{AllByRecursion}
 use Rattle.dcsctp_delivery_sending.specs.Log.{Fits, Message}
 use Rattle.dcsctp_delivery_turns.specs.Actions.{peer_tag, came_by, queued_after, read_after, Begun, begun_transfer, IsOpening, resets_streams, IsCall, IsCalm, has_refused}
@@ -41,7 +41,7 @@ new_direction options first size queued sender_queues acknowledged sent beginnin
       acknowledged = acknowledged;
       sent = sent;
       tracker = new_tracker options first;
-      reassembly = new_reassembly size;
+      reassembly = new_reassembly size (part_overhead options);
       read = [];
       asking = nothing_asked;
       beginning = beginning;

@@ -9,14 +9,14 @@ use Rattle.std.proofs.lemmas.Cmp.{nat_cmp_total}
 use Rattle.std.proofs.lemmas.Map.Entries.{sum_by-insert_entry}
 use Rattle.dcsctp_api.specs.types.declared.snapshot.HandoverOrderedStream.{HandoverOrderedStream}
 use Rattle.dcsctp_api.specs.spec.queues.Incoming.{stream_on}
-use Rattle.dcsctp_api.specs.spec.queues.IncomingStreams.{StreamModel, new_stream, kept_stream_bytes, streams_bytes}
+use Rattle.dcsctp_api.specs.spec.queues.IncomingStreams.{StreamModel, new_stream, kept_stream_used, streams_used}
 use Rattle.dcsctp_api.specs.spec.queues.ReceivedParts.{restored_stream}
 use Rattle.dcsctp_receive_reassembly.specs.declared.stream.Stream.{Stream}
 use Rattle.dcsctp_receive_reassembly.specs.Handover.{restored_over}
 use Rattle.dcsctp_receive_reassembly.specs.Reassembly.{entry_of}
 use Rattle.dcsctp_receive_reassembly.specs.Streams.{stream_model}
 use Rattle.dcsctp_receive_reassembly.proofs.ReassemblyLemmas.{stream_on-get, stream_on-other}
-use Rattle.dcsctp_receive_reassembly.proofs.StreamSums.{bytes_of, streams_bytes-values}
+use Rattle.dcsctp_receive_reassembly.proofs.StreamSums.{used_of, streams_used-values}
 
 same_from : (m n : ℕ) → (m == n) ≡ true → m ≡ n
 same_from m n is = grind (arith, nat_tests)
@@ -32,24 +32,24 @@ put_restored state old new stream updates restored id = go (state.id == id) refl
     go true is = subst (λ (other : ℕ). stream_on other (map entry_of new.entries) ≡ restored_stream other (state ∷ [])) (same_from state.id id is) (stream_on-get state.id new (Some stream) updates.1 ∙ restored)
     go false is = stream_on-other state.id id old new stream updates (apart_from state.id id is)
 
--- it holds no bytes
-restored_empty : (state : HandoverOrderedStream) → kept_stream_bytes (restored_stream state.id (state ∷ [])) ≡ 0
-restored_empty state = go (state.id == state.id)
+-- it uses nothing of the receive window
+restored_empty : (overhead : ℕ) (state : HandoverOrderedStream) → kept_stream_used overhead (restored_stream state.id (state ∷ [])) ≡ 0
+restored_empty overhead state = go (state.id == state.id)
   where
-    go : (is_it : Bool) → kept_stream_bytes (if is_it then record (new_stream state.id) { next = 2 ^ 32 + state.next_ssn } else new_stream state.id) ≡ 0
+    go : (is_it : Bool) → kept_stream_used overhead (if is_it then record (new_stream state.id) { next = 2 ^ 32 + state.next_ssn } else new_stream state.id) ≡ 0
     go true = refl
     go false = refl
 
-pub put_bytes : (state : HandoverOrderedStream) (old new : BTreeMap ℕ Stream) (stream : Stream) → new.entries ≡ insert_entry nat_cmp old.entries state.id stream → IsOrdered nat_cmp old → stream_model stream ≡ restored_stream state.id (state ∷ []) → streams_bytes (map entry_of new.entries) ≤ streams_bytes (map entry_of old.entries)
-put_bytes state old new stream entries ordered restored =
-    let empty : bytes_of stream ≡ 0 = ap kept_stream_bytes restored ∙ restored_empty state in
+pub put_used : (overhead : ℕ) (state : HandoverOrderedStream) (old new : BTreeMap ℕ Stream) (stream : Stream) → new.entries ≡ insert_entry nat_cmp old.entries state.id stream → IsOrdered nat_cmp old → stream_model stream ≡ restored_stream state.id (state ∷ []) → streams_used overhead (map entry_of new.entries) ≤ streams_used overhead (map entry_of old.entries)
+put_used overhead state old new stream entries ordered restored =
+    let empty : used_of overhead stream ≡ 0 = ap (kept_stream_used overhead) restored ∙ restored_empty overhead state in
     omega (
       arith,
       empty,
-      ap (λ es. sum_by bytes_of (values_of es)) entries,
-      streams_bytes-values old.entries,
-      streams_bytes-values new.entries,
-      sum_by-insert_entry bytes_of nat_cmp_total old.entries state.id stream ordered,
+      ap (λ es. sum_by (used_of overhead) (values_of es)) entries,
+      streams_used-values overhead old.entries,
+      streams_used-values overhead new.entries,
+      sum_by-insert_entry (used_of overhead) nat_cmp_total old.entries state.id stream ordered,
     )
 
 -- the last of a list is put first

@@ -1,14 +1,15 @@
-pub mod FragmentLemmas
+pub mod CountingLemmas
+mod FragmentLemmas
 pub mod HandoverLemmas
 pub mod NamedLemmas
-pub mod PartBytes
+pub mod PartUsed
 pub mod ReassemblyLemmas
 pub mod ResultFacts
 pub mod RunDropLemmas
 pub mod RunMapLemmas
 pub mod RunsLemmas
 pub mod SkippingLemmas
-pub mod StreamBytes
+pub mod StreamUsed
 pub mod StreamSums
 pub mod WaitingLemmas
 pub mod WorkLemmas

@@ -143,10 +143,10 @@ pub SkipsAll-none : (incoming : IncomingModel) → SkipsAll [] incoming incoming
 SkipsAll-none incoming =
     record { streams = λ id. refl; ready = sym (append-nil incoming.ready); received = refl; unordered = refl; last = refl }
 
--- ---- bytes
+-- ---- what is in use
 
-pub Balances-both : (old between new : Incoming) → Balances old between → Balances between new → Balances old new
-Balances-both old between new first second = λ within. omega (arith, first within, second (omega (arith, first within)))
+pub Balances-both : (overhead : ℕ) (old between new : Incoming) → Balances overhead old between → Balances overhead between new → Balances overhead old new
+Balances-both overhead old between new first second = λ within. omega (arith, first within, second (omega (arith, first within)))
 
 -- ---- streams that start again
 

@@ -1,5 +1,5 @@
--- How many bytes the streams of a map have once one is made, written or removed.
-use Rattle.std.proofs.Common.{◌≡◌, ℕ, ◌+◌, Bool, true, false, List, [], ◌∷◌, map, Option, Some, None, arith, refl, sym, ap, subst}
+-- How much of the receive window the streams of a map use once one is made, written or removed.
+use Rattle.std.proofs.Common.{◌≡◌, ℕ, ◌+◌, ◌≤◌, Bool, true, false, List, [], ◌∷◌, map, Option, Some, None, arith, refl, sym, ap, subst}
 use Rattle.std.specs.Prelude.{unwrap_or, IsSome}
 use Rattle.std.specs.Option.{option_map}
 use Rattle.std.specs.List.{sum_by}
@@ -10,69 +10,81 @@ use Rattle.std.proofs.lemmas.Cmp.{nat_cmp_total}
 use Rattle.std.proofs.lemmas.List.Sums.{sum_by-cons}
 use Rattle.std.proofs.lemmas.Map.Entries.{sum_by-insert_entry, sum_by-remove_entry, sum_by-set_value}
 use Rattle.dcsctp_receive_reassembly.specs.declared.stream.Stream.{Stream}
-use Rattle.dcsctp_api.specs.spec.queues.IncomingStreams.{kept_stream_bytes, streams_bytes}
+use Rattle.dcsctp_api.specs.spec.queues.IncomingStreams.{kept_stream_used, streams_used}
 use Rattle.dcsctp_api.specs.spec.queues.IncomingStreams.{StreamModel, new_stream}
 use Rattle.dcsctp_receive_reassembly.specs.Streams.{stream_model}
 use Rattle.dcsctp_receive_reassembly.specs.Reassembly.{entry_of}
 use Rattle.dcsctp_api.specs.spec.queues.Incoming.{stream_on}
 use Rattle.dcsctp_receive_reassembly.proofs.ReassemblyLemmas.{stream_on-get, stream_on-other, same_key}
 
-abbrev pub bytes_of : Stream → ℕ
-bytes_of stream = kept_stream_bytes (stream_model stream)
+module _ (overhead : ℕ) where
+  abbrev pub used_of : Stream → ℕ
+  used_of stream = kept_stream_used overhead (stream_model stream)
 
-pub streams_bytes-values : (entries : List (ℕ × Stream)) → streams_bytes (map entry_of entries) ≡ sum_by bytes_of (values_of entries)
-streams_bytes-values [] = refl
-streams_bytes-values (entry ∷ entries) =
-    omega (arith, streams_bytes-values entries, sum_by-cons (λ (e : ℕ × StreamModel). kept_stream_bytes e.1) (entry_of entry) (map entry_of entries), sum_by-cons bytes_of entry.1 (values_of entries))
+  pub streams_used-values : (entries : List (ℕ × Stream)) → streams_used overhead (map entry_of entries) ≡ sum_by used_of (values_of entries)
+  streams_used-values [] = refl
+  streams_used-values (entry ∷ entries) =
+      omega (arith, streams_used-values entries, sum_by-cons (λ (e : ℕ × StreamModel). kept_stream_used overhead e.1) (entry_of entry) (map entry_of entries), sum_by-cons used_of entry.1 (values_of entries))
 
--- a stream on which nothing came in is made
-pub streams_bytes-made : (id : ℕ) (old new : BTreeMap ℕ Stream) (stream : Stream) → new.entries ≡ insert_entry nat_cmp old.entries id stream → IsOrdered nat_cmp old → get nat_cmp old id ≡ None → stream_model stream ≡ new_stream id → streams_bytes (map entry_of new.entries) ≡ streams_bytes (map entry_of old.entries)
-streams_bytes-made id old new stream entries ordered absent fresh =
-    let none : unwrap_or (option_map bytes_of (lookup (is_at (nat_cmp id)) old.entries)) 0 ≡ 0 = ap (λ o. unwrap_or (option_map bytes_of o) 0) absent in
-    let empty : bytes_of stream ≡ 0 = ap kept_stream_bytes fresh in
-    omega (
-      arith,
-      none,
-      empty,
-      ap (λ es. sum_by bytes_of (values_of es)) entries,
-      streams_bytes-values old.entries,
-      streams_bytes-values new.entries,
-      sum_by-insert_entry bytes_of nat_cmp_total old.entries id stream ordered,
-    )
+  -- a stream on which nothing came in is made
+  pub streams_used-made : (id : ℕ) (old new : BTreeMap ℕ Stream) (stream : Stream) → new.entries ≡ insert_entry nat_cmp old.entries id stream → IsOrdered nat_cmp old → get nat_cmp old id ≡ None → stream_model stream ≡ new_stream id → streams_used overhead (map entry_of new.entries) ≡ streams_used overhead (map entry_of old.entries)
+  streams_used-made id old new stream entries ordered absent fresh =
+      let none : unwrap_or (option_map used_of (lookup (is_at (nat_cmp id)) old.entries)) 0 ≡ 0 = ap (λ o. unwrap_or (option_map used_of o) 0) absent in
+      let empty : used_of stream ≡ 0 = ap (kept_stream_used overhead) fresh in
+      omega (
+        arith,
+        none,
+        empty,
+        ap (λ es. sum_by used_of (values_of es)) entries,
+        streams_used-values old.entries,
+        streams_used-values new.entries,
+        sum_by-insert_entry used_of nat_cmp_total old.entries id stream ordered,
+      )
 
--- a stream that is there is written
-pub streams_bytes-written : (id : ℕ) (old new : BTreeMap ℕ Stream) (before after : Stream) → new.entries ≡ set_value (is_at (nat_cmp id)) old.entries after → get nat_cmp old id ≡ Some before → streams_bytes (map entry_of new.entries) + bytes_of before ≡ streams_bytes (map entry_of old.entries) + bytes_of after
-streams_bytes-written id old new before after entries found =
-    omega (
-      arith,
-      ap (λ es. sum_by bytes_of (values_of es)) entries,
-      streams_bytes-values old.entries,
-      streams_bytes-values new.entries,
-      sum_by-set_value bytes_of (is_at (nat_cmp id)) old.entries before after found,
-    )
+  -- a stream that is there is written
+  pub streams_used-written : (id : ℕ) (old new : BTreeMap ℕ Stream) (before after : Stream) → new.entries ≡ set_value (is_at (nat_cmp id)) old.entries after → get nat_cmp old id ≡ Some before → streams_used overhead (map entry_of new.entries) + used_of before ≡ streams_used overhead (map entry_of old.entries) + used_of after
+  streams_used-written id old new before after entries found =
+      omega (
+        arith,
+        ap (λ es. sum_by used_of (values_of es)) entries,
+        streams_used-values old.entries,
+        streams_used-values new.entries,
+        sum_by-set_value used_of (is_at (nat_cmp id)) old.entries before after found,
+      )
 
-stream_or_none : (id : ℕ) (o : Option Stream) (streams : BTreeMap ℕ Stream) → get nat_cmp streams id ≡ o → unwrap_or (option_map bytes_of o) 0 ≡ kept_stream_bytes (stream_on id (map entry_of streams.entries))
-stream_or_none id None streams is = ap kept_stream_bytes (sym (stream_on-get id streams None is))
-stream_or_none id (Some stream) streams is = ap kept_stream_bytes (sym (stream_on-get id streams (Some stream) is))
+  -- a stream uses no more than all do
+  streams_used-among : (id : ℕ) (old : BTreeMap ℕ Stream) (before : Stream) → get nat_cmp old id ≡ Some before → used_of before ≤ streams_used overhead (map entry_of old.entries)
+  streams_used-among id old before found =
+      omega (
+        arith,
+        ap (λ (o : Option Stream). unwrap_or (option_map used_of o) 0) found,
+        streams_used-values old.entries,
+        sum_by-remove_entry used_of (is_at (nat_cmp id)) old.entries,
+      )
 
--- a stream is removed, where it is there
-pub streams_bytes-removed : (id : ℕ) (old new : BTreeMap ℕ Stream) → new.entries ≡ remove_entry (is_at (nat_cmp id)) old.entries → streams_bytes (map entry_of new.entries) + kept_stream_bytes (stream_on id (map entry_of old.entries)) ≡ streams_bytes (map entry_of old.entries)
-streams_bytes-removed id old new entries =
-    omega (
-      arith,
-      ap (λ es. sum_by bytes_of (values_of es)) entries,
-      streams_bytes-values old.entries,
-      streams_bytes-values new.entries,
-      stream_or_none id (get nat_cmp old id) old refl,
-      sum_by-remove_entry bytes_of (is_at (nat_cmp id)) old.entries,
-    )
+  stream_or_none : (id : ℕ) (o : Option Stream) (streams : BTreeMap ℕ Stream) → get nat_cmp streams id ≡ o → unwrap_or (option_map used_of o) 0 ≡ kept_stream_used overhead (stream_on id (map entry_of streams.entries))
+  stream_or_none id None streams is = ap (kept_stream_used overhead) (sym (stream_on-get id streams None is))
+  stream_or_none id (Some stream) streams is = ap (kept_stream_used overhead) (sym (stream_on-get id streams (Some stream) is))
+
+  -- a stream is removed, where it is there
+  pub streams_used-removed : (id : ℕ) (old new : BTreeMap ℕ Stream) → new.entries ≡ remove_entry (is_at (nat_cmp id)) old.entries → streams_used overhead (map entry_of new.entries) + kept_stream_used overhead (stream_on id (map entry_of old.entries)) ≡ streams_used overhead (map entry_of old.entries)
+  streams_used-removed id old new entries =
+      omega (
+        arith,
+        ap (λ es. sum_by used_of (values_of es)) entries,
+        streams_used-values old.entries,
+        streams_used-values new.entries,
+        stream_or_none id (get nat_cmp old id) old refl,
+        sum_by-remove_entry used_of (is_at (nat_cmp id)) old.entries,
+      )
 
 -- What is known of a map once the stream at an identifier was written.
 pub record Written (id : ℕ) (old new : BTreeMap ℕ Stream) (before after : Stream) : Type 0 where
   pub was : stream_on id (map entry_of old.entries) ≡ stream_model before
   pub becomes : stream_on id (map entry_of new.entries) ≡ stream_model after
   pub others : (other : ℕ) → (other ≡ id → ⊥) → stream_on other (map entry_of new.entries) ≡ stream_on other (map entry_of old.entries)
-  pub bytes : streams_bytes (map entry_of new.entries) + bytes_of before ≡ streams_bytes (map entry_of old.entries) + bytes_of after
+  pub used : (overhead : ℕ) → streams_used overhead (map entry_of new.entries) + used_of overhead before ≡ streams_used overhead (map entry_of old.entries) + used_of overhead after
+  pub among : (overhead : ℕ) → used_of overhead before ≤ streams_used overhead (map entry_of old.entries)
   pub made : (other : ℕ) → IsSome (get nat_cmp old other) → IsSome (get nat_cmp new other)
 
 some_from : {X : Type 0} (o : Option X) (x : X) → o ≡ Some x → IsSome o
@@ -86,7 +98,8 @@ stream_written id old new before after found writes =
       was = stream_on-get id old (Some before) found;
       becomes = stream_on-get id new (Some after) updates.1;
       others = λ other apart. stream_on-other id other old new after updates apart;
-      bytes = streams_bytes-written id old new before after writes.0 found;
+      used = λ overhead. streams_used-written overhead id old new before after writes.0 found;
+      among = λ overhead. streams_used-among overhead id old before found;
       made = λ other is. go other (is_at (nat_cmp id) other) refl is;
     }
   where

@@ -6,7 +6,7 @@ use Rattle.std.proofs.lemmas.List.Sums.{sum_by-cons}
 use Rattle.std.proofs.lemmas.Bool.Decides.{nat_tests}
 use Rattle.dcsctp_receive_reassembly.specs.declared.deferral.WaitingData.{WaitingData}
 use Rattle.dcsctp_api.specs.spec.queues.Incoming.{IncomingModel}
-use Rattle.dcsctp_api.specs.spec.queues.Reassembly.{WaitingModel, waiting_bytes, HandlesWaiting, HandlesAll}
+use Rattle.dcsctp_api.specs.spec.queues.Reassembly.{WaitingModel, waiting_used, HandlesWaiting, HandlesAll}
 use Rattle.dcsctp_receive_reassembly.specs.Queue.{waiting_model}
 
 -- One more is handled.
@@ -25,6 +25,6 @@ pub worked_more : (initial done : List WaitingModel) (action : WaitingData) (ite
 worked_more initial done action items rest all is =
     all ∙ ap (λ waiting. done ++ map waiting_model waiting) is ∙ sym (append_assoc done (waiting_model action ∷ []) (map waiting_model rest))
 
-pub left_bytes : (action : WaitingData) (items rest : List WaitingData) → items ≡ action ∷ rest → sum_by waiting_bytes (map waiting_model items) ≡ waiting_bytes (waiting_model action) + sum_by waiting_bytes (map waiting_model rest)
-left_bytes action items rest is =
-    ap (λ waiting. sum_by waiting_bytes (map waiting_model waiting)) is ∙ sum_by-cons waiting_bytes (waiting_model action) (map waiting_model rest)
+pub left_used : (overhead : ℕ) (action : WaitingData) (items rest : List WaitingData) → items ≡ action ∷ rest → sum_by (waiting_used overhead) (map waiting_model items) ≡ waiting_used overhead (waiting_model action) + sum_by (waiting_used overhead) (map waiting_model rest)
+left_used overhead action items rest is =
+    ap (λ waiting. sum_by (waiting_used overhead) (map waiting_model waiting)) is ∙ sum_by-cons (waiting_used overhead) (waiting_model action) (map waiting_model rest)

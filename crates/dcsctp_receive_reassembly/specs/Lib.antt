@@ -1,3 +1,4 @@
+pub mod Counting
 pub mod Handover
 pub mod Held
 pub mod NamedFields

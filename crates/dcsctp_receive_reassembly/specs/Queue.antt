@@ -33,4 +33,5 @@ pub record HandlesDeferral (deferral : DeferralModel) (old new : IncomingModel) 
 pub record SameQueue (old new : ReassemblyState) : Type 0 where
   pub incoming : SameIncoming old.incoming new.incoming
   pub window : new.max_size ≡ old.max_size
+  pub overhead : new.overhead ≡ old.overhead
   pub deferral : new.deferral ≡ old.deferral

@@ -6,7 +6,7 @@ use Rattle.dcsctp_receive_reassembly.specs.declared.incoming.Incoming.{Incoming}
 use Rattle.dcsctp_receive_reassembly.specs.Runs.{run_model}
 use Rattle.dcsctp_api.specs.spec.queues.IncomingStreams.{StreamModel}
 use Rattle.dcsctp_receive_reassembly.specs.Streams.{stream_model}
-use Rattle.dcsctp_api.specs.spec.queues.Incoming.{IncomingModel, held_bytes}
+use Rattle.dcsctp_api.specs.spec.queues.Incoming.{IncomingModel, held_used}
 
 abbrev pub entry_of : ℕ × Stream → ℕ × StreamModel
 entry_of entry = (entry.0, stream_model entry.1)
@@ -21,7 +21,8 @@ incoming_of incoming =
       last_tsn_number = incoming.last_tsn_number;
     }
 
--- The count of bytes changes as the bytes do.
-abbrev pub Balances : Incoming → Incoming → Type 0
-Balances old new =
-    held_bytes (incoming_of old) ≤ old.queued_bytes → new.queued_bytes + held_bytes (incoming_of old) ≡ old.queued_bytes + held_bytes (incoming_of new)
+-- The count of what is used changes as that does.
+abbrev pub Balances : ℕ → Incoming → Incoming → Type 0
+Balances overhead old new =
+    held_used overhead (incoming_of old) ≤ old.used
+    → new.used + held_used overhead (incoming_of old) ≡ old.used + held_used overhead (incoming_of new)

@@ -1,11 +1,12 @@
 -- Runs of parts in memory, as the machine has them, and what is true of maps of them.
-use Rattle.std.specs.Prelude.{◌≡◌, ℕ, ◌+◌, ◌/◌, ◌^◌, ◌<◌, ◌≤◌, nat_le, Bool, false, if◌then◌else◌, Option, None, Some, List, [], ◌∷◌, length, map}
+use Rattle.std.specs.Prelude.{◌≡◌, ℕ, ◌+◌, ◌-◌, ◌/◌, ◌^◌, ◌<◌, ◌≤◌, nat_le, Bool, false, if◌then◌else◌, Option, None, Some, List, [], ◌∷◌, length, map}
 use denote.Ref.{Bor}
 use Rattle.std.specs.List.{AllByRecursion}
 use Rattle.std.specs.VecDeque.{deque_capacity}
 use Rattle.std.specs.BTreeMap.{BTreeMap, get}
 use Rattle.std.specs.Ordering.{nat_cmp}
-use Rattle.dcsctp_api.specs.spec.queues.Runs.{RunModel, PartModel, WholeModel}
+use Rattle.dcsctp_api.specs.spec.queues.Runs.{RunModel, PartModel, WholeModel, run_used, runs_used}
+use Rattle.dcsctp_receive_reassembly.specs.Held.{capped_u128}
 use Rattle.dcsctp_api.specs.spec.queues.Runs.{Assembled as AssembledModel, part_dropped, part_kept, message_whole}
 use Rattle.dcsctp_receive_reassembly.specs.declared.runs.Run.{Run}
 use Rattle.dcsctp_receive_reassembly.specs.declared.runs.Part.{Part}
@@ -85,6 +86,18 @@ abbrev pub IsOfMessage : ℕ → Assembled → Type 0
 IsOfMessage number Dropped = Unit {0}
 IsOfMessage number Kept = Unit {0}
 IsOfMessage number (WholeMessage whole) = whole.number ≡ number
+
+-- how much of the receive window the parts of a run use, if there is one
+abbrev pub lent_used : ℕ → Option RunModel → ℕ
+lent_used overhead None = 0
+lent_used overhead (Some run) = run_used overhead run
+
+-- What a message that became whole says that its other parts used is what the runs used that are left no longer.
+abbrev pub IsFreed : ℕ → List RunModel → Assembled → List RunModel → Type 0
+IsFreed overhead old Dropped new = Unit {0}
+IsFreed overhead old Kept new = Unit {0}
+IsFreed overhead old (WholeMessage whole) new =
+    (runs_used overhead new ≤ runs_used overhead old) × (whole.used ≡ capped_u128 (runs_used overhead old - runs_used overhead new))
 
 -- The runs begin among the places of their messages.
 abbrev pub IsInPlace : RunModel → Type 0

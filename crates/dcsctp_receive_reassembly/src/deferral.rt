@@ -5,9 +5,9 @@ ghost use Rattle.std.specs.BTreeMap.{insert_entry};
 ghost use Rattle.std.specs.List.{sum_by};
 ghost use Rattle.std.specs.Option.{option_map};
 ghost use Rattle.std.specs.Ordering.{nat_cmp};
-ghost use Rattle.dcsctp_api.specs.spec.queues.Incoming.{held_bytes, SameIncoming, TakesIncomingChunk};
+ghost use Rattle.dcsctp_api.specs.spec.queues.Incoming.{held_used, SameIncoming, TakesIncomingChunk};
 ghost use Rattle.dcsctp_api.specs.spec.queues.IncomingStreams.{skipped_stream};
-ghost use Rattle.dcsctp_api.specs.spec.queues.Reassembly.{names_stream, skip_key, with_entries, with_skips, entries_within, entries_beside, waiting_bytes, HandlesWaiting, HandlesAll, HandlesFront, SkipsThen};
+ghost use Rattle.dcsctp_api.specs.spec.queues.Reassembly.{names_stream, skip_key, with_entries, with_skips, entries_within, entries_beside, waiting_used, HandlesWaiting, HandlesAll, HandlesFront, SkipsThen};
 ghost use Rattle.dcsctp_receive_reassembly.specs.Queue.{waiting_model, skips_as, deferral_of, HandlesDeferral};
 ghost use Rattle.dcsctp_receive_reassembly.specs.Reassembly.{incoming_of, Balances};
 ghost use Rattle.dcsctp_receive_reassembly.specs.Streams.{chunk_of};
@@ -15,6 +15,7 @@ ghost use Rattle.dcsctp_receive_reassembly.specs.Streams.{chunk_of};
 use crate::arrivals::Data;
 use crate::incoming::Incoming;
 use crate::named::NamedStreams;
+use crate::runs::part_used;
 use crate::skipping::stream_of;
 use dcsctp_api::types::SkippedTo;
 use std::alloc::{AllocError, Global};
@@ -134,35 +135,43 @@ fn listed(alloc: Global, entries: &BTreeMap<u32, SkippedTo>) -> Result<Vec<Skipp
 }
 
 // Skips what waited to be. `Err`: an allocation failed, and nothing has changed.
-fn skip_then(incoming: &mut Incoming, skips: &Option<WaitingSkips>) -> Result<(), AllocError>
+fn skip_then(
+    incoming: &mut Incoming,
+    skips: &Option<WaitingSkips>,
+    overhead: usize,
+) -> Result<(), AllocError>
     ensures ok { OnOk result (SkipsThen (option_map skips_as skips.now) (incoming_of incoming.old) (incoming_of incoming.new)) }
     ensures err { OnErr result (SameIncoming (incoming_of incoming.old) (incoming_of incoming.new)) }
-    ensures bytes { Balances incoming.old incoming.new }
+    ensures used { Balances overhead incoming.old incoming.new }
 {
     match skips {
         None => Ok(()),
         Some(skips) => {
             let entries = listed(incoming.alloc, &skips.entries)?;
-            incoming.forward(skips.tsn, entries.as_slice())
+            incoming.forward(skips.tsn, entries.as_slice(), overhead)
         }
     }
 }
 
 // Handles data that waited. `Err`: an allocation failed, and nothing has changed.
-fn handle_deferred(incoming: &mut Incoming, waiting: &WaitingData) -> Result<(), AllocError>
-    requires { held_bytes (incoming_of incoming.old) + waiting_bytes (waiting_model waiting.now) ≤ incoming.old.queued_bytes }
+fn handle_deferred(
+    incoming: &mut Incoming,
+    waiting: &WaitingData,
+    overhead: usize,
+) -> Result<(), AllocError>
+    requires { held_used overhead (incoming_of incoming.old) + waiting_used overhead (waiting_model waiting.now) ≤ incoming.old.used }
     ensures ok { OnOk result (HandlesWaiting (waiting_model waiting.now) (incoming_of incoming.old) (incoming_of incoming.new)) }
-    ensures worked { OnOk result (incoming.new.queued_bytes + held_bytes (incoming_of incoming.old) + waiting_bytes (waiting_model waiting.now) ≡ incoming.old.queued_bytes + held_bytes (incoming_of incoming.new)) }
+    ensures worked { OnOk result (incoming.new.used + held_used overhead (incoming_of incoming.old) + waiting_used overhead (waiting_model waiting.now) ≡ incoming.old.used + held_used overhead (incoming_of incoming.new)) }
     ensures err { OnErr result (SameIncoming (incoming_of incoming.old) (incoming_of incoming.new)) }
-    ensures left { OnErr result (incoming.new.queued_bytes + held_bytes (incoming_of incoming.old) ≡ incoming.old.queued_bytes + held_bytes (incoming_of incoming.new)) }
+    ensures left { OnErr result (incoming.new.used + held_used overhead (incoming_of incoming.old) ≡ incoming.old.used + held_used overhead (incoming_of incoming.new)) }
 {
     let copy = waiting.data.copied(incoming.alloc)?;
-    let size = waiting.data.payload.len();
-    incoming.queued_bytes -= size;
-    match incoming.add_data(waiting.tsn, copy) {
+    let used = part_used(waiting.data.payload.len(), overhead);
+    incoming.used -= used;
+    match incoming.add_data(waiting.tsn, copy, overhead) {
         Ok(()) => Ok(()),
         Err(error) => {
-            incoming.queued_bytes += size;
+            incoming.used += used;
             Err(error)
         }
     }
@@ -173,15 +182,16 @@ fn handle_deferred(incoming: &mut Incoming, waiting: &WaitingData) -> Result<(),
 fn handle_all_deferred(
     incoming: &mut Incoming,
     waiting: &mut VecDeque<WaitingData>,
+    overhead: usize,
 ) -> Result<(), AllocError>
-    requires { incoming.old.queued_bytes ≡ held_bytes (incoming_of incoming.old) + sum_by waiting_bytes (map waiting_model waiting.old.items) }
+    requires { incoming.old.used ≡ held_used overhead (incoming_of incoming.old) + sum_by (waiting_used overhead) (map waiting_model waiting.old.items) }
     ensures ok { OnOk result (HandlesAll (map waiting_model waiting.old.items) (incoming_of incoming.old) (incoming_of incoming.new)) }
     ensures err { OnErr result (HandlesFront (map waiting_model waiting.old.items) (incoming_of incoming.old) (incoming_of incoming.new) (map waiting_model waiting.new.items)) }
-    ensures bytes { incoming.new.queued_bytes ≡ held_bytes (incoming_of incoming.new) + sum_by waiting_bytes (map waiting_model waiting.new.items) }
+    ensures used { incoming.new.used ≡ held_used overhead (incoming_of incoming.new) + sum_by (waiting_used overhead) (map waiting_model waiting.new.items) }
     ensures none { OnOk result (map waiting_model waiting.new.items ≡ []) }
 {
     while !waiting.is_empty() {
-        handle_deferred(incoming, &waiting[0])?;
+        handle_deferred(incoming, &waiting[0], overhead)?;
         let _ = waiting.pop_front();
     }
     Ok(())
@@ -189,14 +199,18 @@ fn handle_all_deferred(
 
 /// Handles what waited for the end of a reset: the data, and then what is to be skipped. `Err`: an allocation
 /// failed; what is not handled keeps waiting.
-pub fn handle_deferral(incoming: &mut Incoming, deferral: &mut Deferral) -> Result<(), AllocError>
-    requires { incoming.old.queued_bytes ≡ held_bytes (incoming_of incoming.old) + sum_by waiting_bytes (map waiting_model deferral.old.waiting.items) }
+pub fn handle_deferral(
+    incoming: &mut Incoming,
+    deferral: &mut Deferral,
+    overhead: usize,
+) -> Result<(), AllocError>
+    requires { incoming.old.used ≡ held_used overhead (incoming_of incoming.old) + sum_by (waiting_used overhead) (map waiting_model deferral.old.waiting.items) }
     ensures ok { OnOk result (HandlesDeferral (deferral_of deferral.old) (incoming_of incoming.old) (incoming_of incoming.new)) }
     ensures err { OnErr result (HandlesFront (map waiting_model deferral.old.waiting.items) (incoming_of incoming.old) (incoming_of incoming.new) (map waiting_model deferral.new.waiting.items)) }
-    ensures bytes { incoming.new.queued_bytes ≡ held_bytes (incoming_of incoming.new) + sum_by waiting_bytes (map waiting_model deferral.new.waiting.items) }
+    ensures used { incoming.new.used ≡ held_used overhead (incoming_of incoming.new) + sum_by (waiting_used overhead) (map waiting_model deferral.new.waiting.items) }
     ensures none { OnOk result (map waiting_model deferral.new.waiting.items ≡ []) }
     ensures kept { (deferral.new.last_tsn ≡ deferral.old.last_tsn) × (deferral.new.streams ≡ deferral.old.streams) × (deferral.new.skips ≡ deferral.old.skips) }
 {
-    handle_all_deferred(incoming, &mut deferral.waiting)?;
-    skip_then(incoming, &deferral.skips)
+    handle_all_deferred(incoming, &mut deferral.waiting, overhead)?;
+    skip_then(incoming, &deferral.skips, overhead)
 }

@@ -2,13 +2,13 @@
 
 ghost use Rattle.std.specs.Prelude.{◌≡◌, ◌/◌, ◌^◌, [], IfOk, OnErr, IsTrue, ◌↔◌, length};
 ghost use Rattle.dcsctp_api.specs.spec.queues.IncomingStreams.{runs_up_to, runs_behind};
-ghost use Rattle.dcsctp_api.specs.spec.queues.Runs.{AddsPart, runs_bytes};
-ghost use Rattle.dcsctp_receive_reassembly.specs.Held.{capped_usize};
-ghost use Rattle.dcsctp_receive_reassembly.specs.Runs.{part_of, assembled_of, IsOfMessage};
+ghost use Rattle.dcsctp_api.specs.spec.queues.Runs.{AddsPart, runs_used};
+ghost use Rattle.dcsctp_receive_reassembly.specs.Held.{capped_u128};
+ghost use Rattle.dcsctp_receive_reassembly.specs.Runs.{part_of, assembled_of, IsOfMessage, IsFreed};
 
 use crate::joining::add_part;
 use crate::numbers::fragment_place;
-use crate::runs::{Assembled, Part, Run, drop_places, size_of_runs};
+use crate::runs::{Assembled, Part, Run, drop_places, runs_used};
 use std::alloc::{AllocError, Global};
 use std::collections::BTreeMap;
 use std::marker::Model;
@@ -49,34 +49,40 @@ impl Fragments {
         self.runs.is_empty()
     }
 
-    /// How many bytes the parts have, at most `usize::MAX`.
-    pub fn size(&self) -> usize
-        ensures { result ≡ capped_usize (runs_bytes self.now) }
+    /// How much of the receive window the parts use, at most `u128::MAX`.
+    pub fn used(&self, overhead: usize) -> u128
+        ensures { result ≡ capped_u128 (runs_used overhead self.now) }
     {
-        size_of_runs(&self.runs)
+        runs_used(&self.runs, overhead)
     }
 
     /// Adds a part, and returns its message if that is whole now. One that was received before is dropped.
     /// `Err`: an allocation failed, and nothing has changed.
     #[inline(always)]
-    pub fn add(&mut self, alloc: Global, part: Part) -> Result<Assembled, AllocError>
+    pub fn add(
+        &mut self,
+        alloc: Global,
+        part: Part,
+        overhead: usize,
+    ) -> Result<Assembled, AllocError>
         requires { part.place / 2 ^ 64 ≡ part.number }
         ensures ok { IfOk result (λ outcome. AddsPart (part_of part) self.old (assembled_of outcome) self.new) }
         ensures number { IfOk result (λ outcome. IsOfMessage part.number outcome) }
+        ensures used { IfOk result (λ outcome. IsFreed overhead self.old outcome self.new) }
         ensures err { OnErr result (self.new ≡ self.old) }
     {
-        add_part(alloc, &mut self.runs, part)
+        add_part(alloc, &mut self.runs, part, overhead)
     }
 
-    /// Drops the parts of the messages up to this number, and returns how many bytes they had, at most
-    /// `usize::MAX`. Visits these and one more.
-    pub fn drop_up_to(&mut self, number: u64) -> usize
+    /// Drops the parts of the messages up to this number, and returns how much they used, at most
+    /// `u128::MAX`. Visits these and one more.
+    pub fn drop_up_to(&mut self, number: u64, overhead: usize) -> u128
         ensures kept { self.new ≡ runs_behind number self.old }
-        ensures size { result ≡ capped_usize (runs_bytes (runs_up_to number self.old)) }
+        ensures size { result ≡ capped_u128 (runs_used overhead (runs_up_to number self.old)) }
     {
         if self.runs.len() == 0 {
             return 0;
         }
-        drop_places(&mut self.runs, fragment_place(number, u64::MAX))
+        drop_places(&mut self.runs, fragment_place(number, u64::MAX), overhead)
     }
 }

@@ -2,7 +2,7 @@
 
 ghost use Rattle.std.specs.Prelude.{◌≡◌, ℕ, ◌≤◌, map, [], ◌∷◌, IfOk, OnOk};
 ghost use Rattle.dcsctp_api.specs.spec.queues.Incoming.{stream_on};
-ghost use Rattle.dcsctp_api.specs.spec.queues.IncomingStreams.{streams_bytes};
+ghost use Rattle.dcsctp_api.specs.spec.queues.IncomingStreams.{streams_used};
 ghost use Rattle.dcsctp_api.specs.spec.queues.ReceivedParts.{ordered_stream, restored_stream};
 ghost use Rattle.dcsctp_receive_reassembly.specs.Handover.{restored_over};
 ghost use Rattle.dcsctp_receive_reassembly.specs.Reassembly.{entry_of};
@@ -55,7 +55,7 @@ fn put_stream(
     state: &HandoverOrderedStream,
 ) -> Result<(), AllocError>
     ensures streams { OnOk result ((id : ℕ) → stream_on id (map entry_of streams.new.entries) ≡ restored_over (state.now ∷ []) id (stream_on id (map entry_of streams.old.entries))) }
-    ensures bytes { OnOk result (streams_bytes (map entry_of streams.new.entries) ≤ streams_bytes (map entry_of streams.old.entries)) }
+    ensures used { (overhead : ℕ) → OnOk result (streams_used overhead (map entry_of streams.new.entries) ≤ streams_used overhead (map entry_of streams.old.entries)) }
 {
     let _ = streams.insert(state.id, restored_stream(alloc, state))?;
     Ok(())
@@ -67,7 +67,7 @@ pub fn restored_streams(
     states: &[HandoverOrderedStream],
 ) -> Result<BTreeMap<u16, Stream>, AllocError>
     ensures streams { IfOk result (λ streams. (id : ℕ) → stream_on id (map entry_of streams.entries) ≡ restored_stream id states.now) }
-    ensures bytes { IfOk result (λ streams. streams_bytes (map entry_of streams.entries) ≡ 0) }
+    ensures used { (overhead : ℕ) → IfOk result (λ streams. streams_used overhead (map entry_of streams.entries) ≡ 0) }
 {
     let mut streams = BTreeMap::new(alloc);
     for state in states.iter().rev() {

@@ -1,25 +1,27 @@
 //! What was received and doesn't wait for the end of a deferred reset. These are the streams, the parts of
 //! unordered messages, and the ready messages (RFC 9260, sections 6.5, 6.6 and 6.9).
 
-ghost use Rattle.std.specs.Prelude.{◌≡◌, ℕ, ◌+◌, ◌^◌, ◌<◌, map, true, IfOk, OnOk, OnErr, IsSome, IfSome, IfNone, length, [], ◌∷◌};
+ghost use Rattle.std.specs.Prelude.{◌≡◌, ℕ, ◌+◌, ◌-◌, ◌^◌, ◌<◌, map, true, IfOk, OnOk, OnErr, IsSome, IfSome, IfNone, length, [], ◌∷◌};
 ghost use Rattle.std.specs.BTreeMap.{get};
 ghost use Rattle.std.specs.List.{list_any};
 ghost use Rattle.std.specs.Ordering.{nat_cmp};
-ghost use Rattle.dcsctp_receive_reassembly.specs.Held.{capped_usize};
-ghost use Rattle.dcsctp_api.specs.spec.queues.IncomingStreams.{ready_bytes, streams_bytes};
+ghost use Rattle.dcsctp_receive_reassembly.specs.Held.{capped_u128};
+ghost use Rattle.dcsctp_api.specs.spec.queues.IncomingStreams.{ready_bytes, streams_used};
 ghost use Rattle.dcsctp_api.specs.types.queues.Messages.{message_content};
 ghost use Rattle.dcsctp_api.specs.spec.queues.Readiness.{holds_parts, is_unassembled};
 ghost use Rattle.dcsctp_receive_reassembly.specs.Streams.{chunk_of};
 ghost use Rattle.dcsctp_api.specs.spec.queues.IncomingStreams.{TakesOnStream};
 ghost use Rattle.dcsctp_receive_reassembly.specs.Reassembly.{incoming_of, entry_of, Balances};
+ghost use Rattle.dcsctp_receive_reassembly.specs.Counting.{CountsPart};
 ghost use Rattle.dcsctp_api.specs.spec.queues.Incoming.{AreInOrder, stream_on, nothing, received_more, KeepsStreams, SameIncoming, TakesUnorderedData, TakesStreamData, TakesChunk, TakesIncomingChunk};
 
 use crate::arrivals::Data;
+use crate::counting::Counted;
 use crate::joining::add_part;
 use crate::numbers::number_near;
 use crate::runs::Run;
 use crate::stream::{FIRST_NUMBER, Stream, deliver_unordered, part_of_data};
-use dcsctp_api::types::{Numbering, SkippedTo, Taken};
+use dcsctp_api::types::{Numbering, SkippedTo};
 use dcsctp_api::{Message, StreamId};
 use std::alloc::{AllocError, Global};
 use std::collections::{BTreeMap, VecDeque};
@@ -29,8 +31,9 @@ use std::collections::{BTreeMap, VecDeque};
 pub struct Incoming {
     pub alloc: Global,
 
-    /// The bytes of all that is kept, and of what waits for the end of a deferred reset.
-    pub queued_bytes: usize,
+    /// How much of the receive window is in use: for all that is kept, and for what waits for the end of a
+    /// deferred reset.
+    pub used: u128,
 
     /// How many messages became ready.
     pub messages_received: u64,
@@ -54,7 +57,7 @@ pub fn make_stream(
     ensures made { OnOk result (IsSome (get nat_cmp streams.new id.0)) }
     ensures kept { (other : ℕ) → IsSome (get nat_cmp streams.old other) → IsSome (get nat_cmp streams.new other) }
     ensures streams { KeepsStreams (map entry_of streams.old.entries) (map entry_of streams.new.entries) }
-    ensures bytes { streams_bytes (map entry_of streams.new.entries) ≡ streams_bytes (map entry_of streams.old.entries) }
+    ensures used { (overhead : ℕ) → streams_used overhead (map entry_of streams.new.entries) ≡ streams_used overhead (map entry_of streams.old.entries) }
 {
     if !streams.contains_key(&id.0) {
         let _ = streams.insert(id.0, Stream::new(alloc, id))?;
@@ -68,17 +71,18 @@ fn add_to_existing_stream(
     streams: &mut BTreeMap<u16, Stream>,
     tsn_number: u64,
     chunk: Data,
+    overhead: usize,
     ready: &mut VecDeque<Message>,
-) -> Result<Taken, AllocError>
+) -> Result<Counted, AllocError>
     requires { IsSome (get nat_cmp streams.old chunk.stream_id.0) }
-    ensures ok { IfOk result (λ taken. TakesOnStream tsn_number (chunk_of chunk) (stream_on chunk.stream_id.0 (map entry_of streams.old.entries)) (map message_content ready.old.items) taken (stream_on chunk.stream_id.0 (map entry_of streams.new.entries)) (map message_content ready.new.items)) }
+    ensures ok { IfOk result (λ counted. TakesOnStream tsn_number (chunk_of chunk) (stream_on chunk.stream_id.0 (map entry_of streams.old.entries)) (map message_content ready.old.items) counted.taken (stream_on chunk.stream_id.0 (map entry_of streams.new.entries)) (map message_content ready.new.items)) }
     ensures others { (other : ℕ) → (other ≡ chunk.stream_id.0 → ⊥) → stream_on other (map entry_of streams.new.entries) ≡ stream_on other (map entry_of streams.old.entries) }
-    ensures bytes { IfOk result (λ taken. streams_bytes (map entry_of streams.new.entries) + ready_bytes (map message_content ready.new.items) ≡ streams_bytes (map entry_of streams.old.entries) + ready_bytes (map message_content ready.old.items) + taken.kept_bytes) }
-    ensures err { OnErr result ((map message_content ready.new.items ≡ map message_content ready.old.items) × (stream_on chunk.stream_id.0 (map entry_of streams.new.entries) ≡ stream_on chunk.stream_id.0 (map entry_of streams.old.entries)) × (streams_bytes (map entry_of streams.new.entries) ≡ streams_bytes (map entry_of streams.old.entries))) }
+    ensures used { IfOk result (λ counted. CountsPart (length chunk.payload.items + overhead) (streams_used overhead (map entry_of streams.old.entries) + ready_bytes (map message_content ready.old.items)) counted (streams_used overhead (map entry_of streams.new.entries) + ready_bytes (map message_content ready.new.items))) }
+    ensures err { OnErr result ((map message_content ready.new.items ≡ map message_content ready.old.items) × (stream_on chunk.stream_id.0 (map entry_of streams.new.entries) ≡ stream_on chunk.stream_id.0 (map entry_of streams.old.entries)) × (streams_used overhead (map entry_of streams.new.entries) ≡ streams_used overhead (map entry_of streams.old.entries))) }
 {
     let stream = streams.get_mut(&chunk.stream_id.0).unwrap();
-    let taken = stream.route_part(alloc, tsn_number, chunk, ready)?;
-    Ok(taken)
+    let counted = stream.route_part(alloc, tsn_number, chunk, overhead, ready)?;
+    Ok(counted)
 }
 
 // Adds data to its stream, which is made first. The other streams are unchanged.
@@ -87,15 +91,16 @@ fn add_to_new_stream(
     streams: &mut BTreeMap<u16, Stream>,
     tsn_number: u64,
     chunk: Data,
+    overhead: usize,
     ready: &mut VecDeque<Message>,
-) -> Result<Taken, AllocError>
-    ensures ok { IfOk result (λ taken. TakesOnStream tsn_number (chunk_of chunk) (stream_on chunk.stream_id.0 (map entry_of streams.old.entries)) (map message_content ready.old.items) taken (stream_on chunk.stream_id.0 (map entry_of streams.new.entries)) (map message_content ready.new.items)) }
+) -> Result<Counted, AllocError>
+    ensures ok { IfOk result (λ counted. TakesOnStream tsn_number (chunk_of chunk) (stream_on chunk.stream_id.0 (map entry_of streams.old.entries)) (map message_content ready.old.items) counted.taken (stream_on chunk.stream_id.0 (map entry_of streams.new.entries)) (map message_content ready.new.items)) }
     ensures others { (other : ℕ) → (other ≡ chunk.stream_id.0 → ⊥) → stream_on other (map entry_of streams.new.entries) ≡ stream_on other (map entry_of streams.old.entries) }
-    ensures bytes { IfOk result (λ taken. streams_bytes (map entry_of streams.new.entries) + ready_bytes (map message_content ready.new.items) ≡ streams_bytes (map entry_of streams.old.entries) + ready_bytes (map message_content ready.old.items) + taken.kept_bytes) }
-    ensures err { OnErr result ((map message_content ready.new.items ≡ map message_content ready.old.items) × (stream_on chunk.stream_id.0 (map entry_of streams.new.entries) ≡ stream_on chunk.stream_id.0 (map entry_of streams.old.entries)) × (streams_bytes (map entry_of streams.new.entries) ≡ streams_bytes (map entry_of streams.old.entries))) }
+    ensures used { IfOk result (λ counted. CountsPart (length chunk.payload.items + overhead) (streams_used overhead (map entry_of streams.old.entries) + ready_bytes (map message_content ready.old.items)) counted (streams_used overhead (map entry_of streams.new.entries) + ready_bytes (map message_content ready.new.items))) }
+    ensures err { OnErr result ((map message_content ready.new.items ≡ map message_content ready.old.items) × (stream_on chunk.stream_id.0 (map entry_of streams.new.entries) ≡ stream_on chunk.stream_id.0 (map entry_of streams.old.entries)) × (streams_used overhead (map entry_of streams.new.entries) ≡ streams_used overhead (map entry_of streams.old.entries))) }
 {
     make_stream(alloc, streams, chunk.stream_id)?;
-    add_to_existing_stream(alloc, streams, tsn_number, chunk, ready)
+    add_to_existing_stream(alloc, streams, tsn_number, chunk, overhead, ready)
 }
 
 // Adds data to its stream, which is made if nothing was received on it yet. The other streams are unchanged.
@@ -106,19 +111,20 @@ fn add_to_stream(
     streams: &mut BTreeMap<u16, Stream>,
     tsn_number: u64,
     chunk: Data,
+    overhead: usize,
     ready: &mut VecDeque<Message>,
-) -> Result<Taken, AllocError>
-    ensures ok { IfOk result (λ taken. TakesOnStream tsn_number (chunk_of chunk) (stream_on chunk.stream_id.0 (map entry_of streams.old.entries)) (map message_content ready.old.items) taken (stream_on chunk.stream_id.0 (map entry_of streams.new.entries)) (map message_content ready.new.items)) }
+) -> Result<Counted, AllocError>
+    ensures ok { IfOk result (λ counted. TakesOnStream tsn_number (chunk_of chunk) (stream_on chunk.stream_id.0 (map entry_of streams.old.entries)) (map message_content ready.old.items) counted.taken (stream_on chunk.stream_id.0 (map entry_of streams.new.entries)) (map message_content ready.new.items)) }
     ensures others { (other : ℕ) → (other ≡ chunk.stream_id.0 → ⊥) → stream_on other (map entry_of streams.new.entries) ≡ stream_on other (map entry_of streams.old.entries) }
-    ensures bytes { IfOk result (λ taken. streams_bytes (map entry_of streams.new.entries) + ready_bytes (map message_content ready.new.items) ≡ streams_bytes (map entry_of streams.old.entries) + ready_bytes (map message_content ready.old.items) + taken.kept_bytes) }
-    ensures err { OnErr result ((map message_content ready.new.items ≡ map message_content ready.old.items) × (stream_on chunk.stream_id.0 (map entry_of streams.new.entries) ≡ stream_on chunk.stream_id.0 (map entry_of streams.old.entries)) × (streams_bytes (map entry_of streams.new.entries) ≡ streams_bytes (map entry_of streams.old.entries))) }
+    ensures used { IfOk result (λ counted. CountsPart (length chunk.payload.items + overhead) (streams_used overhead (map entry_of streams.old.entries) + ready_bytes (map message_content ready.old.items)) counted (streams_used overhead (map entry_of streams.new.entries) + ready_bytes (map message_content ready.new.items))) }
+    ensures err { OnErr result ((map message_content ready.new.items ≡ map message_content ready.old.items) × (stream_on chunk.stream_id.0 (map entry_of streams.new.entries) ≡ stream_on chunk.stream_id.0 (map entry_of streams.old.entries)) × (streams_used overhead (map entry_of streams.new.entries) ≡ streams_used overhead (map entry_of streams.old.entries))) }
 {
     match streams.get_mut(&chunk.stream_id.0) {
         Some(stream) => {
-            let taken = stream.route_part(alloc, tsn_number, chunk, ready)?;
-            Ok(taken)
+            let counted = stream.route_part(alloc, tsn_number, chunk, overhead, ready)?;
+            Ok(counted)
         }
-        None => add_to_new_stream(alloc, streams, tsn_number, chunk, ready),
+        None => add_to_new_stream(alloc, streams, tsn_number, chunk, overhead, ready),
     }
 }
 
@@ -138,12 +144,12 @@ fn any_holds_parts(streams: &BTreeMap<u16, Stream>) -> bool
 impl Incoming {
     /// Nothing was received yet.
     pub fn new(alloc: Global) -> Incoming
-        ensures queued { result.queued_bytes ≡ 0 }
+        ensures used { result.used ≡ 0 }
         ensures incoming { incoming_of result ≡ nothing }
     {
         Incoming {
             alloc,
-            queued_bytes: 0,
+            used: 0,
             messages_received: 0,
             ready: VecDeque::new(alloc),
             streams: BTreeMap::new(alloc),
@@ -152,81 +158,104 @@ impl Incoming {
         }
     }
 
-    // Counts data that was taken.
-    fn count(&mut self, taken: Taken)
-        ensures incoming { incoming_of self.new ≡ record (incoming_of self.old) { messages_received = received_more taken.ready self.old.messages_received } }
-        ensures queued { self.new.queued_bytes ≡ capped_usize (self.old.queued_bytes + taken.kept_bytes) }
+    // CountsPart data that was taken.
+    fn count(&mut self, counted: Counted)
+        ensures incoming { incoming_of self.new ≡ record (incoming_of self.old) { messages_received = received_more counted.taken.ready self.old.messages_received } }
+        ensures used { self.new.used ≡ capped_u128 (self.old.used - counted.freed + counted.added) }
     {
-        self.queued_bytes = self.queued_bytes.saturating_add(taken.kept_bytes);
-        self.messages_received = self.messages_received.saturating_add(taken.ready as u64);
+        self.used = self
+            .used
+            .saturating_sub(counted.freed)
+            .saturating_add(counted.added);
+        self.messages_received = self
+            .messages_received
+            .saturating_add(counted.taken.ready as u64);
     }
 
     // A part of an unordered message of DATA was received.
-    fn add_unordered_data(&mut self, tsn_number: u64, chunk: Data) -> Result<(), AllocError>
-        requires { self.old.queued_bytes + length chunk.payload.items < 2 ^ 64 }
+    fn add_unordered_data(
+        &mut self,
+        tsn_number: u64,
+        chunk: Data,
+        overhead: usize,
+    ) -> Result<(), AllocError>
+        requires { self.old.used + (length chunk.payload.items + overhead) < 2 ^ 128 }
         ensures ok { OnOk result (TakesUnorderedData tsn_number (chunk_of chunk) (incoming_of self.old) (incoming_of self.new)) }
-        ensures bytes { Balances self.old self.new }
+        ensures used { Balances overhead self.old self.new }
         ensures err { OnErr result (SameIncoming (incoming_of self.old) (incoming_of self.new)) }
-        ensures count { OnErr result (self.new.queued_bytes ≡ self.old.queued_bytes) }
+        ensures count { OnErr result (self.new.used ≡ self.old.used) }
     {
         let id = chunk.stream_id;
         let size = chunk.payload.len();
         let part = part_of_data(chunk, u128::from(tsn_number), u64::from(id.0));
         self.ready.try_reserve(1)?;
-        let outcome = add_part(self.alloc, &mut self.unordered, part)?;
-        let taken = deliver_unordered(id, size, outcome, &mut self.ready);
-        self.count(taken);
+        let outcome = add_part(self.alloc, &mut self.unordered, part, overhead)?;
+        let counted = deliver_unordered(id, size, overhead, outcome, &mut self.ready);
+        self.count(counted);
         Ok(())
     }
 
     // Data of a stream was received, except for unordered DATA.
     #[inline(always)]
-    fn add_stream_data(&mut self, tsn_number: u64, chunk: Data) -> Result<(), AllocError>
-        requires { self.old.queued_bytes + length chunk.payload.items < 2 ^ 64 }
+    fn add_stream_data(
+        &mut self,
+        tsn_number: u64,
+        chunk: Data,
+        overhead: usize,
+    ) -> Result<(), AllocError>
+        requires { self.old.used + (length chunk.payload.items + overhead) < 2 ^ 128 }
         ensures ok { OnOk result (TakesStreamData tsn_number (chunk_of chunk) (incoming_of self.old) (incoming_of self.new)) }
-        ensures bytes { Balances self.old self.new }
+        ensures used { Balances overhead self.old self.new }
         ensures err { OnErr result (SameIncoming (incoming_of self.old) (incoming_of self.new)) }
-        ensures count { OnErr result (self.new.queued_bytes ≡ self.old.queued_bytes) }
+        ensures count { OnErr result (self.new.used ≡ self.old.used) }
     {
-        let taken = add_to_stream(
+        let counted = add_to_stream(
             self.alloc,
             &mut self.streams,
             tsn_number,
             chunk,
+            overhead,
             &mut self.ready,
         )?;
-        self.count(taken);
+        self.count(counted);
         Ok(())
     }
 
     // Data was received whose TSN has this number.
     #[inline(always)]
-    fn route_data(&mut self, tsn_number: u64, chunk: Data) -> Result<(), AllocError>
-        requires { self.old.queued_bytes + length chunk.payload.items < 2 ^ 64 }
+    fn route_data(
+        &mut self,
+        tsn_number: u64,
+        chunk: Data,
+        overhead: usize,
+    ) -> Result<(), AllocError>
+        requires { self.old.used + (length chunk.payload.items + overhead) < 2 ^ 128 }
         ensures ok { OnOk result (TakesChunk tsn_number chunk.numbering (chunk_of chunk) (incoming_of self.old) (incoming_of self.new)) }
-        ensures bytes { Balances self.old self.new }
+        ensures used { Balances overhead self.old self.new }
         ensures err { OnErr result (SameIncoming (incoming_of self.old) (incoming_of self.new)) }
-        ensures count { OnErr result (self.new.queued_bytes ≡ self.old.queued_bytes) }
+        ensures count { OnErr result (self.new.used ≡ self.old.used) }
     {
         match chunk.numbering {
-            Numbering::Unordered => self.add_unordered_data(tsn_number, chunk),
+            Numbering::Unordered => self.add_unordered_data(tsn_number, chunk, overhead),
             Numbering::Ordered { .. }
             | Numbering::InterleavedOrdered { .. }
-            | Numbering::InterleavedUnordered { .. } => self.add_stream_data(tsn_number, chunk),
+            | Numbering::InterleavedUnordered { .. } => {
+                self.add_stream_data(tsn_number, chunk, overhead)
+            }
         }
     }
 
     /// Handles data, whose bytes can be counted. `Err`: an allocation failed, and nothing has changed.
     #[inline(always)]
-    pub fn add_data(&mut self, tsn: u32, chunk: Data) -> Result<(), AllocError>
-        requires { self.old.queued_bytes + length chunk.payload.items < 2 ^ 64 }
+    pub fn add_data(&mut self, tsn: u32, chunk: Data, overhead: usize) -> Result<(), AllocError>
+        requires { self.old.used + (length chunk.payload.items + overhead) < 2 ^ 128 }
         ensures ok { OnOk result (TakesIncomingChunk tsn (chunk_of chunk) (incoming_of self.old) (incoming_of self.new)) }
-        ensures bytes { Balances self.old self.new }
+        ensures used { Balances overhead self.old self.new }
         ensures err { OnErr result (SameIncoming (incoming_of self.old) (incoming_of self.new)) }
-        ensures count { OnErr result (self.new.queued_bytes ≡ self.old.queued_bytes) }
+        ensures count { OnErr result (self.new.used ≡ self.old.used) }
     {
         let tsn_number = number_near(self.last_tsn_number, tsn);
-        self.route_data(tsn_number, chunk)?;
+        self.route_data(tsn_number, chunk, overhead)?;
         self.last_tsn_number = tsn_number;
         Ok(())
     }
@@ -244,11 +273,11 @@ impl Incoming {
         ensures some { IfSome result (λ message. map message_content self.old.ready.items ≡ message_content message ∷ map message_content self.new.ready.items) }
         ensures left { IfSome result (λ _. incoming_of self.new ≡ record (incoming_of self.old) { ready = map message_content self.new.ready.items }) }
         ensures none { IfNone result ((map message_content self.old.ready.items ≡ []) × (incoming_of self.new ≡ incoming_of self.old)) }
-        ensures bytes { Balances self.old self.new }
+        ensures used { (overhead : ℕ) → Balances overhead self.old self.new }
     {
         match self.ready.pop_front() {
             Some(message) => {
-                self.queued_bytes = self.queued_bytes.saturating_sub(message.payload.len());
+                self.used = self.used.saturating_sub(message.payload.len() as u128);
                 Some(message)
             }
             None => None,

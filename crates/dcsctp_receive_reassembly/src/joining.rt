@@ -4,6 +4,7 @@
 ghost use Rattle.std.specs.Prelude.{
   ◌≡◌,
   ℕ,
+  ◌+◌,
   is_some,
   ◌++◌,
   IfOk,
@@ -19,10 +20,11 @@ ghost use Rattle.std.specs.BTreeMap.{IsOrdered, get, is_at};
 ghost use Rattle.std.specs.Ordering.{nat_cmp};
 ghost use Rattle.dcsctp_receive_ordered_map.specs.Entries.{count_up_to};
 ghost use Rattle.dcsctp_api.specs.spec.queues.Runs.{entry_before, whole_run, follows, precedes, following, run_behind, single_run, merged, is_whole, joined_bytes, with_part, without_runs, holds_some, is_held_before, AddsPart};
-ghost use Rattle.dcsctp_receive_reassembly.specs.Runs.{assembled_of, run_model, part_of, whole_of, lent_run, RunBeginsAt, BeginsIf, IsOfMessage};
+ghost use Rattle.dcsctp_receive_reassembly.specs.Runs.{assembled_of, run_model, part_of, whole_of, lent_run, lent_used, RunBeginsAt, BeginsIf, IsOfMessage, IsFreed};
+ghost use Rattle.dcsctp_receive_reassembly.specs.Held.{capped_u128};
 
 use crate::linking::{append, link, reserve, reserve_between, take_over};
-use crate::runs::{Assembled, Part, Run, Whole, holds, run_up_to, size_of_run};
+use crate::runs::{Assembled, Part, Run, Whole, holds, run_up_to, run_used, size_of_run};
 use dcsctp_receive_ordered_map::{entry_behind, put_entry};
 use std::alloc::{AllocError, Global};
 use std::collections::{BTreeMap, VecDeque};
@@ -79,22 +81,36 @@ fn single(alloc: Global, part: Part) -> Run
     }
 }
 
+// How much of the receive window the parts of a run use, at most `u128::MAX`.
+fn used_by(run: Option<(u128, &Run)>, overhead: usize) -> u128
+    ensures { result ≡ capped_u128 (lent_used overhead (lent_run run.entry)) }
+{
+    match run {
+        Some((_, run)) => run_used(run, overhead),
+        None => 0,
+    }
+}
+
 // The message of a part with the run that it follows on, and the run that follows on it.
 fn joined(
     alloc: Global,
     before: Option<(u128, &Run)>,
     part: Part,
     behind: Option<(u128, &Run)>,
+    overhead: usize,
 ) -> Result<Whole, AllocError>
-    ensures { IfOk result (λ whole. whole_of whole ≡ whole_run (merged (lent_run before.entry) (part_of part) (lent_run behind.entry))) }
+    ensures used { IfOk result (λ whole. whole.used ≡ capped_u128 (lent_used overhead (lent_run before.entry) + lent_used overhead (lent_run behind.entry))) }
+    ensures whole { IfOk result (λ whole. whole_of whole ≡ whole_run (merged (lent_run before.entry) (part_of part) (lent_run behind.entry))) }
 {
     if before.is_none() && behind.is_none() {
         return Ok(Whole {
             number: part.number,
             ppid: part.ppid,
             payload: part.payload,
+            used: 0,
         });
     }
+    let used = used_by(before, overhead).saturating_add(used_by(behind, overhead));
     let front = before.map_or(0, |(_, run)| size_of_run(run));
     let back = behind.map_or(0, |(_, run)| size_of_run(run));
     let size = front
@@ -116,6 +132,7 @@ fn joined(
         number,
         ppid,
         payload,
+        used,
     })
 }
 
@@ -290,9 +307,11 @@ pub fn add_part(
     alloc: Global,
     runs: &mut BTreeMap<u128, Run>,
     part: Part,
+    overhead: usize,
 ) -> Result<Assembled, AllocError>
     ensures ok { IfOk result (λ outcome. AddsPart (part_of part) (map run_model runs.old.entries) (assembled_of outcome) (map run_model runs.new.entries)) }
     ensures number { IfOk result (λ outcome. IsOfMessage part.number outcome) }
+    ensures used { IfOk result (λ outcome. IsFreed overhead (map run_model runs.old.entries) outcome (map run_model runs.new.entries)) }
     ensures err { OnErr result (map run_model runs.new.entries ≡ map run_model runs.old.entries) }
 {
     let nearest = run_up_to(runs, part.place);
@@ -304,7 +323,7 @@ pub fn add_part(
     let first = first_of(before);
     let next = first_of(behind);
     if is_whole(before, &part, behind) {
-        let whole = joined(alloc, before, part, behind)?;
+        let whole = joined(alloc, before, part, behind, overhead)?;
         take_out(runs, first, next);
         return Ok(Assembled::Whole(whole));
     }

@@ -3,6 +3,7 @@
 #![tactic(auto)]
 
 mod arrivals;
+mod counting;
 mod deferral;
 mod fragments;
 mod handover;

@@ -14,6 +14,7 @@ use crate::handover::{ordered_streams, restored_streams};
 use crate::incoming::Incoming;
 use crate::named::NamedStreams;
 use crate::numbers::is_tsn_beyond;
+use crate::runs::part_used;
 use crate::stream::FIRST_NUMBER;
 use dcsctp_api::types::{HandoverReadiness, HandoverReceive, SkippedTo};
 use dcsctp_api::{Message, StreamId};
@@ -28,6 +29,7 @@ use std::marker::Model;
 pub struct ReassemblyQueue {
     incoming: Incoming,
     max_size: usize,
+    overhead: usize,
     deferral: Option<Deferral>,
 }
 
@@ -44,6 +46,7 @@ impl Model for ReassemblyQueue {
     ghost view = { λ queue. record {
       incoming = incoming_of queue.incoming;
       max_size = queue.max_size;
+      overhead = queue.overhead;
       deferral = option_map deferral_of queue.deferral;
     } };
 
@@ -62,20 +65,22 @@ impl fmt::Debug for ReassemblyQueue {
 }
 
 impl ReassemblyQueue {
-    ghost use Rattle.std.specs.Prelude.{◌*◌, nat_le, ◌∷◌, IfSome, IfNone, map};
-    ghost use Rattle.dcsctp_api.specs.spec.queues.Reassembly.{new_reassembly, is_above_watermark, is_below_double, bytes_to_watermark, with_ready, reassembly_bytes, remaining_bytes, can_count, is_data_deferred, with_deferred, AddsData, SkipsData, DeferralModel, ForwardsBeside, is_forward_deferred, deferring, EndsDeferral, StaysDeferred};
+    ghost use Rattle.std.specs.Prelude.{◌+◌, ◌*◌, ◌/◌, ◌^◌, ◌<◌, nat_le, ◌∷◌, IfSome, IfNone, map};
+    ghost use Rattle.dcsctp_api.specs.spec.queues.Reassembly.{new_reassembly, is_above_watermark, is_below_double, bytes_to_watermark, with_ready, window_used, remaining_bytes, can_count, is_data_deferred, with_deferred, AddsData, SkipsData, DeferralModel, ForwardsBeside, is_forward_deferred, deferring, EndsDeferral, StaysDeferred};
     ghost use Rattle.dcsctp_api.specs.spec.queues.Readiness.{reassembly_readiness};
     ghost use Rattle.dcsctp_api.specs.spec.queues.ReceivedParts.{with_reassembly, RestoresReassembly};
     ghost use Rattle.dcsctp_api.specs.types.Snapshot.{received_part};
     ghost use Rattle.dcsctp_receive_reassembly.specs.Queue.{SameQueue};
 
-    /// Nothing was received yet, and at most `max_size` bytes are kept. Allocates nothing.
-    pub fn new(alloc: Global, max_size: usize) -> ReassemblyQueue
-        ensures { result ≡ new_reassembly max_size }
+    /// Nothing was received yet, and the receive window has `max_size` bytes. Each part that is kept, and each
+    /// whole message that waits, counts `overhead` beside its bytes. Allocates nothing.
+    pub fn new(alloc: Global, max_size: usize, overhead: usize) -> ReassemblyQueue
+        ensures { result ≡ new_reassembly max_size overhead }
     {
         ReassemblyQueue {
             incoming: Incoming::new(alloc),
             max_size,
+            overhead,
             deferral: None,
         }
     }
@@ -153,36 +158,43 @@ impl ReassemblyQueue {
         ensures left { result ≡ remaining_bytes self.now }
         ensures within { result ≤ self.now.max_size }
     {
-        self.max_size.saturating_sub(self.incoming.queued_bytes)
+        (self.max_size as u128).saturating_sub(self.incoming.used) as usize
+    }
+
+    // Nine tenths of the receive window, rounded up.
+    fn watermark(&self) -> u128
+        ensures is { result ≡ (9 * self.now.max_size + 9) / 10 }
+        ensures within { result < 2 ^ 64 }
+    {
+        (9 * (self.max_size as u128) + 9) / 10
     }
 
     /// How many more bytes can be kept until nine tenths of the receive window are in use.
     pub fn bytes_to_watermark(&self) -> usize
         ensures { result ≡ bytes_to_watermark self.now }
     {
-        let watermark = (9 * (self.max_size as u128) + 9) / 10;
-        (watermark as usize).saturating_sub(self.incoming.queued_bytes)
+        self.watermark().saturating_sub(self.incoming.used) as usize
     }
 
     /// Is nothing left of the receive window?
     pub fn is_full(&self) -> bool
-        ensures { result ≡ nat_le self.now.max_size (reassembly_bytes self.now) }
+        ensures { result ≡ nat_le self.now.max_size (window_used self.now) }
     {
-        self.max_size <= self.incoming.queued_bytes
+        self.max_size as u128 <= self.incoming.used
     }
 
     /// Is less than twice the receive window in use, and less than 2^63 bytes?
     pub fn is_below_double(&self) -> bool
         ensures { result ≡ is_below_double self.now }
     {
-        self.incoming.queued_bytes < self.max_size.saturating_mul(2).min(1 << 63)
+        self.incoming.used < (2 * (self.max_size as u128)).min(1 << 63)
     }
 
     /// Are nine tenths of the receive window in use, or more?
     pub fn is_above_watermark(&self) -> bool
         ensures { result ≡ is_above_watermark self.now }
     {
-        9 * (self.max_size as u128) <= 10 * (self.incoming.queued_bytes as u128)
+        self.watermark() <= self.incoming.used
     }
 
     // Does what comes with this TSN on this stream wait for the end of a deferred reset?
@@ -208,7 +220,7 @@ impl ReassemblyQueue {
     /// an ordered message whose identifier is before the expected one is dropped, as is a part that is there
     /// already. In a deferred reset data beyond its last TSN waits on the streams that it names.
     ///
-    /// Data with which the queue would have 2^64 bytes is dropped. If an allocation fails, the data is
+    /// Data whose bytes would fill 2^64 of the receive window is dropped. If an allocation fails, the data is
     /// dropped, and nothing else has changed.
     pub fn add(&mut self, tsn: u32, chunk: Data) -> Result<(), AllocError>
         ensures ok { OnOk result (AddsData tsn (chunk_of chunk) self.old self.new) }
@@ -221,14 +233,14 @@ impl ReassemblyQueue {
         if self.is_deferred(tsn, chunk.stream_id) {
             return self.defer(tsn, chunk);
         }
-        self.incoming.add_data(tsn, chunk)
+        self.incoming.add_data(tsn, chunk, self.overhead)
     }
 
     // Can the bytes be counted with that many more?
     fn can_count(&self, size: usize) -> bool
         ensures { result ≡ can_count size self.now }
     {
-        self.incoming.queued_bytes.checked_add(size).is_some()
+        self.incoming.used < 0x1_0000_0000_0000_0000 - size as u128
     }
 
     // Data waits for the end of a deferred reset.
@@ -243,7 +255,8 @@ impl ReassemblyQueue {
             deferral
                 .waiting
                 .push_back(WaitingData { tsn, data: chunk })?;
-            self.incoming.queued_bytes = self.incoming.queued_bytes.saturating_add(size);
+            let used = part_used(size, self.overhead);
+            self.incoming.used = self.incoming.used.saturating_add(used);
         }
         Ok(())
     }
@@ -268,7 +281,8 @@ impl ReassemblyQueue {
         if self.is_forward_deferred(new_cumulative_tsn) {
             return self.forward_beside(new_cumulative_tsn, skipped);
         }
-        self.incoming.forward(new_cumulative_tsn, skipped)
+        self.incoming
+            .forward(new_cumulative_tsn, skipped, self.overhead)
     }
 
     // Does a FORWARD TSN wait for the end of a deferred reset?
@@ -296,7 +310,8 @@ impl ReassemblyQueue {
                 tsn,
                 parted.within.as_slice(),
             )?;
-            self.incoming.forward(tsn, parted.beside.as_slice())?;
+            self.incoming
+                .forward(tsn, parted.beside.as_slice(), self.overhead)?;
             deferral.skips = Some(skips);
         }
         Ok(())
@@ -340,10 +355,14 @@ impl ReassemblyQueue {
         ensures ok { OnOk result (EndsDeferral (stream_numbers streams.now) self.old self.new) }
         ensures err { OnErr result (StaysDeferred (stream_numbers streams.now) self.old self.new) }
     {
-        self.incoming.reset_streams(streams);
+        self.incoming.reset_streams(streams, self.overhead);
         match self.deferral.take() {
             None => Ok(()),
-            Some(mut deferral) => match handle_deferral(&mut self.incoming, &mut deferral) {
+            Some(mut deferral) => match handle_deferral(
+                &mut self.incoming,
+                &mut deferral,
+                self.overhead,
+            ) {
                 Ok(()) => Ok(()),
                 Err(error) => {
                     self.deferral = Some(deferral);

@@ -1,15 +1,15 @@
 //! Parts of messages that aren't whole yet, in runs: parts that follow on one another (RFC 9260, section
 //! 6.9).
 
-ghost use Rattle.std.specs.Prelude.{◌≡◌, map, not};
+ghost use Rattle.std.specs.Prelude.{◌≡◌, ◌+◌, map, not};
 ghost use Rattle.std.specs.List.{filter};
 ghost use Rattle.std.specs.BTreeMap.{IsOrdered};
 ghost use Rattle.std.specs.Ordering.{nat_cmp};
 ghost use Rattle.dcsctp_receive_ordered_map.specs.Entries.{count_up_to};
 ghost use Rattle.dcsctp_api.specs.spec.queues.Runs.{entry_before, holds, behind_place};
 ghost use Rattle.dcsctp_receive_reassembly.specs.Runs.{run_model, lent_run, begins_up_to, up_to_place};
-ghost use Rattle.dcsctp_receive_reassembly.specs.Held.{capped_usize};
-ghost use Rattle.dcsctp_api.specs.spec.queues.Runs.{payloads_bytes, runs_bytes};
+ghost use Rattle.dcsctp_receive_reassembly.specs.Held.{capped_usize, capped_u128};
+ghost use Rattle.dcsctp_api.specs.spec.queues.Runs.{payloads_used, run_used, runs_used};
 ghost use Rattle.dcsctp_api.specs.types.StreamTables.{marks};
 
 use dcsctp_api::PpId;
@@ -53,6 +53,9 @@ pub struct Whole {
     pub number: u64,
     pub ppid: PpId,
     pub payload: Vec<u8>,
+
+    /// How much of the receive window its other parts used, at most `u128::MAX`.
+    pub used: u128,
 }
 
 /// What became of a part.
@@ -87,7 +90,7 @@ pub fn run_up_to<'x>(runs: &'x BTreeMap<u128, Run>, place: u128) -> Option<(u128
 
 // How many bytes the payloads have together, at most `usize::MAX`.
 fn size_of(payloads: &VecDeque<Vec<u8>>) -> usize
-    ensures { result ≡ capped_usize (payloads_bytes (map (λ payload. payload.items) payloads.now.items)) }
+    ensures { result ≡ capped_usize (payloads_used 0 (map (λ payload. payload.items) payloads.now.items)) }
 {
     let mut size: usize = 0;
     for index in 0..payloads.len() {
@@ -98,41 +101,67 @@ fn size_of(payloads: &VecDeque<Vec<u8>>) -> usize
 
 /// How many bytes a run has, at most `usize::MAX`.
 pub fn size_of_run(run: &Run) -> usize
-    ensures { result ≡ capped_usize (payloads_bytes (run_model (0, run.now)).payloads) }
+    ensures { result ≡ capped_usize (payloads_used 0 (run_model (0, run.now)).payloads) }
 {
     run.payload.len().saturating_add(size_of(&run.others))
 }
 
-/// How many bytes the runs have, at most `usize::MAX`.
-pub fn size_of_runs(runs: &BTreeMap<u128, Run>) -> usize
-    ensures { result ≡ capped_usize (runs_bytes (map run_model runs.now.entries)) }
+/// How much of the receive window a part of that many bytes uses, or a whole message that waits.
+#[inline(always)]
+pub fn part_used(size: usize, overhead: usize) -> u128
+    ensures { result ≡ size + overhead }
 {
-    let mut size: usize = 0;
-    for (_, run) in runs {
-        size = size.saturating_add(size_of_run(run));
-    }
-    size
+    size as u128 + overhead as u128
 }
 
-// How many bytes the runs of the messages with these numbers have, at most `usize::MAX`.
-fn size_of_messages(runs: &BTreeMap<u128, Run>, numbers: &StreamTable) -> usize
-    ensures { result ≡ capped_usize (runs_bytes (filter (λ run. marks numbers.now run.number) (map run_model runs.now.entries))) }
+// How much the parts with these payloads use, at most `u128::MAX`.
+fn payloads_used(payloads: &VecDeque<Vec<u8>>, overhead: usize) -> u128
+    ensures { result ≡ capped_u128 (payloads_used overhead (map (λ payload. payload.items) payloads.now.items)) }
 {
-    let mut size: usize = 0;
+    let mut used: u128 = 0;
+    for index in 0..payloads.len() {
+        used = used.saturating_add(part_used(payloads[index].len(), overhead));
+    }
+    used
+}
+
+/// How much the parts of a run use, at most `u128::MAX`.
+pub fn run_used(run: &Run, overhead: usize) -> u128
+    ensures { result ≡ capped_u128 (run_used overhead (run_model (0, run.now))) }
+{
+    part_used(run.payload.len(), overhead).saturating_add(payloads_used(&run.others, overhead))
+}
+
+/// How much the runs use, at most `u128::MAX`.
+pub fn runs_used(runs: &BTreeMap<u128, Run>, overhead: usize) -> u128
+    ensures { result ≡ capped_u128 (runs_used overhead (map run_model runs.now.entries)) }
+{
+    let mut used: u128 = 0;
+    for (_, run) in runs {
+        used = used.saturating_add(run_used(run, overhead));
+    }
+    used
+}
+
+// How much the runs of the messages with these numbers use, at most `u128::MAX`.
+fn messages_used(runs: &BTreeMap<u128, Run>, numbers: &StreamTable, overhead: usize) -> u128
+    ensures { result ≡ capped_u128 (runs_used overhead (filter (λ run. marks numbers.now run.number) (map run_model runs.now.entries))) }
+{
+    let mut used: u128 = 0;
     for (_, run) in runs {
         if numbers.has(run.number) {
-            size = size.saturating_add(size_of_run(run));
+            used = used.saturating_add(run_used(run, overhead));
         }
     }
-    size
+    used
 }
 
-/// Drops the runs of the messages with these numbers, and returns how many bytes they had.
-pub fn drop_messages(runs: &mut BTreeMap<u128, Run>, numbers: &StreamTable) -> usize
+/// Drops the runs of the messages with these numbers, and returns how much they used.
+pub fn drop_messages(runs: &mut BTreeMap<u128, Run>, numbers: &StreamTable, overhead: usize) -> u128
     ensures kept { map run_model runs.new.entries ≡ filter (λ run. not (marks numbers.now run.number)) (map run_model runs.old.entries) }
-    ensures size { result ≡ capped_usize (runs_bytes (filter (λ run. marks numbers.now run.number) (map run_model runs.old.entries))) }
+    ensures size { result ≡ capped_u128 (runs_used overhead (filter (λ run. marks numbers.now run.number) (map run_model runs.old.entries))) }
 {
-    let dropped = size_of_messages(runs, numbers);
+    let dropped = messages_used(runs, numbers, overhead);
     runs.retain(|_, run| !numbers.has(run.number));
     dropped
 }
@@ -147,15 +176,15 @@ fn first_begins_up_to(runs: &BTreeMap<u128, Run>, place: u128) -> bool
     }
 }
 
-/// Drops the runs in front that begin at this place or before it, and returns how many bytes they had.
-pub fn drop_places(runs: &mut BTreeMap<u128, Run>, place: u128) -> usize
+/// Drops the runs in front that begin at this place or before it, and returns how much they used.
+pub fn drop_places(runs: &mut BTreeMap<u128, Run>, place: u128, overhead: usize) -> u128
     ensures kept { map run_model runs.new.entries ≡ behind_place place (map run_model runs.old.entries) }
-    ensures size { result ≡ capped_usize (runs_bytes (up_to_place place (map run_model runs.old.entries))) }
+    ensures size { result ≡ capped_u128 (runs_used overhead (up_to_place place (map run_model runs.old.entries))) }
 {
-    let mut dropped: usize = 0;
+    let mut dropped: u128 = 0;
     while first_begins_up_to(runs, place) {
         let (_, run) = runs.pop_first().unwrap();
-        dropped = dropped.saturating_add(size_of_run(&run));
+        dropped = dropped.saturating_add(run_used(&run, overhead));
     }
     dropped
 }

@@ -1,25 +1,25 @@
 //! Messages that are skipped (RFC 3758, section 3.6; RFC 8260, section 2.3.1), and streams that start again
 //! (RFC 6525, section 5.2.2).
 
-ghost use Rattle.std.specs.Prelude.{◌≡◌, ◌==◌, ◌||◌, ℕ, ◌+◌, ◌-◌, ◌<◌, ◌≤◌, ◌++◌, map, length, OnOk, OnErr, IsSome, if◌then◌else◌};
+ghost use Rattle.std.specs.Prelude.{◌≡◌, ◌==◌, ◌||◌, ℕ, ◌+◌, ◌-◌, ◌*◌, ◌<◌, ◌≤◌, ◌++◌, map, length, OnOk, OnErr, IsSome, if◌then◌else◌};
 ghost use Rattle.std.specs.VecDeque.{deque_len, deque_capacity};
 ghost use Rattle.std.specs.BTreeMap.{get};
 ghost use Rattle.std.specs.Ordering.{nat_cmp};
 ghost use Rattle.dcsctp_api.specs.types.Ids.{stream_numbers};
 ghost use Rattle.dcsctp_api.specs.types.StreamTables.{marks};
-ghost use Rattle.dcsctp_receive_reassembly.specs.Held.{capped_usize};
+ghost use Rattle.dcsctp_receive_reassembly.specs.Held.{capped_usize, capped_u128};
 ghost use Rattle.dcsctp_api.specs.spec.queues.Incoming.{is_named, stream_on, KeepsStreams, SameIncoming, skipped_on, SkipsOne, SkipsAll, MovesTo, MovesOn, ResetsEveryStream, ResetsEach, ResetsStreams};
-ghost use Rattle.dcsctp_api.specs.spec.queues.IncomingStreams.{ready_bytes, kept_stream_bytes, streams_bytes};
+ghost use Rattle.dcsctp_api.specs.spec.queues.IncomingStreams.{ready_bytes, kept_stream_used, streams_used};
 ghost use Rattle.dcsctp_api.specs.spec.queues.Runs.{behind_place};
 ghost use Rattle.dcsctp_api.specs.types.queues.Messages.{message_content};
-ghost use Rattle.dcsctp_api.specs.spec.queues.IncomingStreams.{new_stream, skipped_stream, skipped, skip_deliveries, skip_bytes};
+ghost use Rattle.dcsctp_api.specs.spec.queues.IncomingStreams.{new_stream, skipped_stream, skipped, skip_deliveries, skip_used};
 ghost use Rattle.dcsctp_receive_reassembly.specs.Reassembly.{incoming_of, entry_of, Balances};
 ghost use Rattle.dcsctp_receive_reassembly.specs.Skipping.{AllMade, room_for};
 
 use crate::incoming::{Incoming, make_stream};
 use crate::named::table_of;
 use crate::numbers::number_near;
-use crate::runs::{drop_messages, drop_places, size_of_runs};
+use crate::runs::{drop_messages, drop_places, runs_used};
 use crate::stream::Stream;
 use dcsctp_api::types::{SkippedTo, StreamTable};
 use dcsctp_api::{Message, StreamId};
@@ -43,7 +43,7 @@ fn make_streams(
 ) -> Result<(), AllocError>
     ensures made { OnOk result (AllMade entries.now streams.new) }
     ensures streams { KeepsStreams (map entry_of streams.old.entries) (map entry_of streams.new.entries) }
-    ensures bytes { streams_bytes (map entry_of streams.new.entries) ≡ streams_bytes (map entry_of streams.old.entries) }
+    ensures used { (overhead : ℕ) → streams_used overhead (map entry_of streams.new.entries) ≡ streams_used overhead (map entry_of streams.old.entries) }
 {
     for entry in entries {
         make_stream(alloc, streams, stream_of(entry))?;
@@ -95,113 +95,118 @@ fn room_for(streams: &BTreeMap<u16, Stream>, entries: &[SkippedTo]) -> usize
     }
 }
 
-// Skips messages on their stream, which exists, and returns how many bytes are dropped. The other streams are
-// unchanged. There is room for all that wait.
+// Skips messages on their stream, which exists, and returns how much of the receive window isn't in use any
+// longer. The other streams are unchanged. There is room for all that wait.
 fn skip_on(
     streams: &mut BTreeMap<u16, Stream>,
     entry: &SkippedTo,
+    overhead: usize,
     ready: &mut VecDeque<Message>,
-) -> usize
+) -> u128
     requires made { IsSome (get nat_cmp streams.old (skipped_stream entry.now)) }
     requires room { deque_len ready.old + length (stream_on (skipped_stream entry.now) (map entry_of streams.old.entries)).waiting ≤ deque_capacity ready.old }
     ensures streams { (id : ℕ) → stream_on id (map entry_of streams.new.entries) ≡ skipped_on entry.now id (stream_on id (map entry_of streams.old.entries)) }
     ensures made { (id : ℕ) → IsSome (get nat_cmp streams.old id) → IsSome (get nat_cmp streams.new id) }
     ensures ready { map message_content ready.new.items ≡ map message_content ready.old.items ++ skip_deliveries entry.now (stream_on (skipped_stream entry.now) (map entry_of streams.old.entries)) }
-    ensures bytes { streams_bytes (map entry_of streams.new.entries) + ready_bytes (map message_content ready.new.items) + skip_bytes entry.now (stream_on (skipped_stream entry.now) (map entry_of streams.old.entries)) ≡ streams_bytes (map entry_of streams.old.entries) + ready_bytes (map message_content ready.old.items) }
-    ensures size { result ≡ capped_usize (skip_bytes entry.now (stream_on (skipped_stream entry.now) (map entry_of streams.old.entries))) }
+    ensures used { streams_used overhead (map entry_of streams.new.entries) + ready_bytes (map message_content ready.new.items) + (skip_used overhead entry.now (stream_on (skipped_stream entry.now) (map entry_of streams.old.entries)) + length (skip_deliveries entry.now (stream_on (skipped_stream entry.now) (map entry_of streams.old.entries))) * overhead) ≡ streams_used overhead (map entry_of streams.old.entries) + ready_bytes (map message_content ready.old.items) }
+    ensures size { result ≡ capped_u128 (skip_used overhead entry.now (stream_on (skipped_stream entry.now) (map entry_of streams.old.entries)) + length (skip_deliveries entry.now (stream_on (skipped_stream entry.now) (map entry_of streams.old.entries))) * overhead) }
     ensures room { deque_capacity ready.new ≡ deque_capacity ready.old }
 {
     let stream = streams.get_mut(&stream_of(entry).0).unwrap();
-    stream.skip(entry, ready)
+    stream.skip(entry, overhead, ready)
 }
 
-// Forgets the stream, so that it starts again, and returns how many bytes it had, at most `usize::MAX`.
-fn forget_stream(streams: &mut BTreeMap<u16, Stream>, id: StreamId) -> usize
+// Forgets the stream, so that it starts again, and returns how much it used.
+fn forget_stream(streams: &mut BTreeMap<u16, Stream>, id: StreamId, overhead: usize) -> u128
     ensures streams { (other : ℕ) → stream_on other (map entry_of streams.new.entries) ≡ (if id.0 == other then new_stream other else stream_on other (map entry_of streams.old.entries)) }
-    ensures bytes { streams_bytes (map entry_of streams.new.entries) + kept_stream_bytes (stream_on id.0 (map entry_of streams.old.entries)) ≡ streams_bytes (map entry_of streams.old.entries) }
-    ensures size { result ≡ capped_usize (kept_stream_bytes (stream_on id.0 (map entry_of streams.old.entries))) }
+    ensures used { streams_used overhead (map entry_of streams.new.entries) + kept_stream_used overhead (stream_on id.0 (map entry_of streams.old.entries)) ≡ streams_used overhead (map entry_of streams.old.entries) }
+    ensures size { result ≡ capped_u128 (kept_stream_used overhead (stream_on id.0 (map entry_of streams.old.entries))) }
 {
     match streams.remove(&id.0) {
-        Some(stream) => stream.size(),
+        Some(stream) => stream.used(overhead),
         None => 0,
     }
 }
 
-// Forgets these streams, and returns how many bytes they had, at most `usize::MAX`.
-fn forget_each_stream(streams: &mut BTreeMap<u16, Stream>, ids: &[StreamId]) -> usize
+// Forgets these streams, and returns how much they used.
+fn forget_each_stream(
+    streams: &mut BTreeMap<u16, Stream>,
+    ids: &[StreamId],
+    overhead: usize,
+) -> u128
     ensures streams { (other : ℕ) → stream_on other (map entry_of streams.new.entries) ≡ (if is_named (stream_numbers ids.now) other then new_stream other else stream_on other (map entry_of streams.old.entries)) }
-    ensures bytes { streams_bytes (map entry_of streams.new.entries) ≤ streams_bytes (map entry_of streams.old.entries) }
-    ensures size { result ≡ capped_usize (streams_bytes (map entry_of streams.old.entries) - streams_bytes (map entry_of streams.new.entries)) }
+    ensures used { streams_used overhead (map entry_of streams.new.entries) ≤ streams_used overhead (map entry_of streams.old.entries) }
+    ensures size { result ≡ capped_u128 (streams_used overhead (map entry_of streams.old.entries) - streams_used overhead (map entry_of streams.new.entries)) }
 {
-    let mut size: usize = 0;
+    let mut used: u128 = 0;
     for id in ids {
-        size = size.saturating_add(forget_stream(streams, *id));
+        used = used.saturating_add(forget_stream(streams, *id, overhead));
     }
-    size
+    used
 }
 
-// Forgets all streams, and returns how many bytes they had, at most `usize::MAX`.
-fn forget_streams(streams: &mut BTreeMap<u16, Stream>) -> usize
+// Forgets all streams, and returns how much they used.
+fn forget_streams(streams: &mut BTreeMap<u16, Stream>, overhead: usize) -> u128
     ensures streams { (other : ℕ) → stream_on other (map entry_of streams.new.entries) ≡ new_stream other }
-    ensures bytes { streams_bytes (map entry_of streams.new.entries) ≡ 0 }
-    ensures size { result ≡ capped_usize (streams_bytes (map entry_of streams.old.entries)) }
+    ensures used { streams_used overhead (map entry_of streams.new.entries) ≡ 0 }
+    ensures size { result ≡ capped_u128 (streams_used overhead (map entry_of streams.old.entries)) }
 {
-    let mut size: usize = 0;
+    let mut used: u128 = 0;
     while let Some((_, stream)) = streams.pop_first() {
-        size = size.saturating_add(stream.size());
+        used = used.saturating_add(stream.used(overhead));
     }
     streams.clear();
-    size
+    used
 }
 
 impl Incoming {
     // Skips messages of one stream, which exists. There is room for all that wait on it.
-    fn skip(&mut self, entry: &SkippedTo)
+    fn skip(&mut self, entry: &SkippedTo, overhead: usize)
         requires made { IsSome (get nat_cmp self.old.streams (skipped_stream entry.now)) }
         requires room { deque_len self.old.ready + length (stream_on (skipped_stream entry.now) (map entry_of self.old.streams.entries)).waiting ≤ deque_capacity self.old.ready }
         ensures skips { SkipsOne entry.now (incoming_of self.old) (incoming_of self.new) }
         ensures made { (id : ℕ) → IsSome (get nat_cmp self.old.streams id) → IsSome (get nat_cmp self.new.streams id) }
         ensures room { deque_capacity self.new.ready ≡ deque_capacity self.old.ready }
-        ensures bytes { Balances self.old self.new }
+        ensures used { Balances overhead self.old self.new }
     {
-        let dropped = skip_on(&mut self.streams, entry, &mut self.ready);
-        self.queued_bytes = self.queued_bytes.saturating_sub(dropped);
+        let dropped = skip_on(&mut self.streams, entry, overhead, &mut self.ready);
+        self.used = self.used.saturating_sub(dropped);
     }
 
     // Skips messages of streams that exist. There is room for all that wait on them.
-    fn skip_all(&mut self, entries: &[SkippedTo])
+    fn skip_all(&mut self, entries: &[SkippedTo], overhead: usize)
         requires made { AllMade entries.now self.old.streams }
         requires room { deque_len self.old.ready + room_for entries.now (λ id. stream_on id (map entry_of self.old.streams.entries)) ≤ deque_capacity self.old.ready }
         ensures skips { SkipsAll entries.now (incoming_of self.old) (incoming_of self.new) }
-        ensures bytes { Balances self.old self.new }
+        ensures used { Balances overhead self.old self.new }
     {
         for entry in entries {
-            self.skip(entry);
+            self.skip(entry, overhead);
         }
     }
 
     // Drops the parts of unordered messages of DATA that begin at this TSN or before it.
-    fn drop_unordered(&mut self, tsn_number: u64)
+    fn drop_unordered(&mut self, tsn_number: u64, overhead: usize)
         ensures incoming { incoming_of self.new ≡ record (incoming_of self.old) { unordered = behind_place tsn_number (incoming_of self.old).unordered } }
         ensures ready { self.new.ready ≡ self.old.ready }
         ensures streams { self.new.streams ≡ self.old.streams }
-        ensures bytes { Balances self.old self.new }
+        ensures used { Balances overhead self.old self.new }
     {
-        let dropped = drop_places(&mut self.unordered, u128::from(tsn_number));
-        self.queued_bytes = self.queued_bytes.saturating_sub(dropped);
+        let dropped = drop_places(&mut self.unordered, u128::from(tsn_number), overhead);
+        self.used = self.used.saturating_sub(dropped);
     }
 
     // Handles a FORWARD TSN whose TSN has this number. There is room for all that wait on the streams that it
     // names.
-    fn move_on(&mut self, tsn_number: u64, entries: &[SkippedTo])
+    fn move_on(&mut self, tsn_number: u64, entries: &[SkippedTo], overhead: usize)
         requires made { AllMade entries.now self.old.streams }
         requires room { deque_len self.old.ready + room_for entries.now (λ id. stream_on id (map entry_of self.old.streams.entries)) ≤ deque_capacity self.old.ready }
         ensures moves { MovesTo tsn_number entries.now (incoming_of self.old) (incoming_of self.new) }
-        ensures bytes { Balances self.old self.new }
+        ensures used { Balances overhead self.old self.new }
     {
         let before = self.ready.len();
-        self.drop_unordered(tsn_number);
-        self.skip_all(entries);
+        self.drop_unordered(tsn_number, overhead);
+        self.skip_all(entries, overhead);
         let count = self.ready.len().saturating_sub(before);
         self.messages_received = self.messages_received.saturating_add(count as u64);
         self.last_tsn_number = tsn_number;
@@ -209,56 +214,55 @@ impl Incoming {
 
     /// Handles a FORWARD TSN or I-FORWARD-TSN that doesn't wait for the end of a deferred reset. All memory
     /// is allocated first: if that fails, nothing has changed.
-    pub fn forward(&mut self, tsn: u32, entries: &[SkippedTo]) -> Result<(), AllocError>
+    pub fn forward(
+        &mut self,
+        tsn: u32,
+        entries: &[SkippedTo],
+        overhead: usize,
+    ) -> Result<(), AllocError>
         ensures ok { OnOk result (MovesOn tsn entries.now (incoming_of self.old) (incoming_of self.new)) }
-        ensures bytes { Balances self.old self.new }
+        ensures used { Balances overhead self.old self.new }
         ensures err { OnErr result (SameIncoming (incoming_of self.old) (incoming_of self.new)) }
     {
         make_streams(self.alloc, &mut self.streams, entries)?;
         let room = room_for(&self.streams, entries);
         self.ready.try_reserve(room)?;
         let tsn_number = number_near(self.last_tsn_number, tsn);
-        self.move_on(tsn_number, entries);
+        self.move_on(tsn_number, entries, overhead);
         Ok(())
     }
 
     // Forgets all streams.
-    fn reset_all_streams(&mut self)
+    fn reset_all_streams(&mut self, overhead: usize)
         ensures resets { ResetsEveryStream (incoming_of self.old) (incoming_of self.new) }
-        ensures bytes { Balances self.old self.new }
+        ensures used { Balances overhead self.old self.new }
     {
-        let dropped = size_of_runs(&self.unordered);
+        let dropped = runs_used(&self.unordered, overhead);
         self.unordered.clear();
-        let forgotten = forget_streams(&mut self.streams);
-        self.queued_bytes = self
-            .queued_bytes
-            .saturating_sub(dropped)
-            .saturating_sub(forgotten);
+        let forgotten = forget_streams(&mut self.streams, overhead);
+        self.used = self.used.saturating_sub(dropped).saturating_sub(forgotten);
     }
 
     // Forgets these streams. The parts of unordered messages are visited once, however many streams there
     // are.
-    fn reset_each_stream(&mut self, streams: &[StreamId])
+    fn reset_each_stream(&mut self, streams: &[StreamId], overhead: usize)
         ensures resets { ResetsEach (stream_numbers streams.now) (incoming_of self.old) (incoming_of self.new) }
-        ensures bytes { Balances self.old self.new }
+        ensures used { Balances overhead self.old self.new }
     {
-        let dropped = drop_messages(&mut self.unordered, &table_of(streams));
-        let forgotten = forget_each_stream(&mut self.streams, streams);
-        self.queued_bytes = self
-            .queued_bytes
-            .saturating_sub(dropped)
-            .saturating_sub(forgotten);
+        let dropped = drop_messages(&mut self.unordered, &table_of(streams), overhead);
+        let forgotten = forget_each_stream(&mut self.streams, streams, overhead);
+        self.used = self.used.saturating_sub(dropped).saturating_sub(forgotten);
     }
 
     /// Forgets the streams that are named, so that they start again; an empty list names all.
-    pub fn reset_streams(&mut self, streams: &[StreamId])
+    pub fn reset_streams(&mut self, streams: &[StreamId], overhead: usize)
         ensures resets { ResetsStreams (stream_numbers streams.now) (incoming_of self.old) (incoming_of self.new) }
-        ensures bytes { Balances self.old self.new }
+        ensures used { Balances overhead self.old self.new }
     {
         if streams.is_empty() {
-            self.reset_all_streams();
+            self.reset_all_streams(overhead);
         } else {
-            self.reset_each_stream(streams);
+            self.reset_each_stream(streams, overhead);
         }
     }
 }

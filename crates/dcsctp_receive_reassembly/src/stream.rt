@@ -1,24 +1,26 @@
 //! One incoming stream: parts of messages, and whole messages that wait for their turn (RFC 9260, sections
 //! 6.5 and 6.6).
 
-ghost use Rattle.std.specs.Prelude.{◌≡◌, ℕ, ◌+◌, ◌/◌, ◌^◌, ◌<◌, ◌≤◌, ◌++◌, false, map, length, List, None, IfOk, OnErr, OnOk, IsSome};
+ghost use Rattle.std.specs.Prelude.{◌≡◌, ℕ, ◌+◌, ◌-◌, ◌*◌, ◌/◌, ◌^◌, ◌<◌, ◌≤◌, ◌++◌, false, map, length, List, None, IfOk, OnErr, OnOk, IsSome};
 ghost use Rattle.std.specs.VecDeque.{deque_len, deque_capacity};
 ghost use Rattle.std.specs.BTreeMap.{btree_map_len, get};
 ghost use Rattle.std.specs.Ordering.{nat_cmp};
-ghost use Rattle.dcsctp_receive_reassembly.specs.Runs.{part_of, whole_of, assembled_of};
-ghost use Rattle.dcsctp_receive_reassembly.specs.Held.{capped_usize};
-ghost use Rattle.dcsctp_api.specs.spec.queues.Runs.{PartModel, runs_bytes, wholes_bytes};
-ghost use Rattle.dcsctp_api.specs.spec.queues.IncomingStreams.{kept_stream_bytes};
+ghost use Rattle.dcsctp_receive_reassembly.specs.Runs.{part_of, whole_of, assembled_of, IsFreed};
+ghost use Rattle.dcsctp_receive_reassembly.specs.Held.{capped_u128};
+ghost use Rattle.dcsctp_api.specs.spec.queues.Runs.{PartModel, RunModel, runs_used, wholes_used};
+ghost use Rattle.dcsctp_api.specs.spec.queues.IncomingStreams.{kept_stream_used, ready_bytes};
 ghost use Rattle.dcsctp_api.specs.types.queues.Messages.{MessageContent, message_content};
 ghost use Rattle.dcsctp_api.specs.spec.queues.Readiness.{holds_parts};
 ghost use Rattle.dcsctp_receive_reassembly.specs.declared.stream.Waiting.{Waiting};
 ghost use Rattle.dcsctp_receive_reassembly.specs.Streams.{stream_model, waiting_whole, HoldsPlace, chunk_of};
-ghost use Rattle.dcsctp_api.specs.spec.queues.IncomingStreams.{is_number_waiting, is_message_due, delivered_from, deliveries_from, delivered_as, next_after, ready_with, NothingTaken, WaitsAmong, TakesOrdered, TakesAhead, TakesUnordered, UnorderedOutcome, next_past, runs_up_to, skipped, skipped_in_order, skipped_out_of_order, skip_deliveries, skip_bytes, data_part, TakesOnStream, new_stream};
+ghost use Rattle.dcsctp_receive_reassembly.specs.Counting.{CountsOutcome, CountsPart};
+ghost use Rattle.dcsctp_api.specs.spec.queues.IncomingStreams.{is_number_waiting, is_message_due, delivered_from, deliveries_from, delivered_as, next_after, ready_with, NothingTaken, WaitsAmong, TakesOrdered, TakesAhead, TakesUnordered, UnorderedOutcome, next_past, runs_up_to, skipped, skipped_in_order, skipped_out_of_order, skip_deliveries, skip_used, data_part, TakesOnStream, new_stream};
 
 use crate::arrivals::Data;
+use crate::counting::{Counted, NOTHING, kept, waiting_overhead};
 use crate::fragments::Fragments;
 use crate::numbers::{fragment_place, number_near, short_number_from, short_number_near};
-use crate::runs::{Assembled, Part, Whole};
+use crate::runs::{Assembled, Part, Whole, part_used};
 use dcsctp_api::types::{Numbering, SkippedTo, Taken};
 use dcsctp_api::{Message, PpId, StreamId};
 use std::alloc::{AllocError, Global};
@@ -52,12 +54,6 @@ pub struct Waiting {
     pub payload: Vec<u8>,
 }
 
-// Nothing was taken.
-const NOTHING: Taken = Taken {
-    kept_bytes: 0,
-    ready: 0,
-};
-
 /// The number of the first message of a stream, so that there are numbers before it.
 pub const FIRST_NUMBER: u64 = 0x1_0000_0000;
 
@@ -81,23 +77,28 @@ pub fn part_of_data(chunk: Data, place: u128, number: u64) -> Part
 pub fn deliver_unordered(
     id: StreamId,
     size: usize,
+    overhead: usize,
     outcome: Assembled,
     ready: &mut VecDeque<Message>,
-) -> Taken
+) -> Counted
     requires { deque_len ready.old < deque_capacity ready.old }
-    ensures { (part : PartModel) → length part.payload ≡ size → UnorderedOutcome part (delivered_as id.0) (map message_content ready.old.items) (assembled_of outcome) result (map message_content ready.new.items) }
+    ensures does { (part : PartModel) → length part.payload ≡ size → UnorderedOutcome part (delivered_as id.0) (map message_content ready.old.items) (assembled_of outcome) result.taken (map message_content ready.new.items) }
+    ensures used { CountsOutcome overhead size outcome result }
 {
     match outcome {
         Assembled::Dropped => NOTHING,
-        Assembled::Kept => Taken {
-            kept_bytes: size,
-            ready: 0,
-        },
+        Assembled::Kept => kept(size, part_used(size, overhead), 0),
         Assembled::Whole(whole) => {
+            let added = whole.payload.len() as u128;
+            let freed = whole.used;
             ready.push_back_reserved(Message::new(id, whole.ppid, whole.payload));
-            Taken {
-                kept_bytes: size,
-                ready: 1,
+            Counted {
+                taken: Taken {
+                    kept_bytes: size,
+                    ready: 1,
+                },
+                added,
+                freed,
             }
         }
     }
@@ -110,16 +111,18 @@ fn add_and_deliver_at_once(
     id: StreamId,
     fragments: &mut Fragments,
     part: Part,
+    overhead: usize,
     ready: &mut VecDeque<Message>,
-) -> Result<Taken, AllocError>
+) -> Result<Counted, AllocError>
     requires { part.place / 2 ^ 64 ≡ part.number }
-    ensures ok { IfOk result (λ taken. TakesUnordered (part_of part) (delivered_as id.0) fragments.old (map message_content ready.old.items) taken fragments.new (map message_content ready.new.items)) }
+    ensures ok { IfOk result (λ counted. TakesUnordered (part_of part) (delivered_as id.0) fragments.old (map message_content ready.old.items) counted.taken fragments.new (map message_content ready.new.items)) }
+    ensures used { IfOk result (λ counted. CountsPart (length part.payload.items + overhead) (runs_used overhead fragments.old + ready_bytes (map message_content ready.old.items)) counted (runs_used overhead fragments.new + ready_bytes (map message_content ready.new.items))) }
     ensures err { OnErr result ((fragments.new ≡ fragments.old) × (map message_content ready.new.items ≡ map message_content ready.old.items)) }
 {
     let size = part.payload.len();
     ready.try_reserve(1)?;
-    let outcome = fragments.add(alloc, part)?;
-    Ok(deliver_unordered(id, size, outcome, ready))
+    let outcome = fragments.add(alloc, part, overhead)?;
+    Ok(deliver_unordered(id, size, overhead, outcome, ready))
 }
 
 // Does the first message that waits have this number or a smaller one?
@@ -142,15 +145,15 @@ fn waits(waiting: &BTreeMap<u64, Waiting>, number: u64) -> bool
     waiting.contains_key(&number)
 }
 
-// How many bytes the messages have, at most `usize::MAX`.
-fn size_of_waiting(waiting: &BTreeMap<u64, Waiting>) -> usize
-    ensures { result ≡ capped_usize (wholes_bytes (map waiting_whole waiting.now.entries)) }
+// How much of the receive window the messages use, at most `u128::MAX`.
+fn waiting_used(waiting: &BTreeMap<u64, Waiting>, overhead: usize) -> u128
+    ensures { result ≡ capped_u128 (wholes_used overhead (map waiting_whole waiting.now.entries)) }
 {
-    let mut size: usize = 0;
+    let mut used: u128 = 0;
     for (_, message) in waiting {
-        size = size.saturating_add(message.payload.len());
+        used = used.saturating_add(part_used(message.payload.len(), overhead));
     }
-    size
+    used
 }
 
 // Takes a place for a message of this number, for which there is none yet.
@@ -238,6 +241,35 @@ impl Stream {
         self.deliver(ready) + 1
     }
 
+    // The same, with what is counted then. The part that made it whole has that many bytes.
+    fn deliver_whole(
+        &mut self,
+        size: usize,
+        whole: Whole,
+        overhead: usize,
+        ready: &mut VecDeque<Message>,
+    ) -> Counted
+        requires room { deque_len ready.old + btree_map_len self.old.waiting < deque_capacity ready.old }
+        requires next { whole.number ≡ self.old.next }
+        ensures taken { result.taken ≡ record { kept_bytes = size; ready = length (ready_with (stream_model self.old) (whole_of whole)) } }
+        ensures stream { stream_model self.new ≡ delivered_from (next_after self.old.next (whole_of whole)) (stream_model self.old) }
+        ensures ready { map message_content ready.new.items ≡ map message_content ready.old.items ++ ready_with (stream_model self.old) (whole_of whole) }
+        ensures added { result.added ≡ length whole.payload.items }
+        ensures freed { result.freed ≡ capped_u128 (whole.used + (length (ready_with (stream_model self.old) (whole_of whole)) - 1) * overhead) }
+    {
+        let added = whole.payload.len() as u128;
+        let used = whole.used;
+        let count = self.deliver_next(whole, ready);
+        Counted {
+            taken: Taken {
+                kept_bytes: size,
+                ready: count,
+            },
+            added,
+            freed: used.saturating_add(waiting_overhead(count.saturating_sub(1), overhead)),
+        }
+    }
+
     // A part of the next message was received, or all of it: a whole one becomes ready with those that waited
     // for it.
     #[inline(always)]
@@ -245,55 +277,53 @@ impl Stream {
         &mut self,
         alloc: Global,
         part: Part,
+        overhead: usize,
         ready: &mut VecDeque<Message>,
-    ) -> Result<Taken, AllocError>
+    ) -> Result<Counted, AllocError>
         requires next { part.number ≡ self.old.next }
         requires place { part.place / 2 ^ 64 ≡ part.number }
-        ensures ok { IfOk result (λ taken. TakesOrdered (part_of part) (stream_model self.old) (map message_content ready.old.items) taken (stream_model self.new) (map message_content ready.new.items)) }
+        ensures ok { IfOk result (λ counted. TakesOrdered (part_of part) (stream_model self.old) (map message_content ready.old.items) counted.taken (stream_model self.new) (map message_content ready.new.items)) }
+        ensures used { IfOk result (λ counted. CountsPart (length part.payload.items + overhead) (kept_stream_used overhead (stream_model self.old) + ready_bytes (map message_content ready.old.items)) counted (kept_stream_used overhead (stream_model self.new) + ready_bytes (map message_content ready.new.items))) }
         ensures err { OnErr result ((stream_model self.new ≡ stream_model self.old) × (map message_content ready.new.items ≡ map message_content ready.old.items)) }
     {
         let size = part.payload.len();
         ready.try_reserve(self.waiting.len() + 1)?;
-        match self.ordered.add(alloc, part)? {
+        match self.ordered.add(alloc, part, overhead)? {
             Assembled::Dropped => Ok(NOTHING),
-            Assembled::Kept => Ok(Taken {
-                kept_bytes: size,
-                ready: 0,
-            }),
-            Assembled::Whole(whole) => Ok(Taken {
-                kept_bytes: size,
-                ready: self.deliver_next(whole, ready),
-            }),
+            Assembled::Kept => Ok(kept(size, part_used(size, overhead), 0)),
+            Assembled::Whole(whole) => Ok(self.deliver_whole(size, whole, overhead, ready)),
         }
     }
 
     // A part of a message after the next was received, or all of it: a whole one waits. A place for it is
     // taken first, so that nothing fails once its parts are joined.
     #[inline(never)]
-    fn add_part_of_later(&mut self, alloc: Global, part: Part) -> Result<Taken, AllocError>
+    fn add_part_of_later(
+        &mut self,
+        alloc: Global,
+        part: Part,
+        overhead: usize,
+    ) -> Result<Counted, AllocError>
         requires ahead { self.old.next < part.number }
         requires fresh { get nat_cmp self.old.waiting part.number ≡ None }
         requires place { part.place / 2 ^ 64 ≡ part.number }
-        ensures ok { (ready : List MessageContent) → IfOk result (λ taken. TakesOrdered (part_of part) (stream_model self.old) ready taken (stream_model self.new) ready) }
+        ensures ok { (ready : List MessageContent) → IfOk result (λ counted. TakesOrdered (part_of part) (stream_model self.old) ready counted.taken (stream_model self.new) ready) }
+        ensures used { IfOk result (λ counted. CountsPart (length part.payload.items + overhead) (kept_stream_used overhead (stream_model self.old)) counted (kept_stream_used overhead (stream_model self.new))) }
         ensures err { OnErr result (stream_model self.new ≡ stream_model self.old) }
     {
         let size = part.payload.len();
         let number = part.number;
         hold_place(alloc, &mut self.waiting, number)?;
-        match self.ordered.add(alloc, part) {
+        match self.ordered.add(alloc, part, overhead) {
             Ok(Assembled::Whole(whole)) => {
+                let added = part_used(whole.payload.len(), overhead);
+                let freed = whole.used;
                 fill_place(&mut self.waiting, whole);
-                Ok(Taken {
-                    kept_bytes: size,
-                    ready: 0,
-                })
+                Ok(kept(size, added, freed))
             }
             Ok(Assembled::Kept) => {
                 leave_place(&mut self.waiting, number);
-                Ok(Taken {
-                    kept_bytes: size,
-                    ready: 0,
-                })
+                Ok(kept(size, part_used(size, overhead), 0))
             }
             Ok(Assembled::Dropped) => {
                 leave_place(&mut self.waiting, number);
@@ -314,23 +344,32 @@ impl Stream {
         &mut self,
         alloc: Global,
         part: Part,
+        overhead: usize,
         ready: &mut VecDeque<Message>,
-    ) -> Result<Taken, AllocError>
+    ) -> Result<Counted, AllocError>
         requires { part.place / 2 ^ 64 ≡ part.number }
-        ensures past { part.number < self.old.next → IfOk result (λ taken. NothingTaken taken × (stream_model self.new ≡ stream_model self.old) × (map message_content ready.new.items ≡ map message_content ready.old.items)) }
-        ensures ok { self.old.next ≤ part.number → IfOk result (λ taken. TakesAhead (part_of part) (stream_model self.old) (map message_content ready.old.items) taken (stream_model self.new) (map message_content ready.new.items)) }
+        ensures past { part.number < self.old.next → IfOk result (λ counted. NothingTaken counted.taken × (stream_model self.new ≡ stream_model self.old) × (map message_content ready.new.items ≡ map message_content ready.old.items)) }
+        ensures ok { self.old.next ≤ part.number → IfOk result (λ counted. TakesAhead (part_of part) (stream_model self.old) (map message_content ready.old.items) counted.taken (stream_model self.new) (map message_content ready.new.items)) }
+        ensures used { IfOk result (λ counted. CountsPart (length part.payload.items + overhead) (kept_stream_used overhead (stream_model self.old) + ready_bytes (map message_content ready.old.items)) counted (kept_stream_used overhead (stream_model self.new) + ready_bytes (map message_content ready.new.items))) }
         ensures err { OnErr result ((stream_model self.new ≡ stream_model self.old) × (map message_content ready.new.items ≡ map message_content ready.old.items)) }
     {
         if part.number < self.next {
             return Ok(NOTHING);
         }
         if waits(&self.waiting, part.number) {
-            return add_and_deliver_at_once(alloc, self.id, &mut self.ordered, part, ready);
+            return add_and_deliver_at_once(
+                alloc,
+                self.id,
+                &mut self.ordered,
+                part,
+                overhead,
+                ready,
+            );
         }
         if part.number == self.next {
-            self.add_part_of_next(alloc, part, ready)
+            self.add_part_of_next(alloc, part, overhead, ready)
         } else {
-            self.add_part_of_later(alloc, part)
+            self.add_part_of_later(alloc, part, overhead)
         }
     }
 
@@ -340,14 +379,16 @@ impl Stream {
         &mut self,
         alloc: Global,
         part: Part,
+        overhead: usize,
         ready: &mut VecDeque<Message>,
-    ) -> Result<Taken, AllocError>
+    ) -> Result<Counted, AllocError>
         requires { part.place / 2 ^ 64 ≡ part.number }
-        ensures ok { IfOk result (λ taken. TakesUnordered (part_of part) (delivered_as self.old.id.0) self.old.unordered (map message_content ready.old.items) taken self.new.unordered (map message_content ready.new.items)) }
+        ensures used { IfOk result (λ counted. CountsPart (length part.payload.items + overhead) (runs_used overhead self.old.unordered + ready_bytes (map message_content ready.old.items)) counted (runs_used overhead self.new.unordered + ready_bytes (map message_content ready.new.items))) }
+        ensures ok { IfOk result (λ counted. TakesUnordered (part_of part) (delivered_as self.old.id.0) self.old.unordered (map message_content ready.old.items) counted.taken self.new.unordered (map message_content ready.new.items)) }
         ensures ordered { (self.new.id ≡ self.old.id) × (self.new.next ≡ self.old.next) × (self.new.last_unordered ≡ self.old.last_unordered) × (self.new.waiting.entries ≡ self.old.waiting.entries) × (self.new.ordered ≡ self.old.ordered) }
         ensures err { OnErr result ((stream_model self.new ≡ stream_model self.old) × (map message_content ready.new.items ≡ map message_content ready.old.items)) }
     {
-        add_and_deliver_at_once(alloc, self.id, &mut self.unordered, part, ready)
+        add_and_deliver_at_once(alloc, self.id, &mut self.unordered, part, overhead, ready)
     }
 
     /// Adds data of this stream, except for unordered DATA. `Err`: an allocation failed, and nothing has
@@ -357,49 +398,56 @@ impl Stream {
         alloc: Global,
         tsn_number: u64,
         chunk: Data,
+        overhead: usize,
         ready: &mut VecDeque<Message>,
-    ) -> Result<Taken, AllocError>
-        ensures ok { IfOk result (λ taken. TakesOnStream tsn_number (chunk_of chunk) (stream_model self.old) (map message_content ready.old.items) taken (stream_model self.new) (map message_content ready.new.items)) }
+    ) -> Result<Counted, AllocError>
+        ensures used { IfOk result (λ counted. CountsPart (length chunk.payload.items + overhead) (kept_stream_used overhead (stream_model self.old) + ready_bytes (map message_content ready.old.items)) counted (kept_stream_used overhead (stream_model self.new) + ready_bytes (map message_content ready.new.items))) }
+        ensures ok { IfOk result (λ counted. TakesOnStream tsn_number (chunk_of chunk) (stream_model self.old) (map message_content ready.old.items) counted.taken (stream_model self.new) (map message_content ready.new.items)) }
         ensures err { OnErr result ((stream_model self.new ≡ stream_model self.old) × (map message_content ready.new.items ≡ map message_content ready.old.items)) }
     {
         match chunk.numbering {
             Numbering::Ordered { ssn } => {
                 let number = short_number_from(self.next, ssn);
                 let part = part_of_data(chunk, fragment_place(number, tsn_number), number);
-                self.add_ordered_part(alloc, part, ready)
+                self.add_ordered_part(alloc, part, overhead, ready)
             }
             Numbering::InterleavedOrdered { mid, fsn } => {
                 let number = number_near(self.next, mid);
                 let part = part_of_data(chunk, fragment_place(number, u64::from(fsn)), number);
-                self.add_ordered_part(alloc, part, ready)
+                self.add_ordered_part(alloc, part, overhead, ready)
             }
             Numbering::InterleavedUnordered { mid, fsn } => {
                 let number = number_near(self.last_unordered, mid);
                 let part = part_of_data(chunk, fragment_place(number, u64::from(fsn)), number);
-                let taken = self.add_unordered_part(alloc, part, ready)?;
+                let counted = self.add_unordered_part(alloc, part, overhead, ready)?;
                 self.last_unordered = number;
-                Ok(taken)
+                Ok(counted)
             }
             Numbering::Unordered => {
                 let part = part_of_data(chunk, u128::from(tsn_number), 0);
-                self.add_unordered_part(alloc, part, ready)
+                self.add_unordered_part(alloc, part, overhead, ready)
             }
         }
     }
 
-    /// Messages of this stream are skipped. Returns how many bytes are dropped. There is room for all that
-    /// wait.
-    pub fn skip(&mut self, entry: &SkippedTo, ready: &mut VecDeque<Message>) -> usize
+    /// Messages of this stream are skipped. Returns how much of the receive window isn't in use any longer, at
+    /// most `u128::MAX`. There is room for all that wait.
+    pub fn skip(
+        &mut self,
+        entry: &SkippedTo,
+        overhead: usize,
+        ready: &mut VecDeque<Message>,
+    ) -> u128
         requires { deque_len ready.old + btree_map_len self.old.waiting ≤ deque_capacity ready.old }
         ensures stream { stream_model self.new ≡ skipped entry.now (stream_model self.old) }
         ensures ready { map message_content ready.new.items ≡ map message_content ready.old.items ++ skip_deliveries entry.now (stream_model self.old) }
-        ensures size { result ≡ capped_usize (skip_bytes entry.now (stream_model self.old)) }
+        ensures size { result ≡ capped_u128 (skip_used overhead entry.now (stream_model self.old) + length (skip_deliveries entry.now (stream_model self.old)) * overhead) }
         ensures room { deque_capacity ready.new ≡ deque_capacity ready.old }
     {
         match entry {
             SkippedTo::Ssn { ssn, .. } => {
                 let number = short_number_near(self.next, *ssn);
-                self.skip_ordered(number, ready)
+                self.skip_ordered(number, overhead, ready)
             }
             SkippedTo::Mid {
                 is_unordered: false,
@@ -407,7 +455,7 @@ impl Stream {
                 ..
             } => {
                 let number = number_near(self.next, *mid);
-                self.skip_ordered(number, ready)
+                self.skip_ordered(number, overhead, ready)
             }
             SkippedTo::Mid {
                 is_unordered: true,
@@ -415,34 +463,34 @@ impl Stream {
                 ..
             } => {
                 let number = number_near(self.last_unordered, *mid);
-                self.skip_unordered(number)
+                self.skip_unordered(number, overhead)
             }
         }
     }
 
     // The ordered messages up to this number are skipped. Those that aren't whole are dropped, and the whole
     // ones become ready with those that follow (RFC 3758, section 3.6). There is room for all that wait.
-    fn skip_ordered(&mut self, number: u64, ready: &mut VecDeque<Message>) -> usize
+    fn skip_ordered(&mut self, number: u64, overhead: usize, ready: &mut VecDeque<Message>) -> u128
         requires { deque_len ready.old + btree_map_len self.old.waiting ≤ deque_capacity ready.old }
         ensures stream { stream_model self.new ≡ skipped_in_order number (stream_model self.old) }
         ensures ready { map message_content ready.new.items ≡ map message_content ready.old.items ++ deliveries_from (next_past number self.old.next) (stream_model self.old) }
-        ensures size { result ≡ capped_usize (runs_bytes (runs_up_to number self.old.ordered)) }
+        ensures size { result ≡ capped_u128 (runs_used overhead (runs_up_to number self.old.ordered) + length (deliveries_from (next_past number self.old.next) (stream_model self.old)) * overhead) }
         ensures room { deque_capacity ready.new ≡ deque_capacity ready.old }
     {
-        let dropped_bytes = self.ordered.drop_up_to(number);
+        let dropped = self.ordered.drop_up_to(number, overhead);
         self.next = self.next.max(number.saturating_add(1));
-        let _ = self.deliver(ready);
-        dropped_bytes
+        let count = self.deliver(ready);
+        dropped.saturating_add(waiting_overhead(count, overhead))
     }
 
     // The unordered messages up to this number are skipped: their parts are dropped (RFC 8260, section
     // 2.3.1).
-    fn skip_unordered(&mut self, number: u64) -> usize
+    fn skip_unordered(&mut self, number: u64, overhead: usize) -> u128
         ensures stream { stream_model self.new ≡ skipped_out_of_order number (stream_model self.old) }
-        ensures size { result ≡ capped_usize (runs_bytes (runs_up_to number self.old.unordered)) }
+        ensures size { result ≡ capped_u128 (runs_used overhead (runs_up_to number self.old.unordered)) }
     {
         self.last_unordered = number;
-        self.unordered.drop_up_to(number)
+        self.unordered.drop_up_to(number, overhead)
     }
 
     /// Does something of it wait for more: a message for an earlier one, or parts for the others?
@@ -452,12 +500,12 @@ impl Stream {
         !self.waiting.is_empty() || !self.ordered.is_empty() || !self.unordered.is_empty()
     }
 
-    /// How many bytes of the stream are kept, at most `usize::MAX`.
-    pub fn size(&self) -> usize
-        ensures { result ≡ capped_usize (kept_stream_bytes (stream_model self.now)) }
+    /// How much of the receive window the stream uses, at most `u128::MAX`.
+    pub fn used(&self, overhead: usize) -> u128
+        ensures { result ≡ capped_u128 (kept_stream_used overhead (stream_model self.now)) }
     {
-        size_of_waiting(&self.waiting)
-            .saturating_add(self.ordered.size())
-            .saturating_add(self.unordered.size())
+        waiting_used(&self.waiting, overhead)
+            .saturating_add(self.ordered.used(overhead))
+            .saturating_add(self.unordered.used(overhead))
     }
 }

@@ -43,7 +43,7 @@ impl Receiver {
     pub fn new(alloc: Global, window: usize) -> Receiver {
         Receiver {
             alloc,
-            queue: ReassemblyQueue::new(alloc, window),
+            queue: ReassemblyQueue::new(alloc, window, 0),
         }
     }
 
@@ -165,7 +165,7 @@ impl Receiver {
         let mut rx = HandoverReceive::empty(self.alloc);
         rx.last_assembled_tsn = last;
         row.done(rx.ordered_streams.extend_from_slice(streams).is_ok());
-        let mut queue = ReassemblyQueue::new(self.alloc, window);
+        let mut queue = ReassemblyQueue::new(self.alloc, window, 0);
         row.done(queue.restore_from_state(&rx).is_ok());
         self.queue = queue;
     }

@@ -76,7 +76,7 @@ message count = record { stream = 1; ppid = 53; payload = bytes count }
 -- Messages of 5 and 4 bytes are ready, and the window has 10 bytes: nine tenths are held. With one of 3 bytes it isn't.
 abbrev holding : List MessageContent → ReassemblyState → ReassemblyState
 holding messages queue =
-    record queue { max_size = 10; deferral = None; incoming = record { messages_received = 2; ready = messages; streams = []; unordered = []; last_tsn_number = 1 } }
+    record queue { max_size = 10; overhead = 256; deferral = None; incoming = record { messages_received = 2; ready = messages; streams = []; unordered = []; last_tsn_number = 1 } }
 
 abbrev full : Bool → Transfer → Transfer
 full follows transfer = record transfer { tracker = gap_at_11 follows transfer.tracker; reassembly = holding (message 5 ∷ message 4 ∷ []) transfer.reassembly }

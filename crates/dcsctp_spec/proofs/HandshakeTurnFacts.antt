@@ -192,7 +192,7 @@ transfer_begun mtu cwnd least =
         longest_delay = 200_000_000;
         follows_rfc = false;
       };
-      reassembly = record { incoming = record { messages_received = 0; ready = []; streams = []; unordered = []; last_tsn_number = 4294967296 }; max_size = 5242880; deferral = None };
+      reassembly = record { incoming = record { messages_received = 0; ready = []; streams = []; unordered = []; last_tsn_number = 4294967296 }; max_size = 5242880; overhead = 0; deferral = None };
     })
 
 -- the association that the two hold

@@ -13,6 +13,7 @@ pub mod HandshakeTurnFacts
 pub mod HeartbeatFacts
 pub mod MessageFacts
 pub mod OutstandingPartFacts
+pub mod PartFacts
 pub mod PreparedFacts
 pub mod QueuedPartFacts
 pub mod RangesFacts

@@ -11,6 +11,7 @@ pub mod LeftChunks
 pub mod LeftData
 pub mod LeftLemmas
 pub mod LeftTurns
+pub mod PartLemmas
 pub mod PlainLemmas
 pub mod QueuedValidityLemmas
 pub mod ReconfigurationLemmas

@@ -1,6 +1,7 @@
 pub mod CongestionLaws
 pub mod LastTagLaws
 pub mod LeftLaws
+pub mod PartLaws
 pub mod RangeLaws
 pub mod SackLaws
 pub mod SoundnessLaws

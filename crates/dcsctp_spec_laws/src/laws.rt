@@ -4,6 +4,7 @@ ghost use Rattle.std.specs.Prelude.{◌^◌};
 ghost use Rattle.dcsctp_spec_laws.specs.TurnLaws.{InitLeavesAssociation, ChunksAreControlled, ActsAreControlled, TimersAreControlled};
 ghost use Rattle.dcsctp_spec_laws.specs.LastTagLaws.{LastTagIsSpent, LastTagStays};
 ghost use Rattle.dcsctp_spec_laws.specs.LeftLaws.{MessagesLeftStay};
+ghost use Rattle.dcsctp_spec_laws.specs.PartLaws.{WindowCountsParts};
 ghost use Rattle.dcsctp_spec_laws.specs.SoundnessLaws.{CallsKeepSoundness, SnapshotsAreValid};
 ghost use Rattle.dcsctp_spec_laws.specs.RangeLaws.{SetsFollowRule};
 ghost use Rattle.dcsctp_spec_laws.specs.SackLaws.{SacksCoverReceived, SacksFit, TrackersStayTracked};
@@ -90,6 +91,13 @@ pub fn sacks_fit()
 /// What the law on SACKs asks of a tracker is so when it is made, and data and FORWARD-TSNs leave it so.
 pub fn trackers_stay_tracked()
     ensures { TrackersStayTracked }
+{}
+
+/// What is in use of the receive window is the bytes of all that is held, and the overhead of the queue for each part
+/// and for each whole message that waits. So with `Options::follow_rfc` the window bounds their number (RFC 9260,
+/// section 6.2).
+pub fn window_counts_parts()
+    ensures { WindowCountsParts }
 {}
 
 /// An acknowledgement lets the congestion window grow by one MTU at most, only if the window was fully used, and

@@ -23,7 +23,7 @@ any_skips (Some skips) old = any_moved skips.tsn (map (λ entry. entry.1) skips.
 any_beside : (tsn : ℕ) (entries : List SkippedTo) (waits : DeferralModel) (old : ReassemblyState) → (new : ReassemblyState) × ForwardsBeside tsn entries waits old new
 any_beside tsn entries waits old =
     let (incoming, moves) = any_moved tsn (entries_beside waits.streams entries) old.incoming in
-    (record old { incoming = incoming; deferral = Some _ }, record { incoming = moves; window = refl; deferral = refl })
+    (record old { incoming = incoming; deferral = Some _ }, record { incoming = moves; window = refl; overhead = refl; deferral = refl })
 
 -- ---- Whatever comes, there is a state that the queue may have after it.
 
@@ -33,7 +33,7 @@ any_added tsn chunk old =
     by_test (can_count (length chunk.payload) old)
     (λ fits. by_test (is_data_deferred tsn chunk.stream old.deferral)
     (λ waits. (_, record { taken = λ _ now. absurd (cc); deferred = λ _ _. refl; too_much = λ full. absurd (cc) }))
-    (λ now. (record old { incoming = incoming }, record { taken = λ _ _. record { incoming = takes; window = refl; deferral = refl }; deferred = λ _ waits. absurd (cc); too_much = λ full. absurd (cc) })))
+    (λ now. (record old { incoming = incoming }, record { taken = λ _ _. record { incoming = takes; window = refl; overhead = refl; deferral = refl }; deferred = λ _ waits. absurd (cc); too_much = λ full. absurd (cc) })))
     (λ full. (old, record { taken = λ fits _. absurd (cc); deferred = λ fits _. absurd (cc); too_much = λ _. refl }))
 
 pub any_skipped : (tsn : ℕ) (entries : List SkippedTo) (old : ReassemblyState) → (new : ReassemblyState) × SkipsData tsn entries old new
@@ -42,7 +42,7 @@ any_skipped tsn entries old =
     (λ waits. beside old.deferral refl waits)
     (λ now.
     let (incoming, moves) = any_moved tsn entries old.incoming in
-    (record old { incoming = incoming }, record { moved = λ _. record { incoming = moves; window = refl; deferral = refl }; deferred = λ waits. absurd (cc) }))
+    (record old { incoming = incoming }, record { moved = λ _. record { incoming = moves; window = refl; overhead = refl; deferral = refl }; deferred = λ waits. absurd (cc) }))
   where
     beside : (deferral : Option DeferralModel) → old.deferral ≡ deferral → is_forward_deferred tsn old.deferral ≡ true → (new : ReassemblyState) × SkipsData tsn entries old new
     beside None none waits = absurd (let now : is_forward_deferred tsn old.deferral ≡ false = rw none refl in cc)
@@ -56,5 +56,5 @@ any_left streams old =
     let (handled, works) = any_works (waiting_of old.deferral) between in
     let (incoming, skips) = any_skips (skips_of old.deferral) handled in (
       record old { incoming = incoming; deferral = None },
-      record { between = between; handled = handled; resets = resets; works = works; skips = skips; window = refl; deferral = refl },
+      record { between = between; handled = handled; resets = resets; works = works; skips = skips; window = refl; overhead = refl; deferral = refl },
     )

@@ -11,7 +11,7 @@ ghost use Rattle.dcsctp_receive_reassembly.specs.Streams.{chunk_of};
 ghost use Rattle.dcsctp_send_retransmission.specs.spec.queues.Tracker.{after_packet_end, is_acknowledgement_due, is_valid_tsn, delayed_acknowledgement, delay_over};
 
 use crate::transfer::Transfer;
-use crate::windows::open_window;
+use crate::windows::{open_window, part_overhead};
 use dcsctp_receive_reassembly::{Data, ReassemblyQueue, SkippedTo};
 use dcsctp_send_retransmission::api::Message;
 use dcsctp_send_retransmission::types::{Options, SocketTime};
@@ -152,7 +152,11 @@ impl Transfer {
     pub fn take_ready_messages(&mut self, options: &Options) -> VecDeque<Message>
         ensures { map message_content result.items ≡ self.old.reassembly.incoming.ready }
     {
-        let empty = ReassemblyQueue::new(self.alloc, options.max_receiver_window_buffer_size);
+        let empty = ReassemblyQueue::new(
+            self.alloc,
+            options.max_receiver_window_buffer_size,
+            part_overhead(options),
+        );
         std::mem::replace(&mut self.reassembly_queue, empty).into_ready_messages()
     }
 

@@ -1,5 +1,6 @@
 //! What belongs to an association: what is in flight, and what was received.
 
+use crate::windows::part_overhead;
 use dcsctp_receive_reassembly::ReassemblyQueue;
 use dcsctp_receive_tracker::DataTracker;
 use dcsctp_send_retransmission::RetransmissionQueue;
@@ -80,7 +81,11 @@ impl Transfer {
             ),
             rto: RetransmissionTimeout::new(options),
             data_tracker: DataTracker::new(alloc, options, peer_first_tsn),
-            reassembly_queue: ReassemblyQueue::new(alloc, options.max_receiver_window_buffer_size),
+            reassembly_queue: ReassemblyQueue::new(
+                alloc,
+                options.max_receiver_window_buffer_size,
+                part_overhead(options),
+            ),
             alloc,
         }
     }

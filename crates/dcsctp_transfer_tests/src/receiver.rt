@@ -34,7 +34,7 @@ impl Receiver {
         Receiver {
             alloc,
             tracker: DataTracker::new(alloc, options, first_tsn),
-            queue: ReassemblyQueue::new(alloc, 200_000),
+            queue: ReassemblyQueue::new(alloc, 200_000, 0),
         }
     }
 

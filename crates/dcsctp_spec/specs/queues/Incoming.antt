@@ -10,8 +10,8 @@ use Rattle.dcsctp_types.specs.declared.arrivals.Numbering.{Numbering}
 use Rattle.dcsctp_types.specs.declared.arrivals.Numbering.TheVariants.{Ordered, Unordered, InterleavedOrdered, InterleavedUnordered}
 use Rattle.dcsctp_types.specs.declared.arrivals.Taken.{Taken}
 use Rattle.dcsctp_spec.specs.queues.Numbers.{number_near}
-use Rattle.dcsctp_spec.specs.queues.Runs.{RunModel, behind_place, runs_bytes}
-use Rattle.dcsctp_spec.specs.queues.IncomingStreams.{ready_bytes, streams_bytes, StreamModel, ChunkModel, new_stream, data_part, delivered_as, TakesUnordered, TakesOnStream, skipped_stream, skipped, skip_deliveries}
+use Rattle.dcsctp_spec.specs.queues.Runs.{RunModel, behind_place, runs_used}
+use Rattle.dcsctp_spec.specs.queues.IncomingStreams.{ready_bytes, streams_used, StreamModel, ChunkModel, new_stream, data_part, delivered_as, TakesUnordered, TakesOnStream, skipped_stream, skipped, skip_deliveries}
 use Rattle.std.specs.List.{filter, list_any}
 use Rattle.dcsctp_types.specs.declared.arrivals.SkippedTo.{SkippedTo}
 
@@ -31,9 +31,10 @@ pub record IncomingModel : Type 0 where
 abbrev pub nothing : IncomingModel
 nothing = record { messages_received = 0; ready = []; streams = []; unordered = []; last_tsn_number = 2 ^ 32 }
 
--- how many bytes are held
-abbrev pub held_bytes : IncomingModel → ℕ
-held_bytes incoming = ready_bytes incoming.ready + streams_bytes incoming.streams + runs_bytes incoming.unordered
+-- how much of the receive window is in use, if each part and each whole message that waits counts so much beside its bytes
+abbrev pub held_used : ℕ → IncomingModel → ℕ
+held_used overhead incoming =
+    ready_bytes incoming.ready + streams_used overhead incoming.streams + runs_used overhead incoming.unordered
 
 abbrev pub stream_or_new : ℕ → Option StreamModel → StreamModel
 stream_or_new id None = new_stream id

@@ -9,7 +9,7 @@ use Rattle.dcsctp_types.specs.declared.arrivals.Numbering.{Numbering}
 use Rattle.dcsctp_types.specs.declared.arrivals.Numbering.TheVariants.{Ordered, Unordered, InterleavedOrdered, InterleavedUnordered}
 use Rattle.dcsctp_spec.specs.queues.Numbers.{number_near, short_number_near, short_number_from, fragment_place}
 use Rattle.dcsctp_types.specs.declared.arrivals.Taken.{Taken}
-use Rattle.dcsctp_spec.specs.queues.Runs.{RunModel, PartModel, WholeModel, Assembled, part_dropped, part_kept, message_whole, AddsPart, runs_bytes, wholes_bytes}
+use Rattle.dcsctp_spec.specs.queues.Runs.{RunModel, PartModel, WholeModel, Assembled, part_dropped, part_kept, message_whole, AddsPart, runs_used, wholes_used}
 
 pub record StreamModel : Type 0 where
   pub id : ℕ
@@ -242,20 +242,22 @@ skip_deliveries (Ssn id ssn) stream = deliveries_from (next_past (short_number_n
 skip_deliveries (Mid id false mid) stream = deliveries_from (next_past (number_near stream.next mid) stream.next) stream
 skip_deliveries (Mid id true mid) stream = []
 
--- how many bytes are dropped then
-abbrev pub skip_bytes : SkippedTo → StreamModel → ℕ
-skip_bytes (Ssn id ssn) stream = runs_bytes (runs_up_to (short_number_near stream.next ssn) stream.ordered)
-skip_bytes (Mid id false mid) stream = runs_bytes (runs_up_to (number_near stream.next mid) stream.ordered)
-skip_bytes (Mid id true mid) stream = runs_bytes (runs_up_to (number_near stream.last_unordered mid) stream.unordered)
+-- how much of the receive window the parts use that are dropped then
+abbrev pub skip_used : ℕ → SkippedTo → StreamModel → ℕ
+skip_used overhead (Ssn id ssn) stream = runs_used overhead (runs_up_to (short_number_near stream.next ssn) stream.ordered)
+skip_used overhead (Mid id false mid) stream = runs_used overhead (runs_up_to (number_near stream.next mid) stream.ordered)
+skip_used overhead (Mid id true mid) stream = runs_used overhead (runs_up_to (number_near stream.last_unordered mid) stream.unordered)
 
--- ---- how many bytes they hold
+-- ---- how much of the receive window they use
 
 -- what is kept on a stream
-abbrev pub kept_stream_bytes : StreamModel → ℕ
-kept_stream_bytes stream = wholes_bytes stream.waiting + runs_bytes stream.ordered + runs_bytes stream.unordered
+abbrev pub kept_stream_used : ℕ → StreamModel → ℕ
+kept_stream_used overhead stream =
+    wholes_used overhead stream.waiting + runs_used overhead stream.ordered + runs_used overhead stream.unordered
 
-abbrev pub streams_bytes : List (ℕ × StreamModel) → ℕ
-streams_bytes streams = sum_by (λ entry. kept_stream_bytes entry.1) streams
+abbrev pub streams_used : ℕ → List (ℕ × StreamModel) → ℕ
+streams_used overhead streams = sum_by (λ entry. kept_stream_used overhead entry.1) streams
 
+-- A message that is ready counts its bytes alone.
 abbrev pub ready_bytes : List MessageContent → ℕ
 ready_bytes messages = sum_by (λ message. length message.payload) messages

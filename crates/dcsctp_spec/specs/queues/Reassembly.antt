@@ -9,7 +9,8 @@ use Rattle.dcsctp_types.specs.declared.arrivals.SkippedTo.TheVariants.{Ssn, Mid}
 use Rattle.dcsctp_types.specs.queues.Messages.{MessageContent}
 use Rattle.dcsctp_spec.specs.queues.Numbers.{is_tsn_beyond}
 use Rattle.dcsctp_spec.specs.queues.IncomingStreams.{ChunkModel, skipped_stream}
-use Rattle.dcsctp_spec.specs.queues.Incoming.{MovesOn, ResetsStreams, IncomingModel, SameIncoming, TakesIncomingChunk, nothing, held_bytes}
+use Rattle.dcsctp_spec.specs.queues.Runs.{part_used}
+use Rattle.dcsctp_spec.specs.queues.Incoming.{MovesOn, ResetsStreams, IncomingModel, SameIncoming, TakesIncomingChunk, nothing, held_used}
 
 -- a chunk of a message that waits for the end of a deferred reset, with its TSN
 pub record WaitingModel : Type 0 where
@@ -35,43 +36,46 @@ pub record DeferralModel : Type 0 where
 pub record ReassemblyState : Type 0 where
   pub incoming : IncomingModel
   pub max_size : ℕ
+  -- what each part, and each whole message that waits, counts in the receive window beside its bytes
+  pub overhead : ℕ
   pub deferral : Option DeferralModel
 
--- how many bytes wait for the end of a deferred reset
-abbrev pub waiting_bytes : WaitingModel → ℕ
-waiting_bytes one = length one.chunk.payload
+-- how much of the receive window the data uses that waits for the end of a deferred reset
+abbrev pub waiting_used : ℕ → WaitingModel → ℕ
+waiting_used overhead one = part_used overhead one.chunk.payload
 
-abbrev pub deferred_bytes : Option DeferralModel → ℕ
-deferred_bytes None = 0
-deferred_bytes (Some deferral) = sum_by waiting_bytes deferral.waiting
+abbrev pub deferred_used : ℕ → Option DeferralModel → ℕ
+deferred_used overhead None = 0
+deferred_used overhead (Some deferral) = sum_by (waiting_used overhead) deferral.waiting
 
--- how many bytes are held: of messages and parts that were received, and of what waits for the end of a deferred reset
-abbrev pub reassembly_bytes : ReassemblyState → ℕ
-reassembly_bytes queue = held_bytes queue.incoming + deferred_bytes queue.deferral
+-- How much of the receive window is in use: by messages and parts that were received, and by what waits for the end of a deferred
+-- reset. The window is buffer space (RFC 9260, section 6.2), so what the memory for a part takes may count, too.
+abbrev pub window_used : ReassemblyState → ℕ
+window_used queue = held_used queue.overhead queue.incoming + deferred_used queue.overhead queue.deferral
 
--- Can the bytes be counted with that many more?
+-- Can so many more bytes be counted?
 abbrev pub can_count : ℕ → ReassemblyState → Bool
-can_count size queue = nat_lt (reassembly_bytes queue + size) (2 ^ 64)
+can_count size queue = nat_lt (window_used queue + size) (2 ^ 64)
 
 -- the bytes that are left of the receive window
 abbrev pub remaining_bytes : ReassemblyState → ℕ
-remaining_bytes queue = queue.max_size - reassembly_bytes queue
+remaining_bytes queue = queue.max_size - window_used queue
 
 -- Is less than twice the receive window in use, and less than 2^63 bytes?
 abbrev pub is_below_double : ReassemblyState → Bool
-is_below_double queue = nat_lt (reassembly_bytes queue) (min (2 * queue.max_size) (2 ^ 63))
+is_below_double queue = nat_lt (window_used queue) (min (2 * queue.max_size) (2 ^ 63))
 
 -- Is nine tenths of the receive window in use, or more? Then data is dropped.
 abbrev pub is_above_watermark : ReassemblyState → Bool
-is_above_watermark queue = nat_le (9 * queue.max_size) (10 * reassembly_bytes queue)
+is_above_watermark queue = nat_le (9 * queue.max_size) (10 * window_used queue)
 
 -- the bytes that are left of nine tenths of it
 abbrev pub bytes_to_watermark : ReassemblyState → ℕ
-bytes_to_watermark queue = (9 * queue.max_size + 9) / 10 - reassembly_bytes queue
+bytes_to_watermark queue = (9 * queue.max_size + 9) / 10 - window_used queue
 
 -- nothing was received yet
-abbrev pub new_reassembly : ℕ → ReassemblyState
-new_reassembly max_size = record { incoming = nothing; max_size = max_size; deferral = None }
+abbrev pub new_reassembly : ℕ → ℕ → ReassemblyState
+new_reassembly max_size overhead = record { incoming = nothing; max_size = max_size; overhead = overhead; deferral = None }
 
 -- the queue with these messages ready
 abbrev pub with_ready : List MessageContent → ReassemblyState → ReassemblyState
@@ -104,6 +108,7 @@ with_deferred tsn chunk queue = record queue { deferral = with_waiting (record {
 pub record TakesReceivedChunk (tsn : ℕ) (chunk : ChunkModel) (old new : ReassemblyState) : Type 0 where
   pub incoming : TakesIncomingChunk tsn chunk old.incoming new.incoming
   pub window : new.max_size ≡ old.max_size
+  pub overhead : new.overhead ≡ old.overhead
   pub deferral : new.deferral ≡ old.deferral
 
 -- Data whose TSN is new is added: it is handled, or it waits for the end of a deferred reset. If its bytes can't be counted it is
@@ -117,6 +122,7 @@ pub record AddsData (tsn : ℕ) (chunk : ChunkModel) (old new : ReassemblyState)
 pub record HandlesForwardTsn (tsn : ℕ) (entries : List SkippedTo) (old new : ReassemblyState) : Type 0 where
   pub incoming : MovesOn tsn entries old.incoming new.incoming
   pub window : new.max_size ≡ old.max_size
+  pub overhead : new.overhead ≡ old.overhead
   pub deferral : new.deferral ≡ old.deferral
 
 -- which messages an entry is for: the ordered ones of a stream, by their stream sequence numbers or by their identifiers, or the
@@ -151,6 +157,7 @@ entries_beside streams entries = filter (λ entry. not (names_stream streams (sk
 pub record ForwardsBeside (tsn : ℕ) (entries : List SkippedTo) (waits : DeferralModel) (old new : ReassemblyState) : Type 0 where
   pub incoming : MovesOn tsn (entries_beside waits.streams entries) old.incoming new.incoming
   pub window : new.max_size ≡ old.max_size
+  pub overhead : new.overhead ≡ old.overhead
   pub deferral : new.deferral ≡ Some (record waits { skips = Some (with_skips tsn (entries_within waits.streams entries) waits.skips) })
 
 -- A FORWARD TSN or I-FORWARD-TSN is handled, or it waits where a reset is deferred.
@@ -206,6 +213,7 @@ pub record EndsDeferral (streams : List ℕ) (old new : ReassemblyState) : Type 
   pub works : HandlesAll (waiting_of old.deferral) between handled
   pub skips : SkipsThen (skips_of old.deferral) handled new.incoming
   pub window : new.max_size ≡ old.max_size
+  pub overhead : new.overhead ≡ old.overhead
   pub deferral : new.deferral ≡ None
 
 -- the deferral with what still waits
@@ -220,4 +228,5 @@ pub record StaysDeferred (streams : List ℕ) (old new : ReassemblyState) : Type
   pub resets : ResetsStreams streams old.incoming between
   pub works : HandlesFront (waiting_of old.deferral) between new.incoming left
   pub window : new.max_size ≡ old.max_size
+  pub overhead : new.overhead ≡ old.overhead
   pub deferral : new.deferral ≡ with_left left old.deferral

@@ -1,6 +1,6 @@
 -- Messages that aren't whole yet: parts that follow on one another (RFC 9260, section 6.9; RFC 8260, section 2.1). Parts of one
 -- message have places in a row.
-use Rattle.std.specs.Prelude.{◌≡◌, ◌==◌, ℕ, zero, suc, ◌-◌, ◌<◌, ◌≤◌, nat_lt, nat_le, Bool, true, false, not, ◌&&◌, if◌then◌else◌, Option, None, Some, List, [], ◌∷◌, ◌++◌, length, slice_get, take, drop, is_some}
+use Rattle.std.specs.Prelude.{◌≡◌, ◌==◌, ℕ, zero, suc, ◌+◌, ◌-◌, ◌<◌, ◌≤◌, nat_lt, nat_le, Bool, true, false, not, ◌&&◌, if◌then◌else◌, Option, None, Some, List, [], ◌∷◌, ◌++◌, length, slice_get, take, drop, is_some}
 use Rattle.std.specs.List.{flat_map, sum_by}
 
 -- parts of one message in a row
@@ -188,16 +188,20 @@ pub record AddsPart (part : PartModel) (old : List RunModel) (outcome : Assemble
   pub adds : AddsAt at part old outcome new
   pub alone : part.is_beginning ≡ true → part.is_end ≡ true → PassesAlone part old outcome new
 
--- ---- how many bytes they hold
+-- ---- how much of the receive window they use
 
-abbrev pub payloads_bytes : List (List ℕ) → ℕ
-payloads_bytes payloads = sum_by (λ payload. length payload) payloads
+-- a part, or a whole message that waits: its bytes, and what it counts beside them
+abbrev pub part_used : ℕ → List ℕ → ℕ
+part_used overhead payload = length payload + overhead
 
-abbrev pub run_bytes : RunModel → ℕ
-run_bytes run = payloads_bytes run.payloads
+abbrev pub payloads_used : ℕ → List (List ℕ) → ℕ
+payloads_used overhead payloads = sum_by (part_used overhead) payloads
 
-abbrev pub runs_bytes : List RunModel → ℕ
-runs_bytes runs = sum_by run_bytes runs
+abbrev pub run_used : ℕ → RunModel → ℕ
+run_used overhead run = payloads_used overhead run.payloads
 
-abbrev pub wholes_bytes : List WholeModel → ℕ
-wholes_bytes wholes = sum_by (λ whole. length whole.payload) wholes
+abbrev pub runs_used : ℕ → List RunModel → ℕ
+runs_used overhead runs = sum_by (run_used overhead) runs
+
+abbrev pub wholes_used : ℕ → List WholeModel → ℕ
+wholes_used overhead wholes = sum_by (λ whole. part_used overhead whole.payload) wholes

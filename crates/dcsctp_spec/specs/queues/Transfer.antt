@@ -17,6 +17,11 @@ pub record Transfer : Type 0 where
   pub tracker : TrackerState
   pub reassembly : ReassemblyState
 
+-- What a part, or a whole message that waits, counts in the receive window beside its bytes. By the RFC's rules the window bounds
+-- the memory that a peer can take by small parts (RFC 9260, section 6.2).
+abbrev pub part_overhead : Options → ℕ
+part_overhead options = if options.follow_rfc then 256 else 0
+
 -- that of a new association: what was negotiated, its own first TSN, the peer's, and its window
 abbrev pub new_transfer : Options → Capabilities → ℕ → ℕ → ℕ → Transfer
 new_transfer options capabilities first_tsn peer_first_tsn window =
@@ -24,7 +29,7 @@ new_transfer options capabilities first_tsn peer_first_tsn window =
       retransmission = new_retransmission options first_tsn window capabilities.partial_reliability capabilities.message_interleaving;
       timeout = new_timeout options;
       tracker = new_tracker options peer_first_tsn;
-      reassembly = new_reassembly options.max_receiver_window_buffer_size;
+      reassembly = new_reassembly options.max_receiver_window_buffer_size (part_overhead options);
     }
 
 -- What a SACK says is left of the receive window. By the RFC it is what is left for new data.

@@ -3,7 +3,7 @@ use Rattle.std.proofs.Common.{◌≡◌, ◌∷◌, [], ◌++◌, map, arith, sy
 use Rattle.std.specs.VecDeque.{deque_len}
 use Rattle.dcsctp_receive_reassembly.specs.Reassembly.{incoming_of}
 use Rattle.dcsctp_receive_reassembly.specs.Queue.{waiting_model}
-use Rattle.dcsctp_receive_reassembly.proofs.WorkLemmas.{above_from, HandlesAll-more, first_of, worked_more, left_bytes}
+use Rattle.dcsctp_receive_reassembly.proofs.WorkLemmas.{above_from, HandlesAll-more, first_of, worked_more, left_used}
 use Rattle.dcsctp_receive_reassembly.proofs.deferral.handle_all_deferred.Goals as goal
 
 pub loop-incoming-preserved-in_ok-handle_deferred : goal.loop-incoming-preserved-in_ok-handle_deferred
@@ -13,5 +13,5 @@ loop-incoming-preserved-in_ok-handle_deferred c =
       done = c.loop-incoming.invariant.done ++ waiting_model c.index.result.now ∷ [];
       all = worked_more (map waiting_model c.args.waiting.now.items) c.loop-incoming.invariant.done c.index.result.now c.loop-incoming.waiting.items c.pop_front.new.self.items c.loop-incoming.invariant.all next;
       works = HandlesAll-more c.loop-incoming.invariant.done (waiting_model c.index.result.now) (incoming_of c.args.incoming.now) (incoming_of c.loop-incoming.incoming) (incoming_of c.handle_deferred.new.incoming) c.loop-incoming.invariant.works c.in_ok-handle_deferred.ensures.ok;
-      bytes = omega (arith, c.loop-incoming.invariant.bytes, c.in_ok-handle_deferred.ensures.worked, left_bytes c.index.result.now c.loop-incoming.waiting.items c.pop_front.new.self.items next);
+      used = omega (arith, c.loop-incoming.invariant.used, c.in_ok-handle_deferred.ensures.worked, left_used c.args.overhead c.index.result.now c.loop-incoming.waiting.items c.pop_front.new.self.items next);
     }

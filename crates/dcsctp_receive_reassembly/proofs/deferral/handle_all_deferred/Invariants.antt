@@ -2,8 +2,8 @@ use Rattle.std.proofs.Common.{◌≡◌, ◌+◌, ◌++◌, List, map}
 use Rattle.std.specs.List.{sum_by}
 use Rattle.std.specs.VecDeque.{deque_len}
 use Rattle.dcsctp_receive_reassembly.specs.Reassembly.{incoming_of}
-use Rattle.dcsctp_api.specs.spec.queues.Incoming.{held_bytes}
-use Rattle.dcsctp_api.specs.spec.queues.Reassembly.{WaitingModel, waiting_bytes, HandlesAll}
+use Rattle.dcsctp_api.specs.spec.queues.Incoming.{held_used}
+use Rattle.dcsctp_api.specs.spec.queues.Reassembly.{WaitingModel, waiting_used, HandlesAll}
 use Rattle.dcsctp_receive_reassembly.specs.Queue.{waiting_model}
 use Rattle.dcsctp_receive_reassembly.proofs.deferral.handle_all_deferred.Given as goal
 
@@ -14,7 +14,7 @@ invariant-loop-incoming l =
       done : List WaitingModel;
       all : map waiting_model l.initial.waiting.items ≡ done ++ map waiting_model l.waiting.items;
       works : HandlesAll done (incoming_of l.initial.incoming) (incoming_of l.incoming);
-      bytes : l.incoming.queued_bytes ≡ held_bytes (incoming_of l.incoming) + sum_by waiting_bytes (map waiting_model l.waiting.items);
+      used : l.incoming.used ≡ held_used l.overhead (incoming_of l.incoming) + sum_by (waiting_used l.overhead) (map waiting_model l.waiting.items);
     }
 
 abbrev pub decreases-loop-incoming : goal.decreases-loop-incoming

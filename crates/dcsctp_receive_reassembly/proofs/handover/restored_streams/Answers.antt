@@ -2,7 +2,7 @@
 use Rattle.std.proofs.Common.{◌≡◌, ℕ, List, map, arith, ap, sym, ◌∙◌}
 use Rattle.dcsctp_api.specs.types.declared.snapshot.HandoverOrderedStream.{HandoverOrderedStream}
 use Rattle.dcsctp_api.specs.spec.queues.Incoming.{stream_on}
-use Rattle.dcsctp_api.specs.spec.queues.IncomingStreams.{StreamModel, streams_bytes}
+use Rattle.dcsctp_api.specs.spec.queues.IncomingStreams.{StreamModel, streams_used}
 use Rattle.dcsctp_receive_reassembly.specs.Handover.{restored_over}
 use Rattle.dcsctp_receive_reassembly.specs.Reassembly.{entry_of}
 use Rattle.dcsctp_receive_reassembly.proofs.HandoverLemmas.{restored_last, restored_all}
@@ -16,7 +16,7 @@ loop-state-init c =
           ap (λ (states : List HandoverOrderedStream). restored_over states id (stream_on id (map entry_of c.new-streams.result.entries))) rest
           ∙ ap (λ es. restored_over c.args.states.now id (stream_on id (map entry_of es))) c.new-streams.ensures.empty
           ∙ restored_all c.args.states.now id;
-      bytes = ap (λ es. streams_bytes (map entry_of es)) c.new-streams.ensures.empty;
+      used = λ overhead. ap (λ es. streams_used overhead (map entry_of es)) c.new-streams.ensures.empty;
     }
 
 pub loop-state-preserved : goal.loop-state-preserved
@@ -28,5 +28,5 @@ loop-state-preserved c =
           ∙ sym (restored_last c.next.new.self.iter.rest.now c.in-Some.state.now id (before id))
           ∙ ap (λ (states : List HandoverOrderedStream). restored_over states id (before id)) (sym c.in-Some.ensures.steps)
           ∙ c.loop-state.invariant.streams id;
-      bytes = omega (arith, c.in_ok-put_stream.ensures.bytes, c.loop-state.invariant.bytes);
+      used = λ overhead. omega (arith, c.in_ok-put_stream.ensures.used overhead, c.loop-state.invariant.used overhead);
     }

@@ -3,42 +3,41 @@ use Rattle.dcsctp_api.specs.types.queues.Messages.{message_content}
 use Rattle.std.proofs.Common.{◌≡◌, Some, map, arith, ap, subst, sym, ◌∙◌}
 use Rattle.std.specs.BTreeMap.{get}
 use Rattle.std.specs.Ordering.{nat_cmp}
-use Rattle.dcsctp_api.specs.spec.queues.IncomingStreams.{kept_stream_bytes}
+use Rattle.dcsctp_api.specs.spec.queues.IncomingStreams.{kept_stream_used}
 use Rattle.dcsctp_api.specs.spec.queues.IncomingStreams.{StreamModel, TakesOnStream}
 use Rattle.dcsctp_receive_reassembly.specs.Streams.{stream_model, chunk_of}
 use Rattle.dcsctp_receive_reassembly.specs.Reassembly.{entry_of}
 use Rattle.dcsctp_api.specs.spec.queues.Incoming.{stream_on}
 use Rattle.dcsctp_receive_reassembly.proofs.ResultFacts.{on_err}
-use Rattle.dcsctp_receive_reassembly.proofs.StreamBytes.{chunk_counted}
+use Rattle.dcsctp_receive_reassembly.proofs.CountingLemmas.{counts_written}
 use Rattle.dcsctp_receive_reassembly.proofs.StreamSums.{Written, stream_written}
 use Rattle.dcsctp_receive_reassembly.proofs.incoming.add_to_stream.Goals as goal
 
-pub returns-in_ok-taken-in-Some-clause-ok : goal.returns-in_ok-taken-in-Some-clause-ok
-returns-in_ok-taken-in-Some-clause-ok c =
+pub returns-in_ok-counted-in-Some-clause-ok : goal.returns-in_ok-counted-in-Some-clause-ok
+returns-in_ok-counted-in-Some-clause-ok c =
     let found : get nat_cmp c.args.streams.now c.args.chunk.stream_id.0 ≡ Some c.in-Some.stream.now = sym c.in-Some.ensures.value in
     let written : Written c.args.chunk.stream_id.0 c.args.streams.now (c.get_mut.follows.lender c.route_part.new.self) c.in-Some.stream.now c.route_part.new.self = stream_written c.args.chunk.stream_id.0 c.args.streams.now (c.get_mut.follows.lender c.route_part.new.self) c.in-Some.stream.now c.route_part.new.self found (c.get_mut.follows.holds c.route_part.new.self) in
-    subst (λ (old : StreamModel). TakesOnStream c.args.tsn_number (chunk_of c.args.chunk) old (map message_content c.args.ready.now.items) c.in_ok-taken-in-Some.taken (stream_on c.args.chunk.stream_id.0 (map entry_of (c.get_mut.follows.lender c.route_part.new.self).entries)) (map message_content c.route_part.new.ready.items)) (sym written.was)
-    (subst (λ (new : StreamModel). TakesOnStream c.args.tsn_number (chunk_of c.args.chunk) (stream_model c.in-Some.stream.now) (map message_content c.args.ready.now.items) c.in_ok-taken-in-Some.taken new (map message_content c.route_part.new.ready.items)) (sym written.becomes) c.in_ok-taken-in-Some.ensures.ok)
+    subst (λ (old : StreamModel). TakesOnStream c.args.tsn_number (chunk_of c.args.chunk) old (map message_content c.args.ready.now.items) c.in_ok-counted-in-Some.counted.taken (stream_on c.args.chunk.stream_id.0 (map entry_of (c.get_mut.follows.lender c.route_part.new.self).entries)) (map message_content c.route_part.new.ready.items)) (sym written.was)
+    (subst (λ (new : StreamModel). TakesOnStream c.args.tsn_number (chunk_of c.args.chunk) (stream_model c.in-Some.stream.now) (map message_content c.args.ready.now.items) c.in_ok-counted-in-Some.counted.taken new (map message_content c.route_part.new.ready.items)) (sym written.becomes) c.in_ok-counted-in-Some.ensures.ok)
 
-pub returns-in_ok-taken-in-Some-clause-others : goal.returns-in_ok-taken-in-Some-clause-others
-returns-in_ok-taken-in-Some-clause-others c =
+pub returns-in_ok-counted-in-Some-clause-others : goal.returns-in_ok-counted-in-Some-clause-others
+returns-in_ok-counted-in-Some-clause-others c =
     let found : get nat_cmp c.args.streams.now c.args.chunk.stream_id.0 ≡ Some c.in-Some.stream.now = sym c.in-Some.ensures.value in
     (stream_written c.args.chunk.stream_id.0 c.args.streams.now (c.get_mut.follows.lender c.route_part.new.self) c.in-Some.stream.now c.route_part.new.self found (c.get_mut.follows.holds c.route_part.new.self)).others
 
-pub returns-in_ok-taken-in-Some-clause-bytes : goal.returns-in_ok-taken-in-Some-clause-bytes
-returns-in_ok-taken-in-Some-clause-bytes c =
+pub returns-in_ok-counted-in-Some-clause-used : goal.returns-in_ok-counted-in-Some-clause-used
+returns-in_ok-counted-in-Some-clause-used c =
     let found : get nat_cmp c.args.streams.now c.args.chunk.stream_id.0 ≡ Some c.in-Some.stream.now = sym c.in-Some.ensures.value in
     let written : Written c.args.chunk.stream_id.0 c.args.streams.now (c.get_mut.follows.lender c.route_part.new.self) c.in-Some.stream.now c.route_part.new.self = stream_written c.args.chunk.stream_id.0 c.args.streams.now (c.get_mut.follows.lender c.route_part.new.self) c.in-Some.stream.now c.route_part.new.self found (c.get_mut.follows.holds c.route_part.new.self) in
-    let counted = chunk_counted c.args.tsn_number (chunk_of c.args.chunk) (stream_model c.in-Some.stream.now) (map message_content c.args.ready.now.items) c.in_ok-taken-in-Some.taken (stream_model c.route_part.new.self) (map message_content c.route_part.new.ready.items) c.in_ok-taken-in-Some.ensures.ok in
-    omega (arith, written.bytes, counted.bytes)
+    counts_written _ _ _ _ _ _ _ c.in_ok-counted-in-Some.counted (written.used c.args.overhead) c.in_ok-counted-in-Some.ensures.used (written.among c.args.overhead)
 
-pub returns-in_err-taken-in-Some-clause-others : goal.returns-in_err-taken-in-Some-clause-others
-returns-in_err-taken-in-Some-clause-others c =
+pub returns-in_err-counted-in-Some-clause-others : goal.returns-in_err-counted-in-Some-clause-others
+returns-in_err-counted-in-Some-clause-others c =
     let found : get nat_cmp c.args.streams.now c.args.chunk.stream_id.0 ≡ Some c.in-Some.stream.now = sym c.in-Some.ensures.value in
     (stream_written c.args.chunk.stream_id.0 c.args.streams.now (c.get_mut.follows.lender c.route_part.new.self) c.in-Some.stream.now c.route_part.new.self found (c.get_mut.follows.holds c.route_part.new.self)).others
 
-pub returns-in_err-taken-in-Some-clause-err : goal.returns-in_err-taken-in-Some-clause-err
-returns-in_err-taken-in-Some-clause-err c =
+pub returns-in_err-counted-in-Some-clause-err : goal.returns-in_err-counted-in-Some-clause-err
+returns-in_err-counted-in-Some-clause-err c =
     let found : get nat_cmp c.args.streams.now c.args.chunk.stream_id.0 ≡ Some c.in-Some.stream.now = sym c.in-Some.ensures.value in
     let written : Written c.args.chunk.stream_id.0 c.args.streams.now (c.get_mut.follows.lender c.route_part.new.self) c.in-Some.stream.now c.route_part.new.self = stream_written c.args.chunk.stream_id.0 c.args.streams.now (c.get_mut.follows.lender c.route_part.new.self) c.in-Some.stream.now c.route_part.new.self found (c.get_mut.follows.holds c.route_part.new.self) in
-    on_err c.from_residual.result (c.in_err-taken-in-Some.ensures.err.1, written.becomes ∙ c.in_err-taken-in-Some.ensures.err.0 ∙ sym written.was, omega (arith, written.bytes, ap kept_stream_bytes c.in_err-taken-in-Some.ensures.err.0))
+    on_err c.from_residual.result (c.in_err-counted-in-Some.ensures.err.1, written.becomes ∙ c.in_err-counted-in-Some.ensures.err.0 ∙ sym written.was, omega (arith, written.used c.args.overhead, ap (kept_stream_used c.args.overhead) c.in_err-counted-in-Some.ensures.err.0))

@@ -19,6 +19,6 @@ loop-id-preserved c =
           forgotten_step id.0 (stream_numbers rest) other (stream_on other (map entry_of c.loop-id.streams.entries)) (stream_on other (map entry_of c.forget_stream.new.streams.entries)) (c.forget_stream.ensures.streams other)
           ∙ ap (λ (all : List StreamId). if is_named (stream_numbers all) other then new_stream other else stream_on other (map entry_of c.loop-id.streams.entries)) (sym next)
           ∙ c.loop-id.invariant.streams other;
-      less = omega (arith, c.loop-id.invariant.less, c.forget_stream.ensures.bytes);
-      size = omega (arith, c.loop-id.invariant.less, c.loop-id.invariant.size, c.forget_stream.ensures.bytes, c.forget_stream.ensures.size, c.saturating_add-size.ensures);
+      less = omega (arith, c.loop-id.invariant.less, c.forget_stream.ensures.used);
+      size = omega (arith, c.loop-id.invariant.less, c.loop-id.invariant.size, c.forget_stream.ensures.used, c.forget_stream.ensures.size, c.saturating_add-used.ensures);
     }

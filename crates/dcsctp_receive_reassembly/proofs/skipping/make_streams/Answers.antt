@@ -19,5 +19,5 @@ loop-entry-preserved c =
           subst (λ (all : List SkippedTo). AllMade all c.make_stream.new.streams) (sym (take_more c.args.entries.now c.loop-entry.entry-index (Ssn (record { 0 = 0 }) 0) (omega arith)))
           (AllMade-more front entry c.make_stream.new.streams (AllMade-kept front c.loop-entry.streams c.make_stream.new.streams c.make_stream.ensures.kept c.loop-entry.invariant.made) (subst (λ (id : ℕ). IsSome (get nat_cmp c.make_stream.new.streams id)) c.stream_of.ensures c.in_ok-make_stream.ensures.made));
       streams = λ id. c.make_stream.ensures.streams id ∙ c.loop-entry.invariant.streams id;
-      bytes = c.make_stream.ensures.bytes ∙ c.loop-entry.invariant.bytes;
+      used = λ overhead. c.make_stream.ensures.used overhead ∙ c.loop-entry.invariant.used overhead;
     }

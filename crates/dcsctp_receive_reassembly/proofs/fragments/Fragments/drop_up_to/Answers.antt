@@ -1,8 +1,8 @@
 -- The runs of the messages that are dropped are those in front.
 use Rattle.std.proofs.Common.{◌≡◌, ℕ, List, map, sym, ◌∙◌, ap, subst}
 use Rattle.dcsctp_api.specs.spec.queues.IncomingStreams.{runs_up_to, runs_behind}
-use Rattle.dcsctp_api.specs.spec.queues.Runs.{RunModel, behind_place, runs_bytes}
-use Rattle.dcsctp_receive_reassembly.specs.Held.{capped_usize}
+use Rattle.dcsctp_api.specs.spec.queues.Runs.{RunModel, behind_place, runs_used}
+use Rattle.dcsctp_receive_reassembly.specs.Held.{capped_u128}
 use Rattle.dcsctp_receive_reassembly.specs.Runs.{run_model, up_to_place, AreInPlace}
 use Rattle.std.specs.Prelude.{nat_le, not}
 use Rattle.dcsctp_receive_reassembly.proofs.FragmentLemmas.{front_dropped, filtered_in_place}
@@ -27,6 +27,6 @@ pub returns-clause-size : goal.returns-clause-size
 returns-clause-size c =
     let front = front_dropped c.args.number c.self.inside.runs.entries c.len.ensures.ordered c.self.invariant in
     c.drop_places.ensures.size
-    ∙ ap (λ (place : ℕ). capped_usize (runs_bytes (up_to_place place (map run_model c.self.inside.runs.entries)))) c.fragment_place.ensures.is
-    ∙ ap (λ (runs : List RunModel). capped_usize (runs_bytes runs)) front.1
-    ∙ ap (λ (runs : List RunModel). capped_usize (runs_bytes (runs_up_to c.args.number runs))) c.self.view_is
+    ∙ ap (λ (place : ℕ). capped_u128 (runs_used c.args.overhead (up_to_place place (map run_model c.self.inside.runs.entries)))) c.fragment_place.ensures.is
+    ∙ ap (λ (runs : List RunModel). capped_u128 (runs_used c.args.overhead runs)) front.1
+    ∙ ap (λ (runs : List RunModel). capped_u128 (runs_used c.args.overhead (runs_up_to c.args.number runs))) c.self.view_is

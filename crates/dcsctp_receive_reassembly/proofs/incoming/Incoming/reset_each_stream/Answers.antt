@@ -1,13 +1,13 @@
--- The bytes that are dropped are no longer counted.
+-- What is dropped is no longer counted.
 use Rattle.std.proofs.Common.{map, arith, ap}
-use Rattle.dcsctp_api.specs.spec.queues.Runs.{runs_bytes}
+use Rattle.dcsctp_api.specs.spec.queues.Runs.{runs_used}
 use Rattle.dcsctp_api.specs.types.StreamTables.{marks}
 use Rattle.dcsctp_receive_reassembly.specs.Runs.{run_model}
-use Rattle.dcsctp_receive_reassembly.proofs.StreamBytes.{parted_bytes}
+use Rattle.dcsctp_receive_reassembly.proofs.StreamUsed.{parted_used}
 use Rattle.dcsctp_receive_reassembly.proofs.incoming.Incoming.reset_each_stream.Goals as goal
 
-pub returns-clause-bytes : goal.returns-clause-bytes
-returns-clause-bytes c =
+pub returns-clause-used : goal.returns-clause-used
+returns-clause-used c =
     λ within.
     omega (
       arith,
@@ -15,8 +15,8 @@ returns-clause-bytes c =
       c.saturating_sub.ensures,
       c.saturating_sub-self.ensures,
       c.drop_messages-dropped.ensures.size,
-      ap runs_bytes c.drop_messages-dropped.ensures.kept,
-      parted_bytes (λ run. marks c.table_of.result run.number) (map run_model c.args.self.now.unordered.entries),
-      c.forget_each_stream-forgotten.ensures.bytes,
+      ap (runs_used c.args.overhead) c.drop_messages-dropped.ensures.kept,
+      parted_used c.args.overhead (λ run. marks c.table_of.result run.number) (map run_model c.args.self.now.unordered.entries),
+      c.forget_each_stream-forgotten.ensures.used,
       c.forget_each_stream-forgotten.ensures.size,
     )

@@ -40,7 +40,7 @@ loop-entry-preserved c =
         length-map c.loop-entry.self.ready.items message_content,
         length-map c.skip.new.self.ready.items message_content,
       );
-      bytes = Balances-both c.args.self.now c.loop-entry.self c.skip.new.self c.loop-entry.invariant.bytes c.skip.ensures.bytes;
+      used = Balances-both c.args.overhead c.args.self.now c.loop-entry.self c.skip.new.self c.loop-entry.invariant.used c.skip.ensures.used;
     }
 
 pub returns-clause-skips : goal.returns-clause-skips

@@ -12,5 +12,5 @@ invariant-loop-entry l =
       skips : (new : IncomingModel) → SkipsAll (drop l.entry-index l.entries) (incoming_of l.self) new → SkipsAll l.entries (incoming_of l.initial.self) new;
       made : AllMade (drop l.entry-index l.entries) l.self.streams;
       room : deque_len l.self.ready + room_for (drop l.entry-index l.entries) (λ id. stream_on id (map entry_of l.self.streams.entries)) ≤ deque_capacity l.self.ready;
-      bytes : Balances l.initial.self l.self;
+      used : Balances l.overhead l.initial.self l.self;
     }

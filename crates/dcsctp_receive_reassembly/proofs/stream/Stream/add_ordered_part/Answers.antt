@@ -11,7 +11,7 @@ use Rattle.dcsctp_receive_reassembly.proofs.stream.Stream.add_ordered_part.Goals
 pub returns-else-part-self-2-clause-ok : goal.returns-else-part-self-2-clause-ok
 returns-else-part-self-2-clause-ok c = λ ahead.
     if_ok_then c.add_part_of_later.result
-    (λ taken. TakesOrdered (part_of c.args.part) (stream_model c.args.self.now) (map message_content c.args.ready.now.items) taken (stream_model c.add_part_of_later.new.self) (map message_content c.args.ready.now.items))
-    (λ taken. TakesAhead (part_of c.args.part) (stream_model c.args.self.now) (map message_content c.args.ready.now.items) taken (stream_model c.add_part_of_later.new.self) (map message_content c.args.ready.now.items))
+    (λ counted. TakesOrdered (part_of c.args.part) (stream_model c.args.self.now) (map message_content c.args.ready.now.items) counted.taken (stream_model c.add_part_of_later.new.self) (map message_content c.args.ready.now.items))
+    (λ counted. TakesAhead (part_of c.args.part) (stream_model c.args.self.now) (map message_content c.args.ready.now.items) counted.taken (stream_model c.add_part_of_later.new.self) (map message_content c.args.ready.now.items))
     (c.add_part_of_later.ensures.ok (map message_content c.args.ready.now.items))
-    (λ taken takes. taken_fresh (part_of c.args.part) (stream_model c.args.self.now) (map message_content c.args.ready.now.items) taken (stream_model c.add_part_of_later.new.self) (map message_content c.args.ready.now.items) (sym c.waits.ensures.waits ∙ c.if-waits.false) takes)
+    (λ counted takes. taken_fresh (part_of c.args.part) (stream_model c.args.self.now) (map message_content c.args.ready.now.items) counted.taken (stream_model c.add_part_of_later.new.self) (map message_content c.args.ready.now.items) (sym c.waits.ensures.waits ∙ c.if-waits.false) takes)
