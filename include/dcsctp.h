@@ -383,7 +383,8 @@ typedef struct dcsctp_socket {
  *   shutdown first sends queued messages. Data without room, or that fills a gap, is acknowledged
  *   at once. A full receive window that opens is reported to the peer. A peer's SHUTDOWN
  *   acknowledges data. Streams of equal priority take turns. A repeated request to reset a stream
- *   that is in progress gets the next number. Messages that are ready can be taken after their
+ *   that is in progress gets the next number, and is reported once; so are two with nothing sent
+ *   between them. Messages that are ready can be taken after their
  *   association has ended. A timeout that was doubled stays so until a round trip is measured, and
  *   a HEARTBEAT's first answer measures one. Data that a full window had no room for is sent again
  *   once it opens. Errors are counted for each association. A shutdown also waits until the peer

@@ -6,6 +6,7 @@ use Rattle.dcsctp_transfer.specs.types.declared.association.Pair.{Pair}
 use Rattle.dcsctp_transfer.specs.types.declared.word.Word.{Word}
 use Rattle.dcsctp_transfer.specs.spec.endpoint.Event.{Event}
 use Rattle.dcsctp_transfer.specs.types.declared.association.Held.{Held}
+use Rattle.dcsctp_transfer.specs.spec.Reconfiguration.{NumberedReset}
 use Rattle.dcsctp_transfer.specs.spec.queues.Transfer.{Transfer, new_transfer}
 use Rattle.dcsctp_transfer.specs.spec.endpoint.Endpoint.{Endpoint, Core, closed, cookie_wait, cookie_echoed, open_in, OpenPhase, established, shutdown_pending, shutdown_sent, shutdown_received, shutdown_ack_sent, OutstandingRequest, Timers, stopped_timers, heartbeats_begun, fresh_endpoint}
 use Rattle.dcsctp_transfer.specs.spec.endpoint.EndOutcomes.{closed_after}
@@ -25,6 +26,7 @@ use Rattle.dcsctp_core.specs.declared.state.State.TheVariants.{Closed, CookieWai
 use Rattle.dcsctp_core.specs.declared.state.OpenPhase as phase_types
 use Rattle.dcsctp_core.specs.declared.state.OpenPhase.TheVariants as phases
 use Rattle.dcsctp_core.specs.declared.transmission_control_block.Peer.{Peer}
+use Rattle.dcsctp_core.specs.declared.transmission_control_block.PerformedReset.{PerformedReset}
 use Rattle.dcsctp_core.specs.declared.transmission_control_block.ResetRequest.{ResetRequest}
 use Rattle.dcsctp_core.specs.declared.transmission_control_block.TransmissionControlBlock.{TransmissionControlBlock}
 use Rattle.dcsctp_core.specs.declared.context.Context.{Context}
@@ -51,6 +53,11 @@ request_of (Some request) = Some (record { last_tsn = request.last_tsn; streams 
 abbrev pub timer_of : Option ResetRequest → Option RunningTimer
 timer_of None = None
 timer_of (Some request) = request.timer.running
+
+-- the peer's request that was performed after it was in progress
+abbrev pub performed_reset : Option PerformedReset → Option NumberedReset
+performed_reset None = None
+performed_reset (Some kept) = Some (record { number = kept.number; reset = record { last_tsn = kept.last_tsn; streams = kept.streams.items } })
 
 -- what an association keeps of its peer
 abbrev pub held_of : TransmissionControlBlock → Held
@@ -154,6 +161,7 @@ endpoint_of context =
       core = core_of context.state;
       tie = tie_of context.state;
       outstanding = outstanding_of context.state;
+      renewable = performed_reset context.renewable;
       last_tag = context.last_tag;
       error_count = context.tx_error_counter.count;
       heartbeat_counter = context.heartbeat_counter;

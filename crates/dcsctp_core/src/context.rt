@@ -8,6 +8,7 @@ ghost use Rattle.dcsctp_transfer.specs.types.Settings.{IsValid};
 
 use crate::ending::end_event;
 use crate::state::State;
+use crate::transmission_control_block::PerformedReset;
 use crate::tx_error_counter::TxErrorCounter;
 use dcsctp_transfer::SendQueue;
 use dcsctp_transfer::api::{
@@ -69,6 +70,10 @@ pub struct Context<R> {
 
     /// When the last HEARTBEAT was sent, until it is answered or its association ends.
     pub heartbeat_sent: Option<SocketTime>,
+
+    /// The peer's request to reset streams that was performed last, if it was in progress before: the peer may send
+    /// it again under the next number. `None` without `Options::follow_rfc`.
+    pub renewable: Option<PerformedReset>,
 
     // Our verification tag in the last association that had a peer and has ended.
     last_tag: Option<u32>,
@@ -162,6 +167,7 @@ impl<R: Rng> Context<R> {
             ),
             heartbeat_counter: 0,
             heartbeat_sent: None,
+            renewable: None,
             last_tag: None,
             tx_error_counter: TxErrorCounter::new(options.max_retransmissions),
             rx_packets_count: 0,
@@ -476,6 +482,7 @@ impl<R: Rng> Context<R> {
             (map message_content self.new.left.items) }
     {
         self.heartbeat_sent = None;
+        self.renewable = None;
         self.last_tag = self.state.ended_tag(self.last_tag);
         let ended = std::mem::replace(&mut self.state, State::Closed);
         if !self.options.follow_rfc {

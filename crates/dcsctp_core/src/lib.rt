@@ -25,7 +25,9 @@ pub use following::Following;
 pub use resetting::stream_bytes;
 pub use state::{CookieEchoState, CookieWaitState, OpenPhase, OpenState, ShutdownState, State};
 pub use timeout::{is_quiet, list_deadlines, poll_timeout};
-pub use transmission_control_block::{Peer, ResetRequest, TransmissionControlBlock};
+pub use transmission_control_block::{
+    Peer, PerformedReset, ResetRequest, TransmissionControlBlock,
+};
 pub use tx_error_counter::TxErrorCounter;
 
 // Lower crates, re-exported for those above.

@@ -53,6 +53,19 @@ pub struct ResetRequest {
     pub timer: Timer,
 }
 
+/// A request of the peer that was performed after it was in progress (RFC 6525, section 5.2.7).
+#[derive(Drop)]
+pub struct PerformedReset {
+    /// Its number.
+    pub number: u32,
+
+    /// The last TSN that the peer had assigned.
+    pub last_tsn: u32,
+
+    /// The numbers of the streams that were reset, in their order.
+    pub streams: Vec<u16>,
+}
+
 /// An association, from the moment at which the peer is known.
 #[derive(Drop)]
 pub struct TransmissionControlBlock {

@@ -58,6 +58,7 @@ fn begin_association<R: Rng>(context: &mut Context<R>, cookie: &StateCookie, tie
         .tx_error_counter
         .begin_association(context.options.follow_rfc);
     context.heartbeat_sent = None;
+    context.renewable = None;
     context.start_heartbeat_interval();
 }
 

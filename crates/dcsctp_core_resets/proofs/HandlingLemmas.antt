@@ -14,7 +14,7 @@ use Rattle.dcsctp_core.specs.wire.declared.reconfiguration.ReconfigurationRespon
 use Rattle.dcsctp_core.specs.types.Settings.{Ports, ports_of}
 use Rattle.dcsctp_core.specs.spec.endpoint.Event.{Event, sent, incoming_stream_reset}
 use Rattle.dcsctp_core.specs.spec.Packet.{re_config, Emission}
-use Rattle.dcsctp_core.specs.spec.Reconfiguration.{RequestedReset, ResetParameter, outgoing_reset_request, incoming_reset_request, reconfiguration_response, other_reset_parameter, reset_parameter_content}
+use Rattle.dcsctp_core.specs.spec.Reconfiguration.{RequestState, NumberedReset, RequestedReset, ResetParameter, outgoing_reset_request, incoming_reset_request, reconfiguration_response, other_reset_parameter, reset_parameter_content}
 use Rattle.dcsctp_core.specs.spec.queues.Transfer.{Transfer}
 use Rattle.dcsctp_core.specs.spec.endpoint.Endpoint.{Endpoint, Core, cookie_echoed, open_in, OpenPhase, held_in}
 use Rattle.std.specs.Prelude.{if◌then◌else◌}
@@ -23,17 +23,19 @@ use Rattle.dcsctp_core.specs.spec.association.Effect.{Effect, drawn_in}
 use Rattle.dcsctp_core.specs.spec.association.ResetChanges.{RequestPlace, again, next, astray, request_place, RequestOutcome, incoming_by, Informed, informed_by, is_outstanding, informed_where, HandledParameters, work_parameters, work_chunk}
 use Rattle.dcsctp_core.specs.spec.endpoint.FlushOutcomes.{is_none, Answer, draft_to, flush_of, first_ask, packets_allowed}
 use Rattle.dcsctp_core.specs.spec.endpoint.DataOutcomes.{flush_by, AnswersTo, FlushTurn}
-use Rattle.dcsctp_core.specs.spec.endpoint.ResetOutcomes.{requested_in, is_request_reached, parameters_handled_in, OwnAnswer, unanswered, retried, was_performed, has_failed, own_moved, own_answer, in_progress_among, answered_in, handled_part, own_streams, has_reset, answers_in_progress, ResetsInQueues, ResetsTransferStreams, defers_reset, their_streams, reset_events_of, core_with, resets_handled, reset_refusal_text, responses_outcome, responses_by, ResponseAnswers, resets_by, WorksResets, ResetTurn}
+use Rattle.dcsctp_core.specs.spec.endpoint.ResetOutcomes.{requested_in, request_number_in, request_state, renewable_after, renewable_left, parameters_handled_in, OwnAnswer, unanswered, retried, was_performed, has_failed, own_moved, own_answer, in_progress_among, answered_in, handled_part, own_streams, has_reset, answers_in_progress, ResetsInQueues, ResetsTransferStreams, defers_reset, their_streams, reset_events_of, core_with, resets_handled, reset_refusal_text, responses_outcome, responses_by, ResponseAnswers, resets_by, WorksResets, ResetTurn}
 use Rattle.dcsctp_core.proofs.spec_lemmas.AnswerLemmas.{any_answers}
 use Rattle.dcsctp_core.proofs.spec_lemmas.ReassemblyLemmas.{any_left}
 use Rattle.dcsctp_core.proofs.spec_lemmas.TurnLists.{drawn_in-append}
 use Rattle.dcsctp_core.specs.api.Calls.{user_event, Drawn}
 use Rattle.dcsctp_core.specs.declared.context.Context.{Context}
 use Rattle.dcsctp_core.specs.declared.state.State.{State}
+use Rattle.dcsctp_core.specs.declared.transmission_control_block.PerformedReset.{PerformedReset}
+use Rattle.dcsctp_core.specs.wire.declared.reconfiguration.OutgoingSsnResetRequestParameter.{OutgoingSsnResetRequestParameter}
 use Rattle.dcsctp_core.specs.declared.transmission_control_block.TransmissionControlBlock.{TransmissionControlBlock}
 use Rattle.dcsctp_core.specs.declared.state.State.TheVariants.{Closed, CookieWait, CookieEchoed, Open}
 use Rattle.dcsctp_core.specs.Reconfiguring.{request_in}
-use Rattle.dcsctp_core.specs.View.{View, request_number, tcb_of, held_of, phase_in, core_of, outstanding_of, transfer_of, endpoint_of, view_of, Moves}
+use Rattle.dcsctp_core.specs.View.{View, request_number, tcb_of, held_of, phase_in, core_of, outstanding_of, performed_reset, transfer_of, endpoint_of, view_of, Moves}
 use Rattle.dcsctp_core.specs.Handling.{Tries, emitted_to, EmitsToPeer, report_turn, FlushAt, TakesPossibleTurn, CutIn, TakesOne}
 use Rattle.dcsctp_core.specs.Below.{ChangesQueues}
 use Rattle.dcsctp_core.proofs.BelowLemmas.{below_view, same_view}
@@ -42,13 +44,13 @@ use Rattle.dcsctp_core.proofs.SentLemmas.{emits_moves}
 use Rattle.dcsctp_core.proofs.Composing.{behind, Adds, Draws, moves_behind, moves_as, cut_behind, cut_first, cut_longer, moves_noting, cut_noting}
 use Rattle.dcsctp_core_resets.specs.declared.requests.LastRequest.{LastRequest}
 use Rattle.dcsctp_core_resets.specs.declared.requests.Treatment.{Treatment}
-use Rattle.dcsctp_core_resets.specs.declared.requests.Treatment.TheVariants.{Nothing, Deferred, Performed}
+use Rattle.dcsctp_core_resets.specs.declared.requests.Treatment.TheVariants.{Nothing, Deferred, Performed, Renewed}
 use Rattle.dcsctp_core_resets.specs.declared.requests.HandledRequests.{HandledRequests}
 use Rattle.dcsctp_core_resets.specs.declared.requests.OwnAnswer.TheVariants as own
 use Rattle.dcsctp_core_resets.specs.declared.requests.OwnAnswer as requests
 use Rattle.dcsctp_core_resets.specs.Requests.{is_completed, reset_parameters, held_with, held_out, held_now, is_performed, is_treatment_deferred, treated_events, left_out, own_kind, own_events, both_answer_events}
 use Rattle.dcsctp_core_resets.proofs.RequestLemmas.{completed_is, resets_of, has_both}
-use Rattle.dcsctp_core_resets.specs.Resets.{ReConfigAt, last_in, WorksFor, core_asked, asked_at, left_at, incoming_reset_events, DefersReset, DefersTo, TreatsReset, TreatsInQueues, core_settled, request_settled_at, own_reset_events, both_reset_events, handled_reset_events, responses_to, responses_turn, FinishAt}
+use Rattle.dcsctp_core_resets.specs.Resets.{kept_after, asked_number, wanted_by, ReConfigAt, last_of, last_in, WorksFor, core_asked, asked_at, left_at, incoming_reset_events, DefersReset, DefersTo, TreatsReset, TreatsInQueues, core_settled, request_settled_at, own_reset_events, both_reset_events, handled_reset_events, responses_to, responses_turn, FinishAt}
 use Rattle.dcsctp_core_resets.proofs.SettlingLemmas.{none_numbered}
 
 -- ---- the answers, and what waits after them
@@ -206,6 +208,17 @@ performed {R = R} old state events streams reset names changes told =
           ∙ ap (λ (es : List (Event (List ℕ))). let w : View R = record (view_of old) { endpoint = record (endpoint_of old) { queues = record (endpoint_of old).queues { transfer = h.0 } }; events = es } in w) told,
     )
 
+-- They were reset once more, and nothing is reported.
+pub renewed_silently : {R : Type 0} (old : Context R) (state : State) (streams : List ℕ) (reset : RequestedReset) → streams ≡ reset.streams
+    → ChangesQueues (ResetsTransferStreams streams) (transfer_of old.state) old.state state
+    → (left : Option Transfer) × ResetsInQueues true false (Some reset) (transfer_of old.state) left × (view_of (record old { state = state }) ≡ left_at (view_of old) left [])
+renewed_silently {R = R} old state streams reset names changes =
+    let h = performed_by old state reset (transfer_of old.state) refl (subst (λ (xs : List ℕ). ChangesQueues (ResetsTransferStreams xs) (transfer_of old.state) old.state state) names changes) in (
+      h.0,
+      h.1,
+      h.2 ∙ ap (λ (es : List (Event (List ℕ))). let w : View R = record (view_of old) { endpoint = record (endpoint_of old) { queues = record (endpoint_of old).queues { transfer = h.0 } }; events = es } in w) (sym (append-nil (view_of old).events)),
+    )
+
 -- Their reset was deferred.
 deferred_below : {R : Type 0} (old : Context R) (state : State) (reset : RequestedReset) (found : Option Transfer) → transfer_of old.state ≡ found → ChangesQueues (DefersTo reset) found old.state state
     → (left : Option Transfer) × ResetsInQueues false true (Some reset) found left × (view_of (record old { state = state }) ≡ leaving old left)
@@ -273,6 +286,7 @@ treated_none treatment old = nothing_treated treatment None old (view_of old) (n
     none_told Nothing = refl
     none_told Deferred = refl
     none_told Performed = refl
+    none_told Renewed = refl
 
 pub untouched : {R : Type 0} (old : Context R) (reset : RequestedReset) → TreatsAs Nothing (Some reset) old (view_of old)
 untouched old reset = nothing_treated Nothing (Some reset) old (view_of old) refl refl refl
@@ -362,7 +376,7 @@ any_turn : (e : Endpoint) (my : Pair) (held : Held) (parameters : List ResetPara
 any_turn e my held parameters =
     let w : HandledParameters = parameters_handled_in e my held parameters in
     let left = any_below (has_reset w.effects) (answers_in_progress w.answers) (requested_in parameters) e.queues.transfer in
-    let some = some_answers w.is_refused (resets_handled e (answered_in held w parameters) w.held left.0) w.held w.answers in (
+    let some = some_answers w.is_refused (resets_handled e (answered_in held w parameters) w.held left.0 (renewable_left e held w parameters)) w.held w.answers in (
       resets_by e held w parameters left.0 some.0,
       record { left = left.0; below = left.1; answers = some.0; allowed = some.1; is = refl },
     )
@@ -393,24 +407,24 @@ informed_resets : (b : Bool) (my : Pair) (held : Held) (number : ℕ) (result : 
 informed_resets true my held number result = answer_resets my held number result
 informed_resets false my held number result = refl
 
-unrequested : (my : Pair) (reached has : Bool) (held : Held) (parameters : List ResetParameter) → requested_in parameters ≡ None → has_reset (work_parameters my reached has held parameters).effects ≡ false
-unrequested my reached has held [] none = refl
-unrequested my reached has held (outgoing_reset_request number answered reset ∷ parameters) none = absurd (cc)
-unrequested my reached has held (incoming_reset_request number streams ∷ parameters) none =
+unrequested : (my : Pair) (state : RequestState) (has : Bool) (held : Held) (parameters : List ResetParameter) → requested_in parameters ≡ None → has_reset (work_parameters my state has held parameters).effects ≡ false
+unrequested my state has held [] none = refl
+unrequested my state has held (outgoing_reset_request number answered reset ∷ parameters) none = absurd (cc)
+unrequested my state has held (incoming_reset_request number streams ∷ parameters) none =
     let first : RequestOutcome = incoming_by held number (request_place held.peer_last number) in
-    has_both first.effects (work_parameters my reached has first.held parameters).effects
-    ∙ ap (λ (b : Bool). resets_of b (has_reset (work_parameters my reached has first.held parameters).effects)) (incoming_resets held number (request_place held.peer_last number))
-    ∙ unrequested my reached has first.held parameters none
-unrequested my reached has held (reconfiguration_response number result ∷ parameters) none =
+    has_both first.effects (work_parameters my state has first.held parameters).effects
+    ∙ ap (λ (b : Bool). resets_of b (has_reset (work_parameters my state has first.held parameters).effects)) (incoming_resets held number (request_place held.peer_last number))
+    ∙ unrequested my state has first.held parameters none
+unrequested my state has held (reconfiguration_response number result ∷ parameters) none =
     let first : Informed = informed_where my held number result (is_outstanding number held.own_outstanding) in
-    has_both first.effects (work_parameters my reached has first.held parameters).effects
-    ∙ ap (λ (b : Bool). resets_of b (has_reset (work_parameters my reached has first.held parameters).effects)) (informed_resets (is_outstanding number held.own_outstanding) my held number result)
-    ∙ unrequested my reached has first.held parameters none
-unrequested my reached has held (other_reset_parameter parameter ∷ parameters) none = unrequested my reached has held parameters none
+    has_both first.effects (work_parameters my state has first.held parameters).effects
+    ∙ ap (λ (b : Bool). resets_of b (has_reset (work_parameters my state has first.held parameters).effects)) (informed_resets (is_outstanding number held.own_outstanding) my held number result)
+    ∙ unrequested my state has first.held parameters none
+unrequested my state has held (other_reset_parameter parameter ∷ parameters) none = unrequested my state has held parameters none
 
-chunk_unrequested : (my : Pair) (reached : Bool) (held : Held) (parameters : List ResetParameter) → requested_in parameters ≡ None → has_reset (work_chunk my reached held parameters).effects ≡ false
-chunk_unrequested my reached held [] none = refl
-chunk_unrequested my reached held (parameter ∷ parameters) none = unrequested my reached false held (parameter ∷ parameters) none
+chunk_unrequested : (my : Pair) (state : RequestState) (held : Held) (parameters : List ResetParameter) → requested_in parameters ≡ None → has_reset (work_chunk my state held parameters).effects ≡ false
+chunk_unrequested my state held [] none = refl
+chunk_unrequested my state held (parameter ∷ parameters) none = unrequested my state false held (parameter ∷ parameters) none
 
 -- The treatment's events by the definitions are those that are added.
 abbrev Wanted : Treatment → Option RequestedReset → Type 0
@@ -419,6 +433,8 @@ Wanted treatment reset = (ports : Ports) → map (user_event ports) (treated_eve
 wanted : (treatment : Treatment) (reset : Option RequestedReset) → (reset ≡ None → is_performed treatment ≡ false) → Wanted treatment reset
 wanted Performed None none = let never : true ≡ false = none refl in absurd (cc)
 wanted Performed (Some reset) none = λ ports. refl
+wanted Renewed None none = let never : true ≡ false = none refl in absurd (cc)
+wanted Renewed (Some reset) none = λ ports. refl
 wanted Deferred None none = λ ports. refl
 wanted Deferred (Some reset) none = λ ports. refl
 wanted Nothing None none = λ ports. refl
@@ -458,7 +474,7 @@ kept_by held effects w = record { held = held_now held w; effects = effects; ans
 abbrev WorksBy : Endpoint → Held → List ResetParameter → Outcome → HandledParameters → Type 0
 WorksBy e held parameters o worked =
     (left : Option Transfer) × ResetsInQueues (has_reset worked.effects) (answers_in_progress worked.answers) (requested_in parameters) e.queues.transfer left × (answers : List Answer)
-    × ResponseAnswers worked.is_refused (resets_handled e (answered_in held worked parameters) worked.held left) worked.held worked.answers answers
+    × ResponseAnswers worked.is_refused (resets_handled e (answered_in held worked parameters) worked.held left (renewable_left e held worked parameters)) worked.held worked.answers answers
     × (o ≡ resets_by e held worked parameters left answers)
 
 works_resets : (e : Endpoint) (my : Pair) (held : Held) (parameters : List ResetParameter) (o : Outcome) → WorksBy e held parameters o (parameters_handled_in e my held parameters) → WorksResets e my held parameters o
@@ -466,22 +482,22 @@ works_resets e my held parameters o h = record { left = h.0; below = h.1; answer
 
 -- what was made of the parameters of a chunk that came in
 abbrev WorkedAt : {R : Type 0} → Context R → List ResetParameter → HandledRequests → Type 0
-WorkedAt old parameters w = WorksFor (tcb_of old.state) parameters w
+WorkedAt old parameters w = WorksFor old.options.follow_rfc (performed_reset old.renewable) (tcb_of old.state) parameters w
 
 -- What the code keeps is what the definitions make of the parameters.
 kept_is : {R : Type 0} (old : Context R) (p : Peer old.state) (parameters : List ResetParameter) (w : HandledRequests) (h : WorkedAt old parameters w)
     → parameters_handled_in (endpoint_of old) p.my p.held parameters ≡ kept_by p.held (h.effects p.my p.held) w
 kept_is old p parameters w h =
-    ap (work_all p.my (is_request_reached (transfer_of old.state) (requested_in parameters)) parameters) (sym p.last) ∙ h.whole p.my p.held
+    ap (work_all (endpoint_of old) p.my parameters) (sym p.last) ∙ h.whole p.my p.held
   where
-    work_all : Pair → Bool → List ResetParameter → Held → HandledParameters
-    work_all my reached ps held = work_chunk my reached held ps
+    work_all : Endpoint → Pair → List ResetParameter → Held → HandledParameters
+    work_all e my ps held = work_chunk my (request_state e held ps) held ps
 
 wanted_of : {R : Type 0} (old : Context R) (p : Peer old.state) (parameters : List ResetParameter) (w : HandledRequests) (h : WorkedAt old parameters w) → Wanted w.treatment (requested_in parameters)
 wanted_of old p parameters w h =
     wanted w.treatment (requested_in parameters)
     (λ none. sym (h.treats p.my p.held).has ∙ ap (λ (x : HandledParameters). has_reset x.effects) (sym (kept_is old p parameters w h))
-    ∙ chunk_unrequested p.my (is_request_reached (transfer_of old.state) (requested_in parameters)) p.held parameters none)
+    ∙ chunk_unrequested p.my (request_state (endpoint_of old) p.held parameters) p.held parameters none)
 
 -- The only answer of the kind `unanswered` is `Unanswered`.
 kind_none : (answer : requests.OwnAnswer) → own_kind answer ≡ unanswered → answer ≡ own.Unanswered
@@ -490,16 +506,16 @@ kind_none own.InProgress is = absurd (cc)
 kind_none own.Performed is = absurd (cc)
 kind_none own.Failed is = absurd (cc)
 
-pub nobody_asked : {R : Type 0} (old asked : Context R) (w : HandledRequests) (parameters : List ResetParameter) → WorkedAt old parameters w → view_of asked ≡ asked_at w.last (view_of old)
-    → outstanding_of asked.state ≡ None → w.own ≡ own.Unanswered
-nobody_asked {R = R} old asked w parameters h here none =
+pub nobody_asked : {R : Type 0} (old asked : Context R) (kept : Option PerformedReset) (w : HandledRequests) (parameters : List ResetParameter) → WorkedAt old parameters w
+    → view_of asked ≡ asked_at w.last (view_of (record old { renewable = kept })) → outstanding_of asked.state ≡ None → w.own ≡ own.Unanswered
+nobody_asked {R = R} old asked kept w parameters h here none =
     let before : outstanding_of old.state ≡ None = sym (ap (λ (v : View R). v.endpoint.outstanding) here) ∙ none in
     kind_none w.own (h.own ∙ ap (λ (n : Option ℕ). own_answer n w.outstanding (in_progress_among n (handled_part false parameters)) (is_completed w.own)) (none_numbered old.state before))
 
 -- the view once both requests were treated
-abbrev pub carried_view : {R : Type 0} → Context R → HandledRequests → List ResetParameter → Option Transfer → View R
-carried_view old w parameters left =
-    left_at (request_settled_at (own_kind w.own) (asked_at w.last (view_of old))) left (both_reset_events w.is_own_first w.own w.treatment (requested_in parameters) (own_streams (outstanding_of old.state)))
+abbrev pub carried_view : {R : Type 0} → Context R → Option PerformedReset → HandledRequests → List ResetParameter → Option Transfer → View R
+carried_view old kept w parameters left =
+    left_at (request_settled_at (own_kind w.own) (asked_at w.last (view_of (record old { renewable = kept })))) left (both_reset_events w.is_own_first w.own w.treatment (requested_in parameters) (own_streams (outstanding_of old.state)))
 
 -- the events that were added by then
 abbrev told_by : {R : Type 0} → Context R → HandledRequests → List ResetParameter → List (Event Emission)
@@ -510,15 +526,34 @@ abbrev all_of : List Effect → List (Event Emission) → Outcome → Outcome
 all_of effects told later = noting effects (behind [] told later)
 
 -- where what comes after begins
-begins_there : (answer : OwnAnswer) (e : Endpoint) (asked core : Core) (left : Option Transfer) (held : Held) → core_settled answer asked ≡ core_with e.core held
-    → (let moved : Endpoint = own_moved answer (record e { core = asked }) in record moved { core = core_settled answer asked; queues = record moved.queues { transfer = left } }) ≡ resets_handled e answer held left
-begins_there unanswered e asked core left held is = ap (λ (c : Core). let x : Endpoint = record e { core = c; queues = record e.queues { transfer = left } } in x) is
-begins_there retried e asked core left held is =
-    let moved : Endpoint = own_moved retried e in ap (λ (c : Core). let x : Endpoint = record moved { core = c; queues = record moved.queues { transfer = left } } in x) is
-begins_there was_performed e asked core left held is =
-    let moved : Endpoint = own_moved was_performed e in ap (λ (c : Core). let x : Endpoint = record moved { core = c; queues = record moved.queues { transfer = left } } in x) is
-begins_there has_failed e asked core left held is =
-    let moved : Endpoint = own_moved has_failed e in ap (λ (c : Core). let x : Endpoint = record moved { core = c; queues = record moved.queues { transfer = left } } in x) is
+begins_there : (answer : OwnAnswer) (e : Endpoint) (asked core : Core) (left : Option Transfer) (renewable : Option NumberedReset) (held : Held) → core_settled answer asked ≡ core_with e.core held
+    → (let moved : Endpoint = own_moved answer (record e { core = asked; renewable = renewable }) in record moved { core = core_settled answer asked; queues = record moved.queues { transfer = left } })
+    ≡ resets_handled e answer held left renewable
+begins_there unanswered e asked core left renewable held is =
+    let moved : Endpoint = own_moved unanswered e in ap (λ (c : Core). let x : Endpoint = record moved { core = c; renewable = renewable; queues = record moved.queues { transfer = left } } in x) is
+begins_there retried e asked core left renewable held is =
+    let moved : Endpoint = own_moved retried e in ap (λ (c : Core). let x : Endpoint = record moved { core = c; renewable = renewable; queues = record moved.queues { transfer = left } } in x) is
+begins_there was_performed e asked core left renewable held is =
+    let moved : Endpoint = own_moved was_performed e in ap (λ (c : Core). let x : Endpoint = record moved { core = c; renewable = renewable; queues = record moved.queues { transfer = left } } in x) is
+begins_there has_failed e asked core left renewable held is =
+    let moved : Endpoint = own_moved has_failed e in ap (λ (c : Core). let x : Endpoint = record moved { core = c; renewable = renewable; queues = record moved.queues { transfer = left } } in x) is
+
+-- What is kept of the request is what the code found of it.
+abbrev pub KeptSo : {R : Type 0} → Context R → Option PerformedReset → List ResetParameter → HandledRequests → Type 0
+KeptSo old kept parameters w =
+    performed_reset kept ≡ kept_after (endpoint_of old) (last_in old.state).number (request_number_in parameters) (requested_in parameters) (is_performed w.treatment)
+
+after_is : (e : Endpoint) (last : ℕ) (parameters : List ResetParameter) (b : Bool) → kept_after e last (request_number_in parameters) (requested_in parameters) b ≡ renewable_after e last parameters b
+after_is e last parameters true = refl
+after_is e last parameters false = refl
+
+renewal_by : {R : Type 0} (old : Context R) (p : Peer old.state) (kept : Option PerformedReset) (parameters : List ResetParameter) (w : HandledRequests) (h : WorkedAt old parameters w) → KeptSo old kept parameters w
+    → performed_reset kept ≡ renewable_left (endpoint_of old) p.held (kept_by p.held (h.effects p.my p.held) w) parameters
+renewal_by old p kept parameters w h is =
+    is
+    ∙ after_is (endpoint_of old) (last_in old.state).number parameters (is_performed w.treatment)
+    ∙ ap (λ (held : Held). renewable_after (endpoint_of old) held.peer_last parameters (is_performed w.treatment)) p.last
+    ∙ ap (renewable_after (endpoint_of old) p.held.peer_last parameters) (sym (h.treats p.my p.held).has)
 
 -- what is known of the association by then
 core_by : {R : Type 0} (old : Context R) (p : Peer old.state) (parameters : List ResetParameter) (w : HandledRequests) → WorkedAt old parameters w
@@ -537,25 +572,28 @@ kind_by old p parameters w h =
     ∙ ap (own_answer p.held.own_outstanding w.outstanding (in_progress_among p.held.own_outstanding (handled_part false parameters)))
     (sym (completed_is w effects (reset_parameters w.responses.items) (h.treats p.my p.held))))
 
-endpoint_by : {R : Type 0} (old : Context R) (p : Peer old.state) (parameters : List ResetParameter) (w : HandledRequests) (h : WorkedAt old parameters w) (left : Option Transfer)
-    → (carried_view old w parameters left).endpoint ≡ resets_handled (endpoint_of old) (answered_in p.held (kept_by p.held (h.effects p.my p.held) w) parameters) (held_now p.held w) left
-endpoint_by old p parameters w h left =
-    begins_there (own_kind w.own) (endpoint_of old) (core_asked w.last (core_of old.state)) (core_of old.state) left (held_now p.held w) (core_by old p parameters w h)
-    ∙ ap (λ (a : OwnAnswer). resets_handled (endpoint_of old) a (held_now p.held w) left) (kind_by old p parameters w h)
+endpoint_by : {R : Type 0} (old : Context R) (p : Peer old.state) (kept : Option PerformedReset) (parameters : List ResetParameter) (w : HandledRequests) (h : WorkedAt old parameters w) (left : Option Transfer)
+    → KeptSo old kept parameters w → (carried_view old kept w parameters left).endpoint
+    ≡ resets_handled (endpoint_of old) (answered_in p.held (kept_by p.held (h.effects p.my p.held) w) parameters) (held_now p.held w) left
+    (renewable_left (endpoint_of old) p.held (kept_by p.held (h.effects p.my p.held) w) parameters)
+endpoint_by old p kept parameters w h left so =
+    begins_there (own_kind w.own) (endpoint_of old) (core_asked w.last (core_of old.state)) (core_of old.state) left (performed_reset kept) (held_now p.held w) (core_by old p parameters w h)
+    ∙ ap (λ (a : OwnAnswer). resets_handled (endpoint_of old) a (held_now p.held w) left (performed_reset kept)) (kind_by old p parameters w h)
+    ∙ ap (resets_handled (endpoint_of old) (answered_in p.held (kept_by p.held (h.effects p.my p.held) w) parameters) (held_now p.held w) left) (renewal_by old p kept parameters w h so)
 
-works_by : {R : Type 0} (old : Context R) (p : Peer old.state) (parameters : List ResetParameter) (w : HandledRequests) (h : WorkedAt old parameters w) (left : Option Transfer) (later : Outcome)
+works_by : {R : Type 0} (old : Context R) (p : Peer old.state) (kept : Option PerformedReset) (parameters : List ResetParameter) (w : HandledRequests) (h : WorkedAt old parameters w) (left : Option Transfer) (later : Outcome) → KeptSo old kept parameters w
     → TreatsInQueues w.treatment (requested_in parameters) (transfer_of old.state) left
-    → FinishAt (held_now p.held w) w.is_refused parameters (reset_parameters w.responses.items) (carried_view old w parameters left) later
+    → FinishAt (held_now p.held w) w.is_refused parameters (reset_parameters w.responses.items) (carried_view old kept w parameters left) later
     → WorksBy (endpoint_of old) p.held parameters (all_of (h.effects p.my p.held) (told_by old w parameters) later) (kept_by p.held (h.effects p.my p.held) w)
-works_by old p parameters w h left later below turn =
+works_by old p kept parameters w h left later so below turn =
     let e : Endpoint = endpoint_of old in
     let held : Held = held_now p.held w in
     let responses : List ResetParameter = reset_parameters w.responses.items in
     let effects : List Effect = h.effects p.my p.held in
-    let kept : HandledParameters = kept_by p.held effects w in
-    let here : Endpoint = (carried_view old w parameters left).endpoint in
-    let there : here ≡ resets_handled e (answered_in p.held kept parameters) held left = endpoint_by old p parameters w h left in
-    let told : reset_events_of e parameters kept.effects ≡ told_by old w parameters = (h.treats p.my p.held).told (their_streams (requested_in parameters)) (own_streams e.outstanding) in (
+    let after : HandledParameters = kept_by p.held effects w in
+    let here : Endpoint = (carried_view old kept w parameters left).endpoint in
+    let there : here ≡ resets_handled e (answered_in p.held after parameters) held left (renewable_left e p.held after parameters) = endpoint_by old p kept parameters w h left so in
+    let told : reset_events_of e parameters after.effects ≡ told_by old w parameters = (h.treats p.my p.held).told (their_streams (requested_in parameters)) (own_streams e.outstanding) in (
       left,
       subst (λ (b : Bool). ResetsInQueues b (answers_in_progress responses) (requested_in parameters) e.queues.transfer left) (sym (h.treats p.my p.held).has)
           (subst (λ (b : Bool). ResetsInQueues (is_performed w.treatment) b (requested_in parameters) e.queues.transfer left) (sym (h.treats p.my p.held).waits) below),
@@ -564,18 +602,18 @@ works_by old p parameters w h left later below turn =
       ap (all_of effects (told_by old w parameters)) turn.2
           ∙ ap (λ (o : Outcome). let x : Outcome = noting effects o in x) (sym (responses_behind w.is_refused here (told_by old w parameters) held parameters responses turn.0))
           ∙ ap (λ (x : Endpoint). let o : Outcome = noting effects (responses_by w.is_refused x (told_by old w parameters) held parameters responses turn.0) in o) there
-          ∙ ap (λ (events : List (Event Emission)). let o : Outcome = noting effects (responses_by w.is_refused (resets_handled e (answered_in p.held kept parameters) held left) events held parameters responses turn.0) in o) (sym told),
+          ∙ ap (λ (events : List (Event Emission)). let o : Outcome = noting effects (responses_by w.is_refused (resets_handled e (answered_in p.held after parameters) held left (renewable_left e p.held after parameters)) events held parameters responses turn.0) in o) (sym told),
     )
 
-turn_by : {R : Type 0} (old : Context R) (p : Peer old.state) (parameters : List ResetParameter) (w : HandledRequests) (h : WorkedAt old parameters w) (left : Option Transfer) (later : Outcome)
+turn_by : {R : Type 0} (old : Context R) (p : Peer old.state) (kept : Option PerformedReset) (parameters : List ResetParameter) (w : HandledRequests) (h : WorkedAt old parameters w) (left : Option Transfer) (later : Outcome) → KeptSo old kept parameters w
     → TreatsInQueues w.treatment (requested_in parameters) (transfer_of old.state) left
-    → FinishAt (held_now p.held w) w.is_refused parameters (reset_parameters w.responses.items) (carried_view old w parameters left) later
+    → FinishAt (held_now p.held w) w.is_refused parameters (reset_parameters w.responses.items) (carried_view old kept w parameters left) later
     → ReConfigAt parameters (view_of old) (all_of (h.effects p.my p.held) (told_by old w parameters) later)
-turn_by old p parameters w h left later below turn =
+turn_by old p kept parameters w h left later so below turn =
     let o : Outcome = all_of (h.effects p.my p.held) (told_by old w parameters) later in
     p.turn (endpoint_of old) parameters o
     (works_resets (endpoint_of old) p.my p.held parameters o
-    (subst (WorksBy (endpoint_of old) p.held parameters o) (sym (kept_is old p parameters w h)) (works_by old p parameters w h left later below turn)))
+    (subst (WorksBy (endpoint_of old) p.held parameters o) (sym (kept_is old p parameters w h)) (works_by old p kept parameters w h left later so below turn)))
 
 -- Its ports stay.
 settled_ports : (answer : OwnAnswer) (e : Endpoint) → ports_of (own_moved answer e).options ≡ ports_of e.options
@@ -584,11 +622,11 @@ settled_ports retried e = refl
 settled_ports was_performed e = refl
 settled_ports has_failed e = refl
 
-adds_told : {R : Type 0} (old : Context R) (p : Peer old.state) (parameters : List ResetParameter) (w : HandledRequests) (h : WorkedAt old parameters w) (left : Option Transfer)
-    → Adds (view_of old) (told_by old w parameters) (carried_view old w parameters left)
-adds_told old p parameters w h left =
+adds_told : {R : Type 0} (old : Context R) (p : Peer old.state) (kept : Option PerformedReset) (parameters : List ResetParameter) (w : HandledRequests) (h : WorkedAt old parameters w) (left : Option Transfer)
+    → Adds (view_of old) (told_by old w parameters) (carried_view old kept w parameters left)
+adds_told old p kept parameters w h left =
     record {
-      ports = settled_ports (own_kind w.own) (record (endpoint_of old) { core = core_asked w.last (core_of old.state) });
+      ports = settled_ports (own_kind w.own) (record (endpoint_of old) { core = core_asked w.last (core_of old.state); renewable = performed_reset kept });
       events = ap (λ (es : List (Event (List ℕ))). (view_of old).events ++ es)
           (sym (both_user (ports_of old.options) w.is_own_first w.own w.treatment (requested_in parameters) (own_streams (outstanding_of old.state)) (wanted_of old p parameters w h)));
     }
@@ -596,47 +634,71 @@ adds_told old p parameters w h left =
 drawn_behind : (front rest : List Effect) → drawn_in front ≡ [] → drawn_in rest ≡ drawn_in (front ++ rest)
 drawn_behind front rest none = ap (λ (ps : List Pair). ps ++ drawn_in rest) (sym none) ∙ sym (drawn_in-append front rest)
 
-pub reset_done : {R : Type 0} (stream : R → Stream) (old : Context R) (p : Peer old.state) (parameters : List ResetParameter) (w : HandledRequests) → WorkedAt old parameters w → (left : Option Transfer)
+pub reset_done : {R : Type 0} (stream : R → Stream) (old : Context R) (p : Peer old.state) (kept : Option PerformedReset) (parameters : List ResetParameter) (w : HandledRequests) → WorkedAt old parameters w → KeptSo old kept parameters w → (left : Option Transfer)
     → TreatsInQueues w.treatment (requested_in parameters) (transfer_of old.state) left
-    → (new : View R) → TakesPossibleTurn stream (FinishAt (held_now p.held w) w.is_refused parameters (reset_parameters w.responses.items)) (carried_view old w parameters left) new → TakesPossibleTurn stream (ReConfigAt parameters) (view_of old) new
-reset_done stream old p parameters w h left below new second =
+    → (new : View R) → TakesPossibleTurn stream (FinishAt (held_now p.held w) w.is_refused parameters (reset_parameters w.responses.items)) (carried_view old kept w parameters left) new → TakesPossibleTurn stream (ReConfigAt parameters) (view_of old) new
+reset_done stream old p kept parameters w h so left below new second =
     let told : List (Event Emission) = told_by old w parameters in
     record {
       outcome = all_of (h.effects p.my p.held) told second.outcome;
-      turn = turn_by old p parameters w h left second.outcome below second.turn;
+      turn = turn_by old p kept parameters w h left second.outcome so below second.turn;
       moves = moves_noting stream (view_of old) new (h.effects p.my p.held) (behind [] told second.outcome) (drawn_behind (h.effects p.my p.held) second.outcome.effects (h.treats p.my p.held).drawn)
-          (moves_behind stream (view_of old) (carried_view old w parameters left) new [] told second.outcome (adds_told old p parameters w h left)
+          (moves_behind stream (view_of old) (carried_view old kept w parameters left) new [] told second.outcome (adds_told old p kept parameters w h left)
           (record { words = sym (append-nil (view_of old).words); pairs = refl; drawn = refl }) second.moves);
     }
 
-pub reset_cut : {R : Type 0} (old : Context R) (p : Peer old.state) (parameters : List ResetParameter) (w : HandledRequests) → WorkedAt old parameters w → (left : Option Transfer)
+pub reset_cut : {R : Type 0} (old : Context R) (p : Peer old.state) (kept : Option PerformedReset) (parameters : List ResetParameter) (w : HandledRequests) → WorkedAt old parameters w → KeptSo old kept parameters w → (left : Option Transfer)
     → TreatsInQueues w.treatment (requested_in parameters) (transfer_of old.state) left
-    → (events : List (Event (List ℕ))) → CutIn (FinishAt (held_now p.held w) w.is_refused parameters (reset_parameters w.responses.items)) (carried_view old w parameters left) events
+    → (events : List (Event (List ℕ))) → CutIn (FinishAt (held_now p.held w) w.is_refused parameters (reset_parameters w.responses.items)) (carried_view old kept w parameters left) events
     → CutIn (ReConfigAt parameters) (view_of old) events
-reset_cut old p parameters w h left below events second =
+reset_cut old p kept parameters w h so left below events second =
     let told : List (Event Emission) = told_by old w parameters in
     record {
       outcome = all_of (h.effects p.my p.held) told second.outcome;
-      turn = turn_by old p parameters w h left second.outcome below second.turn;
+      turn = turn_by old p kept parameters w h left second.outcome so below second.turn;
       cut = cut_noting (view_of old) (h.effects p.my p.held) (behind [] told second.outcome) events
-          (cut_behind (view_of old) (carried_view old w parameters left) [] told second.outcome events (adds_told old p parameters w h left) second.cut);
+          (cut_behind (view_of old) (carried_view old kept w parameters left) [] told second.outcome events (adds_told old p kept parameters w h left) second.cut);
     }
 
 -- by whether an allocation failed
-pub reset_by : {R E : Type 0} (stream : R → Stream) (old mid : Context R) (p : Peer old.state) (parameters : List ResetParameter) (w : HandledRequests) → WorkedAt old parameters w → (left : Option Transfer)
-    → TreatsInQueues w.treatment (requested_in parameters) (transfer_of old.state) left → view_of mid ≡ carried_view old w parameters left → (result : Result (Unit {0}) E) (new : Context R)
+pub reset_by : {R E : Type 0} (stream : R → Stream) (old mid : Context R) (p : Peer old.state) (kept : Option PerformedReset) (parameters : List ResetParameter) (w : HandledRequests) → WorkedAt old parameters w → KeptSo old kept parameters w → (left : Option Transfer)
+    → TreatsInQueues w.treatment (requested_in parameters) (transfer_of old.state) left → view_of mid ≡ carried_view old kept w parameters left → (result : Result (Unit {0}) E) (new : Context R)
     → TakesOne stream (FinishAt (held_now p.held w) w.is_refused parameters (reset_parameters w.responses.items)) mid result new → TakesOne stream (ReConfigAt parameters) old result new
-reset_by {R = R} stream old mid p parameters w h left below here (Ok done) new second =
-    reset_done stream old p parameters w h left below (view_of new)
+reset_by {R = R} stream old mid p kept parameters w h so left below here (Ok done) new second =
+    reset_done stream old p kept parameters w h so left below (view_of new)
     (subst (λ (v : View R). TakesPossibleTurn stream (FinishAt (held_now p.held w) w.is_refused parameters (reset_parameters w.responses.items)) v (view_of new)) here second)
-reset_by {R = R} stream old mid p parameters w h left below here (Err fault) new second =
-    reset_cut old p parameters w h left below (view_of new).events
+reset_by {R = R} stream old mid p kept parameters w h so left below here (Err fault) new second =
+    reset_cut old p kept parameters w h so left below (view_of new).events
     (subst (λ (v : View R). CutIn (FinishAt (held_now p.held w) w.is_refused parameters (reset_parameters w.responses.items)) v (view_of new).events) here second)
 
+-- the view with the last request, from the context with what may be renewed
+pub asked_from : {R : Type 0} (old mid asked : Context R) (kept : Option PerformedReset) (last : LastRequest) → view_of mid ≡ view_of (record old { renewable = kept }) → view_of asked ≡ asked_at last (view_of mid)
+    → view_of asked ≡ asked_at last (view_of (record old { renewable = kept }))
+asked_from {R = R} old mid asked kept last is here = here ∙ ap (λ (v : View R). asked_at last v) is
+
+-- what the code has found of the request
+pub kept_so : {R : Type 0} (old : Context R) (kept : Option PerformedReset) (tcb : TransmissionControlBlock) (parameters : List ResetParameter) (w : HandledRequests) (request : Option OutgoingSsnResetRequestParameter) → Some tcb ≡ tcb_of old.state
+    → option_map asked_number request ≡ request_number_in parameters → option_map wanted_by request ≡ requested_in parameters
+    → performed_reset kept ≡ kept_after (endpoint_of old) tcb.last_processed_req_seq_nbr (option_map asked_number request) (option_map wanted_by request) (is_performed w.treatment) → KeptSo old kept parameters w
+kept_so old kept tcb parameters w request holds number wanted is =
+    is
+    ∙ ap (λ (n : Option ℕ). kept_after (endpoint_of old) tcb.last_processed_req_seq_nbr n (option_map wanted_by request) (is_performed w.treatment)) number
+    ∙ ap (λ (r : Option RequestedReset). kept_after (endpoint_of old) tcb.last_processed_req_seq_nbr (request_number_in parameters) r (is_performed w.treatment)) wanted
+    ∙ ap (λ (found : Option TransmissionControlBlock). kept_after (endpoint_of old) (last_of found).number (request_number_in parameters) (requested_in parameters) (is_performed w.treatment)) holds
+
+-- nothing is performed
+pub as_was : {R : Type 0} (old : Context R) (last : ℕ) (request : Option OutgoingSsnResetRequestParameter) (treatment : Treatment) → is_performed treatment ≡ false
+    → (kept : Option PerformedReset) × (performed_reset kept ≡ kept_after (endpoint_of old) last (option_map asked_number request) (option_map wanted_by request) (is_performed treatment))
+    × (view_of old ≡ view_of (record old { renewable = kept }))
+as_was old last request Nothing none = (old.renewable, refl, refl)
+as_was old last request Deferred none = (old.renewable, refl, refl)
+as_was old last request Performed none = absurd (cc)
+as_was old last request Renewed none = absurd (cc)
+
 -- There still is a peer.
-pub still_held : {R : Type 0} (old mid : Context R) (p : Peer old.state) (w : HandledRequests) (parameters : List ResetParameter) (left : Option Transfer) → WorkedAt old parameters w
-    → view_of mid ≡ carried_view old w parameters left → held_in (core_of mid.state) ≡ Some (held_now p.held w)
-still_held {R = R} old mid p w parameters left h here =
+pub still_held : {R : Type 0} (old mid : Context R) (p : Peer old.state) (kept : Option PerformedReset) (w : HandledRequests) (parameters : List ResetParameter) (left : Option Transfer) → WorkedAt old parameters w
+    → view_of mid ≡ carried_view old kept w parameters left → held_in (core_of mid.state) ≡ Some (held_now p.held w)
+still_held {R = R} old mid p kept w parameters left h here =
     ap (λ (v : View R). held_in v.endpoint.core) here ∙ ap held_in (core_by old p parameters w h) ∙ p.keeps (held_now p.held w)
 
 -- answers in memory, where there are some
@@ -645,10 +707,10 @@ some_said [] some = absurd (cc)
 some_said (response ∷ responses) some = refl
 
 -- both requests were treated, after the numbers
-pub carried_so : {R : Type 0} (old asked mid : Context R) (w : HandledRequests) (reset : Option RequestedReset) (parameters : List ResetParameter) → view_of asked ≡ asked_at w.last (view_of old)
+pub carried_so : {R : Type 0} (old asked mid : Context R) (kept : Option PerformedReset) (w : HandledRequests) (reset : Option RequestedReset) (parameters : List ResetParameter) → view_of asked ≡ asked_at w.last (view_of (record old { renewable = kept }))
     → reset ≡ requested_in parameters → CarriedAs w reset asked (view_of mid)
-    → (left : Option Transfer) × TreatsInQueues w.treatment (requested_in parameters) (transfer_of old.state) left × (view_of mid ≡ carried_view old w parameters left)
-carried_so {R = R} old asked mid w reset parameters here wanted h =
+    → (left : Option Transfer) × TreatsInQueues w.treatment (requested_in parameters) (transfer_of old.state) left × (view_of mid ≡ carried_view old kept w parameters left)
+carried_so {R = R} old asked mid kept w reset parameters here wanted h =
     let below : transfer_of asked.state ≡ transfer_of old.state = ap (λ (v : View R). v.endpoint.queues.transfer) here in
     let told : Option RequestedReset → List (Event (List ℕ)) = λ r. both_reset_events w.is_own_first w.own w.treatment r (own_streams (outstanding_of old.state)) in (
       h.0,
@@ -656,7 +718,7 @@ carried_so {R = R} old asked mid w reset parameters here wanted h =
           (subst (λ (f : Option Transfer). TreatsInQueues w.treatment reset f h.0) below h.1),
       h.2
           ∙ ap (λ (v : View R). left_at (request_settled_at (own_kind w.own) v) h.0 (both_reset_events w.is_own_first w.own w.treatment reset (own_streams v.endpoint.outstanding))) here
-          ∙ ap (λ (r : Option RequestedReset). left_at (request_settled_at (own_kind w.own) (asked_at w.last (view_of old))) h.0 (told r)) wanted,
+          ∙ ap (λ (r : Option RequestedReset). left_at (request_settled_at (own_kind w.own) (asked_at w.last (view_of (record old { renewable = kept })))) h.0 (told r)) wanted,
     )
 
 -- The user's events of both come first.
@@ -664,16 +726,16 @@ told_first : (e : Endpoint) (my : Pair) (held : Held) (parameters : List ResetPa
     → (more : List (Event Emission)) × (o.events ≡ reset_events_of e parameters (parameters_handled_in e my held parameters).effects ++ more)
 told_first e my held parameters o h =
     let w : HandledParameters = parameters_handled_in e my held parameters in
-    let there : Endpoint = resets_handled e (answered_in held w parameters) w.held h.left in (
+    let there : Endpoint = resets_handled e (answered_in held w parameters) w.held h.left (renewable_left e held w parameters) in (
       (responses_by w.is_refused there [] w.held parameters w.answers h.answers).events,
       ap (λ (x : Outcome). x.events) h.is ∙ ap (λ (x : Outcome). x.events) (responses_behind w.is_refused there (reset_events_of e parameters w.effects) w.held parameters w.answers h.answers),
     )
 
 -- If it was cut before both were reported, the first part of their events was added.
-pub carried_cut : {R : Type 0} (old asked mid : Context R) (p : Peer old.state) (w : HandledRequests) (reset : Option RequestedReset) (parameters : List ResetParameter) → WorkedAt old parameters w
-    → view_of asked ≡ asked_at w.last (view_of old) → reset ≡ requested_in parameters → (count : ℕ) × ((view_of mid).events ≡ (view_of asked).events ++ take count (handled_reset_events w reset asked))
+pub carried_cut : {R : Type 0} (old asked mid : Context R) (p : Peer old.state) (kept : Option PerformedReset) (w : HandledRequests) (reset : Option RequestedReset) (parameters : List ResetParameter) → WorkedAt old parameters w
+    → view_of asked ≡ asked_at w.last (view_of (record old { renewable = kept })) → reset ≡ requested_in parameters → (count : ℕ) × ((view_of mid).events ≡ (view_of asked).events ++ take count (handled_reset_events w reset asked))
     → CutIn (ReConfigAt parameters) (view_of old) (view_of mid).events
-carried_cut {R = R} old asked mid p w reset parameters h here wanted cut =
+carried_cut {R = R} old asked mid p kept w reset parameters h here wanted cut =
     let e : Endpoint = endpoint_of old in
     let worked : HandledParameters = parameters_handled_in e p.my p.held parameters in
     let any = any_turn e p.my p.held parameters in

@@ -11,13 +11,13 @@ use Rattle.dcsctp_core.specs.types.declared.association.Pair.{Pair}
 use Rattle.dcsctp_core.specs.types.declared.association.Held.{Held}
 use Rattle.dcsctp_core.specs.spec.endpoint.Event.{Event, streams_reset_performed}
 use Rattle.dcsctp_core.specs.spec.Packet.{Emission}
-use Rattle.dcsctp_core.specs.spec.Reconfiguration.{RequestedReset, ResetParameter, outgoing_reset_request, incoming_reset_request, reconfiguration_response, other_reset_parameter, reset_parameter_content, reset_parameter_in}
-use Rattle.dcsctp_core.specs.spec.association.Effect.{Effect, draws, sends, holds, connects, ends, begins, gives_up, completes, fails, accepts, performs, resumes, drawn_in}
+use Rattle.dcsctp_core.specs.spec.Reconfiguration.{RequestState, RequestedReset, ResetParameter, outgoing_reset_request, incoming_reset_request, reconfiguration_response, other_reset_parameter, reset_parameter_content, reset_parameter_in}
+use Rattle.dcsctp_core.specs.spec.association.Effect.{Effect, draws, sends, holds, connects, ends, begins, gives_up, completes, fails, accepts, performs, renews, resumes, drawn_in}
 use Rattle.dcsctp_core.specs.spec.association.ResetChanges.{RequestPlace, again, next, astray, request_place, RequestOutcome, accepted_request, outgoing_by, incoming_by, Informed, is_outstanding, informed_where, HandledParameters, after_request, after_answer, work_parameters, work_chunk, informed_by}
 use Rattle.dcsctp_core.specs.spec.endpoint.FlushOutcomes.{is_none}
 use Rattle.dcsctp_core.specs.spec.endpoint.ResetOutcomes.{has_reset, answers_in_progress, reset_events, handled_part, is_in_progress, own_answer, in_progress_among, has_completed}
 use Rattle.dcsctp_core_resets.specs.declared.requests.Treatment.{Treatment}
-use Rattle.dcsctp_core_resets.specs.declared.requests.Treatment.TheVariants.{Nothing, Deferred, Performed}
+use Rattle.dcsctp_core_resets.specs.declared.requests.Treatment.TheVariants.{Nothing, Deferred, Performed, Renewed}
 use Rattle.dcsctp_core_resets.specs.declared.requests.LastRequest.{LastRequest}
 use Rattle.dcsctp_core_resets.specs.declared.requests.AnsweredRequest.{AnsweredRequest}
 use Rattle.dcsctp_core_resets.specs.declared.requests.HandledRequests.{HandledRequests}
@@ -42,6 +42,7 @@ resets_of false second = second
 pub has_both : (front rest : List Effect) → has_reset (front ++ rest) ≡ resets_of (has_reset front) (has_reset rest)
 has_both [] rest = refl
 has_both (performs peer number ∷ front) rest = refl
+has_both (renews peer number ∷ front) rest = refl
 has_both (accepts number ∷ front) rest = has_both front rest
 has_both (draws pair ∷ front) rest = has_both front rest
 has_both (sends packet ∷ front) rest = has_both front rest
@@ -73,6 +74,7 @@ told_both theirs own [] rest = refl
 told_both theirs own (performs peer number ∷ front) rest = ap (λ (es : List (Event Emission)). reset_events theirs own (performs peer number ∷ []) ++ es) (told_both theirs own front rest)
 told_both theirs own (completes my number ∷ front) rest = ap (λ (es : List (Event Emission)). reset_events theirs own (completes my number ∷ []) ++ es) (told_both theirs own front rest)
 told_both theirs own (fails number ∷ front) rest = ap (λ (es : List (Event Emission)). reset_events theirs own (fails number ∷ []) ++ es) (told_both theirs own front rest)
+told_both theirs own (renews peer number ∷ front) rest = told_both theirs own front rest
 told_both theirs own (accepts number ∷ front) rest = told_both theirs own front rest
 told_both theirs own (draws pair ∷ front) rest = told_both theirs own front rest
 told_both theirs own (sends packet ∷ front) rest = told_both theirs own front rest
@@ -87,6 +89,7 @@ drawn_both : (front rest : List Effect) → drawn_in front ≡ [] → drawn_in r
 drawn_both [] rest none more = more
 drawn_both (draws pair ∷ front) rest none more = absurd (cc)
 drawn_both (performs peer number ∷ front) rest none more = drawn_both front rest none more
+drawn_both (renews peer number ∷ front) rest none more = drawn_both front rest none more
 drawn_both (accepts number ∷ front) rest none more = drawn_both front rest none more
 drawn_both (sends packet ∷ front) rest none more = drawn_both front rest none more
 drawn_both (holds link ∷ front) rest none more = drawn_both front rest none more
@@ -133,12 +136,12 @@ or_one true = refl
 or_one false = refl
 
 -- one that brings nothing
-rests_one : (reached : Bool) (parameter : ResetParameter) (w : HandledRequests)
+rests_one : (state : RequestState) (parameter : ResetParameter) (w : HandledRequests)
     → in_progress_among w.outstanding (parameter ∷ []) ≡ false → is_outgoing parameter ≡ false
     → ((my : Pair) (base : Held) (rest : List ResetParameter)
-    → work_parameters my reached w.has_worked (held_now base w) (parameter ∷ rest) ≡ work_parameters my reached w.has_worked (held_now base w) rest)
-    → HandlesParameter reached parameter w w
-rests_one reached parameter w other requests whole =
+    → work_parameters my state w.has_worked (held_now base w) (parameter ∷ rest) ≡ work_parameters my state w.has_worked (held_now base w) rest)
+    → HandlesParameter state parameter w w
+rests_one state parameter w other requests whole =
     record {
       effects = λ my base. [];
       responses = [];
@@ -162,8 +165,8 @@ incoming_answers : (outstanding : Option ℕ) (number : ℕ) (streams : List ℕ
 incoming_answers None number streams = refl
 incoming_answers (Some own) number streams = refl
 
-pub other_one : (reached : Bool) (parameter : ParameterContent) (w : HandledRequests) → HandlesParameter reached (other_reset_parameter parameter) w w
-other_one reached parameter w = rests_one reached (other_reset_parameter parameter) w (other_answers w.outstanding parameter) refl (λ my base rest. refl)
+pub other_one : (state : RequestState) (parameter : ParameterContent) (w : HandledRequests) → HandlesParameter state (other_reset_parameter parameter) w w
+other_one state parameter w = rests_one state (other_reset_parameter parameter) w (other_answers w.outstanding parameter) refl (λ my base rest. refl)
 
 -- A response to another request says nothing.
 or_false : (b : Bool) → b ≡ false → (b || false) ≡ false
@@ -189,16 +192,16 @@ own_is : (outstanding : Option ℕ) (number : ℕ) → is_outstanding number out
 own_is None number is = absurd (cc)
 own_is (Some own) number is = ap (λ (n : ℕ). Some n) (let same : own ≡ number = grind (arith, nat_tests) in same)
 
-response_whole : (result : ReconfigurationResponseResult) (my : Pair) (reached : Bool) (number : ℕ) (w : HandledRequests) (base : Held) (rest : List ResetParameter)
-    → after_answer (informed_by my (held_now base w) number result) (work_parameters my reached w.has_worked (informed_by my (held_now base w) number result).held rest)
-    ≡ behind_these (informed_by my (held_now base w) number result).effects [] (work_parameters my reached (with_result result w).has_worked (held_now base (with_result result w)) rest)
-response_whole SuccessNothingToDo my reached number w base rest = refl
-response_whole SuccessPerformed my reached number w base rest = refl
-response_whole Denied my reached number w base rest = refl
-response_whole ErrorWrongSSN my reached number w base rest = refl
-response_whole ErrorRequestAlreadyInProgress my reached number w base rest = refl
-response_whole ErrorBadSequenceNumber my reached number w base rest = refl
-response_whole InProgress my reached number w base rest = refl
+response_whole : (result : ReconfigurationResponseResult) (my : Pair) (state : RequestState) (number : ℕ) (w : HandledRequests) (base : Held) (rest : List ResetParameter)
+    → after_answer (informed_by my (held_now base w) number result) (work_parameters my state w.has_worked (informed_by my (held_now base w) number result).held rest)
+    ≡ behind_these (informed_by my (held_now base w) number result).effects [] (work_parameters my state (with_result result w).has_worked (held_now base (with_result result w)) rest)
+response_whole SuccessNothingToDo my state number w base rest = refl
+response_whole SuccessPerformed my state number w base rest = refl
+response_whole Denied my state number w base rest = refl
+response_whole ErrorWrongSSN my state number w base rest = refl
+response_whole ErrorRequestAlreadyInProgress my state number w base rest = refl
+response_whole ErrorBadSequenceNumber my state number w base rest = refl
+response_whole InProgress my state number w base rest = refl
 
 result_keeps : (result : ReconfigurationResponseResult) (w : HandledRequests) → ((with_result result w).responses ≡ w.responses) × ((with_result result w).is_refused ≡ w.is_refused)
 result_keeps SuccessNothingToDo w = (refl, refl)
@@ -218,12 +221,12 @@ result_has ErrorRequestAlreadyInProgress w = refl
 result_has ErrorBadSequenceNumber w = refl
 result_has InProgress w = refl
 
-response_by : (b : Bool) (reached : Bool) (number : ℕ) (result : ReconfigurationResponseResult) (w : HandledRequests) → is_outstanding number w.outstanding ≡ b
-    → HandlesParameter reached (reconfiguration_response number result) w (with_response b result w)
-response_by false reached number result w is =
-    rests_one reached (reconfiguration_response number result) w (another_answers w.outstanding number result is) refl
-    (λ my base rest. ap (λ (b : Bool). let first : Informed = informed_where my (held_now base w) number result b in after_answer first (work_parameters my reached w.has_worked first.held rest)) is)
-response_by true reached number result w is =
+response_by : (b : Bool) (state : RequestState) (number : ℕ) (result : ReconfigurationResponseResult) (w : HandledRequests) → is_outstanding number w.outstanding ≡ b
+    → HandlesParameter state (reconfiguration_response number result) w (with_response b result w)
+response_by false state number result w is =
+    rests_one state (reconfiguration_response number result) w (another_answers w.outstanding number result is) refl
+    (λ my base rest. ap (λ (b : Bool). let first : Informed = informed_where my (held_now base w) number result b in after_answer first (work_parameters my state w.has_worked first.held rest)) is)
+response_by true state number result w is =
     record {
       effects = λ my base. (informed_by my (held_now base w) number result).effects;
       responses = [];
@@ -233,14 +236,14 @@ response_by true reached number result w is =
       has = result_has result w ∙ or_not w.has_worked false refl;
       brings = brings_answer number result refl (own_is w.outstanding number is) refl (λ my base. refl) refl;
       whole = λ my base rest.
-          ap (λ (b : Bool). let first : Informed = informed_where my (held_now base w) number result b in after_answer first (work_parameters my reached w.has_worked first.held rest)) is
-          ∙ response_whole result my reached number w base rest;
+          ap (λ (b : Bool). let first : Informed = informed_where my (held_now base w) number result b in after_answer first (work_parameters my state w.has_worked first.held rest)) is
+          ∙ response_whole result my state number w base rest;
     }
 
-pub response_one : (reached : Bool) (number : ℕ) (result : ReconfigurationResponseResult) (w new : HandledRequests) → new ≡ with_response (is_outstanding number w.outstanding) result w
-    → HandlesParameter reached (reconfiguration_response number result) w new
-response_one reached number result w new is =
-    subst (HandlesParameter reached (reconfiguration_response number result) w) (sym is) (response_by (is_outstanding number w.outstanding) reached number result w refl)
+pub response_one : (state : RequestState) (number : ℕ) (result : ReconfigurationResponseResult) (w new : HandledRequests) → new ≡ with_response (is_outstanding number w.outstanding) result w
+    → HandlesParameter state (reconfiguration_response number result) w new
+response_one state number result w new is =
+    subst (HandlesParameter state (reconfiguration_response number result) w) (sym is) (response_by (is_outstanding number w.outstanding) state number result w refl)
 
 one_response : (number : ℕ) (answer : ReconfigurationResponseResult) (old new : HandledRequests) (h : Responds number answer old new) → AreResponses (h.response ∷ [])
 one_response number answer old new h =
@@ -252,21 +255,21 @@ response_says : (number : ℕ) (answer : ReconfigurationResponseResult) (old new
 response_says number answer old new h = ap (λ (c : ParameterContent). reset_parameter_in c ∷ []) h.says
 
 -- a request that was answered, and what comes after it
-answered_then : (my : Pair) (reached has : Bool) (base : Held) (number : ℕ) (a : AnsweredRequest) (first : RequestOutcome) (responses : List ResetParameter) (rest : List ResetParameter)
+answered_then : (my : Pair) (state : RequestState) (has : Bool) (base : Held) (number : ℕ) (a : AnsweredRequest) (first : RequestOutcome) (responses : List ResetParameter) (rest : List ResetParameter)
     → AnswersAs base a first → responses ≡ reconfiguration_response number a.result ∷ []
-    → after_request number first (work_parameters my reached has first.held rest) ≡ behind_these first.effects responses (work_parameters my reached has (held_with base a.last) rest)
-answered_then my reached has base number a first responses rest h says =
-    ap (λ (held : Held). after_request number first (work_parameters my reached has held rest)) h.held
-    ∙ ap (λ (result : ReconfigurationResponseResult). behind_these first.effects (reconfiguration_response number result ∷ []) (work_parameters my reached has (held_with base a.last) rest)) h.result
-    ∙ ap (λ (rs : List ResetParameter). behind_these first.effects rs (work_parameters my reached has (held_with base a.last) rest)) (sym says)
+    → after_request number first (work_parameters my state has first.held rest) ≡ behind_these first.effects responses (work_parameters my state has (held_with base a.last) rest)
+answered_then my state has base number a first responses rest h says =
+    ap (λ (held : Held). after_request number first (work_parameters my state has held rest)) h.held
+    ∙ ap (λ (result : ReconfigurationResponseResult). behind_these first.effects (reconfiguration_response number result ∷ []) (work_parameters my state has (held_with base a.last) rest)) h.result
+    ∙ ap (λ (rs : List ResetParameter). behind_these first.effects rs (work_parameters my state has (held_with base a.last) rest)) (sym says)
 
-pub outgoing_one : (reached : Bool) (number answered : ℕ) (reset : RequestedReset) (old between new : HandledRequests) (a : AnsweredRequest) → old.has_worked ≡ false
-    → ((base : Held) → AnswersAs base a (outgoing_by (held_with base old.last) number reached (request_place old.last.number number)))
+pub outgoing_one : (state : RequestState) (number answered : ℕ) (reset : RequestedReset) (old between new : HandledRequests) (a : AnsweredRequest) → old.has_worked ≡ false
+    → ((base : Held) → AnswersAs base a (outgoing_by (held_with base old.last) number state (request_place old.last.number number)))
     → Responds number a.result old between → new.responses ≡ between.responses → new.last ≡ a.last → new.treatment ≡ a.treatment → new.has_worked ≡ true → SameOwn between new → new.is_refused ≡ between.is_refused
-    → HandlesParameter reached (outgoing_reset_request number answered reset) old new
-outgoing_one reached number answered reset old between new a fresh answers h responses last treatment has own refused =
+    → HandlesParameter state (outgoing_reset_request number answered reset) old new
+outgoing_one state number answered reset old between new a fresh answers h responses last treatment has own refused =
     let after : Held → Held = held_out old.outstanding in
-    let first : Held → RequestOutcome = λ base. outgoing_by (held_with (after base) old.last) number reached (request_place old.last.number number) in
+    let first : Held → RequestOutcome = λ base. outgoing_by (held_with (after base) old.last) number state (request_place old.last.number number) in
     let same : SameOwn old new = own_then old between new h.own own in
     record {
       effects = λ my base. (first base).effects;
@@ -280,11 +283,11 @@ outgoing_one reached number answered reset old between new a fresh answers h res
           (subst (IsTreatment a.treatment (first base).effects) (sym (response_says number a.result old between h)) ((answers (after base)).treats number)))
           (outgoing_answers old.outstanding number answered reset);
       whole = λ my base rest.
-          ap (λ (b : Bool). work_parameters my reached b (held_with (after base) old.last) (outgoing_reset_request number answered reset ∷ rest)) fresh
-          ∙ answered_then my reached true (after base) number a (first base) (reset_parameters (h.response ∷ [])) rest (answers (after base)) (response_says number a.result old between h)
-          ∙ ap (λ (b : Bool). behind_these (first base).effects (reset_parameters (h.response ∷ [])) (work_parameters my reached b (held_with (after base) a.last) rest)) (sym has)
-          ∙ ap (λ (l : LastRequest). behind_these (first base).effects (reset_parameters (h.response ∷ [])) (work_parameters my reached new.has_worked (held_with (after base) l) rest)) (sym last)
-          ∙ ap (λ (o : Option ℕ). behind_these (first base).effects (reset_parameters (h.response ∷ [])) (work_parameters my reached new.has_worked (held_out o (held_with base new.last)) rest)) (sym same.outstanding);
+          ap (λ (b : Bool). work_parameters my state b (held_with (after base) old.last) (outgoing_reset_request number answered reset ∷ rest)) fresh
+          ∙ answered_then my state true (after base) number a (first base) (reset_parameters (h.response ∷ [])) rest (answers (after base)) (response_says number a.result old between h)
+          ∙ ap (λ (b : Bool). behind_these (first base).effects (reset_parameters (h.response ∷ [])) (work_parameters my state b (held_with (after base) a.last) rest)) (sym has)
+          ∙ ap (λ (l : LastRequest). behind_these (first base).effects (reset_parameters (h.response ∷ [])) (work_parameters my state new.has_worked (held_with (after base) l) rest)) (sym last)
+          ∙ ap (λ (o : Option ℕ). behind_these (first base).effects (reset_parameters (h.response ∷ [])) (work_parameters my state new.has_worked (held_out o (held_with base new.last)) rest)) (sym same.outstanding);
     }
 
 -- No stream is reset for an incoming request, and none is in progress.
@@ -294,11 +297,11 @@ incoming_treats held number again = record { has = refl; waits = refl; told = λ
 incoming_treats held number next = record { has = refl; waits = refl; told = λ theirs own. refl; drawn = refl }
 incoming_treats held number astray = record { has = refl; waits = refl; told = λ theirs own. refl; drawn = refl }
 
-pub incoming_one : (reached : Bool) (number : ℕ) (streams : List ℕ) (old between new : HandledRequests) (a : AnsweredRequest)
+pub incoming_one : (state : RequestState) (number : ℕ) (streams : List ℕ) (old between new : HandledRequests) (a : AnsweredRequest)
     → ((base : Held) → AnswersAs base a (incoming_by (held_with base old.last) number (request_place old.last.number number)))
     → Responds number a.result old between → new.responses ≡ between.responses → new.last ≡ a.last → new.treatment ≡ between.treatment → new.has_worked ≡ between.has_worked → SameOwn between new
-    → new.is_refused ≡ between.is_refused → HandlesParameter reached (incoming_reset_request number streams) old new
-incoming_one reached number streams old between new a answers h responses last treatment has own refused =
+    → new.is_refused ≡ between.is_refused → HandlesParameter state (incoming_reset_request number streams) old new
+incoming_one state number streams old between new a answers h responses last treatment has own refused =
     let after : Held → Held = held_out old.outstanding in
     let first : Held → RequestOutcome = λ base. incoming_by (held_with (after base) old.last) number (request_place old.last.number number) in
     let same : SameOwn old new = own_then old between new h.own own in
@@ -315,10 +318,10 @@ incoming_one reached number streams old between new a answers h responses last t
           (incoming_treats (held_with (after base) old.last) number (request_place old.last.number number)))
           (incoming_answers old.outstanding number streams);
       whole = λ my base rest.
-          answered_then my reached old.has_worked (after base) number a (first base) (reset_parameters (h.response ∷ [])) rest (answers (after base)) (response_says number a.result old between h)
-          ∙ ap (λ (b : Bool). behind_these (first base).effects (reset_parameters (h.response ∷ [])) (work_parameters my reached b (held_with (after base) a.last) rest)) (sym (has ∙ h.has_worked))
-          ∙ ap (λ (l : LastRequest). behind_these (first base).effects (reset_parameters (h.response ∷ [])) (work_parameters my reached new.has_worked (held_with (after base) l) rest)) (sym last)
-          ∙ ap (λ (o : Option ℕ). behind_these (first base).effects (reset_parameters (h.response ∷ [])) (work_parameters my reached new.has_worked (held_out o (held_with base new.last)) rest)) (sym same.outstanding);
+          answered_then my state old.has_worked (after base) number a (first base) (reset_parameters (h.response ∷ [])) rest (answers (after base)) (response_says number a.result old between h)
+          ∙ ap (λ (b : Bool). behind_these (first base).effects (reset_parameters (h.response ∷ [])) (work_parameters my state b (held_with (after base) a.last) rest)) (sym (has ∙ h.has_worked))
+          ∙ ap (λ (l : LastRequest). behind_these (first base).effects (reset_parameters (h.response ∷ [])) (work_parameters my state new.has_worked (held_with (after base) l) rest)) (sym last)
+          ∙ ap (λ (o : Option ℕ). behind_these (first base).effects (reset_parameters (h.response ∷ [])) (work_parameters my state new.has_worked (held_out o (held_with base new.last)) rest)) (sym same.outstanding);
     }
 
 -- The first outgoing request is handled.
@@ -345,7 +348,7 @@ pub data OwnStands (start : Option ℕ) (front : List ResetParameter) (w : Handl
   ended : (number : ℕ) → start ≡ Some number → w.outstanding ≡ None → has_ended w.own ≡ true → (w.is_own_first ≡ true) ⊎ (w.has_worked ≡ true) → OwnStands start front w
 
 -- What was made of these, whatever comes after them.
-pub record Progress (reached : Bool) (last : LastRequest) (start : Option ℕ) (front : List ResetParameter) (w : HandledRequests) : Type 0 where
+pub record Progress (state : RequestState) (last : LastRequest) (start : Option ℕ) (front : List ResetParameter) (w : HandledRequests) : Type 0 where
   pub effects : Pair → Held → List Effect
   pub are : AreResponses w.responses.items
   pub treats : (my : Pair) (base : Held) → TreatsBoth w (effects my base) (reset_parameters w.responses.items)
@@ -353,8 +356,8 @@ pub record Progress (reached : Bool) (last : LastRequest) (start : Option ℕ) (
   pub own : OwnStands start front w
   pub part : (rest : List ResetParameter) → handled_part false (front ++ rest) ≡ front ++ handled_part w.has_worked rest
   pub whole : (my : Pair) (base : Held) (rest : List ResetParameter)
-      → work_parameters my reached false (held_out start (held_with base last)) (front ++ rest)
-      ≡ behind_these (effects my base) (reset_parameters w.responses.items) (work_parameters my reached w.has_worked (held_now base w) rest)
+      → work_parameters my state false (held_out start (held_with base last)) (front ++ rest)
+      ≡ behind_these (effects my base) (reset_parameters w.responses.items) (work_parameters my state w.has_worked (held_now base w) rest)
 
 nothing_asked : (start : Option ℕ) → own_answer start start (in_progress_among start []) false ≡ outcomes.unanswered
 nothing_asked None = refl
@@ -365,9 +368,9 @@ abbrev pub begun : LastRequest → Option ℕ → Bool → HandledRequests → H
 begun last start refused w =
     record w { last = last; treatment = Nothing; has_worked = false; outstanding = start; own = own.Unanswered; is_own_first = false; is_refused = refused }
 
-pub none_so_far : (reached : Bool) (last : LastRequest) (start : Option ℕ) (refused : Bool) (w : HandledRequests) → w.responses.items ≡ [] → w ≡ begun last start refused w → Progress reached last start [] w
-none_so_far reached last start refused w none is =
-    subst (Progress reached last start []) (sym is)
+pub none_so_far : (state : RequestState) (last : LastRequest) (start : Option ℕ) (refused : Bool) (w : HandledRequests) → w.responses.items ≡ [] → w ≡ begun last start refused w → Progress state last start [] w
+none_so_far state last start refused w none is =
+    subst (Progress state last start []) (sym is)
     (record {
       effects = λ my base. [];
       are = ap (λ (ps : List Parameter). map reset_parameter_content (reset_parameters ps)) none ∙ ap (λ (ps : List Parameter). map parameter_content ps) (sym none);
@@ -376,7 +379,7 @@ none_so_far reached last start refused w none is =
       own = awaited refl (sym (nothing_asked start)) (λ streams. refl);
       part = λ rest. refl;
       whole = λ my base rest.
-          ap (λ (ps : List Parameter). behind_these [] (reset_parameters ps) (work_parameters my reached false (held_out start (held_with base last)) rest)) (sym none);
+          ap (λ (ps : List Parameter). behind_these [] (reset_parameters ps) (work_parameters my state false (held_out start (held_with base last)) rest)) (sym none);
     })
 
 said_append : (xs ys : List Parameter) → reset_parameters (xs ++ ys) ≡ reset_parameters xs ++ reset_parameters ys
@@ -621,10 +624,10 @@ none_yet true outgoing is = absurd (cc)
 none_yet false outgoing is = refl
 
 -- One more was handled.
-pub one_more : (reached : Bool) (last : LastRequest) (start : Option ℕ) (front : List ResetParameter) (parameter : ResetParameter) (old new : HandledRequests)
-    → (old.has_worked && is_outgoing parameter) ≡ false → Progress reached last start front old → HandlesParameter reached parameter old new
-    → Progress reached last start (front ++ parameter ∷ []) new
-one_more reached last start front parameter old new first done step =
+pub one_more : (state : RequestState) (last : LastRequest) (start : Option ℕ) (front : List ResetParameter) (parameter : ResetParameter) (old new : HandledRequests)
+    → (old.has_worked && is_outgoing parameter) ≡ false → Progress state last start front old → HandlesParameter state parameter old new
+    → Progress state last start (front ++ parameter ∷ []) new
+one_more state last start front parameter old new first done step =
     record {
       effects = λ my base. done.effects my base ++ step.effects my base;
       are = subst AreResponses (sym step.added) (both_responses old.responses.items step.responses done.are step.are);
@@ -639,11 +642,11 @@ one_more reached last start front parameter old new first done step =
           ∙ ap (λ (ps : List ResetParameter). front ++ ps) (part_one old.has_worked parameter new.has_worked rest first step.has)
           ∙ sym (append_assoc front (parameter ∷ []) (handled_part new.has_worked rest));
       whole = λ my base rest.
-          ap (λ (ps : List ResetParameter). work_parameters my reached false (held_out start (held_with base last)) ps) (append_assoc front (parameter ∷ []) rest)
+          ap (λ (ps : List ResetParameter). work_parameters my state false (held_out start (held_with base last)) ps) (append_assoc front (parameter ∷ []) rest)
           ∙ done.whole my base (parameter ∷ rest)
           ∙ ap (λ (w : HandledParameters). behind_these (done.effects my base) (reset_parameters old.responses.items) w) (step.whole my base rest)
-          ∙ behind_both (done.effects my base) (step.effects my base) (reset_parameters old.responses.items) (reset_parameters step.responses) (work_parameters my reached new.has_worked (held_now base new) rest)
-          ∙ ap (λ (ps : List ResetParameter). behind_these (done.effects my base ++ step.effects my base) ps (work_parameters my reached new.has_worked (held_now base new) rest))
+          ∙ behind_both (done.effects my base) (step.effects my base) (reset_parameters old.responses.items) (reset_parameters step.responses) (work_parameters my state new.has_worked (held_now base new) rest)
+          ∙ ap (λ (ps : List ResetParameter). behind_these (done.effects my base ++ step.effects my base) ps (work_parameters my state new.has_worked (held_now base new) rest))
           (sym (said_append old.responses.items step.responses) ∙ ap (λ (ps : List Parameter). reset_parameters ps) (sym step.added));
     }
 
@@ -692,9 +695,9 @@ left_at_end start front w (ended number is none kind first) = none ∙ ended_lef
 -- ---- a chunk
 
 -- a chunk that has a parameter
-chunk_of : (my : Pair) (reached : Bool) (held : Held) (parameters : List ResetParameter) → is_none parameters ≡ false → work_chunk my reached held parameters ≡ work_parameters my reached false held parameters
-chunk_of my reached held [] some = absurd (cc)
-chunk_of my reached held (parameter ∷ parameters) some = refl
+chunk_of : (my : Pair) (state : RequestState) (held : Held) (parameters : List ResetParameter) → is_none parameters ≡ false → work_chunk my state held parameters ≡ work_parameters my state false held parameters
+chunk_of my state held [] some = absurd (cc)
+chunk_of my state held (parameter ∷ parameters) some = refl
 
 -- its end
 bring_all : (es : List Effect) (rs : List ResetParameter) (held : Held) → behind_these es rs (record { held = held; effects = []; answers = []; is_refused = false }) ≡ record { held = held; effects = es; answers = rs; is_refused = false }
@@ -707,9 +710,9 @@ bring_refused es rs held =
     ap (λ (all : List Effect). record { held = held; effects = all; answers = rs ++ []; is_refused = true }) (append-nil es)
     ∙ ap (λ (all : List ResetParameter). record { held = held; effects = es; answers = all; is_refused = true }) (append-nil rs)
 
-pub all_worked : (reached : Bool) (last : LastRequest) (start : Option ℕ) (parameters : List ResetParameter) (w : HandledRequests) → Progress reached last start parameters w → is_none parameters ≡ false → w.is_refused ≡ false
-    → HandlesParameters reached last start parameters w
-all_worked reached last start parameters w done some taken =
+pub all_worked : (state : RequestState) (last : LastRequest) (start : Option ℕ) (parameters : List ResetParameter) (w : HandledRequests) → Progress state last start parameters w → is_none parameters ≡ false → w.is_refused ≡ false
+    → HandlesParameters state last start parameters w
+all_worked state last start parameters w done some taken =
     record {
       effects = done.effects;
       are = done.are;
@@ -717,8 +720,8 @@ all_worked reached last start parameters w done some taken =
       own = own_at_end start parameters w done.own ∙ ap (λ (ps : List ResetParameter). own_answer start w.outstanding (in_progress_among start ps) (is_completed w.own)) (sym (whole_part w.has_worked parameters (done.part [])));
       left = left_at_end start parameters w done.own;
       whole = λ my base.
-          chunk_of my reached (held_out start (held_with base last)) parameters some
-          ∙ ap (λ (ps : List ResetParameter). work_parameters my reached false (held_out start (held_with base last)) ps) (sym (append-nil parameters))
+          chunk_of my state (held_out start (held_with base last)) parameters some
+          ∙ ap (λ (ps : List ResetParameter). work_parameters my state false (held_out start (held_with base last)) ps) (sym (append-nil parameters))
           ∙ done.whole my base []
           ∙ bring_all (done.effects my base) (reset_parameters w.responses.items) (held_now base w)
           ∙ ap (λ (b : Bool). record { held = held_now base w; effects = done.effects my base; answers = reset_parameters w.responses.items; is_refused = b }) (sym taken);
@@ -729,13 +732,13 @@ all_worked reached last start parameters w done some taken =
     whole_part false ps is = ap (handled_part false) (sym (append-nil ps)) ∙ is ∙ append-nil ps
 
 -- A second outgoing request is an error.
-second_outgoing : (my : Pair) (reached has : Bool) (held : Held) (parameter : ResetParameter) (rest : List ResetParameter) → has ≡ true → is_outgoing parameter ≡ true
-    → work_parameters my reached has held (parameter ∷ rest) ≡ record { held = held; effects = []; answers = []; is_refused = true }
-second_outgoing my reached true held (outgoing_reset_request number answered reset) rest has is = refl
-second_outgoing my reached false held (outgoing_reset_request number answered reset) rest has is = absurd (cc)
-second_outgoing my reached has held (incoming_reset_request number streams) rest worked is = absurd (cc)
-second_outgoing my reached has held (reconfiguration_response number result) rest worked is = absurd (cc)
-second_outgoing my reached has held (other_reset_parameter parameter) rest worked is = absurd (cc)
+second_outgoing : (my : Pair) (state : RequestState) (has : Bool) (held : Held) (parameter : ResetParameter) (rest : List ResetParameter) → has ≡ true → is_outgoing parameter ≡ true
+    → work_parameters my state has held (parameter ∷ rest) ≡ record { held = held; effects = []; answers = []; is_refused = true }
+second_outgoing my state true held (outgoing_reset_request number answered reset) rest has is = refl
+second_outgoing my state false held (outgoing_reset_request number answered reset) rest has is = absurd (cc)
+second_outgoing my state has held (incoming_reset_request number streams) rest worked is = absurd (cc)
+second_outgoing my state has held (reconfiguration_response number result) rest worked is = absurd (cc)
+second_outgoing my state has held (other_reset_parameter parameter) rest worked is = absurd (cc)
 
 not_none : (front rest : List ResetParameter) (parameter : ResetParameter) → is_none (front ++ parameter ∷ rest) ≡ false
 not_none [] rest parameter = refl
@@ -748,10 +751,10 @@ second_part has (incoming_reset_request number streams) rest worked is = absurd 
 second_part has (reconfiguration_response number result) rest worked is = absurd (cc)
 second_part has (other_reset_parameter parameter) rest worked is = absurd (cc)
 
-pub second_worked : (reached : Bool) (last : LastRequest) (start : Option ℕ) (front rest : List ResetParameter) (parameter : ResetParameter) (w v : HandledRequests) → Progress reached last start front w → w.has_worked ≡ true
-    → is_outgoing parameter ≡ true → v ≡ record w { is_refused = true } → HandlesParameters reached last start (front ++ parameter ∷ rest) v
-second_worked reached last start front rest parameter w v done has is here =
-    subst (HandlesParameters reached last start (front ++ parameter ∷ rest)) (sym here)
+pub second_worked : (state : RequestState) (last : LastRequest) (start : Option ℕ) (front rest : List ResetParameter) (parameter : ResetParameter) (w v : HandledRequests) → Progress state last start front w → w.has_worked ≡ true
+    → is_outgoing parameter ≡ true → v ≡ record w { is_refused = true } → HandlesParameters state last start (front ++ parameter ∷ rest) v
+second_worked state last start front rest parameter w v done has is here =
+    subst (HandlesParameters state last start (front ++ parameter ∷ rest)) (sym here)
     (record {
       effects = done.effects;
       are = done.are;
@@ -761,15 +764,15 @@ second_worked reached last start front rest parameter w v done has is here =
           (sym (done.part (parameter ∷ rest) ∙ ap (λ (ps : List ResetParameter). front ++ ps) (second_part w.has_worked parameter rest has is) ∙ append-nil front));
       left = left_at_end start front w done.own;
       whole = λ my base.
-          chunk_of my reached (held_out start (held_with base last)) (front ++ parameter ∷ rest) (not_none front rest parameter)
+          chunk_of my state (held_out start (held_with base last)) (front ++ parameter ∷ rest) (not_none front rest parameter)
           ∙ done.whole my base (parameter ∷ rest)
-          ∙ ap (λ (after : HandledParameters). behind_these (done.effects my base) (reset_parameters w.responses.items) after) (second_outgoing my reached w.has_worked (held_now base w) parameter rest has is)
+          ∙ ap (λ (after : HandledParameters). behind_these (done.effects my base) (reset_parameters w.responses.items) after) (second_outgoing my state w.has_worked (held_now base w) parameter rest has is)
           ∙ bring_refused (done.effects my base) (reset_parameters w.responses.items) (held_now base w);
     })
 
 -- A chunk without parameters is an error too.
-pub none_worked : (reached : Bool) (last : LastRequest) (start : Option ℕ) (w : HandledRequests) → Progress reached last start [] w → w.is_refused ≡ true → HandlesParameters reached last start [] w
-none_worked reached last start w done refused =
+pub none_worked : (state : RequestState) (last : LastRequest) (start : Option ℕ) (w : HandledRequests) → Progress state last start [] w → w.is_refused ≡ true → HandlesParameters state last start [] w
+none_worked state last start w done refused =
     record {
       effects = done.effects;
       are = done.are;
@@ -795,6 +798,7 @@ completed_told theirs own [] = refl
 completed_told theirs own (completes my number ∷ es) = refl
 completed_told theirs own (fails number ∷ es) = completed_told theirs own es
 completed_told theirs own (performs peer number ∷ es) = completed_told theirs own es
+completed_told theirs own (renews peer number ∷ es) = completed_told theirs own es
 completed_told theirs own (accepts number ∷ es) = completed_told theirs own es
 completed_told theirs own (draws pair ∷ es) = completed_told theirs own es
 completed_told theirs own (sends packet ∷ es) = completed_told theirs own es
@@ -814,6 +818,7 @@ own_performed own.Failed streams = refl
 none_performed : (t : Treatment) (theirs : List ℕ) → performed_among (treated_events t theirs) ≡ false
 none_performed Performed theirs = refl
 none_performed Deferred theirs = refl
+none_performed Renewed theirs = refl
 none_performed Nothing theirs = refl
 
 so_performed : (b : Bool) (answer : OwnAnswer) (t : Treatment) (theirs streams : List ℕ) → performed_among (both_answer_events b answer t theirs streams) ≡ is_completed answer
@@ -823,6 +828,7 @@ so_performed true own.Performed t theirs streams = refl
 so_performed true own.Failed t theirs streams = none_performed t theirs
 so_performed false answer Performed theirs streams = own_performed answer streams
 so_performed false answer Deferred theirs streams = own_performed answer streams
+so_performed false answer Renewed theirs streams = own_performed answer streams
 so_performed false answer Nothing theirs streams = own_performed answer streams
 
 pub completed_is : (w : HandledRequests) (effects : List Effect) (answers : List ResetParameter) → TreatsBoth w effects answers → has_completed effects ≡ is_completed w.own
@@ -844,7 +850,7 @@ parameters_split parameters i d lt =
     ∙ ap (λ (ps : List ResetParameter). ps ++ after) (parameters_more parameters i d lt)
     ∙ append_assoc (reset_parameters (take i parameters)) (parameter_said (get_or parameters i d) ∷ []) after
 
-pub ends_worked : (reached : Bool) (last : LastRequest) (start : Option ℕ) (parameters : List Parameter) (w : HandledRequests) → Progress reached last start (reset_parameters parameters) w → w.is_refused ≡ nat_eq (length parameters) 0
-    → HandlesParameters reached last start (reset_parameters parameters) w
-ends_worked reached last start [] w done refused = none_worked reached last start w done refused
-ends_worked reached last start (parameter ∷ parameters) w done refused = all_worked reached last start (reset_parameters (parameter ∷ parameters)) w done refl (refused ∙ grind (arith, nat_tests))
+pub ends_worked : (state : RequestState) (last : LastRequest) (start : Option ℕ) (parameters : List Parameter) (w : HandledRequests) → Progress state last start (reset_parameters parameters) w → w.is_refused ≡ nat_eq (length parameters) 0
+    → HandlesParameters state last start (reset_parameters parameters) w
+ends_worked state last start [] w done refused = none_worked state last start w done refused
+ends_worked state last start (parameter ∷ parameters) w done refused = all_worked state last start (reset_parameters (parameter ∷ parameters)) w done refl (refused ∙ grind (arith, nat_tests))

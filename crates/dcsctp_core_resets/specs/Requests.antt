@@ -8,7 +8,7 @@ use Rattle.dcsctp_core.specs.types.declared.association.Pair.{Pair}
 use Rattle.dcsctp_core.specs.types.declared.association.Held.{Held}
 use Rattle.dcsctp_core.specs.spec.endpoint.Event.{Event, incoming_stream_reset, streams_reset_failed, streams_reset_performed}
 use Rattle.dcsctp_core.specs.spec.Packet.{Emission}
-use Rattle.dcsctp_core.specs.spec.Reconfiguration.{ResetParameter, outgoing_reset_request, reconfiguration_response, reset_parameter_content, reset_parameter_in}
+use Rattle.dcsctp_core.specs.spec.Reconfiguration.{RequestState, early, due, renewed, ResetParameter, outgoing_reset_request, reconfiguration_response, reset_parameter_content, reset_parameter_in}
 use Rattle.dcsctp_core.specs.spec.association.Effect.{Effect, drawn_in}
 use Rattle.dcsctp_core.specs.spec.association.ResetChanges.{RequestOutcome, with_last, informed_by, HandledParameters, work_parameters, work_chunk}
 use Rattle.dcsctp_core.specs.spec.association.ResetChanges as changes
@@ -17,7 +17,9 @@ use Rattle.dcsctp_core.specs.spec.endpoint.ResetOutcomes as outcomes
 use Rattle.dcsctp_core_resets.specs.declared.requests.Place.{Place}
 use Rattle.dcsctp_core_resets.specs.declared.requests.Place.TheVariants.{Again, Next, Astray}
 use Rattle.dcsctp_core_resets.specs.declared.requests.Treatment.{Treatment}
-use Rattle.dcsctp_core_resets.specs.declared.requests.Treatment.TheVariants.{Nothing, Deferred, Performed}
+use Rattle.dcsctp_core_resets.specs.declared.requests.Treatment.TheVariants.{Nothing, Deferred, Performed, Renewed}
+use Rattle.dcsctp_core_resets.specs.declared.requests.RequestState as code
+use Rattle.dcsctp_core_resets.specs.declared.requests.RequestState.TheVariants as code_states
 use Rattle.dcsctp_core_resets.specs.declared.requests.OwnAnswer.{OwnAnswer}
 use Rattle.dcsctp_core_resets.specs.declared.requests.OwnAnswer.TheVariants as own
 use Rattle.dcsctp_core_resets.specs.declared.requests.LastRequest.{LastRequest}
@@ -43,6 +45,11 @@ in_place Again = changes.again
 in_place Next = changes.next
 in_place Astray = changes.astray
 
+abbrev pub in_state : code.RequestState → RequestState
+in_state code_states.Early = early
+in_state code_states.Due = due
+in_state code_states.Renewed = renewed
+
 -- the association with this last request of the peer
 abbrev pub held_with : Held → LastRequest → Held
 held_with held last = with_last held last.number last.result
@@ -53,17 +60,20 @@ held_out outstanding held = record held { own_outstanding = outstanding }
 
 abbrev pub is_performed : Treatment → Bool
 is_performed Performed = true
+is_performed Renewed = true
 is_performed Deferred = false
 is_performed Nothing = false
 
 abbrev pub is_treatment_deferred : Treatment → Bool
 is_treatment_deferred Performed = false
+is_treatment_deferred Renewed = false
 is_treatment_deferred Deferred = true
 is_treatment_deferred Nothing = false
 
 -- the events for the user, if the peer wants these streams reset
 abbrev pub treated_events : Treatment → List ℕ → List (Event Emission)
 treated_events Performed theirs = incoming_stream_reset theirs ∷ []
+treated_events Renewed theirs = []
 treated_events Deferred theirs = []
 treated_events Nothing theirs = []
 
@@ -181,7 +191,7 @@ pub data Brings (parameter : ResetParameter) (old new : HandledRequests) (effect
       → ((my : Pair) (base : Held) → effects my base ≡ (informed_by my (held_now base old) number result).effects) → answers ≡ [] → Brings parameter old new effects answers
 
 -- A parameter was handled: whatever comes after it, the machine continues from what the code keeps.
-pub record HandlesParameter (reached : Bool) (parameter : ResetParameter) (old new : HandledRequests) : Type 0 where
+pub record HandlesParameter (state : RequestState) (parameter : ResetParameter) (old new : HandledRequests) : Type 0 where
   pub effects : Pair → Held → List Effect
   pub responses : List Parameter
   pub are : AreResponses responses
@@ -190,16 +200,16 @@ pub record HandlesParameter (reached : Bool) (parameter : ResetParameter) (old n
   pub has : new.has_worked ≡ (old.has_worked || is_outgoing parameter)
   pub brings : Brings parameter old new effects (reset_parameters responses)
   pub whole : (my : Pair) (base : Held) (rest : List ResetParameter)
-      → work_parameters my reached old.has_worked (held_now base old) (parameter ∷ rest)
-      ≡ behind_these (effects my base) (reset_parameters responses) (work_parameters my reached new.has_worked (held_now base new) rest)
+      → work_parameters my state old.has_worked (held_now base old) (parameter ∷ rest)
+      ≡ behind_these (effects my base) (reset_parameters responses) (work_parameters my state new.has_worked (held_now base new) rest)
 
 -- All were handled.
-pub record HandlesParameters (reached : Bool) (last : LastRequest) (outstanding : Option ℕ) (parameters : List ResetParameter) (worked : HandledRequests) : Type 0 where
+pub record HandlesParameters (state : RequestState) (last : LastRequest) (outstanding : Option ℕ) (parameters : List ResetParameter) (worked : HandledRequests) : Type 0 where
   pub effects : Pair → Held → List Effect
   pub are : AreResponses worked.responses.items
   pub treats : (my : Pair) (base : Held) → TreatsBoth worked (effects my base) (reset_parameters worked.responses.items)
   pub own : own_kind worked.own ≡ own_answer outstanding worked.outstanding (in_progress_among outstanding (handled_part false parameters)) (is_completed worked.own)
   pub left : worked.outstanding ≡ left_out (own_kind worked.own) outstanding
   pub whole : (my : Pair) (base : Held)
-      → work_chunk my reached (held_out outstanding (held_with base last)) parameters
+      → work_chunk my state (held_out outstanding (held_with base last)) parameters
       ≡ record { held = held_now base worked; effects = effects my base; answers = reset_parameters worked.responses.items; is_refused = worked.is_refused }

@@ -1,5 +1,6 @@
 -- What the handler of RE-CONFIG does, as turns of a socket's view (RFC 6525, section 5.2).
-use Rattle.std.specs.Prelude.{◌≡◌, ℕ, Bool, true, false, Option, None, Some, Result, List, [], ◌∷◌, ◌++◌, take, if◌then◌else◌}
+use Rattle.std.specs.Prelude.{◌≡◌, ◌&&◌, ℕ, Bool, true, false, Option, None, Some, Result, List, [], ◌∷◌, ◌++◌, take, if◌then◌else◌}
+use Rattle.std.specs.Option.{option_map}
 use Rattle.rand_core.specs.Stream.{Stream}
 use Rattle.dcsctp_core.specs.wire.declared.reconfiguration.OutgoingSsnResetRequestParameter.{OutgoingSsnResetRequestParameter}
 use Rattle.dcsctp_core.specs.wire.declared.reconfiguration.ReconfigurationResponseResult.TheVariants.{SuccessNothingToDo}
@@ -8,16 +9,17 @@ use Rattle.dcsctp_core.specs.types.declared.association.Held.{Held}
 use Rattle.dcsctp_core.specs.spec.endpoint.Event.{Event, incoming_stream_reset, streams_reset_failed, streams_reset_performed}
 use Rattle.dcsctp_core.specs.api.declared.events.SocketEvent.{SocketEvent}
 use Rattle.dcsctp_core.specs.api.Events.{event_content}
-use Rattle.dcsctp_core.specs.spec.Reconfiguration.{RequestedReset, ResetParameter, reset_streams_in}
+use Rattle.dcsctp_core.specs.spec.Reconfiguration.{RequestedReset, NumberedReset, RequestState, early, ResetParameter, reset_streams_in}
 use Rattle.dcsctp_core.specs.spec.queues.Transfer.{Transfer}
 use Rattle.dcsctp_core.specs.spec.endpoint.Endpoint.{Endpoint, Core, cookie_echoed, open_in, held_in}
 use Rattle.dcsctp_core.specs.spec.endpoint.Outcome.{Outcome, still}
 use Rattle.dcsctp_core.specs.spec.endpoint.FlushOutcomes.{Answer}
-use Rattle.dcsctp_core.specs.spec.endpoint.ResetOutcomes.{requested_in, is_request_reached, OwnAnswer, unanswered, retried, was_performed, has_failed, own_moved, own_streams, ResetsInQueues, defers_reset, responses_outcome, responses_by, ResponseAnswers, ResetTurn}
+use Rattle.dcsctp_core.specs.spec.endpoint.ResetOutcomes.{requested_in, request_number_in, is_renewal, state_by, renewable_by, is_request_reached, OwnAnswer, unanswered, retried, was_performed, has_failed, own_moved, own_streams, ResetsInQueues, defers_reset, responses_outcome, responses_by, ResponseAnswers, ResetTurn}
 use Rattle.dcsctp_core.specs.declared.state.State.{State}
 use Rattle.dcsctp_core.specs.declared.transmission_control_block.TransmissionControlBlock.{TransmissionControlBlock}
+use Rattle.dcsctp_core.specs.declared.transmission_control_block.PerformedReset.{PerformedReset}
 use Rattle.dcsctp_core.specs.declared.context.Context.{Context}
-use Rattle.dcsctp_core.specs.View.{View, core_of, request_number, own_request, outstanding_of, tcb_of, transfer_in, transfer_of, view_of}
+use Rattle.dcsctp_core.specs.View.{View, core_of, endpoint_of, performed_reset, request_number, own_request, outstanding_of, tcb_of, transfer_in, transfer_of, view_of}
 use Rattle.dcsctp_core.specs.Answering.{Retries}
 use Rattle.dcsctp_core.specs.Reconfiguring.{tcb_changed}
 use Rattle.dcsctp_core.specs.Handling.{TakesOne}
@@ -37,6 +39,10 @@ ReConfigAt parameters view o = ResetTurn view.endpoint view.endpoint.core parame
 abbrev pub wanted_by : OutgoingSsnResetRequestParameter → RequestedReset
 wanted_by request = record { last_tsn = request.sender_last_assigned_tsn; streams = reset_streams_in request.streams.now }
 
+-- its number
+abbrev pub asked_number : OutgoingSsnResetRequestParameter → ℕ
+asked_number request = request.request_seq_nbr
+
 -- ---- the last request
 
 -- that of the peer
@@ -47,9 +53,36 @@ last_of (Some tcb) = record { number = tcb.last_processed_req_seq_nbr; result = 
 abbrev pub last_in : State → LastRequest
 last_in state = last_of (tcb_of state)
 
+-- what an Outgoing SSN Reset Request finds, with the option or without, if this may be renewed
+abbrev pub state_for : Bool → Option NumberedReset → Option TransmissionControlBlock → Option ℕ → Option RequestedReset → RequestState
+state_for follows kept held number reset =
+    if is_request_reached (transfer_in held) reset then state_by (follows && is_renewal kept (last_of held).number number reset) else early
+
 -- What is made of the parameters of a RE-CONFIG, by the association.
-abbrev pub WorksFor : Option TransmissionControlBlock → List ResetParameter → HandledRequests → Type 0
-WorksFor held parameters worked = HandlesParameters (is_request_reached (transfer_in held) (requested_in parameters)) (last_of held) (request_number (own_request held)) parameters worked
+abbrev pub WorksFor : Bool → Option NumberedReset → Option TransmissionControlBlock → List ResetParameter → HandledRequests → Type 0
+WorksFor follows kept held parameters worked =
+    HandlesParameters (state_for follows kept held (request_number_in parameters) (requested_in parameters)) (last_of held) (request_number (own_request held)) parameters worked
+
+-- what may be renewed once a request was treated so, by the last number before
+abbrev pub kept_after : Endpoint → ℕ → Option ℕ → Option RequestedReset → Bool → Option NumberedReset
+kept_after e last number reset true = renewable_by e last number reset
+kept_after e last number reset false = e.renewable
+
+-- What may be renewed is recorded; or an allocation failed, and nothing has changed.
+abbrev pub RecordsRenewable : {R E : Type 0} → ℕ → Option OutgoingSsnResetRequestParameter → Context R → Result (Unit {0}) E → Context R → Type 0
+RecordsRenewable last request old result new =
+    ByResult (λ done. (kept : Option PerformedReset)
+    × (performed_reset kept ≡ renewable_by (endpoint_of old) last (option_map asked_number request) (option_map wanted_by request))
+    × (view_of new ≡ view_of (record old { renewable = kept })))
+    (new ≡ old) result
+
+-- So it is if the request is performed.
+abbrev pub KeepsRenewable : {R E : Type 0} → ℕ → Option OutgoingSsnResetRequestParameter → Treatment → Context R → Result (Unit {0}) E → Context R → Type 0
+KeepsRenewable last request treatment old result new =
+    ByResult (λ done. (kept : Option PerformedReset)
+    × (performed_reset kept ≡ kept_after (endpoint_of old) last (option_map asked_number request) (option_map wanted_by request) (is_performed treatment))
+    × (view_of new ≡ view_of (record old { renewable = kept })))
+    (new ≡ old) result
 
 abbrev pub core_asked : LastRequest → Core → Core
 core_asked last (cookie_echoed my held cookie) = cookie_echoed my (held_with held last) cookie

@@ -1,23 +1,26 @@
 //! RE-CONFIG (RFC 6525, sections 3.1 and 5.2) that is received.
 
-ghost use Rattle.std.specs.Prelude.{◌≡◌, Some, OnOk, OnErr, IfOk};
+ghost use Rattle.std.specs.Prelude.{◌≡◌, ◌&&◌, if◌then◌else◌, Some, OnOk, OnErr, IfOk};
 ghost use Rattle.std.specs.Option.{option_map};
 ghost use Rattle.dcsctp_core.specs.types.Ids.{stream_numbers};
-ghost use Rattle.dcsctp_core.specs.spec.endpoint.ResetOutcomes.{is_request_reached, reset_refusal_text, ResetsTransferStreams};
+ghost use Rattle.dcsctp_core.specs.spec.Reconfiguration.{early};
+ghost use Rattle.dcsctp_core.specs.spec.endpoint.ResetOutcomes.{is_same_list, is_request_reached, is_renewal, renewable_by, state_by, reset_refusal_text, ResetsTransferStreams};
 ghost use Rattle.dcsctp_core.specs.Reconfiguring.{request_in, tcb_changed};
 ghost use Rattle.dcsctp_core.specs.Answering.{request_ended};
-ghost use Rattle.dcsctp_core.specs.View.{tcb_of, transfer_of, view_of};
+ghost use Rattle.dcsctp_core.specs.View.{endpoint_of, performed_reset, tcb_of, transfer_of, view_of};
 ghost use Rattle.dcsctp_core.specs.Below.{ChangesQueues};
 ghost use Rattle.dcsctp_core.specs.Handling.{TakesOne, Tries, report_turn};
-ghost use Rattle.dcsctp_core_resets.specs.declared.requests.Treatment.TheVariants.{Performed};
-ghost use Rattle.dcsctp_core_resets.specs.Requests.{AreResponses, reset_parameters};
-ghost use Rattle.dcsctp_core_resets.specs.Resets.{CarriesOut, DefersReset, DefersTo, Finishes, ReConfigAt, RetriesIn, SettlesRequest, ReportsEvent, TreatsReset, WorksFor, asked_at, heeded_at, responses_turn, wanted_by};
+ghost use Rattle.dcsctp_core_resets.specs.declared.requests.Treatment.TheVariants.{Performed, Renewed};
+ghost use Rattle.dcsctp_core_resets.specs.Requests.{AreResponses, in_state, reset_parameters};
+ghost use Rattle.dcsctp_core_resets.specs.Resets.{CarriesOut, DefersReset, DefersTo, Finishes, KeepsRenewable, RecordsRenewable, ReConfigAt, RetriesIn, SettlesRequest, ReportsEvent, TreatsReset, WorksFor, asked_at, heeded_at, asked_number, responses_turn, state_for, wanted_by};
 
-use crate::reading::{requested, streams_of};
-use crate::requests::{HandledRequests, LastRequest, OwnAnswer, Treatment, handle_requests};
+use crate::reading::{numbers_of, requested, streams_of};
+use crate::requests::{
+    HandledRequests, LastRequest, OwnAnswer, RequestState, Treatment, handle_requests,
+};
 use dcsctp_core::api::{ErrorKind, SocketEvent, SocketTime, StreamId};
 use dcsctp_core::wire::{Chunk, OutgoingSsnResetRequestParameter, Parameter, ReConfigChunk};
-use dcsctp_core::{Context, ResetRequest, State, TransmissionControlBlock};
+use dcsctp_core::{Context, PerformedReset, ResetRequest, State, TransmissionControlBlock};
 use rand_core::Rng;
 use std::alloc::{AllocError, Global};
 
@@ -43,26 +46,176 @@ fn is_reached(
     }
 }
 
+// Are these lists the same?
+fn are_same(one: &[u16], other: &[u16]) -> bool
+    ensures { result ≡ is_same_list one.now other.now }
+{
+    one == other
+}
+
+// Is it the request `old` under the next number? `last` is the last number that was accepted, and `streams` what it
+// names.
+fn is_again(
+    old: &PerformedReset,
+    last: u32,
+    request: &OutgoingSsnResetRequestParameter<'_>,
+    streams: &[u16],
+) -> bool
+    requires { streams.now ≡ (wanted_by request.now).streams }
+    ensures { result ≡ is_renewal (performed_reset (Some old.now)) last (Some (asked_number request.now))
+        (Some (wanted_by request.now)) }
+{
+    if old.number != last || request.request_seq_nbr != last.wrapping_add(1) {
+        return false;
+    }
+    if old.last_tsn != request.sender_last_assigned_tsn {
+        return false;
+    }
+    are_same(&old.streams, streams)
+}
+
+// Is it the request that was performed last, under the next number? `last` is the last number that was accepted.
+fn is_renewal(
+    alloc: Global,
+    kept: &Option<PerformedReset>,
+    last: u32,
+    request: &OutgoingSsnResetRequestParameter<'_>,
+) -> Result<bool, AllocError>
+    ensures { IfOk result (λ is. is ≡ is_renewal (performed_reset kept.now) last
+        (Some (asked_number request.now)) (Some (wanted_by request.now))) }
+{
+    match kept {
+        None => Ok(false),
+        Some(old) => {
+            let streams = numbers_of(alloc, request)?;
+            Ok(is_again(old, last, request, &streams))
+        }
+    }
+}
+
+// Is this request another one under the next number? Without `Options::follow_rfc` (`follows`) none is.
+fn may_be_renewed(
+    alloc: Global,
+    kept: &Option<PerformedReset>,
+    follows: bool,
+    last: u32,
+    request: Option<OutgoingSsnResetRequestParameter<'_>>,
+) -> Result<bool, AllocError>
+    ensures { IfOk result (λ is. is ≡ (follows && is_renewal (performed_reset kept.now) last
+        (option_map asked_number request.entry) (option_map wanted_by request.entry))) }
+{
+    if !follows {
+        return Ok(false);
+    }
+    match request {
+        None => Ok(false),
+        Some(request) => is_renewal(alloc, kept, last, &request),
+    }
+}
+
+// What a request finds, by whether all has come that was sent before it.
+fn state_where(is_reached: bool, is_renewed: bool) -> RequestState
+    ensures { in_state result ≡ (if is_reached then state_by is_renewed else early) }
+{
+    if !is_reached {
+        RequestState::Early
+    } else if is_renewed {
+        RequestState::Renewed
+    } else {
+        RequestState::Due
+    }
+}
+
+// What an Outgoing SSN Reset Request finds. With `Options::follow_rfc` (`follows`) it may be one that was performed
+// under the number before: the peer sends one that is in progress again under the next number, and a late copy of
+// the old one may come first (RFC 6525, section 5.2.7).
+fn state_of(
+    alloc: Global,
+    tcb: &TransmissionControlBlock,
+    kept: &Option<PerformedReset>,
+    follows: bool,
+    request: Option<OutgoingSsnResetRequestParameter<'_>>,
+) -> Result<RequestState, AllocError>
+    ensures { IfOk result (λ state. in_state state ≡ state_for follows (performed_reset kept.now) (Some tcb.now)
+        (option_map asked_number request.entry) (option_map wanted_by request.entry)) }
+{
+    let last = tcb.last_processed_req_seq_nbr;
+    let is_renewed = may_be_renewed(alloc, kept, follows, last, request)?;
+    let is_reached = is_reached(tcb, request);
+    Ok(state_where(is_reached, is_renewed))
+}
+
 // What becomes of these parameters.
 fn decide(
     alloc: Global,
     tcb: &TransmissionControlBlock,
+    kept: &Option<PerformedReset>,
+    follows: bool,
     parameters: &[Parameter<'_>],
 ) -> Result<HandledRequests, AllocError>
-    ensures { IfOk result (λ worked. WorksFor (Some tcb.now) (reset_parameters parameters.now) worked) }
+    ensures { IfOk result (λ worked. WorksFor follows (performed_reset kept.now) (Some tcb.now)
+        (reset_parameters parameters.now) worked) }
 {
     let last = LastRequest {
         number: tcb.last_processed_req_seq_nbr,
         result: tcb.last_processed_req_result,
     };
-    let is_reached = is_reached(tcb, requested(parameters));
-    handle_requests(
-        alloc,
-        last,
-        tcb.outstanding_number(),
-        is_reached,
-        parameters,
-    )
+    let state = state_of(alloc, tcb, kept, follows, requested(parameters))?;
+    handle_requests(alloc, last, tcb.outstanding_number(), state, parameters)
+}
+
+// What may come again under the next number, once this request is performed: it, if it was in progress, and so has
+// the last number. With `Options::follow_rfc` alone.
+fn renewable_of<R: Rng>(
+    context: &Context<R>,
+    last: u32,
+    request: Option<OutgoingSsnResetRequestParameter<'_>>,
+) -> Result<Option<PerformedReset>, AllocError>
+    ensures { IfOk result (λ kept. performed_reset kept ≡ renewable_by (endpoint_of context.now) last
+        (option_map asked_number request.entry) (option_map wanted_by request.entry)) }
+{
+    let Some(request) = request else {
+        return Ok(None);
+    };
+    if !(context.options.follow_rfc && request.request_seq_nbr == last) {
+        return Ok(None);
+    }
+    let streams = numbers_of(context.alloc, &request)?;
+    Ok(Some(PerformedReset {
+        number: request.request_seq_nbr,
+        last_tsn: request.sender_last_assigned_tsn,
+        streams,
+    }))
+}
+
+// Records what may come again. `Err`: an allocation failed, and nothing has changed.
+fn record_renewable<R: Rng>(
+    context: &mut Context<R>,
+    last: u32,
+    request: Option<OutgoingSsnResetRequestParameter<'_>>,
+) -> Result<(), AllocError>
+    ensures { RecordsRenewable last request.entry context.old result context.new }
+{
+    let kept = renewable_of(context, last, request)?;
+    context.renewable = kept;
+    Ok(())
+}
+
+// Records what may come again, if the request is performed. `Err`: an allocation failed, and nothing has changed.
+fn keep_renewable<R: Rng>(
+    context: &mut Context<R>,
+    last: u32,
+    request: Option<OutgoingSsnResetRequestParameter<'_>>,
+    treatment: Treatment,
+) -> Result<(), AllocError>
+    ensures { KeepsRenewable last request.entry treatment context.old result context.new }
+{
+    match treatment {
+        Treatment::Nothing => Ok(()),
+        Treatment::Deferred => Ok(()),
+        Treatment::Performed => record_renewable(context, last, request),
+        Treatment::Renewed => record_renewable(context, last, request),
+    }
 }
 
 // ---- the streams
@@ -121,6 +274,19 @@ fn perform<R: Rng>(
     Ok(())
 }
 
+// Resets the streams that a request names once more, and doesn't report that. `Err`: an allocation failed, and no
+// event was added.
+fn reset_again<R: Rng>(
+    context: &mut Context<R>,
+    request: &OutgoingSsnResetRequestParameter<'_>,
+) -> Result<(), AllocError>
+    ensures { TreatsReset Renewed (Some (wanted_by request.now)) context.old result context.new }
+{
+    let streams = streams_of(context.alloc, request)?;
+    reset_streams(&mut context.state, &streams)?;
+    Ok(())
+}
+
 // Lets the reset that a request wants wait. `Err`: an allocation failed, and nothing has changed.
 fn defer<R: Rng>(
     context: &mut Context<R>,
@@ -151,6 +317,7 @@ fn carry_out_reset<R: Rng>(
             Treatment::Nothing => Ok(()),
             Treatment::Deferred => defer(context, &request),
             Treatment::Performed => perform(context, &request),
+            Treatment::Renewed => reset_again(context, &request),
         },
     }
 }
@@ -323,9 +490,18 @@ fn handle_parameters<R: Rng>(
     let Some(tcb) = context.state.tcb() else {
         return Ok(());
     };
-    let worked = decide(context.alloc, tcb, parameters)?;
+    let last = tcb.last_processed_req_seq_nbr;
+    let worked = decide(
+        context.alloc,
+        tcb,
+        &context.renewable,
+        context.options.follow_rfc,
+        parameters,
+    )?;
+    let request = requested(parameters);
+    keep_renewable(context, last, request, worked.treatment)?;
     keep_last(context, worked.last);
-    carry_out(context, requested(parameters), &worked)?;
+    carry_out(context, request, &worked)?;
     respond_and_flush(context, parameters, worked)
 }
 
@@ -333,7 +509,8 @@ fn handle_parameters<R: Rng>(
 /// flush follows. An Outgoing SSN Reset Request with the next number resets its streams once everything that
 /// was sent before it is received. That is reported to the user. Until then it is in progress: what was sent
 /// after it on its streams waits, and it is handled again when it comes again. For an Incoming SSN Reset
-/// Request nothing is reset.
+/// Request nothing is reset. With `Options::follow_rfc` a request that was in progress, was performed and comes again
+/// under the next number is answered as performed, and isn't reported a second time (section 5.2.7).
 ///
 /// An answer to our outstanding request ends it (section 5.2.7). Its streams are reset, or aren't, which is
 /// reported to the user, and both take messages again. A request that is in progress is sent again later.

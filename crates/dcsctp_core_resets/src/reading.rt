@@ -4,9 +4,9 @@ ghost use Rattle.std.specs.Prelude.{◌≡◌, IfOk};
 ghost use Rattle.std.specs.Option.{option_map};
 ghost use Rattle.dcsctp_core.specs.types.Ids.{stream_numbers};
 ghost use Rattle.dcsctp_core.specs.spec.Reconfiguration.{reset_streams_in};
-ghost use Rattle.dcsctp_core.specs.spec.endpoint.ResetOutcomes.{requested_in};
+ghost use Rattle.dcsctp_core.specs.spec.endpoint.ResetOutcomes.{requested_in, request_number_in};
 ghost use Rattle.dcsctp_core_resets.specs.Requests.{reset_parameters};
-ghost use Rattle.dcsctp_core_resets.specs.Resets.{wanted_by};
+ghost use Rattle.dcsctp_core_resets.specs.Resets.{asked_number, wanted_by};
 
 use dcsctp_core::api::StreamId;
 use dcsctp_core::wire::{OutgoingSsnResetRequestParameter, Parameter};
@@ -16,7 +16,8 @@ use std::alloc::{AllocError, Global};
 pub(crate) fn requested<'a>(
     parameters: &[Parameter<'a>],
 ) -> Option<OutgoingSsnResetRequestParameter<'a>>
-    ensures { option_map wanted_by result ≡ requested_in (reset_parameters parameters.now) }
+    ensures wanted { option_map wanted_by result ≡ requested_in (reset_parameters parameters.now) }
+    ensures number { option_map asked_number result ≡ request_number_in (reset_parameters parameters.now) }
 {
     for parameter in parameters {
         if let Parameter::OutgoingSsnResetRequest(request) = parameter {
@@ -38,4 +39,18 @@ pub(crate) fn streams_of(
         streams.push(StreamId(request.stream(index)))?;
     }
     Ok(streams)
+}
+
+/// The numbers of the streams that a request names.
+pub(crate) fn numbers_of(
+    alloc: Global,
+    request: &OutgoingSsnResetRequestParameter<'_>,
+) -> Result<Vec<u16>, AllocError>
+    ensures { IfOk result (λ numbers. numbers.items ≡ (wanted_by request.now).streams) }
+{
+    let mut numbers = Vec::new(alloc);
+    for index in 0..request.stream_count() {
+        numbers.push(request.stream(index))?;
+    }
+    Ok(numbers)
 }

@@ -5,7 +5,7 @@ ghost use Rattle.std.specs.Prelude.{◌≡◌, ◌&&◌, false, OnOk, IfOk};
 ghost use Rattle.dcsctp_core.specs.types.declared.association.Held.{Held};
 ghost use Rattle.dcsctp_core.specs.spec.association.ResetChanges.{outgoing_by, incoming_by, is_outstanding};
 ghost use Rattle.dcsctp_core.specs.spec.association.ResetChanges as changes;
-ghost use Rattle.dcsctp_core_resets.specs.Requests.{AnswersAs, Responds, HandlesParameter, HandlesParameters, held_with, in_place, is_outgoing, own_answer_ended, reset_parameters, parameter_said, with_response};
+ghost use Rattle.dcsctp_core_resets.specs.Requests.{AnswersAs, Responds, HandlesParameter, HandlesParameters, held_with, in_place, in_state, is_outgoing, own_answer_ended, reset_parameters, parameter_said, with_response};
 
 use dcsctp_core::wire::{
     Parameter, ReconfigurationResponseParameter, ReconfigurationResponseResult,
@@ -33,6 +33,22 @@ pub enum Treatment {
 
     /// They are reset now.
     Performed,
+
+    /// They are reset once more, which isn't reported.
+    Renewed,
+}
+
+/// What an Outgoing SSN Reset Request finds.
+#[derive(Clone, Copy, Debug, PartialEq, Eq)]
+pub enum RequestState {
+    /// Something is missing that was sent before it.
+    Early,
+
+    /// All has come that was sent before it.
+    Due,
+
+    /// All has come; and it was performed and reported already, under the number before.
+    Renewed,
 }
 
 /// What becomes of our own request to reset streams.
@@ -140,6 +156,40 @@ fn perform_or_defer(number: u32, is_reached: bool) -> AnsweredRequest
     }
 }
 
+// A request of this number was performed already, under the number before: it is answered as performed.
+fn renew(number: u32) -> AnsweredRequest
+    ensures { (base : Held) → AnswersAs base result (changes.renewed_request base number) }
+{
+    let result = ReconfigurationResponseResult::SuccessPerformed;
+    AnsweredRequest {
+        last: LastRequest { number, result },
+        result,
+        treatment: Treatment::Renewed,
+    }
+}
+
+// The next request is handled by what it finds.
+fn answer_next(number: u32, state: RequestState) -> AnsweredRequest
+    ensures { (base : Held) → AnswersAs base result (changes.next_request base number (in_state state)) }
+{
+    match state {
+        RequestState::Early => perform_or_defer(number, false),
+        RequestState::Due => perform_or_defer(number, true),
+        RequestState::Renewed => renew(number),
+    }
+}
+
+// Has all come that was sent before it?
+fn is_due(state: RequestState) -> bool
+    ensures { result ≡ changes.is_due (in_state state) }
+{
+    match state {
+        RequestState::Early => false,
+        RequestState::Due => true,
+        RequestState::Renewed => true,
+    }
+}
+
 // The last request again is answered as before; one in progress is handled again.
 fn repeated(last: LastRequest, is_reached: bool) -> AnsweredRequest
     ensures { (base : Held) → AnswersAs base result (changes.repeated (held_with base last) last.result is_reached) }
@@ -171,13 +221,13 @@ fn refused(last: LastRequest) -> AnsweredRequest
 }
 
 // How an Outgoing SSN Reset Request of this number is answered.
-fn answer_outgoing(last: LastRequest, number: u32, is_reached: bool) -> AnsweredRequest
-    ensures { (base : Held) → AnswersAs base result (outgoing_by (held_with base last) number is_reached
+fn answer_outgoing(last: LastRequest, number: u32, state: RequestState) -> AnsweredRequest
+    ensures { (base : Held) → AnswersAs base result (outgoing_by (held_with base last) number (in_state state)
         (changes.request_place last.number number)) }
 {
     match place_of(last.number, number) {
-        Place::Again => repeated(last, is_reached),
-        Place::Next => perform_or_defer(number, is_reached),
+        Place::Again => repeated(last, is_due(state)),
+        Place::Next => answer_next(number, state),
         Place::Astray => refused(last),
     }
 }
@@ -271,16 +321,16 @@ impl HandledRequests {
     // Handles a parameter.
     fn handle_parameter(
         &mut self,
-        is_reached: bool,
+        state: RequestState,
         parameter: &Parameter<'_>,
     ) -> Result<(), AllocError>
         requires { (self.old.has_worked && is_outgoing (parameter_said parameter.now)) ≡ false }
-        ensures { OnOk result (HandlesParameter is_reached (parameter_said parameter.now) self.old self.new) }
+        ensures { OnOk result (HandlesParameter (in_state state) (parameter_said parameter.now) self.old self.new) }
     {
         match parameter {
             Parameter::OutgoingSsnResetRequest(request) => {
                 let number = request.request_seq_nbr;
-                let answered = answer_outgoing(self.last, number, is_reached);
+                let answered = answer_outgoing(self.last, number, state);
                 self.respond(number, answered.result)?;
                 self.last = answered.last;
                 self.treatment = answered.treatment;
@@ -309,16 +359,16 @@ impl HandledRequests {
 }
 
 /// Handles the parameters of a RE-CONFIG, up to a second Outgoing SSN Reset Request. A chunk with two is an
-/// error, as is one without any parameter. `is_reached` says whether everything was received that was sent
-/// before the first such request. `outstanding` is the number of our outstanding request, if there is one.
+/// error, as is one without any parameter. `state` is what the first such request finds. `outstanding` is the
+/// number of our outstanding request, if there is one.
 pub(crate) fn handle_requests(
     alloc: Global,
     last: LastRequest,
     outstanding: Option<u32>,
-    is_reached: bool,
+    state: RequestState,
     parameters: &[Parameter<'_>],
 ) -> Result<HandledRequests, AllocError>
-    ensures { IfOk result (λ worked. HandlesParameters is_reached last outstanding (reset_parameters parameters.now) worked) }
+    ensures { IfOk result (λ worked. HandlesParameters (in_state state) last outstanding (reset_parameters parameters.now) worked) }
 {
     let mut worked = HandledRequests {
         last,
@@ -335,7 +385,7 @@ pub(crate) fn handle_requests(
             worked.is_refused = true;
             return Ok(worked);
         }
-        worked.handle_parameter(is_reached, parameter)?;
+        worked.handle_parameter(state, parameter)?;
     }
     Ok(worked)
 }

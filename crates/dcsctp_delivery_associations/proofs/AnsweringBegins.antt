@@ -2,7 +2,7 @@
 use Rattle.std.proofs.Common.{◌≡◌, ◌≢◌, ℕ, Bool, true, false, Option, None, Some, List, [], ◌∷◌, length, refl, sym, ◌∙◌, ap, subst, arith, inl, inr}
 use Rattle.std.specs.Prelude.{◌⊎◌}
 use Rattle.dcsctp_spec_lemmas.specs.types.declared.association.Pair.{Pair}
-use Rattle.dcsctp_spec_runs.specs.Past.{HasEffect, number_to_accept, number_to_perform}
+use Rattle.dcsctp_spec_runs.specs.Past.{WasPerformed, HasEffect, number_to_accept, number_to_perform}
 use Rattle.dcsctp_spec_runs.specs.World.{after_effects}
 use Rattle.dcsctp_spec_lemmas.specs.spec.association.Effect.{AssociationIdentity, Effect, holds, performs}
 use Rattle.dcsctp_spec_lemmas.specs.spec.queues.Reassembly.{DeferralModel}
@@ -10,7 +10,7 @@ use Rattle.dcsctp_spec_lemmas.specs.spec.endpoint.BegunResets.{BegunReset}
 use Rattle.dcsctp_delivery_directions.specs.Directions.{nothing_asked, Asking}
 use Rattle.dcsctp_delivery_associations.specs.Answered as answered
 use Rattle.dcsctp_delivery_associations.specs.Answered.{Requests, request_number_at, WantFrom, SenderHadPeer, WasJoined, AreAsked, IsRequestNumber, WerePerformed, IsInStep, StandsSo, AnswersRequests}
-use Rattle.dcsctp_delivery_associations.proofs.AnsweringRests.{after_new, after_split, joined_later, asked_later}
+use Rattle.dcsctp_delivery_associations.proofs.AnsweringRests.{after_new, performed_split, after_split, joined_later, asked_later}
 
 -- ---- it begins where it is expected
 
@@ -24,15 +24,15 @@ IsMatched past new = (link : AssociationIdentity) → HasEffect (holds link) pas
 
 module _ (requests : ℕ → Requests) (mine : Option AssociationIdentity) (past : List Effect) (theirs : Option AssociationIdentity) (happened their_past : List Effect) (waits waits' : Option DeferralModel) (new : AssociationIdentity)
     (a : AnswersRequests requests mine past theirs their_past waits) (some : new.my.tag ≢ 0) (noted : HasEffect (holds new) happened) (only : (link : AssociationIdentity) → HasEffect (holds link) happened → link ≡ new)
-    (no_performs : (my : Pair) (number : ℕ) → HasEffect (performs my number) happened → ⊥) (is_new : IsNewTag their_past new) where
+    (no_performs : (my : Pair) (number : ℕ) → WasPerformed my number happened → ⊥) (is_new : IsNewTag their_past new) where
   abbrev t : ℕ
   t = new.my.tag
 
   abbrev later : List Effect
   later = after_effects happened their_past
 
-  before : (my : Pair) (number : ℕ) → HasEffect (performs my number) later → HasEffect (performs my number) their_past
-  before my number has = elim (after_split (performs my number) happened their_past has) [ inl there ↦ absurd (no_performs my number there) | inr old ↦ old ]
+  before : (my : Pair) (number : ℕ) → WasPerformed my number later → WasPerformed my number their_past
+  before my number has = elim (performed_split my number happened their_past has) [ inl there ↦ absurd (no_performs my number there) | inr old ↦ old ]
 
   -- An association was joined before, or it is the new one.
   joined_when : (tag : ℕ) (my : Pair) → WasJoined later tag my → WasJoined their_past tag my ⊎ ((tag ≡ t) × (my ≡ new.peer))
@@ -46,7 +46,7 @@ module _ (requests : ℕ → Requests) (mine : Option AssociationIdentity) (past
   other_pair : (tag : ℕ) (my : Pair) → WasJoined their_past tag my → my ≡ new.peer → ⊥
   other_pair tag my was same = (is_new was.link was.held).1 (ap (λ (p : Pair). p.tag) (was.my_is ∙ same))
 
-  none_performed_yet : (my : Pair) (number : ℕ) → my ≡ new.peer → HasEffect (performs my number) their_past → ⊥
+  none_performed_yet : (my : Pair) (number : ℕ) → my ≡ new.peer → WasPerformed my number their_past → ⊥
   none_performed_yet my number same has = let j = a.joined my number has in other_pair j.0 (requests j.0).my j.1 (j.2 ∙ same)
 
   new_joined : WasJoined later t new.peer

@@ -2,7 +2,7 @@
 use Rattle.std.proofs.Common.{◌≡◌, ℕ, ◌<◌, ◌-◌, ◌^◌, suc, false, Option, Some, List, length, sym, ◌∙◌, ap, subst, inl, inr}
 use Rattle.std.specs.Prelude.{◌⊎◌}
 use Rattle.dcsctp_spec_lemmas.specs.types.declared.association.Pair.{Pair}
-use Rattle.dcsctp_spec_runs.specs.Past.{HasEffect, number_to_accept, number_to_perform}
+use Rattle.dcsctp_spec_runs.specs.Past.{WasPerformed, HasEffect, number_to_accept, number_to_perform}
 use Rattle.dcsctp_spec_runs.specs.World.{after_effects}
 use Rattle.dcsctp_spec_lemmas.specs.spec.Reconfiguration.{RequestedReset}
 use Rattle.dcsctp_spec_lemmas.specs.spec.association.Effect.{AssociationIdentity, Effect, holds, performs}
@@ -23,7 +23,7 @@ own_left reset waits left own (inl same) = same
 own_left reset waits left own (inr was) = was.2 ∙ subst (IsOwn reset) was.1 own
 
 module _ (requests : ℕ → Requests) (mine : Option AssociationIdentity) (past : List Effect) (link : AssociationIdentity) (happened their_past : List Effect) (waits waits' : Option DeferralModel)
-    (a : AnswersRequests requests mine past (Some link) their_past waits) (no_holds : (new : AssociationIdentity) → HasEffect (holds new) happened → ⊥) (no_performs : (my : Pair) (number : ℕ) → HasEffect (performs my number) happened → ⊥) where
+    (a : AnswersRequests requests mine past (Some link) their_past waits) (no_holds : (new : AssociationIdentity) → HasEffect (holds new) happened → ⊥) (no_performs : (my : Pair) (number : ℕ) → WasPerformed my number happened → ⊥) where
   stands_at_link : StandsSo (requests link.my.tag) (after_effects happened their_past) waits' → AnswersRequests requests mine past (Some link) (after_effects happened their_past) waits'
   stands_at_link stands =
       stays_standing requests mine past (Some link) happened their_past waits waits' a no_holds no_performs

@@ -2,7 +2,7 @@
 use Rattle.std.proofs.Common.{◌≡◌, ◌≢◌, ℕ, Option, None, Some, List, refl, sym, ◌∙◌, ap, subst, inl, inr}
 use Rattle.std.specs.Prelude.{◌⊎◌}
 use Rattle.dcsctp_spec_lemmas.specs.types.declared.association.Pair.{Pair}
-use Rattle.dcsctp_spec_runs.specs.Past.{HasEffect, number_to_accept, number_to_perform}
+use Rattle.dcsctp_spec_runs.specs.Past.{WasPerformed, HasEffect, number_to_accept, number_to_perform}
 use Rattle.dcsctp_spec_runs.specs.World.{after_effects}
 use Rattle.dcsctp_spec_lemmas.specs.spec.association.Effect.{AssociationIdentity, Effect, holds, performs}
 use Rattle.dcsctp_spec_lemmas.specs.spec.queues.Reassembly.{DeferralModel}
@@ -73,7 +73,7 @@ IsCrossedOrAwaited requests mine new =
 
 pub opens_anew : (requests : ℕ → Requests) (mine : Option AssociationIdentity) (past : List Effect) (theirs : Option AssociationIdentity) (happened their_past : List Effect) (waits waits' : Option DeferralModel) (new : AssociationIdentity)
     → AnswersRequests requests mine past theirs their_past waits → new.my.tag ≢ 0 → HasEffect (holds new) happened → ((link : AssociationIdentity) → HasEffect (holds link) happened → link ≡ new)
-    → ((my : Pair) (number : ℕ) → HasEffect (performs my number) happened → ⊥) → IsNewTag their_past new → IsMatched past new → IsCrossedOrAwaited (requests new.my.tag) mine new
+    → ((my : Pair) (number : ℕ) → WasPerformed my number happened → ⊥) → IsNewTag their_past new → IsMatched past new → IsCrossedOrAwaited (requests new.my.tag) mine new
     → number_to_accept (after_effects happened their_past) ≡ Some (request_number_at new.peer.first_tsn 0) → number_to_perform (after_effects happened their_past) ≡ None → waits' ≡ None
     → AnswersRequests (set_at new.my.tag (record { my = new.peer; first = new.peer.first_tsn; asking = (requests new.my.tag).asking; is_interleaved = (requests new.my.tag).is_interleaved }) requests)
     mine past (Some new) (after_effects happened their_past) waits'

@@ -2,13 +2,12 @@
 use Rattle.std.proofs.Common.{◌≡◌, ◌≢◌, ℕ, ◌<◌, suc, true, false, Option, None, Some, List, ◌∷◌, length, refl, sym, ◌∙◌, ap, subst, arith, inl, inr}
 use Rattle.std.specs.Prelude.{◌⊎◌}
 use Rattle.dcsctp_spec_lemmas.specs.types.declared.association.Pair.{Pair}
-use Rattle.dcsctp_spec_runs.specs.Past.{HasEffect, number_to_accept, number_to_perform}
+use Rattle.dcsctp_spec_runs.specs.Past.{WasPerformed, HasEffect, number_to_accept, number_to_perform}
 use Rattle.dcsctp_spec_runs.specs.World.{after_effects}
-use Rattle.dcsctp_spec_lemmas.specs.spec.association.Effect.{AssociationIdentity, Effect, holds, performs}
+use Rattle.dcsctp_spec_lemmas.specs.spec.association.Effect.{AssociationIdentity, Effect, holds}
 use Rattle.dcsctp_spec_lemmas.specs.spec.association.FlushChanges.{next_number}
 use Rattle.dcsctp_spec_lemmas.specs.spec.queues.Reassembly.{DeferralModel}
 use Rattle.dcsctp_spec_lemmas.specs.spec.endpoint.BegunResets.{BegunReset}
-use Rattle.dcsctp_theorem_association.proofs.Growth.{after_within}
 use Rattle.dcsctp_delivery_sending.specs.Places as places
 use Rattle.dcsctp_delivery_sending.specs.Places.{set_at}
 use Rattle.dcsctp_delivery_sending.proofs.Places.{decide, set_same}
@@ -19,11 +18,11 @@ use Rattle.dcsctp_delivery_associations.specs.Answered.{Requests, request_number
 use Rattle.dcsctp_delivery_associations.proofs.Growing.{set_all}
 use Rattle.dcsctp_delivery_associations.proofs.RequestNumbers.{next_place, newest_number, number_among, number_behind, want_later}
 use Rattle.dcsctp_delivery_associations.proofs.AnsweringNewest.{IsDueAt, numbers_of}
-use Rattle.dcsctp_delivery_associations.proofs.AnsweringRests.{after_new, after_split, joined_later, joined_before, asked_later}
+use Rattle.dcsctp_delivery_associations.proofs.AnsweringRests.{performed_new, performed_split, performed_later, joined_later, joined_before, asked_later}
 
 module _ (requests : ℕ → Requests) (mine : Option AssociationIdentity) (past : List Effect) (link : AssociationIdentity) (happened their_past : List Effect) (waits waits' : Option DeferralModel) (begun : BegunReset)
     (a : AnswersRequests requests mine past (Some link) their_past waits) (no_holds : (new : AssociationIdentity) → HasEffect (holds new) happened → ⊥)
-    (only : (peer : Pair) (other : ℕ) → HasEffect (performs peer other) happened → (peer ≡ link.peer) × (other ≡ begun.number)) (has : places.HasEntry begun (requests link.my.tag).asking.requests) where
+    (only : (peer : Pair) (other : ℕ) → WasPerformed peer other happened → (peer ≡ link.peer) × (other ≡ begun.number)) (has : places.HasEntry begun (requests link.my.tag).asking.requests) where
   abbrev t : ℕ
   t = link.my.tag
 
@@ -46,9 +45,9 @@ module _ (requests : ℕ → Requests) (mine : Option AssociationIdentity) (past
   numbers : AreNumbered (requests t).first (requests t).asking.requests
   numbers = numbers_of (requests t) their_past (a.asked t here_joined.some)
 
-  joined_still : (my : Pair) (number : ℕ) → HasEffect (performs my number) later → (tag : ℕ) × WasJoined later tag (requests tag).my × ((requests tag).my ≡ my)
+  joined_still : (my : Pair) (number : ℕ) → WasPerformed my number later → (tag : ℕ) × WasJoined later tag (requests tag).my × ((requests tag).my ≡ my)
   joined_still my number there =
-      elim (after_split (performs my number) happened their_past there) [
+      elim (performed_split my number happened their_past there) [
         | inl new ↦ (t, joined_later happened their_past t (requests t).my here_joined, (a.theirs_held link refl).1 ∙ sym (only my number new).0)
         | inr old ↦ (let j = a.joined my number old in (j.0, joined_later happened their_past j.0 (requests j.0).my j.1, j.2))
       ]
@@ -56,7 +55,7 @@ module _ (requests : ℕ → Requests) (mine : Option AssociationIdentity) (past
   -- What is performed is of no other tag.
   performed_other : (tag : ℕ) → tag ≢ t → WasJoined later tag (requests tag).my → WerePerformed (requests tag) later
   performed_other tag ne was number there =
-      elim (after_split (performs (requests tag).my number) happened their_past there) [
+      elim (performed_split (requests tag).my number happened their_past there) [
         | inl new ↦ absurd (a.apart t tag (λ e. ne (sym e)) here_joined (before tag (requests tag).my was) ((a.theirs_held link refl).1 ∙ sym (only (requests tag).my number new).0))
         | inr old ↦ a.performed tag (before tag (requests tag).my was) number old
       ]
@@ -95,7 +94,7 @@ module _ (requests : ℕ → Requests) (mine : Option AssociationIdentity) (past
     where
       here : WasJoined later t (requests t).my → WerePerformed (requests t) later
       here was number there =
-          elim (after_split (performs (requests t).my number) happened their_past there) [
+          elim (performed_split (requests t).my number happened their_past there) [
             | inl new ↦ (
                 let r = number_among (requests t).first (requests t).asking.requests begun numbers has in
                 record { place = r.0; below = r.1; is = (only (requests t).my number new).1 ∙ r.2; newest = λ mixed last. absurd (cc) }
@@ -120,13 +119,13 @@ module _ (requests : ℕ → Requests) (mine : Option AssociationIdentity) (past
 
       here : WasJoined later t (requests t).my → WerePerformed (requests t) later
       here was number there =
-          elim (after_split (performs (requests t).my number) happened their_past there) [
+          elim (performed_split (requests t).my number happened their_past there) [
             | inl new ↦ record { place = due.place; below = omega (arith, count, behind); is = (only (requests t).my number new).1 ∙ due.at; newest = λ mixed last. absurd (omega (arith, last, count, behind)) }
             | inr old ↦ a.performed t (before t (requests t).my was) number old
           ]
 
   -- It is known then that the newest was performed.
-  pub performs_it : (earlier : List BegunReset) → (requests t).asking.requests ≡ begun ∷ earlier → HasEffect (performs link.peer begun.number) happened → number_to_accept later ≡ Some (next_number begun.number) → number_to_perform later ≡ None → waits' ≡ None
+  pub performs_it : (earlier : List BegunReset) → (requests t).asking.requests ≡ begun ∷ earlier → WasPerformed link.peer begun.number happened → number_to_accept later ≡ Some (next_number begun.number) → number_to_perform later ≡ None → waits' ≡ None
       → AnswersRequests (set_at t (record (requests t) { asking = record (requests t).asking { is_performed = true } }) requests) mine past (Some link) later waits'
   performs_it earlier top does accept perform empty =
       record {
@@ -178,16 +177,16 @@ module _ (requests : ℕ → Requests) (mine : Option AssociationIdentity) (past
           record {
             numbers = asked.numbers;
             out = asked.out;
-            ended = λ kind none place last. after_within happened their_past _ (asked.ended kind none place last);
+            ended = λ kind none place last. performed_later _ _ happened their_past (asked.ended kind none place last);
             performed_is = λ kind is place last.
-                subst (λ (n : ℕ). HasEffect (performs (requests t).my n) later) (at_newest place last)
-                (subst (λ (m : Pair). HasEffect (performs m begun.number) later) (sym (a.theirs_held link refl).1) (after_new (performs link.peer begun.number) happened their_past does));
-            some_performed = λ kind newest rest same. inl (begun.number, subst (λ (m : Pair). HasEffect (performs m begun.number) later) (sym (a.theirs_held link refl).1) (after_new (performs link.peer begun.number) happened their_past does));
+                subst (λ (n : ℕ). WasPerformed (requests t).my n later) (at_newest place last)
+                (subst (λ (m : Pair). WasPerformed m begun.number later) (sym (a.theirs_held link refl).1) (performed_new link.peer begun.number happened their_past does));
+            some_performed = λ kind newest rest same. inl (begun.number, subst (λ (m : Pair). WasPerformed m begun.number later) (sym (a.theirs_held link refl).1) (performed_new link.peer begun.number happened their_past does));
           }
 
       here : WasJoined later t (requests t).my → WerePerformed changed later
       here was number there =
-          elim (after_split (performs (requests t).my number) happened their_past there) [
+          elim (performed_split (requests t).my number happened their_past there) [
             | inl new ↦ record { place = length earlier; below = omega (arith, count); is = (only (requests t).my number new).1 ∙ number_is; newest = λ mixed last. refl }
             | inr old ↦ (let p = a.performed t (before t (requests t).my was) number old in record { place = p.place; below = p.below; is = p.is; newest = λ mixed last. refl })
           ]

@@ -2,9 +2,9 @@
 use Rattle.std.proofs.Common.{◌≡◌, ◌≢◌, ℕ, Option, None, Some, List, [], ◌∷◌, sym, ◌∙◌, subst, inl, inr}
 use Rattle.std.specs.Prelude.{◌⊎◌}
 use Rattle.dcsctp_spec_lemmas.specs.types.declared.association.Pair.{Pair}
-use Rattle.dcsctp_spec_runs.specs.Past.{HasEffect, number_to_accept, number_to_perform}
+use Rattle.dcsctp_spec_runs.specs.Past.{WasPerformed, HasEffect, number_to_accept, number_to_perform}
 use Rattle.dcsctp_spec_runs.specs.World.{after_effects}
-use Rattle.dcsctp_spec_lemmas.specs.spec.association.Effect.{AssociationIdentity, Effect, draws, sends, holds, connects, ends, begins, gives_up, completes, fails, accepts, performs, resumes}
+use Rattle.dcsctp_spec_lemmas.specs.spec.association.Effect.{AssociationIdentity, Effect, draws, sends, holds, connects, ends, begins, gives_up, completes, fails, accepts, performs, renews, resumes}
 use Rattle.dcsctp_spec_lemmas.specs.spec.queues.Reassembly.{DeferralModel}
 use Rattle.dcsctp_spec_lemmas.specs.spec.Reconfiguration.{RequestedReset}
 use Rattle.dcsctp_theorem_association.proofs.Growth.{after_within}
@@ -33,29 +33,73 @@ after_new effect (newest ∷ happened) past (inl e) = after_within happened (new
 after_new effect (newest ∷ happened) past (inr has) = after_new effect happened (newest ∷ past) has
 after_new effect [] past has = absurd has
 
-pub none_performed : (happened : List Effect) → NoneAsked happened → (my : Pair) (number : ℕ) → HasEffect (performs my number) happened → ⊥
-none_performed [] none my number has = has
-none_performed (accepts n ∷ effects) none my number has = none
-none_performed (performs peer n ∷ effects) none my number has = none
-none_performed (draws pair ∷ effects) none my number (inl e) = absurd (cc)
-none_performed (draws pair ∷ effects) none my number (inr has) = none_performed effects none my number has
-none_performed (sends packet ∷ effects) none my number (inl e) = absurd (cc)
-none_performed (sends packet ∷ effects) none my number (inr has) = none_performed effects none my number has
-none_performed (holds link ∷ effects) none my number (inl e) = absurd (cc)
-none_performed (holds link ∷ effects) none my number (inr has) = none_performed effects none my number has
-none_performed (connects link ∷ effects) none my number (inl e) = absurd (cc)
-none_performed (connects link ∷ effects) none my number (inr has) = none_performed effects none my number has
-none_performed (ends ∷ effects) none my number (inl e) = absurd (cc)
-none_performed (ends ∷ effects) none my number (inr has) = none_performed effects none my number has
-none_performed (begins n ∷ effects) none my number (inl e) = absurd (cc)
-none_performed (gives_up n ∷ effects) none my number (inl e) = absurd (cc)
-none_performed (begins n ∷ effects) none my number (inr has) = none_performed effects none my number has
-none_performed (gives_up n ∷ effects) none my number (inr has) = none_performed effects none my number has
-none_performed (completes own n ∷ effects) none my number (inl e) = absurd (cc)
-none_performed (completes own n ∷ effects) none my number (inr has) = none_performed effects none my number has
-none_performed (fails n ∷ effects) none my number (inl e) = absurd (cc)
-none_performed (fails n ∷ effects) none my number (inr has) = none_performed effects none my number has
-none_performed (resumes link own last ∷ effects) none my number has = none
+none_performs : (happened : List Effect) → NoneAsked happened → (my : Pair) (number : ℕ) → HasEffect (performs my number) happened → ⊥
+none_performs [] none my number has = has
+none_performs (accepts n ∷ effects) none my number has = none
+none_performs (performs peer n ∷ effects) none my number has = none
+none_performs (renews peer n ∷ effects) none my number has = none
+none_performs (draws pair ∷ effects) none my number (inl e) = absurd (cc)
+none_performs (draws pair ∷ effects) none my number (inr has) = none_performs effects none my number has
+none_performs (sends packet ∷ effects) none my number (inl e) = absurd (cc)
+none_performs (sends packet ∷ effects) none my number (inr has) = none_performs effects none my number has
+none_performs (holds link ∷ effects) none my number (inl e) = absurd (cc)
+none_performs (holds link ∷ effects) none my number (inr has) = none_performs effects none my number has
+none_performs (connects link ∷ effects) none my number (inl e) = absurd (cc)
+none_performs (connects link ∷ effects) none my number (inr has) = none_performs effects none my number has
+none_performs (ends ∷ effects) none my number (inl e) = absurd (cc)
+none_performs (ends ∷ effects) none my number (inr has) = none_performs effects none my number has
+none_performs (begins n ∷ effects) none my number (inl e) = absurd (cc)
+none_performs (gives_up n ∷ effects) none my number (inl e) = absurd (cc)
+none_performs (begins n ∷ effects) none my number (inr has) = none_performs effects none my number has
+none_performs (gives_up n ∷ effects) none my number (inr has) = none_performs effects none my number has
+none_performs (completes own n ∷ effects) none my number (inl e) = absurd (cc)
+none_performs (completes own n ∷ effects) none my number (inr has) = none_performs effects none my number has
+none_performs (fails n ∷ effects) none my number (inl e) = absurd (cc)
+none_performs (fails n ∷ effects) none my number (inr has) = none_performs effects none my number has
+none_performs (resumes link own last ∷ effects) none my number has = none
+
+none_renews : (happened : List Effect) → NoneAsked happened → (my : Pair) (number : ℕ) → HasEffect (renews my number) happened → ⊥
+none_renews [] none my number has = has
+none_renews (accepts n ∷ effects) none my number has = none
+none_renews (performs peer n ∷ effects) none my number has = none
+none_renews (renews peer n ∷ effects) none my number has = none
+none_renews (draws pair ∷ effects) none my number (inl e) = absurd (cc)
+none_renews (draws pair ∷ effects) none my number (inr has) = none_renews effects none my number has
+none_renews (sends packet ∷ effects) none my number (inl e) = absurd (cc)
+none_renews (sends packet ∷ effects) none my number (inr has) = none_renews effects none my number has
+none_renews (holds link ∷ effects) none my number (inl e) = absurd (cc)
+none_renews (holds link ∷ effects) none my number (inr has) = none_renews effects none my number has
+none_renews (connects link ∷ effects) none my number (inl e) = absurd (cc)
+none_renews (connects link ∷ effects) none my number (inr has) = none_renews effects none my number has
+none_renews (ends ∷ effects) none my number (inl e) = absurd (cc)
+none_renews (ends ∷ effects) none my number (inr has) = none_renews effects none my number has
+none_renews (begins n ∷ effects) none my number (inl e) = absurd (cc)
+none_renews (gives_up n ∷ effects) none my number (inl e) = absurd (cc)
+none_renews (begins n ∷ effects) none my number (inr has) = none_renews effects none my number has
+none_renews (gives_up n ∷ effects) none my number (inr has) = none_renews effects none my number has
+none_renews (completes own n ∷ effects) none my number (inl e) = absurd (cc)
+none_renews (completes own n ∷ effects) none my number (inr has) = none_renews effects none my number has
+none_renews (fails n ∷ effects) none my number (inl e) = absurd (cc)
+none_renews (fails n ∷ effects) none my number (inr has) = none_renews effects none my number has
+none_renews (resumes link own last ∷ effects) none my number has = none
+
+pub none_performed : (happened : List Effect) → NoneAsked happened → (my : Pair) (number : ℕ) → WasPerformed my number happened → ⊥
+none_performed happened none my number (inl has) = none_performs happened none my number has
+none_performed happened none my number (inr has) = none_renews happened none my number has
+
+-- ---- what was performed, in two parts of the past
+
+pub performed_split : (my : Pair) (number : ℕ) (happened past : List Effect) → WasPerformed my number (after_effects happened past) → WasPerformed my number happened ⊎ WasPerformed my number past
+performed_split my number happened past (inl has) = elim (after_split (performs my number) happened past has) [ inl new ↦ inl (inl new) | inr old ↦ inr (inl old) ]
+performed_split my number happened past (inr has) = elim (after_split (renews my number) happened past has) [ inl new ↦ inl (inr new) | inr old ↦ inr (inr old) ]
+
+pub performed_new : (my : Pair) (number : ℕ) (happened past : List Effect) → WasPerformed my number happened → WasPerformed my number (after_effects happened past)
+performed_new my number happened past (inl has) = inl (after_new (performs my number) happened past has)
+performed_new my number happened past (inr has) = inr (after_new (renews my number) happened past has)
+
+pub performed_later : (my : Pair) (number : ℕ) (happened past : List Effect) → WasPerformed my number past → WasPerformed my number (after_effects happened past)
+performed_later my number happened past (inl has) = inl (after_within happened past (performs my number) has)
+performed_later my number happened past (inr has) = inr (after_within happened past (renews my number) has)
 
 -- ---- what is so later too
 
@@ -69,9 +113,9 @@ asked_later requests happened past (inr asked) =
     (record {
       numbers = asked.numbers;
       out = asked.out;
-      ended = λ kind none place newest. after_within happened past _ (asked.ended kind none place newest);
-      performed_is = λ kind is place newest. after_within happened past _ (asked.performed_is kind is place newest);
-      some_performed = λ kind newest earlier is. elim (asked.some_performed kind newest earlier is) [ inl has ↦ inl (has.0, after_within happened past _ has.1) | inr want ↦ inr want ];
+      ended = λ kind none place newest. performed_later _ _ happened past (asked.ended kind none place newest);
+      performed_is = λ kind is place newest. performed_later _ _ happened past (asked.performed_is kind is place newest);
+      some_performed = λ kind newest earlier is. elim (asked.some_performed kind newest earlier is) [ inl has ↦ inl (has.0, performed_later _ _ happened past has.1) | inr want ↦ inr want ];
     })
 
 -- Without `holds` no association was joined.
@@ -109,9 +153,9 @@ same_requests new old mine past theirs their_past waits same a =
 -- ---- nothing is performed
 
 module _ (requests : ℕ → Requests) (mine : Option AssociationIdentity) (past : List Effect) (theirs : Option AssociationIdentity) (happened their_past : List Effect) (waits waits' : Option DeferralModel)
-    (a : AnswersRequests requests mine past theirs their_past waits) (no_holds : (link : AssociationIdentity) → HasEffect (holds link) happened → ⊥) (no_performs : (my : Pair) (number : ℕ) → HasEffect (performs my number) happened → ⊥) where
-  before : (my : Pair) (number : ℕ) → HasEffect (performs my number) (after_effects happened their_past) → HasEffect (performs my number) their_past
-  before my number has = elim (after_split (performs my number) happened their_past has) [ inl new ↦ absurd (no_performs my number new) | inr old ↦ old ]
+    (a : AnswersRequests requests mine past theirs their_past waits) (no_holds : (link : AssociationIdentity) → HasEffect (holds link) happened → ⊥) (no_performs : (my : Pair) (number : ℕ) → WasPerformed my number happened → ⊥) where
+  before : (my : Pair) (number : ℕ) → WasPerformed my number (after_effects happened their_past) → WasPerformed my number their_past
+  before my number has = elim (performed_split my number happened their_past has) [ inl new ↦ absurd (no_performs my number new) | inr old ↦ old ]
 
   -- The receiver has no association then.
   pub rests : AnswersRequests requests mine past None (after_effects happened their_past) waits'
@@ -165,7 +209,7 @@ stands_same requests their_past their_later waits waits' accept perform same (an
     go (answered.in_progress newest earlier place is below want number out own un) = answered.in_progress newest earlier place is below want (accept ∙ number) (perform ∙ out) (own_same newest.reset waits waits' same own) un
 
 pub asks_nothing : (requests : ℕ → Requests) (mine : Option AssociationIdentity) (past : List Effect) (link : AssociationIdentity) (happened their_past : List Effect) (waits waits' : Option DeferralModel)
-    → AnswersRequests requests mine past (Some link) their_past waits → ((new : AssociationIdentity) → HasEffect (holds new) happened → ⊥) → ((my : Pair) (number : ℕ) → HasEffect (performs my number) happened → ⊥)
+    → AnswersRequests requests mine past (Some link) their_past waits → ((new : AssociationIdentity) → HasEffect (holds new) happened → ⊥) → ((my : Pair) (number : ℕ) → WasPerformed my number happened → ⊥)
     → number_to_accept (after_effects happened their_past) ≡ number_to_accept their_past → number_to_perform (after_effects happened their_past) ≡ number_to_perform their_past → SameWaits waits waits'
     → AnswersRequests requests mine past (Some link) (after_effects happened their_past) waits'
 asks_nothing requests mine past link happened their_past waits waits' a no_holds no_performs accept perform same =

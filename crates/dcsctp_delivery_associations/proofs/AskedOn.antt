@@ -2,7 +2,7 @@
 use Rattle.std.proofs.Common.{◌≡◌, ℕ, suc, Bool, true, false, ◌<◌, ◌≤◌, ◌+◌, ◌-◌, ◌^◌, Option, Some, List, [], ◌∷◌, ◌++◌, length, length-append, refl, sym, ◌∙◌, ap, subst, inl, inr, arith}
 use Rattle.std.specs.Prelude.{◌⊎◌}
 use Rattle.dcsctp_spec_lemmas.specs.types.declared.association.Pair.{Pair}
-use Rattle.dcsctp_spec_runs.specs.Past.{HasEffect}
+use Rattle.dcsctp_spec_runs.specs.Past.{WasPerformed, HasEffect}
 use Rattle.dcsctp_spec_runs.specs.World.{after_effects}
 use Rattle.dcsctp_spec_lemmas.specs.spec.association.Effect.{Effect, holds, performs}
 use Rattle.dcsctp_spec_lemmas.specs.spec.queues.Reassembly.{DeferralModel}
@@ -19,7 +19,7 @@ held_later effects past tag my h = record { link = h.link; held = after_within e
 -- What becomes of a request in the turn: nothing, or it ends. With interleaving it was performed then.
 pub data MayEnd (requests : Requests) (their_past : List Effect) : Asking → Type 0 where
   as_it_was : MayEnd requests their_past requests.asking
-  has_ended : (requests.is_interleaved ≡ true → (newest : BegunReset) (earlier : List BegunReset) → requests.asking.requests ≡ newest ∷ earlier → HasEffect (performs requests.my newest.number) their_past)
+  has_ended : (requests.is_interleaved ≡ true → (newest : BegunReset) (earlier : List BegunReset) → requests.asking.requests ≡ newest ∷ earlier → WasPerformed requests.my newest.number their_past)
       → MayEnd requests their_past (all_ended requests.asking)
 
 first_of : {one two : BegunReset} {rest others : List BegunReset} → one ∷ rest ≡ two ∷ others → one ≡ two
@@ -46,18 +46,18 @@ module _ (r : Requests) (their_past : List Effect) (a : (r.asking ≡ nothing_as
   no_place place is below = (let none : length r.asking.requests ≡ 0 = ap (λ (l : List BegunReset). length l) (none_of is) in omega (arith, below, none))
 
   -- Where no request is without an end, the newest was performed.
-  newest_was : (between : Asking) → MayEnd r their_past between → between.out ≡ 0 → r.is_interleaved ≡ true → (place : ℕ) → suc place ≡ length r.asking.requests → HasEffect (performs r.my (request_number_at r.first place)) their_past
+  newest_was : (between : Asking) → MayEnd r their_past between → between.out ≡ 0 → r.is_interleaved ≡ true → (place : ℕ) → suc place ≡ length r.asking.requests → WasPerformed r.my (request_number_at r.first place) their_past
   newest_was between ends none interleaved place last = elim a [ inl is ↦ absurd (no_place place is (omega (arith, last))) | inr asked ↦ go asked between ends none ]
     where
       performed_last : (requests : List BegunReset) → r.asking.requests ≡ requests → AreAsked r their_past
-          → ((newest : BegunReset) (earlier : List BegunReset) → r.asking.requests ≡ newest ∷ earlier → HasEffect (performs r.my newest.number) their_past) → HasEffect (performs r.my (request_number_at r.first place)) their_past
+          → ((newest : BegunReset) (earlier : List BegunReset) → r.asking.requests ≡ newest ∷ earlier → WasPerformed r.my newest.number their_past) → WasPerformed r.my (request_number_at r.first place) their_past
       performed_last [] is asked performed = (let none' : length r.asking.requests ≡ 0 = ap (λ (l : List BegunReset). length l) is in absurd (omega (arith, last, none')))
       performed_last (begun ∷ earlier) is asked performed =
           let long : length r.asking.requests ≡ suc (length earlier) = ap (λ (l : List BegunReset). length l) is in
           let at : length earlier ≡ place = omega (arith, long, last) in
-          subst (λ (n : ℕ). HasEffect (performs r.my n) their_past) (newest_number r.first begun earlier r.asking.requests is asked.numbers ∙ ap (request_number_at r.first) at) (performed begun earlier is)
+          subst (λ (n : ℕ). WasPerformed r.my n their_past) (newest_number r.first begun earlier r.asking.requests is asked.numbers ∙ ap (request_number_at r.first) at) (performed begun earlier is)
 
-      go : AreAsked r their_past → (between : Asking) → MayEnd r their_past between → between.out ≡ 0 → HasEffect (performs r.my (request_number_at r.first place)) their_past
+      go : AreAsked r their_past → (between : Asking) → MayEnd r their_past between → between.out ≡ 0 → WasPerformed r.my (request_number_at r.first place) their_past
       go asked _ as_it_was none' = asked.ended interleaved none' place last
       go asked _ (has_ended performed) none' = performed_last r.asking.requests refl asked (performed interleaved)
 
@@ -87,12 +87,12 @@ module _ (r : Requests) (their_past : List Effect) (a : (r.asking ≡ nothing_as
       same = requests_same between ends
 
       ended : r.is_interleaved ≡ true → (more : List BegunReset) → asking.requests ≡ more ++ between.requests → asking.out ≡ length more + between.out → asking.out ≡ 0 → (place : ℕ) → suc place ≡ length asking.requests
-          → HasEffect (performs r.my (request_number_at r.first place)) their_past
+          → WasPerformed r.my (request_number_at r.first place) their_past
       ended interleaved [] is count none place newest = newest_was between ends (omega (arith, count, none)) interleaved place (newest ∙ ap (λ (l : List BegunReset). length l) (is ∙ same))
       ended interleaved (begun ∷ more) is count none place newest = absurd (omega (arith, count, none))
 
       one_was : r.is_interleaved ≡ true → (more : List BegunReset) → asking.requests ≡ more ++ between.requests → asking.out ≡ length more + between.out → (newest : BegunReset) (earlier : List BegunReset) → asking.requests ≡ newest ∷ earlier
-          → ((number : ℕ) × HasEffect (performs r.my number) their_past) ⊎ WantFrom 0 newest.reset asking.requests
+          → ((number : ℕ) × WasPerformed r.my number their_past) ⊎ WantFrom 0 newest.reset asking.requests
       one_was interleaved [] is count newest earlier top =
           elim a [
             | inl none ↦ (let empty : r.asking.requests ≡ [] = none_of none in let some : r.asking.requests ≡ newest ∷ earlier = sym (is ∙ same) ∙ top in absurd (cc))
@@ -103,7 +103,7 @@ module _ (r : Requests) (their_past : List Effect) (a : (r.asking ≡ nothing_as
           ]
       one_was interleaved (begun ∷ []) is count newest earlier top = by_before r.asking.requests refl
         where
-          by_before : (before : List BegunReset) → r.asking.requests ≡ before → ((number : ℕ) × HasEffect (performs r.my number) their_past) ⊎ WantFrom 0 newest.reset asking.requests
+          by_before : (before : List BegunReset) → r.asking.requests ≡ before → ((number : ℕ) × WasPerformed r.my number their_past) ⊎ WantFrom 0 newest.reset asking.requests
           by_before [] none =
               let all : asking.requests ≡ begun ∷ [] = is ∙ ap (λ (l : List BegunReset). begun ∷ l) (same ∙ none) in
               let one : begun ≡ newest = first_of (sym all ∙ top) in inr (subst (WantFrom 0 newest.reset) (sym all) (λ at. ap (λ (b : BegunReset). b.reset) one, tt))
@@ -112,7 +112,7 @@ module _ (r : Requests) (their_past : List Effect) (a : (r.asking ≡ nothing_as
       one_was interleaved (begun ∷ other ∷ more) is count newest earlier top = (let out = begins.out in absurd (omega (arith, count, out)))
 
       performed : r.is_interleaved ≡ true → asking.is_performed ≡ true → (more : List BegunReset) → asking.requests ≡ more ++ between.requests → (more ≡ [] → asking.is_performed ≡ between.is_performed)
-          → ((newest : BegunReset) (rest : List BegunReset) → more ≡ newest ∷ rest → asking.is_performed ≡ false) → (place : ℕ) → suc place ≡ length asking.requests → HasEffect (performs r.my (request_number_at r.first place)) their_past
+          → ((newest : BegunReset) (rest : List BegunReset) → more ≡ newest ∷ rest → asking.is_performed ≡ false) → (place : ℕ) → suc place ≡ length asking.requests → WasPerformed r.my (request_number_at r.first place) their_past
       performed interleaved known [] is same' anew place newest =
           let long : length asking.requests ≡ length r.asking.requests = ap (λ (l : List BegunReset). length l) (is ∙ same) in
           elim a [
@@ -148,7 +148,7 @@ module _ (r : Requests) (their_past : List Effect) (a : (r.asking ≡ nothing_as
 
   -- `StandsSo` still holds, if the newest request counts as performed where the receiver's past says so.
   pub stands_on : (waits : Option DeferralModel) (between asking : Asking) → MayEnd r their_past between → MayBegin r.first between asking
-      → (r.is_interleaved ≡ true → (newest : BegunReset) (earlier : List BegunReset) → r.asking.requests ≡ newest ∷ earlier → HasEffect (performs r.my (request_number_at r.first (length earlier))) their_past → r.asking.is_performed ≡ true)
+      → (r.is_interleaved ≡ true → (newest : BegunReset) (earlier : List BegunReset) → r.asking.requests ≡ newest ∷ earlier → WasPerformed r.my (request_number_at r.first (length earlier)) their_past → r.asking.is_performed ≡ true)
       → StandsSo r their_past waits → StandsSo (after asking) their_past waits
   stands_on waits between asking ends begins known stands = by_more begins.more begins.is begins.same begins.anew begins.count stands
     where

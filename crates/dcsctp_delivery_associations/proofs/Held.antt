@@ -1,6 +1,6 @@
 -- Whether a side had an association.
 use Rattle.std.proofs.Common.{◌≡◌, Bool, true, false, List, [], ◌∷◌, refl, inl, inr}
-use Rattle.dcsctp_spec_lemmas.specs.spec.association.Effect.{AssociationIdentity, Effect, draws, sends, holds, connects, ends, begins, gives_up, completes, fails, accepts, performs, resumes}
+use Rattle.dcsctp_spec_lemmas.specs.spec.association.Effect.{AssociationIdentity, Effect, draws, sends, holds, connects, ends, begins, gives_up, completes, fails, accepts, performs, renews, resumes}
 use Rattle.dcsctp_spec_runs.specs.Past.{HasEffect}
 use Rattle.dcsctp_delivery_associations.specs.Ends.{NeverHeld}
 
@@ -18,6 +18,7 @@ never_held (completes my number ∷ past) = never_held past
 never_held (fails number ∷ past) = never_held past
 never_held (accepts number ∷ past) = never_held past
 never_held (performs my number ∷ past) = never_held past
+never_held (renews my number ∷ past) = never_held past
 never_held (resumes link own last ∷ past) = never_held past
 
 -- Then it held none,
@@ -44,6 +45,8 @@ none_held (accepts number ∷ past) none link (inl is) = absurd (cc)
 none_held (accepts number ∷ past) none link (inr has) = none_held past none link has
 none_held (performs my number ∷ past) none link (inl is) = absurd (cc)
 none_held (performs my number ∷ past) none link (inr has) = none_held past none link has
+none_held (renews my number ∷ past) none link (inl is) = absurd (cc)
+none_held (renews my number ∷ past) none link (inr has) = none_held past none link has
 none_held (resumes link' own last ∷ past) none link (inl is) = absurd (cc)
 none_held (resumes link' own last ∷ past) none link (inr has) = none_held past none link has
 
@@ -61,4 +64,5 @@ some_held (completes my number ∷ past) some = (let found = some_held past some
 some_held (fails number ∷ past) some = (let found = some_held past some in (found.0, inr found.1))
 some_held (accepts number ∷ past) some = (let found = some_held past some in (found.0, inr found.1))
 some_held (performs my number ∷ past) some = (let found = some_held past some in (found.0, inr found.1))
+some_held (renews my number ∷ past) some = (let found = some_held past some in (found.0, inr found.1))
 some_held (resumes link' own last ∷ past) some = (let found = some_held past some in (found.0, inr found.1))

@@ -6,7 +6,7 @@ use Rattle.dcsctp_spec_lemmas.specs.types.declared.options.Options.{Options}
 use Rattle.dcsctp_spec_lemmas.specs.spec.endpoint.Endpoint.{Endpoint}
 use Rattle.dcsctp_spec_lemmas.specs.spec.endpoint.Outcome.{Outcome}
 use Rattle.dcsctp_spec_lemmas.specs.spec.Packet.{Content, re_config}
-use Rattle.dcsctp_spec_runs.specs.Past.{HasEffect, number_to_accept, number_to_perform}
+use Rattle.dcsctp_spec_runs.specs.Past.{WasPerformed, HasEffect, number_to_accept, number_to_perform}
 use Rattle.dcsctp_spec_lemmas.specs.spec.Reconfiguration.{RequestedReset, ResetParameter, outgoing_reset_request}
 use Rattle.dcsctp_spec_lemmas.specs.spec.endpoint.Turn.{Input, Turn}
 use Rattle.dcsctp_spec_runs.specs.World.{after_effects}
@@ -33,7 +33,7 @@ use Rattle.dcsctp_delivery_turns.proofs.Holding.{holds_mean, ends_mean}
 use Rattle.dcsctp_delivery_turns.proofs.PeersTurns.{peers_turn}
 use Rattle.dcsctp_delivery_associations.specs.Ends.{ReceivingEnd, Ends}
 use Rattle.dcsctp_delivery_associations.specs.Answered.{Requests, WasJoined, IsInStep, AnswersRequests, requests_of, waiting_deferral, AreAnswered}
-use Rattle.dcsctp_delivery_associations.proofs.UnaskedPasts.{same_numbers, reset_none, some_reset, performs_reset}
+use Rattle.dcsctp_delivery_associations.proofs.UnaskedPasts.{same_numbers, reset_none, some_reset, was_performed_reset}
 use Rattle.dcsctp_delivery_associations.proofs.AnsweringRests as answering
 use Rattle.dcsctp_delivery_associations.proofs.AnsweringRests.{none_performed, same_requests}
 use Rattle.dcsctp_delivery_associations.proofs.AnsweringNewest.{IsDueAt, numbers_of, newest_where, behind_where, due_there}
@@ -195,7 +195,7 @@ module _ (ends : Ends) (e : Endpoint) (past : List Effect) (d : Endpoint) (their
       -- the number of a request that is performed, beside that of the newest
       abbrev Compares : (ℕ → ℕ → Type 0) → Type 0
       Compares Are =
-          (number : ℕ) → HasEffect (effects.performs link.peer number) o.effects → (newest : BegunReset) (earlier : List BegunReset) → (ends.sends link.my.tag).asking.requests ≡ newest ∷ earlier → Are number newest.number
+          (number : ℕ) → WasPerformed link.peer number o.effects → (newest : BegunReset) (earlier : List BegunReset) → (ends.sends link.my.tag).asking.requests ≡ newest ∷ earlier → Are number newest.number
 
       -- how far the receiver is: what it performs is the newest; or it isn't, or messages don't interleave
       abbrev pub Standing : Bool → Type 0
@@ -206,7 +206,7 @@ module _ (ends : Ends) (e : Endpoint) (past : List Effect) (d : Endpoint) (their
       pub newest_or_not : IsInStep (requests_of ends w.pairs link.my.tag) their_past transfer.reassembly.deferral → Standing true ⊎ Standing false
       newest_or_not step = by_peers peers
         where
-          by_requests : (number : ℕ) → ((peer : Pair) (other : ℕ) → HasEffect (effects.performs peer other) o.effects → (peer ≡ link.peer) × (other ≡ number)) → (requests : List BegunReset) → (ends.sends link.my.tag).asking.requests ≡ requests
+          by_requests : (number : ℕ) → ((peer : Pair) (other : ℕ) → WasPerformed peer other o.effects → (peer ≡ link.peer) × (other ≡ number)) → (requests : List BegunReset) → (ends.sends link.my.tag).asking.requests ≡ requests
               → Standing true ⊎ Standing false
           by_requests number only [] none = inl (step, λ other has newest earlier is. absurd (cc))
           by_requests number only (last ∷ before) some =
@@ -264,7 +264,7 @@ module _ (ends : Ends) (e : Endpoint) (past : List Effect) (d : Endpoint) (their
             (same_requests (requests_of (asked_ends ends link.my.tag asking got) w.pairs) (requests_of ends w.pairs) (identity_in e.core) past (Some link) (after_effects o.effects their_past) left.reassembly.deferral
             (same_asked ends w.pairs link.my.tag got asking is) answers)
 
-        none_reset : ((peer : Pair) (other : ℕ) → HasEffect (effects.performs peer other) o.effects → ⊥) → has_reset o.effects ≡ false
+        none_reset : ((peer : Pair) (other : ℕ) → WasPerformed peer other o.effects → ⊥) → has_reset o.effects ≡ false
         none_reset none = go (has_reset o.effects) refl
           where
             go : (b : Bool) → has_reset o.effects ≡ b → has_reset o.effects ≡ false
@@ -272,19 +272,19 @@ module _ (ends : Ends) (e : Endpoint) (past : List Effect) (d : Endpoint) (their
             go true is = (let found = some_reset o.effects is in absurd (none found.0 found.1 found.2))
 
         -- A request was performed, and it is known to be the newest, or messages don't interleave.
-        performed_so : (number : ℕ) (reset : RequestedReset) → came_by input ≡ Some (reset_request number reset) → HasEffect (effects.performs link.peer number) o.effects
+        performed_so : (number : ℕ) (reset : RequestedReset) → came_by input ≡ Some (reset_request number reset) → WasPerformed link.peer number o.effects
             → asking ≡ performed_where is_known true (ends.sends link.my.tag).asking
         performed_so number reset came has = by.3 ∙ go by.0 by.1 ∙ ap (performed_where is_known true) asked_is
           where
             go : (is_reset : Bool) → (is_reset ≡ false → (has_reset o.effects ≡ false) ⊎ IsCalm (came_by input)) → performed_where is_known is_reset direction.asking ≡ performed_where is_known true direction.asking
             go true says = refl
             go false says = elim (says refl) [
-              | inl none ↦ (let clash : true ≡ false = sym (performs_reset o.effects link.peer number has) ∙ none in absurd (cc))
+              | inl none ↦ (let clash : true ≡ false = sym (was_performed_reset o.effects link.peer number has) ∙ none in absurd (cc))
               | inr calm ↦ absurd (calm (outgoing_reset_request number number reset ∷ []) came)
             ]
 
         by_performing : (b : Bool) → is_known ≡ b → Standing b → (number : ℕ) (reset : RequestedReset) → came_by input ≡ Some (reset_request number reset) → IsDue their_past number
-            → ((peer : Pair) (other : ℕ) → HasEffect (effects.performs peer other) o.effects → (peer ≡ link.peer) × (other ≡ number)) → HasEffect (effects.performs link.peer number) o.effects
+            → ((peer : Pair) (other : ℕ) → WasPerformed peer other o.effects → (peer ≡ link.peer) × (other ≡ number)) → WasPerformed link.peer number o.effects
             → number_to_accept (after_effects o.effects their_past) ≡ Some (next_number number) → number_to_perform (after_effects o.effects their_past) ≡ None → left.reassembly.deferral ≡ None → After
         by_performing true known (step, newest) number reset came due only has accept perform empty =
             let found = handled number reset came in
@@ -299,7 +299,7 @@ module _ (ends : Ends) (e : Endpoint) (past : List Effect) (d : Endpoint) (their
             (λ t. new_asked ends w.pairs link.my.tag got asking t ∙ ap (λ (a : Asking). set_at link.my.tag (record (requests_of ends w.pairs link.my.tag) { asking = a }) (requests_of ends w.pairs) t) is)
             (performs.performs_it (requests_of ends w.pairs) (identity_in e.core) past link o.effects their_past transfer.reassembly.deferral left.reassembly.deferral found.0 answers_here (no_holds same)
             (λ peer other h. (let one' = only peer other h in (one'.0, one'.1 ∙ sym found.2))) found.1 one.earlier (one.is ∙ ap (λ (b : BegunReset). b ∷ one.earlier) (sym top))
-            (subst (λ (n : ℕ). HasEffect (effects.performs link.peer n) o.effects) (sym found.2) has) (accept ∙ ap (λ (n : ℕ). Some (next_number n)) (sym found.2)) perform empty))
+            (subst (λ (n : ℕ). WasPerformed link.peer n o.effects) (sym found.2) has) (accept ∙ ap (λ (n : ℕ). Some (next_number n)) (sym found.2)) perform empty))
         by_performing false known (inl kind) number reset came due only has accept perform empty =
             let found = handled number reset came in
             unchanged (performed_so number reset came has ∙ ap (λ (b : Bool). performed_where b true (ends.sends link.my.tag).asking) known)
@@ -315,7 +315,7 @@ module _ (ends : Ends) (e : Endpoint) (past : List Effect) (d : Endpoint) (their
 
         -- If it is in step, what is deferred is in progress.
         by_deferring : (b : Bool) → Standing b → (number : ℕ) (reset : RequestedReset) → came_by input ≡ Some (reset_request number reset) → IsDue their_past number
-            → ((peer : Pair) (other : ℕ) → HasEffect (effects.performs peer other) o.effects → ⊥)
+            → ((peer : Pair) (other : ℕ) → WasPerformed peer other o.effects → ⊥)
             → number_to_accept (after_effects o.effects their_past) ≡ Some (next_number number) → number_to_perform (after_effects o.effects their_past) ≡ Some number
             → (kept : DeferralModel) → left.reassembly.deferral ≡ Some kept → WaitsFor reset transfer.reassembly.deferral kept → After
         by_deferring b stands number reset came due none accept perform kept is waits = unchanged (asking_same (none_reset none)) (go b stands)

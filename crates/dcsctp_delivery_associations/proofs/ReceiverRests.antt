@@ -23,7 +23,7 @@ use Rattle.dcsctp_delivery_associations.specs.Answered.{requests_of, waiting_def
 use Rattle.dcsctp_delivery_associations.proofs.AnsweringRests.{same_requests}
 use Rattle.dcsctp_delivery_associations.proofs.ReceiverOpens.{rests_answered}
 use Rattle.dcsctp_spec_lemmas.specs.types.declared.association.Pair.{Pair}
-use Rattle.dcsctp_spec_runs.specs.Past.{HasEffect}
+use Rattle.dcsctp_spec_runs.specs.Past.{WasPerformed, HasEffect}
 use Rattle.dcsctp_spec_lemmas.specs.spec.association.Effect.{performs}
 use Rattle.dcsctp_delivery_turns.specs.Actions.{peer_tag, IsCall}
 use Rattle.dcsctp_delivery_turns.specs.Asking.{own_of, SomeFit}
@@ -53,7 +53,7 @@ module _ (options : Options) (ends : Ends) (e : Endpoint) (queued : List Message
   still_last unlinked reads = subst (λ (n : ℕ). AreEnds ends.never_resets options e queued past packets o.after (after_effects o.effects their_past) (record { reads = reads; last = n })) (sym (ap (tag_or reading.last) unlinked))
 
   -- there is none after the turn
-  pub rests : o.after.queues.transfer ≡ None → SomeFit (own_of o.after) → identity_in o.after.core ≡ None → ((my : Pair) (number : ℕ) → HasEffect (performs my number) o.effects → ⊥) → LeavesReady ends.gets reading.last o.after.left o.after.queues.transfer
+  pub rests : o.after.queues.transfer ≡ None → SomeFit (own_of o.after) → identity_in o.after.core ≡ None → ((my : Pair) (number : ℕ) → WasPerformed my number o.effects → ⊥) → LeavesReady ends.gets reading.last o.after.left o.after.queues.transfer
       → After reading.reads
   rests none fits unlinked no_performs left =
       still_last unlinked reading.reads (record {
@@ -87,7 +87,7 @@ module _ (options : Options) (ends : Ends) (e : Endpoint) (queued : List Message
   IsLeft left = (left ≡ []) ⊎ ((ends.gets reading.last).reassembly.incoming.ready ≡ left)
 
   module _ (nowhere : d.queues.transfer ≡ None) (gone : o.after.queues.transfer ≡ None) (fits : SomeFit (own_of o.after)) (unlinked : identity_in o.after.core ≡ None)
-      (no_performs : (my : Pair) (number : ℕ) → HasEffect (performs my number) o.effects → ⊥) where
+      (no_performs : (my : Pair) (number : ℕ) → WasPerformed my number o.effects → ⊥) where
     -- Nothing is read.
     unread_rests : tagged_after reading.last d input reading.reads ≡ reading.reads → IsLeft o.after.left → Turned
     unread_rests unread left = unread_goes unread (rests gone fits unlinked no_performs (left_idle ends.gets reading.last o.after.left o.after.queues.transfer gone left))

@@ -1,7 +1,7 @@
 -- The sender sends its newest request again under the next number.
 use Rattle.std.proofs.Common.{◌≡◌, ℕ, suc, true, ◌<◌, ◌≤◌, ◌+◌, ◌-◌, ◌^◌, Option, List, [], ◌∷◌, ◌++◌, length, length-append, refl, sym, ◌∙◌, ap, subst, inl, inr, arith}
 use Rattle.std.specs.Prelude.{◌⊎◌}
-use Rattle.dcsctp_spec_runs.specs.Past.{HasEffect}
+use Rattle.dcsctp_spec_runs.specs.Past.{WasPerformed, HasEffect}
 use Rattle.dcsctp_spec_lemmas.specs.spec.association.Effect.{Effect, performs}
 use Rattle.dcsctp_spec_lemmas.specs.spec.queues.Reassembly.{DeferralModel}
 use Rattle.dcsctp_spec_lemmas.specs.spec.endpoint.BegunResets.{BegunReset}
@@ -35,7 +35,7 @@ module _ (r : Requests) (their_past : List Effect) (a : (r.asking ≡ nothing_as
       }
     where
       one_was : r.is_interleaved ≡ true → (top : BegunReset) (rest : List BegunReset) → (renewed number newest r).asking.requests ≡ top ∷ rest
-          → ((n : ℕ) × HasEffect (performs r.my n) their_past) ⊎ WantFrom 0 top.reset (renewed number newest r).asking.requests
+          → ((n : ℕ) × WasPerformed r.my n their_past) ⊎ WantFrom 0 top.reset (renewed number newest r).asking.requests
       one_was interleaved top rest same =
           elim a [
             | inl none ↦ (let empty : r.asking.requests ≡ [] = ap (λ (s : Asking). s.requests) none in absurd (cc))
@@ -119,7 +119,7 @@ module _ (r : Requests) (their_past : List Effect) (a : (r.asking ≡ nothing_as
       asked.placed_on (renewed number newest r) their_past (inr (renewed_asked r their_past a number newest earlier is out (numbers_between r.first between asking begins))) (few_between r.first between asking begins) between asking
       asked.as_it_was begins n (renewed_placed r their_past a number newest earlier is out n at)
 
-  pub stands_then : (waits : Option DeferralModel) (between asking : Asking) → MayGo r their_past between → MayBegin r.first between asking → ((number : ℕ) → HasEffect (performs r.my number) their_past → IsRequestNumber r number)
+  pub stands_then : (waits : Option DeferralModel) (between asking : Asking) → MayGo r their_past between → MayBegin r.first between asking → ((number : ℕ) → WasPerformed r.my number their_past → IsRequestNumber r number)
       → StandsSo r their_past waits → StandsSo (after asking) their_past waits
   stands_then waits _ asking (ends_so between ends) begins placed stands =
       asked.stands_on r their_past a few waits between asking ends begins

@@ -4,7 +4,7 @@ use Rattle.std.proofs.Common.{◌≡◌, ◌≢◌, ℕ, suc, Bool, true, false,
 use Rattle.dcsctp_spec_lemmas.specs.types.declared.association.Pair.{Pair}
 use Rattle.dcsctp_spec_lemmas.specs.spec.endpoint.Endpoint.{Endpoint, Core, closed, cookie_wait, cookie_echoed, open_in, OutstandingRequest}
 use Rattle.dcsctp_spec_lemmas.specs.spec.endpoint.Outcome.{Outcome}
-use Rattle.dcsctp_spec_runs.specs.Past.{HasEffect}
+use Rattle.dcsctp_spec_runs.specs.Past.{WasPerformed, HasEffect}
 use Rattle.dcsctp_spec_lemmas.specs.spec.endpoint.Turn.{Input, Turn}
 use Rattle.dcsctp_spec_runs.specs.World.{after_effects}
 use Rattle.dcsctp_spec_lemmas.specs.spec.association.Effect.{AssociationIdentity, Effect, holds, completes, performs, identity_in}
@@ -58,6 +58,7 @@ some_completed (effects.gives_up number ∷ happened) is = (let found = some_com
 some_completed (effects.fails number ∷ happened) is = (let found = some_completed happened is in (found.0, found.1, inr found.2))
 some_completed (effects.accepts number ∷ happened) is = (let found = some_completed happened is in (found.0, found.1, inr found.2))
 some_completed (effects.performs peer number ∷ happened) is = (let found = some_completed happened is in (found.0, found.1, inr found.2))
+some_completed (effects.renews peer number ∷ happened) is = (let found = some_completed happened is in (found.0, found.1, inr found.2))
 some_completed (effects.resumes link own last ∷ happened) is = (let found = some_completed happened is in (found.0, found.1, inr found.2))
 
 -- The newest request has this number.
@@ -85,7 +86,7 @@ module _ (requests : ℕ → Requests) (link : AssociationIdentity) (past : List
   numbers = (asks_so (requests link.peer.tag).first e.core e.outstanding (requests link.peer.tag).asking link linked fits).0
 
   -- The newest was performed if it ends so.
-  performed_newest : has_completed o.effects ≡ true → (newest : BegunReset) (earlier : List BegunReset) → (requests link.peer.tag).asking.requests ≡ newest ∷ earlier → HasEffect (performs link.my newest.number) their_past
+  performed_newest : has_completed o.effects ≡ true → (newest : BegunReset) (earlier : List BegunReset) → (requests link.peer.tag).asking.requests ≡ newest ∷ earlier → WasPerformed link.my newest.number their_past
   performed_newest done newest earlier is =
       let found = some_completed o.effects done in
       let own = completes_own e input o found.0 found.1 may turn found.2 in
@@ -93,7 +94,7 @@ module _ (requests : ℕ → Requests) (link : AssociationIdentity) (past : List
       let mine : found.0 ≡ link.my = sym own.mine ∙ ap (λ (l : AssociationIdentity). l.my) one in
       let number : newest.number ≡ found.1 = newest_is r.first found.1 (own_of e) own.own r.asking newest earlier own.kept own.outstanding fits is in
       elim (completes_so found.0 found.1 found.2) [
-        | inl has ↦ subst (λ (p : Pair). HasEffect (performs p newest.number) their_past) mine (subst (λ (n : ℕ). HasEffect (performs found.0 n) their_past) (sym number) has)
+        | inl has ↦ subst (λ (p : Pair). WasPerformed p newest.number their_past) mine (subst (λ (n : ℕ). WasPerformed found.0 n their_past) (sym number) has)
         | inr last ↦ absurd (too_many mine (number ∙ last))
       ]
     where
@@ -122,12 +123,12 @@ module _ (requests : ℕ → Requests) (link : AssociationIdentity) (past : List
   ends_performed done interleaved =
       let out = some_out done in
       newest_known requests link past theirs their_past waits h few (kind ∙ interleaved) out.0 out.1 out.2
-      (subst (λ (n : ℕ). HasEffect (performs link.my n) their_past) (newest_number r.first out.0 out.1 r.asking.requests out.2 numbers) (performed_newest done out.0 out.1 out.2))
+      (subst (λ (n : ℕ). WasPerformed link.my n their_past) (newest_number r.first out.0 out.1 r.asking.requests out.2 numbers) (performed_newest done out.0 out.1 out.2))
 
   pub may_go : RefusesNone e o → (between : Asking) → IsBetween o.effects (requests link.peer.tag).asking between → MayGo (requests link.peer.tag) their_past between
   may_go none _ as_it_was = ends_so _ asked.as_it_was
   may_go none _ (once_performed done) =
-      ends_so _ (asked.has_ended (λ interleaved newest earlier is. subst (λ (p : Pair). HasEffect (performs p newest.number) their_past) (sym (h.mine_held link refl).1) (performed_newest done newest earlier is)))
+      ends_so _ (asked.has_ended (λ interleaved newest earlier is. subst (λ (p : Pair). WasPerformed p newest.number their_past) (sym (h.mine_held link refl).1) (performed_newest done newest earlier is)))
   may_go none _ (once_refused done) = ends_so _ (asked.has_ended (λ interleaved. (let clash : true ≡ false = sym done ∙ none (sym kind ∙ interleaved) in absurd (cc))))
   may_go none _ (once_renewed newest earlier number is out next) = was_renewed newest earlier number is out
 

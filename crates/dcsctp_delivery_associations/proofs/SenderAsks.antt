@@ -2,7 +2,7 @@
 use Rattle.std.proofs.Common.{◌≡◌, ◌≢◌, ℕ, true, ◌<◌, ◌-◌, ◌^◌, Option, Some, List, ◌∷◌, length, refl, sym, ◌∙◌, subst, inl, inr}
 use Rattle.std.specs.Prelude.{◌⊎◌}
 use Rattle.dcsctp_spec_lemmas.specs.types.declared.association.Pair.{Pair}
-use Rattle.dcsctp_spec_runs.specs.Past.{HasEffect}
+use Rattle.dcsctp_spec_runs.specs.Past.{WasPerformed, HasEffect}
 use Rattle.dcsctp_spec_runs.specs.World.{after_effects}
 use Rattle.dcsctp_spec_lemmas.specs.spec.association.Effect.{AssociationIdentity, Effect, performs}
 use Rattle.dcsctp_spec_lemmas.specs.spec.queues.Reassembly.{DeferralModel}
@@ -30,7 +30,7 @@ module _ (requests : ℕ → Requests) (link : AssociationIdentity) (past : List
   mine = (h.mine_held link refl).1
 
   -- A request of the association that was performed is one of its tag.
-  is_joined : (number : ℕ) → HasEffect (performs link.my number) their_past → WasJoined their_past link.peer.tag (requests link.peer.tag).my
+  is_joined : (number : ℕ) → WasPerformed link.my number their_past → WasJoined their_past link.peer.tag (requests link.peer.tag).my
   is_joined number has =
       let found = h.joined link.my number has in
       elim (decide found.0 link.peer.tag) [
@@ -38,12 +38,12 @@ module _ (requests : ℕ → Requests) (link : AssociationIdentity) (past : List
         | inr ne ↦ absurd (h.mine_apart link refl found.0 (λ is. ne (sym is)) found.1 (sym found.2))
       ]
 
-  pub is_placed : (number : ℕ) → HasEffect (performs link.my number) their_past → IsRequestNumber (requests link.peer.tag) number
-  is_placed number has = h.performed link.peer.tag (is_joined number has) number (subst (λ (p : Pair). HasEffect (performs p number) their_past) (sym mine) has)
+  pub is_placed : (number : ℕ) → WasPerformed link.my number their_past → IsRequestNumber (requests link.peer.tag) number
+  is_placed number has = h.performed link.peer.tag (is_joined number has) number (subst (λ (p : Pair). WasPerformed p number their_past) (sym mine) has)
 
   -- If the newest was performed, that is known.
   pub newest_known : length r.asking.requests < 2 ^ 32 - 1 → r.is_interleaved ≡ true → (newest : BegunReset) (earlier : List BegunReset) → r.asking.requests ≡ newest ∷ earlier
-      → HasEffect (performs link.my (request_number_at r.first (length earlier))) their_past → r.asking.is_performed ≡ true
+      → WasPerformed link.my (request_number_at r.first (length earlier)) their_past → r.asking.is_performed ≡ true
   newest_known few interleaved newest earlier is has = known_newest (requests link.peer.tag) few newest earlier is interleaved (is_placed (request_number_at r.first (length earlier)) has)
 
   module _ (few : length (requests link.peer.tag).asking.requests < 2 ^ 32 - 1) (some : link.peer.tag ≢ 0) (between asking : Asking) (goes : MayGo (requests link.peer.tag) their_past between)
@@ -82,8 +82,8 @@ module _ (requests : ℕ → Requests) (link : AssociationIdentity) (past : List
         set_requests (λ t n. WasJoined their_past t n.my → WerePerformed n their_past) link.peer.tag (record (requests link.peer.tag) { asking = asking }) requests
         (λ joined number has. placed_then (requests link.peer.tag) their_past (h.asked link.peer.tag some) few between asking goes begins number (h.performed link.peer.tag joined number has)) (λ t ne. h.performed t)
 
-    placed_there : (number : ℕ) → HasEffect (performs (requests link.peer.tag).my number) their_past → IsRequestNumber (requests link.peer.tag) number
-    placed_there number has = is_placed number (subst (λ (p : Pair). HasEffect (performs p number) their_past) mine has)
+    placed_there : (number : ℕ) → WasPerformed (requests link.peer.tag).my number their_past → IsRequestNumber (requests link.peer.tag) number
+    placed_there number has = is_placed number (subst (λ (p : Pair). WasPerformed p number their_past) mine has)
 
     stands_later : (tag : ℕ) → StandsSo (requests tag) their_past waits → StandsSo (all_later tag) their_past waits
     stands_later =

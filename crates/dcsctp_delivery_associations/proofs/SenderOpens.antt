@@ -2,7 +2,7 @@
 use Rattle.std.proofs.Common.{◌≡◌, ◌≢◌, ℕ, Bool, ◌<◌, ◌-◌, ◌^◌, Option, None, Some, List, [], length, refl, sym, ◌∙◌, ap, subst, inl, inr, arith}
 use Rattle.std.specs.Prelude.{◌⊎◌}
 use Rattle.dcsctp_spec_lemmas.specs.types.declared.association.Pair.{Pair}
-use Rattle.dcsctp_spec_runs.specs.Past.{HasEffect}
+use Rattle.dcsctp_spec_runs.specs.Past.{WasPerformed, HasEffect}
 use Rattle.dcsctp_spec_lemmas.specs.spec.association.Effect.{AssociationIdentity, Effect, holds, performs}
 use Rattle.dcsctp_spec_lemmas.specs.spec.queues.Reassembly.{DeferralModel}
 use Rattle.dcsctp_delivery_sending.specs.Places.{set_at}
@@ -33,12 +33,12 @@ module _ (requests : ℕ → Requests) (mine : Option AssociationIdentity) (past
   is_mine : WasJoined their_past new.peer.tag (requests new.peer.tag).my → (requests new.peer.tag).my ≡ new.my
   is_mine joined = sym joined.my_is ∙ (match joined.link joined.held (inl joined.tag_is)).0
 
-  none_performed : (number : ℕ) → HasEffect (performs new.my number) their_past → ⊥
+  none_performed : (number : ℕ) → WasPerformed new.my number their_past → ⊥
   none_performed number has =
       let found = h.joined new.my number has in
       let at : found.0 ≡ new.peer.tag = joined_here found.0 found.1 found.2 in
       let joined : WasJoined their_past new.peer.tag (requests new.peer.tag).my = subst (λ (t : ℕ). WasJoined their_past t (requests t).my) at found.1 in
-      let placed = h.performed new.peer.tag joined number (subst (λ (p : Pair). HasEffect (performs p number) their_past) (sym (is_mine joined)) has) in
+      let placed = h.performed new.peer.tag joined number (subst (λ (p : Pair). WasPerformed p number their_past) (sym (is_mine joined)) has) in
       let below = placed.below in
       let empty : length (requests new.peer.tag).asking.requests ≡ 0 = ap (λ (a : Asking). length a.requests) nothing in
       absurd (omega (arith, below, empty))
@@ -91,11 +91,11 @@ module _ (requests : ℕ → Requests) (mine : Option AssociationIdentity) (past
           ]
         ]
 
-    joined_opened : (my : Pair) (number : ℕ) → HasEffect (performs my number) their_past → (tag : ℕ) × WasJoined their_past tag (opened tag).my × ((opened tag).my ≡ my)
+    joined_opened : (my : Pair) (number : ℕ) → WasPerformed my number their_past → (tag : ℕ) × WasJoined their_past tag (opened tag).my × ((opened tag).my ≡ my)
     joined_opened my number has =
         let found = h.joined my number has in
         elim (decide found.0 new.peer.tag) [
-          | inl e ↦ absurd (none_performed number (subst (λ (p : Pair). HasEffect (performs p number) their_past) (sym found.2 ∙ here e found.1) has))
+          | inl e ↦ absurd (none_performed number (subst (λ (p : Pair). WasPerformed p number their_past) (sym found.2 ∙ here e found.1) has))
           | inr ne ↦ (found.0, subst (WasJoined their_past found.0) (sym (there_is found.0 ne)) found.1, there_is found.0 ne ∙ found.2)
         ]
       where

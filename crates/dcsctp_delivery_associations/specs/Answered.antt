@@ -2,7 +2,7 @@
 -- associations of both sides.
 use Rattle.std.specs.Prelude.{◌≡◌, ◌≢◌, ◌⊎◌, ◌<◌, ◌≤◌, ◌+◌, ◌%◌, ◌^◌, ℕ, suc, Bool, true, false, Option, None, Some, List, [], ◌∷◌, length}
 use Rattle.dcsctp_spec_lemmas.specs.types.declared.association.Pair.{Pair}
-use Rattle.dcsctp_spec_runs.specs.Past.{HasEffect, number_to_accept, number_to_perform}
+use Rattle.dcsctp_spec_runs.specs.Past.{WasPerformed, HasEffect, number_to_accept, number_to_perform}
 use Rattle.dcsctp_spec_lemmas.specs.spec.Reconfiguration.{RequestedReset}
 use Rattle.dcsctp_spec_lemmas.specs.spec.endpoint.Endpoint.{Endpoint}
 use Rattle.dcsctp_spec_lemmas.specs.spec.association.Effect.{AssociationIdentity, Effect, holds, performs, identity_in}
@@ -53,12 +53,12 @@ pub record AreAsked (requests : Requests) (their_past : List Effect) : Type 0 wh
   pub numbers : AreNumbered requests.first requests.asking.requests
   pub out : requests.asking.out ≤ 1
   -- With interleaving the receiver has performed the newest if it has an end,
-  pub ended : requests.is_interleaved ≡ true → requests.asking.out ≡ 0 → (place : ℕ) → suc place ≡ length requests.asking.requests → HasEffect (performs requests.my (request_number_at requests.first place)) their_past
+  pub ended : requests.is_interleaved ≡ true → requests.asking.out ≡ 0 → (place : ℕ) → suc place ≡ length requests.asking.requests → WasPerformed requests.my (request_number_at requests.first place) their_past
   -- or if that is known;
-  pub performed_is : requests.is_interleaved ≡ true → requests.asking.is_performed ≡ true → (place : ℕ) → suc place ≡ length requests.asking.requests → HasEffect (performs requests.my (request_number_at requests.first place)) their_past
+  pub performed_is : requests.is_interleaved ≡ true → requests.asking.is_performed ≡ true → (place : ℕ) → suc place ≡ length requests.asking.requests → WasPerformed requests.my (request_number_at requests.first place) their_past
   -- and it has performed one, or all want the same.
   pub some_performed : requests.is_interleaved ≡ true → (newest : BegunReset) (earlier : List BegunReset) → requests.asking.requests ≡ newest ∷ earlier
-      → ((number : ℕ) × HasEffect (performs requests.my number) their_past) ⊎ WantFrom 0 newest.reset requests.asking.requests
+      → ((number : ℕ) × WasPerformed requests.my number their_past) ⊎ WantFrom 0 newest.reset requests.asking.requests
 
 -- The number is that of a request. With interleaving it is known whether the newest was performed.
 pub record IsRequestNumber (requests : Requests) (number : ℕ) : Type 0 where
@@ -69,7 +69,7 @@ pub record IsRequestNumber (requests : Requests) (number : ℕ) : Type 0 where
 
 -- This holds for each that the receiver has performed.
 abbrev pub WerePerformed : Requests → List Effect → Type 0
-WerePerformed requests their_past = (number : ℕ) → HasEffect (performs requests.my number) their_past → IsRequestNumber requests number
+WerePerformed requests their_past = (number : ℕ) → WasPerformed requests.my number their_past → IsRequestNumber requests number
 
 -- How far the receiver is: what it has accepted and performed, and what waits there. It may not have reached the newest request
 -- where one was sent again under other numbers.
@@ -100,7 +100,7 @@ pub record AnswersRequests (requests : ℕ → Requests) (mine : Option Associat
   -- A pair of the sender is of one tag.
   pub apart : (one two : ℕ) → one ≢ two → WasJoined their_past one (requests one).my → WasJoined their_past two (requests two).my → (requests one).my ≢ (requests two).my
   pub mine_apart : (link : AssociationIdentity) → mine ≡ Some link → (tag : ℕ) → link.peer.tag ≢ tag → WasJoined their_past tag (requests tag).my → link.my ≢ (requests tag).my
-  pub joined : (my : Pair) (number : ℕ) → HasEffect (performs my number) their_past → (tag : ℕ) × WasJoined their_past tag (requests tag).my × ((requests tag).my ≡ my)
+  pub joined : (my : Pair) (number : ℕ) → WasPerformed my number their_past → (tag : ℕ) × WasJoined their_past tag (requests tag).my × ((requests tag).my ≡ my)
   pub mine_held : (link : AssociationIdentity) → mine ≡ Some link → SenderHadPeer past link.peer.tag link.my × ((requests link.peer.tag).my ≡ link.my)
   pub mine_first : (link : AssociationIdentity) → mine ≡ Some link → (requests link.peer.tag).first ≡ link.my.first_tsn
   pub theirs_held : (link : AssociationIdentity) → theirs ≡ Some link → WasJoined their_past link.my.tag link.peer × ((requests link.my.tag).my ≡ link.peer)

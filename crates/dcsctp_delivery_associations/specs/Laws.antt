@@ -18,7 +18,7 @@ use Rattle.dcsctp_delivery_turns.specs.Actions.{IsOpening, came_by, queued_after
 use Rattle.dcsctp_delivery_turns.specs.Runs.{RefusesNone}
 use Rattle.dcsctp_delivery_turns.specs.PeerRequests.{KnowsPeerIn}
 use Rattle.dcsctp_spec_lemmas.specs.types.declared.association.Pair.{Pair}
-use Rattle.dcsctp_spec_runs.specs.Past.{HasEffect}
+use Rattle.dcsctp_spec_runs.specs.Past.{WasPerformed, HasEffect}
 use Rattle.dcsctp_spec_lemmas.specs.spec.association.Effect.{holds, completes, performs}
 use Rattle.dcsctp_delivery_directions.specs.Requests.{requests_to}
 use Rattle.dcsctp_delivery_associations.specs.Answered.{request_number_at, AreAnswered}
@@ -28,7 +28,7 @@ use Rattle.dcsctp_delivery_associations.specs.Reads.{Reading, nothing_read, read
 
 -- A request of ours that ends as performed was performed by the peer, or it is the 2^32nd of its association.
 abbrev pub CompletesPerformed : List Effect → Outcome → Type 0
-CompletesPerformed their_past o = (my : Pair) (number : ℕ) → HasEffect (completes my number) o.effects → HasEffect (performs my number) their_past ⊎ (number ≡ request_number_at my.first_tsn (2 ^ 32 - 1))
+CompletesPerformed their_past o = (my : Pair) (number : ℕ) → HasEffect (completes my number) o.effects → WasPerformed my number their_past ⊎ (number ≡ request_number_at my.first_tsn (2 ^ 32 - 1))
 
 -- Fewer than 2^32 - 1 requests to reset streams went to each tag.
 abbrev pub AsksLittle : List Emission → Type 0

@@ -10,7 +10,7 @@ use Rattle.dcsctp_spec_lemmas.specs.spec.endpoint.Event.{packets_in}
 use Rattle.dcsctp_spec_lemmas.specs.spec.Packet.{Content}
 use Rattle.dcsctp_spec_runs.specs.Past.{HasEffect}
 use Rattle.dcsctp_spec_lemmas.specs.spec.endpoint.Turn.{Turn}
-use Rattle.dcsctp_spec_lemmas.specs.spec.association.Effect.{AssociationIdentity, Effect, draws, sends, holds, connects, ends, begins, gives_up, completes, fails, accepts, performs, resumes, noted, identity_in}
+use Rattle.dcsctp_spec_lemmas.specs.spec.association.Effect.{AssociationIdentity, Effect, draws, sends, holds, connects, ends, begins, gives_up, completes, fails, accepts, performs, renews, resumes, noted, identity_in}
 use Rattle.dcsctp_theorem_association.specs.OneSide.{EffectsMean}
 use Rattle.dcsctp_theorem_sockets.specs.Telling.{NotesAnew}
 use Rattle.dcsctp_theorem_sockets.proofs.NewAssociations.{FirstAlone, change_anew}
@@ -44,6 +44,7 @@ noted_none (completes my number ∷ effects) none = (tt, noted_none effects none
 noted_none (fails number ∷ effects) none = (tt, noted_none effects none.1)
 noted_none (accepts number ∷ effects) none = (tt, noted_none effects none.1)
 noted_none (performs peer number ∷ effects) none = (tt, noted_none effects none.1)
+noted_none (renews peer number ∷ effects) none = (tt, noted_none effects none.1)
 noted_none (resumes link own last ∷ effects) none = (tt, noted_none effects none.1)
 
 alone_of_none : (effects : List Effect) → HoldsNone effects → FirstAlone effects
@@ -63,6 +64,7 @@ noted_alone (completes my number ∷ effects) first = noted_none effects first
 noted_alone (fails number ∷ effects) first = noted_none effects first
 noted_alone (accepts number ∷ effects) first = noted_none effects first
 noted_alone (performs peer number ∷ effects) first = noted_none effects first
+noted_alone (renews peer number ∷ effects) first = noted_none effects first
 noted_alone (resumes link own last ∷ effects) first = noted_none effects first
 
 -- This holds for each turn that moves the association as the machine does.

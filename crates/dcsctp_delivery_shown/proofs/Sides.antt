@@ -10,7 +10,7 @@ use Rattle.dcsctp_spec_lemmas.specs.spec.Packet.{Emission}
 use Rattle.dcsctp_spec_runs.specs.Past.{HasEffect, Each}
 use Rattle.dcsctp_spec_runs.specs.Sockets.{endpoint_after}
 use Rattle.dcsctp_spec_runs.specs.World.{after_effects}
-use Rattle.dcsctp_spec_lemmas.specs.spec.association.Effect.{AssociationIdentity, Effect, draws, sends, holds, connects, ends, begins, gives_up, completes, fails, accepts, performs, resumes, identity_in}
+use Rattle.dcsctp_spec_lemmas.specs.spec.association.Effect.{AssociationIdentity, Effect, draws, sends, holds, connects, ends, begins, gives_up, completes, fails, accepts, performs, renews, resumes, identity_in}
 use Rattle.dcsctp_spec_lemmas.proofs.TurnLists.{after_all-append, events_of-append}
 use Rattle.dcsctp_theorem_association.proofs.Growth.{after_effects-append}
 use Rattle.dcsctp_theorem_sockets.specs.Agreement.{noted_past}
@@ -60,6 +60,7 @@ each_after (completes my number ∷ effects) past none each = each_after effects
 each_after (fails number ∷ effects) past none each = each_after effects (fails number ∷ past) none.1 (tt, each)
 each_after (accepts number ∷ effects) past none each = each_after effects (accepts number ∷ past) none.1 (tt, each)
 each_after (performs peer number ∷ effects) past none each = each_after effects (performs peer number ∷ past) none.1 (tt, each)
+each_after (renews peer number ∷ effects) past none each = each_after effects (renews peer number ∷ past) none.1 (tt, each)
 each_after (resumes link own last ∷ effects) past none each = each_after effects (resumes link own last ∷ past) none.1 (tt, each)
 
 none_past : (effects past : List Effect) (entry : Option AssociationIdentity) (shown : List (Option AssociationIdentity)) → HoldsNone effects → PastIs past shown → PastIs (after_effects effects past) (entry ∷ shown)

@@ -11,7 +11,7 @@ use Rattle.dcsctp_spec_lemmas.specs.spec.endpoint.CallTurns.{Transition, AlongTu
 use Rattle.dcsctp_spec_lemmas.specs.spec.endpoint.Endpoint.{Endpoint, Core, closed, cookie_wait, cookie_echoed, open_in, fresh_endpoint}
 use Rattle.dcsctp_spec_lemmas.specs.spec.Packet.{re_config}
 use Rattle.dcsctp_spec_runs.specs.Past.{Each, InPlace, number_to_perform}
-use Rattle.dcsctp_spec_lemmas.specs.spec.Reconfiguration.{ResetParameter, outgoing_reset_request, reconfiguration_response}
+use Rattle.dcsctp_spec_lemmas.specs.spec.Reconfiguration.{due, ResetParameter, outgoing_reset_request, reconfiguration_response}
 use Rattle.dcsctp_spec_lemmas.specs.types.Settings.{SameOptions}
 use Rattle.dcsctp_spec_runs.specs.World.{SideState, after_effects, ControlTurn, acted, worked, resumed, SideRun, side_after}
 use Rattle.dcsctp_spec_lemmas.specs.spec.association.Acts.{Act, connect, t1_expires, shut_down, step_of_shutdown, shutdown_repeats, abort_with, hands_over, flushes, request_again, request_renewed, act_change, chunk_change}
@@ -43,9 +43,9 @@ effects_with my held first =
     (first.effects ++ []) ++ (reset_sent false first.held (reconfiguration_response held.peer_last first.result ∷ []) (idle_choices my)).effects
 
 -- It is performed then, if it is in progress.
-last_again : (held : Held) → held.peer_result ≡ InProgress → outgoing_by held held.peer_last true (request_place held.peer_last held.peer_last) ≡ resets.performed_request held held.peer_last true
+last_again : (held : Held) → held.peer_result ≡ InProgress → outgoing_by held held.peer_last due (request_place held.peer_last held.peer_last) ≡ resets.performed_request held held.peer_last true
 last_again held is =
-    ap (λ (b : Bool). outgoing_by held held.peer_last true (if b then again else (if held.peer_last == next_number held.peer_last then next else astray))) ((Decides-eqb held.peer_last held.peer_last).1 refl)
+    ap (λ (b : Bool). outgoing_by held held.peer_last due (if b then again else (if held.peer_last == next_number held.peer_last then next else astray))) ((Decides-eqb held.peer_last held.peer_last).1 refl)
     ∙ ap (λ (r : ReconfigurationResponseResult). repeated held r true) is
 
 pub each_earlier : (Rule : Effect → List Effect → Type 0) (effects past : List Effect) → Each Rule (after_effects effects past) → Each Rule past
@@ -54,7 +54,7 @@ each_earlier Rule (effect ∷ effects) past each = (each_earlier Rule effects (e
 
 module _ (my : Pair) (held : Held) (past : List Effect) (in_progress : held.peer_result ≡ InProgress) where
   abbrev first : RequestOutcome
-  first = outgoing_by held held.peer_last true (request_place held.peer_last held.peer_last)
+  first = outgoing_by held held.peer_last due (request_place held.peer_last held.peer_last)
 
   -- So the past knows its number.
   pub number_known : Each InPlace (after_effects (effects_with my held first) past) → number_to_perform (noted past) ≡ Some held.peer_last

@@ -16,7 +16,7 @@ use Rattle.dcsctp_spec_runs.specs.Laws.{OfferReadsBack}
 use Rattle.dcsctp_theorem_sockets.proofs.SocketsAlone.{Moves, it_rests, it_moves}
 use Rattle.dcsctp_spec_lemmas.specs.spec.endpoint.Outcome.{Outcome}
 use Rattle.dcsctp_spec_lemmas.specs.spec.Packet.{Packet, packet_in, Emission}
-use Rattle.dcsctp_spec_runs.specs.Past.{HasEffect, Each}
+use Rattle.dcsctp_spec_runs.specs.Past.{WasPerformed, HasEffect, Each}
 use Rattle.dcsctp_spec_lemmas.specs.spec.endpoint.Turn.{Input, arrival, refusal, packet_begins, chunk_input, packet_ends, act_input, user_sets, user_sends, user_resets, user_takes, timer_expires, time_passes, restores, has_data_chunk, BeginTurn, unreadable_text}
 use Rattle.dcsctp_spec_runs.specs.World.{after_effects}
 use Rattle.dcsctp_spec_lemmas.specs.spec.association.Effect.{AssociationIdentity, Effect, holds, completes, performs, identity_of, identity_in}
@@ -195,7 +195,7 @@ after_first first rest past = after_effects-append first rest past
 -- Each own request that was performed, as far as this past knows, the other side has performed; or it is the 2^32nd of its
 -- association.
 abbrev pub AllPerformed : List Effect → List Effect → Type 0
-AllPerformed past their_past = (my : Pair) (number : ℕ) → HasEffect (completes my number) past → HasEffect (performs my number) their_past ⊎ (number ≡ request_number_at my.first_tsn (2 ^ 32 - 1))
+AllPerformed past their_past = (my : Pair) (number : ℕ) → HasEffect (completes my number) past → WasPerformed my number their_past ⊎ (number ≡ request_number_at my.first_tsn (2 ^ 32 - 1))
 
 -- No turn changes `follow_rfc`.
 same_rules : (e : Endpoint) (o : Outcome) → Moves e o → o.after.options.follow_rfc ≡ e.options.follow_rfc

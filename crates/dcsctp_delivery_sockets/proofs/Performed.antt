@@ -10,10 +10,10 @@ use Rattle.dcsctp_spec_lemmas.specs.types.Schedule.{AreHonest}
 use Rattle.dcsctp_spec_lemmas.specs.types.Offer.{Offer, offer_of}
 use Rattle.dcsctp_spec_lemmas.specs.spec.endpoint.CallTurns.{Transition, pairs_of}
 use Rattle.dcsctp_spec_runs.specs.Laws.{AnswerKeepsAgreement}
-use Rattle.dcsctp_spec_runs.specs.Past.{HasEffect}
+use Rattle.dcsctp_spec_runs.specs.Past.{HasEffect, WasPerformed}
 use Rattle.dcsctp_spec_runs.specs.Sockets.{PerformedAct, Both, side_turns_added, turns_after, SocketRun, acts_of}
 use Rattle.dcsctp_spec_runs.specs.World.{SideState, World, world_after}
-use Rattle.dcsctp_spec_lemmas.specs.spec.association.Effect.{Effect, completes, performs, noted}
+use Rattle.dcsctp_spec_lemmas.specs.spec.association.Effect.{Effect, completes, noted}
 use Rattle.dcsctp_spec_lemmas.proofs.TurnLists.{pairs_of-append}
 use Rattle.dcsctp_theorem_association.proofs.Agreement.{TrueWorld}
 use Rattle.dcsctp_theorem_association.proofs.Facts.{TruePast}
@@ -21,7 +21,7 @@ use Rattle.dcsctp_theorem_association.proofs.Growth.{true_of}
 use Rattle.dcsctp_theorem_sockets.specs.Agreement.{HasDistinctTags, AreUsable, AreFresh, noted_past}
 use Rattle.dcsctp_theorem_sockets.proofs.Follow.{Followed}
 use Rattle.dcsctp_theorem_sockets.proofs.Moves.{Below}
-use Rattle.dcsctp_theorem_sockets.proofs.NotedLemmas.{performed-noted}
+use Rattle.dcsctp_theorem_sockets.proofs.NotedLemmas.{was_performed-noted}
 use Rattle.dcsctp_theorem_sockets.proofs.OneSocket.{noted_happened}
 use Rattle.dcsctp_theorem_sockets.proofs.SocketsAgree.{Joined, joined}
 use Rattle.dcsctp_delivery_sockets.proofs.Echoes.{true_world}
@@ -29,16 +29,12 @@ use Rattle.dcsctp_delivery_sockets.proofs.NewLinks.{AllPerformed}
 
 -- ---- one side
 
--- What was performed was recorded.
-performs_noted : (peer : Pair) (number : ℕ) (past : List Effect) → HasEffect (performs peer number) past → HasEffect (performs peer number) (noted past)
-performs_noted peer number past has = (performed-noted past (completes peer number ∷ []) ((λ few. has), tt)).0 (omega arith)
-
 all_performed : (mine theirs : Options) (my_offer their_offer : Offer) (turns others : List Transition) (one other : SideState) → Followed mine turns one → Followed theirs others other
     → TruePast my_offer their_offer one.past other.past → AllPerformed (noted_past turns) (noted_past others)
 all_performed mine theirs my_offer their_offer turns others one other h k is my number has =
     let was : HasEffect (completes my number) one.past = noted_happened (completes my number) one.past (subst (HasEffect (completes my number)) (sym h.past) has) in
     elim (true_of my_offer their_offer one.past other.past (completes my number) is was) [
-      | inl done ↦ inl (subst (HasEffect (performs my number)) k.past (performs_noted my number other.past done))
+      | inl done ↦ inl (subst (WasPerformed my number) k.past (was_performed-noted my number other.past done))
       | inr last ↦ inr last
     ]
 

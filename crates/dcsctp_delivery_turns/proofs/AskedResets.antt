@@ -9,17 +9,17 @@ use Rattle.dcsctp_spec_lemmas.specs.types.declared.association.Held.{Held}
 use Rattle.dcsctp_spec_lemmas.specs.types.declared.association.Pair.{Pair}
 use Rattle.dcsctp_spec_lemmas.specs.spec.endpoint.Endpoint.{Endpoint}
 use Rattle.dcsctp_spec_lemmas.specs.spec.endpoint.Outcome.{Outcome}
-use Rattle.dcsctp_spec_runs.specs.Past.{HasEffect, number_to_accept, number_to_perform}
-use Rattle.dcsctp_spec_lemmas.specs.spec.Reconfiguration.{RequestedReset, outgoing_reset_request, reconfiguration_response}
+use Rattle.dcsctp_spec_runs.specs.Past.{WasPerformed, HasEffect, number_to_accept, number_to_perform}
+use Rattle.dcsctp_spec_lemmas.specs.spec.Reconfiguration.{RequestState, early, due, renewed, RequestedReset, outgoing_reset_request, reconfiguration_response}
 use Rattle.dcsctp_spec_lemmas.specs.spec.endpoint.Turn.{Input}
 use Rattle.dcsctp_spec_runs.specs.World.{after_effects}
 use Rattle.dcsctp_spec_lemmas.specs.spec.association.Effect.{Effect, identity_of}
 use Rattle.dcsctp_spec_lemmas.specs.spec.association.FlushChanges.{next_number, reset_request}
-use Rattle.dcsctp_spec_lemmas.specs.spec.association.ResetChanges.{RequestPlace, again, next, astray, request_place, RequestOutcome, performed_request, repeated, outgoing_by, HandledParameters}
+use Rattle.dcsctp_spec_lemmas.specs.spec.association.ResetChanges.{RequestPlace, again, next, astray, request_place, RequestOutcome, performed_request, repeated, is_due, outgoing_by, HandledParameters}
 use Rattle.dcsctp_spec_lemmas.specs.spec.queues.Reassembly.{DeferralModel, entered}
 use Rattle.dcsctp_spec_lemmas.specs.spec.queues.Transfer.{Transfer}
 use Rattle.dcsctp_spec_lemmas.specs.spec.endpoint.BegunResets.{BegunReset, begun_effects}
-use Rattle.dcsctp_spec_lemmas.specs.spec.endpoint.ResetOutcomes.{is_request_reached, has_reset, answers_in_progress, ResetsInQueues, defers_reset, WorksResets}
+use Rattle.dcsctp_spec_lemmas.specs.spec.endpoint.ResetOutcomes.{request_state, has_reset, answers_in_progress, ResetsInQueues, defers_reset, WorksResets}
 use Rattle.dcsctp_delivery_turns.specs.Actions.{came_by}
 use Rattle.dcsctp_delivery_turns.specs.PeerRequests.{NoneAsked, SameWaits, WaitsFor, KnowsPeer, IsDue, PeerTurns, asks_nothing, performs_it, defers_it}
 use Rattle.dcsctp_delivery_turns.proofs.PeerRequests.{works_of}
@@ -44,21 +44,24 @@ placed last number = placed_by last number (number == last) (number == next_numb
 
 -- These effects perform the request of this number, and no other.
 pub record PerformsOne (past : List Effect) (peer : Pair) (number : ℕ) (happened : List Effect) : Type 0 where
-  pub alone : (other : Pair) (its : ℕ) → HasEffect (effects.performs other its) happened → (other ≡ peer) × (its ≡ number)
-  pub has : HasEffect (effects.performs peer number) happened
+  pub alone : (other : Pair) (its : ℕ) → WasPerformed other its happened → (other ≡ peer) × (its ≡ number)
+  pub has : WasPerformed peer number happened
   pub accepts : number_to_accept (after_effects happened past) ≡ Some (next_number number)
   pub performs : number_to_perform (after_effects happened past) ≡ None
 
 -- They leave it in progress.
 pub record DefersOne (past : List Effect) (number : ℕ) (happened : List Effect) : Type 0 where
-  pub none : (other : Pair) (its : ℕ) → HasEffect (effects.performs other its) happened → ⊥
+  pub none : (other : Pair) (its : ℕ) → WasPerformed other its happened → ⊥
   pub accepts : number_to_accept (after_effects happened past) ≡ Some (next_number number)
   pub performs : number_to_perform (after_effects happened past) ≡ Some number
 
-none_begun : (begun : Option BegunReset) (other : Pair) (its : ℕ) → HasEffect (effects.performs other its) (begun_effects begun) → ⊥
-none_begun None other its has = has
-none_begun (Some begun) other its (inl is) = absurd (cc)
-none_begun (Some begun) other its (inr has) = has
+none_begun : (begun : Option BegunReset) (other : Pair) (its : ℕ) → WasPerformed other its (begun_effects begun) → ⊥
+none_begun None other its (inl has) = has
+none_begun None other its (inr has) = has
+none_begun (Some begun) other its (inl (inl is)) = absurd (cc)
+none_begun (Some begun) other its (inl (inr has)) = has
+none_begun (Some begun) other its (inr (inl is)) = absurd (cc)
+none_begun (Some begun) other its (inr (inr has)) = has
 
 begun_accepts : (begun : Option BegunReset) (past : List Effect) → number_to_accept (after_effects (begun_effects begun) past) ≡ number_to_accept past
 begun_accepts None past = refl
@@ -68,15 +71,30 @@ begun_performs : (begun : Option BegunReset) (past : List Effect) → number_to_
 begun_performs None past = refl
 begun_performs (Some begun) past = refl
 
-performs_alone : (begun : Option BegunReset) (peer other : Pair) (number its : ℕ) → HasEffect (effects.performs other its) (effects.performs peer number ∷ begun_effects begun) → (other ≡ peer) × (its ≡ number)
-performs_alone begun peer other number its (inl is) = (cc, cc)
-performs_alone begun peer other number its (inr has) = absurd (none_begun begun other its has)
+-- no other is, with another effect in front
+none_behind : (effect : Effect) (rest : List Effect) (other : Pair) (its : ℕ) → (effects.performs other its ≡ effect → ⊥) → (effects.renews other its ≡ effect → ⊥) → WasPerformed other its (effect ∷ rest) → WasPerformed other its rest
+none_behind effect rest other its one two (inl (inl is)) = absurd (one is)
+none_behind effect rest other its one two (inl (inr has)) = inl has
+none_behind effect rest other its one two (inr (inl is)) = absurd (two is)
+none_behind effect rest other its one two (inr (inr has)) = inr has
+
+performs_alone : (begun : Option BegunReset) (peer other : Pair) (number its : ℕ) → WasPerformed other its (effects.performs peer number ∷ begun_effects begun) → (other ≡ peer) × (its ≡ number)
+performs_alone begun peer other number its (inl (inl is)) = (cc, cc)
+performs_alone begun peer other number its (inl (inr has)) = absurd (none_begun begun other its (inl has))
+performs_alone begun peer other number its (inr (inl is)) = absurd (cc)
+performs_alone begun peer other number its (inr (inr has)) = absurd (none_begun begun other its (inr has))
+
+renews_alone : (begun : Option BegunReset) (peer other : Pair) (number its : ℕ) → WasPerformed other its (effects.renews peer number ∷ begun_effects begun) → (other ≡ peer) × (its ≡ number)
+renews_alone begun peer other number its (inl (inl is)) = absurd (cc)
+renews_alone begun peer other number its (inl (inr has)) = absurd (none_begun begun other its (inl has))
+renews_alone begun peer other number its (inr (inl is)) = (cc, cc)
+renews_alone begun peer other number its (inr (inr has)) = absurd (none_begun begun other its (inr has))
 
 again_performs : (past : List Effect) (begun : Option BegunReset) (peer : Pair) (number : ℕ) → number_to_accept past ≡ Some (next_number number) → PerformsOne past peer number (effects.performs peer number ∷ begun_effects begun)
 again_performs past begun peer number accepts =
     record {
       alone = λ other its has. performs_alone begun peer other number its has;
-      has = inl refl;
+      has = inl (inl refl);
       accepts = begun_accepts begun (effects.performs peer number ∷ past) ∙ accepts;
       performs = begun_performs begun (effects.performs peer number ∷ past);
     }
@@ -84,10 +102,21 @@ again_performs past begun peer number accepts =
 next_performs : (past : List Effect) (begun : Option BegunReset) (peer : Pair) (number : ℕ) → PerformsOne past peer number (effects.accepts number ∷ effects.performs peer number ∷ begun_effects begun)
 next_performs past begun peer number =
     record {
-      alone = λ other its has. elim has [ inl is ↦ absurd (cc) | inr later ↦ performs_alone begun peer other number its later ];
-      has = inr (inl refl);
+      alone = λ other its has. performs_alone begun peer other number its
+          (none_behind (effects.accepts number) (effects.performs peer number ∷ begun_effects begun) other its (λ is. absurd (cc)) (λ is. absurd (cc)) has);
+      has = inl (inr (inl refl));
       accepts = begun_accepts begun (effects.performs peer number ∷ effects.accepts number ∷ past);
       performs = begun_performs begun (effects.performs peer number ∷ effects.accepts number ∷ past);
+    }
+
+next_renews : (past : List Effect) (begun : Option BegunReset) (peer : Pair) (number : ℕ) → PerformsOne past peer number (effects.accepts number ∷ effects.renews peer number ∷ begun_effects begun)
+next_renews past begun peer number =
+    record {
+      alone = λ other its has. renews_alone begun peer other number its
+          (none_behind (effects.accepts number) (effects.renews peer number ∷ begun_effects begun) other its (λ is. absurd (cc)) (λ is. absurd (cc)) has);
+      has = inr (inr (inl refl));
+      accepts = begun_accepts begun (effects.renews peer number ∷ effects.accepts number ∷ past);
+      performs = begun_performs begun (effects.renews peer number ∷ effects.accepts number ∷ past);
     }
 
 again_defers : (past : List Effect) (begun : Option BegunReset) (number : ℕ) → number_to_accept past ≡ Some (next_number number) → number_to_perform past ≡ Some number → DefersOne past number (begun_effects begun)
@@ -97,7 +126,7 @@ again_defers past begun number accepts performs =
 next_defers : (past : List Effect) (begun : Option BegunReset) (number : ℕ) → DefersOne past number (effects.accepts number ∷ begun_effects begun)
 next_defers past begun number =
     record {
-      none = λ other its has. elim has [ inl is ↦ absurd (cc) | inr later ↦ none_begun begun other its later ];
+      none = λ other its has. none_begun begun other its (none_behind (effects.accepts number) (begun_effects begun) other its (λ is. absurd (cc)) (λ is. absurd (cc)) has);
       accepts = begun_accepts begun (effects.accepts number ∷ past);
       performs = begun_performs begun (effects.accepts number ∷ past);
     }
@@ -127,19 +156,19 @@ module _ (past : List Effect) (my : Pair) (held : Held) (knows : KnowsPeer past 
   -- It is performed.
   performed : (happened : List Effect) (left : Option Transfer) → IsDue past number → PerformsOne past held.peer number happened → o.effects ≡ happened
       → ResetsInQueues true false (Some reset) (Some transfer) left → StillWaits left o.after.queues.transfer → Turns
-  performed happened left due performs is below waits = λ after at.
+  performed happened left at_turn performs is below waits = λ after at.
       let all : PerformsOne past held.peer number o.effects = subst (PerformsOne past held.peer number) (sym is) performs in
       let kept : SameWaits below.0.reassembly.deferral after.reassembly.deferral = subst (λ (l : Option Transfer). StillWaits l o.after.queues.transfer) below.1 waits after at in
-      performs_it number reset came due all.alone all.has all.accepts all.performs
+      performs_it number reset came at_turn all.alone all.has all.accepts all.performs
       (subst (λ (d : Option DeferralModel). SameWaits d after.reassembly.deferral) below.2.reassembly.deferral kept)
 
   -- It is in progress.
   deferred : (happened : List Effect) (left : Option Transfer) → IsDue past number → DefersOne past number happened → o.effects ≡ happened
       → left ≡ Some (defers_reset reset transfer) → StillWaits left o.after.queues.transfer → Turns
-  deferred happened left due defers is below waits = λ after at.
+  deferred happened left at_turn defers is below waits = λ after at.
       let all : DefersOne past number o.effects = subst (DefersOne past number) (sym is) defers in
       let found = entered_waits reset transfer.reassembly.deferral after.reassembly.deferral (subst (λ (l : Option Transfer). StillWaits l o.after.queues.transfer) below waits after at) in
-      defers_it number reset came due all.none all.accepts all.performs found.0 found.1 found.2
+      defers_it number reset came at_turn all.none all.accepts all.performs found.0 found.1 found.2
 
   -- by what is made of its number
   abbrev Made : RequestOutcome → Type 0
@@ -169,18 +198,20 @@ module _ (past : List Effect) (my : Pair) (held : Held) (knows : KnowsPeer past 
   next_due : number ≡ next_number held.peer_last → IsDue past number
   next_due same = inl (knows.accepts ∙ ap (λ (n : ℕ). Some n) (sym same))
 
-  outgoing_works : (place : RequestPlace) (reached : Bool) → Placed place held.peer_last number → Made (outgoing_by held number reached place)
-  outgoing_works again reached same left begun below is waits = repeated_works held.peer_result reached same refl left begun below is waits
-  outgoing_works next true same left begun below is waits =
+  outgoing_works : (place : RequestPlace) (state : RequestState) → Placed place held.peer_last number → Made (outgoing_by held number state place)
+  outgoing_works again state same left begun below is waits = repeated_works held.peer_result (is_due state) same refl left begun below is waits
+  outgoing_works next due same left begun below is waits =
       performed (effects.accepts number ∷ effects.performs held.peer number ∷ begun_effects begun) left (next_due same) (next_performs past begun held.peer number) is below waits
-  outgoing_works next false same left begun below is waits = deferred (effects.accepts number ∷ begun_effects begun) left (next_due same) (next_defers past begun number) is below waits
-  outgoing_works astray reached same left begun below is waits = quiet left begun below is waits
+  outgoing_works next renewed same left begun below is waits =
+      performed (effects.accepts number ∷ effects.renews held.peer number ∷ begun_effects begun) left (next_due same) (next_renews past begun held.peer number) is below waits
+  outgoing_works next early same left begun below is waits = deferred (effects.accepts number ∷ begun_effects begun) left (next_due same) (next_defers past begun number) is below waits
+  outgoing_works astray state same left begun below is waits = quiet left begun below is waits
 
   pub request_turns : e.queues.transfer ≡ Some transfer → WorksResets e my held (outgoing_reset_request number number reset ∷ []) o → Turns
   request_turns known turn =
       let works = works_of e my held (outgoing_reset_request number number reset ∷ []) o turn in
-      let reached : Bool = is_request_reached e.queues.transfer (Some reset) in
+      let state : RequestState = request_state e held (outgoing_reset_request number number reset ∷ []) in
       let place : RequestPlace = request_place held.peer_last number in
-      let w : HandledParameters = worked_one number (outgoing_by held number reached place) in
-      outgoing_works place reached (placed held.peer_last number) works.left works.begun
+      let w : HandledParameters = worked_one number (outgoing_by held number state place) in
+      outgoing_works place state (placed held.peer_last number) works.left works.begun
       (subst (λ (t : Option Transfer). ResetsInQueues (has_reset w.effects) (answers_in_progress w.answers) (Some reset) t works.left) known works.below) works.is works.waits

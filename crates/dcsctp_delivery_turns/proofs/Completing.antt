@@ -8,7 +8,7 @@ use Rattle.dcsctp_spec_lemmas.specs.types.declared.association.Pair.{Pair}
 use Rattle.dcsctp_spec_lemmas.specs.types.declared.association.Held.{Held}
 use Rattle.dcsctp_spec_lemmas.specs.types.declared.word.Word.{Word}
 use Rattle.dcsctp_spec_lemmas.specs.types.declared.word.Word.TheVariants.{U32}
-use Rattle.dcsctp_spec_lemmas.specs.spec.Reconfiguration.{ResetParameter, outgoing_reset_request, incoming_reset_request, reconfiguration_response, other_reset_parameter}
+use Rattle.dcsctp_spec_lemmas.specs.spec.Reconfiguration.{RequestState, early, due, renewed, ResetParameter, outgoing_reset_request, incoming_reset_request, reconfiguration_response, other_reset_parameter}
 use Rattle.dcsctp_spec_lemmas.specs.spec.Packet.{Introduction, Content, init, init_ack, cookie_echo, cookie_ack, re_config, abort, shutdown, shutdown_ack, shutdown_complete, plain, Emission}
 use Rattle.dcsctp_spec_lemmas.specs.spec.endpoint.Endpoint.{Endpoint, Core, closed, cookie_wait, cookie_echoed, open_in, established, shutdown_pending, shutdown_sent, shutdown_received, shutdown_ack_sent}
 use Rattle.dcsctp_spec_lemmas.specs.spec.endpoint.Event.{Event}
@@ -18,12 +18,12 @@ use Rattle.dcsctp_spec_lemmas.specs.spec.association.Controlled.{ControlledChunk
 use Rattle.dcsctp_spec_lemmas.specs.spec.endpoint.Turn.{Input, arrival, refusal, packet_begins, chunk_input, packet_ends, act_input, user_sets, user_sends, user_resets, user_takes, timer_expires, time_passes, restores, has_data_chunk, ContentTurn, Turn}
 use Rattle.dcsctp_spec_lemmas.specs.spec.association.Acts.{Act, shutdown_repeats, flushes}
 use Rattle.dcsctp_spec_lemmas.specs.spec.association.Effect.{Effect, Change, identity_of, identity_in}
-use Rattle.dcsctp_spec_lemmas.specs.spec.association.ResetChanges.{RequestPlace, again, next, astray, request_place, performed_request, repeated, outgoing_by, incoming_by, informed_where, is_outstanding, HandledParameters, work_parameters, work_chunk}
+use Rattle.dcsctp_spec_lemmas.specs.spec.association.ResetChanges.{RequestPlace, again, next, astray, request_place, performed_request, repeated, next_request, is_due, outgoing_by, incoming_by, informed_where, is_outstanding, HandledParameters, work_parameters, work_chunk}
 use Rattle.dcsctp_spec_lemmas.specs.spec.endpoint.BegunResets.{BegunReset, begun_effects}
 use Rattle.dcsctp_spec_lemmas.specs.spec.endpoint.FlushOutcomes.{Answer, draft_to, first_ask, packets_allowed}
 use Rattle.dcsctp_spec_lemmas.specs.spec.endpoint.HandshakeOutcomes.{pair_from, renewed_pair, renewed_pair_outcome, init_ack_emission, init_outcome}
 use Rattle.dcsctp_spec_lemmas.specs.spec.endpoint.OwnTimers.{timer_act}
-use Rattle.dcsctp_spec_lemmas.specs.spec.endpoint.ResetOutcomes.{requested_in, is_request_reached, parameters_handled_in, answered_in, reset_events_of, resets_handled, responses_outcome, responses_by, ResponseAnswers, WorksResets, ResetTurn}
+use Rattle.dcsctp_spec_lemmas.specs.spec.endpoint.ResetOutcomes.{requested_in, request_state, renewable_left, parameters_handled_in, answered_in, reset_events_of, resets_handled, responses_outcome, responses_by, ResponseAnswers, WorksResets, ResetTurn}
 use Rattle.dcsctp_spec_lemmas.proofs.ControlEcho.{cookie_echo_controlled}
 use Rattle.dcsctp_spec_lemmas.proofs.ControlHandshake.{init_ack_controlled, cookie_ack_controlled, abort_controlled}
 use Rattle.dcsctp_spec_laws.proofs.ControlLemmas.{begin_stands, acts_are_controlled}
@@ -79,11 +79,16 @@ module _ (my : Pair) (number : ℕ) where
   repeated_none held ErrorBadSequenceNumber reached has = has
   repeated_none held InProgress reached has = worked_none held held.peer_last reached has
 
-  outgoing_none : (held : Held) (asked : ℕ) (reached : Bool) (place : RequestPlace) → Completed (outgoing_by held asked reached place).effects → ⊥
-  outgoing_none held asked reached again has = repeated_none held held.peer_result reached has
-  outgoing_none held asked reached next (inl is) = absurd (cc)
-  outgoing_none held asked reached next (inr has) = worked_none held asked reached has
-  outgoing_none held asked reached astray has = has
+  next_none : (held : Held) (asked : ℕ) (state : RequestState) → Completed (next_request held asked state).effects → ⊥
+  next_none held asked early has = has
+  next_none held asked due has = worked_none held asked true has
+  next_none held asked renewed has = one_none (effects.renews held.peer asked) (λ is. absurd (cc)) has
+
+  outgoing_none : (held : Held) (asked : ℕ) (state : RequestState) (place : RequestPlace) → Completed (outgoing_by held asked state place).effects → ⊥
+  outgoing_none held asked state again has = repeated_none held held.peer_result (is_due state) has
+  outgoing_none held asked state next (inl is) = absurd (cc)
+  outgoing_none held asked state next (inr has) = next_none held asked state has
+  outgoing_none held asked state astray has = has
 
   incoming_none : (held : Held) (asked : ℕ) (place : RequestPlace) → Completed (incoming_by held asked place).effects → ⊥
   incoming_none held asked again has = has
@@ -130,39 +135,39 @@ module _ (my : Pair) (number : ℕ) where
   informed_out own held answered ErrorBadSequenceNumber true is = absurd (cc)
   informed_out own held answered InProgress true is = is
 
-  parameters_end : (own : Pair) (reached has_worked : Bool) (held : Held) (parameters : List ResetParameter) → Completed (work_parameters own reached has_worked held parameters).effects
+  parameters_end : (own : Pair) (state : RequestState) (has_worked : Bool) (held : Held) (parameters : List ResetParameter) → Completed (work_parameters own state has_worked held parameters).effects
       → Ends own held.own_outstanding
-  parameters_end own reached has_worked held [] has = absurd has
-  parameters_end own reached true held (outgoing_reset_request asked answered reset ∷ parameters) has = absurd has
-  parameters_end own reached false held (outgoing_reset_request asked answered reset ∷ parameters) has =
-      let first = outgoing_by held asked reached (request_place held.peer_last asked) in
-      elim (has_either (effects.completes my number) first.effects (work_parameters own reached true first.held parameters).effects has) [
-        | inl front ↦ absurd (outgoing_none held asked reached (request_place held.peer_last asked) front)
+  parameters_end own state has_worked held [] has = absurd has
+  parameters_end own state true held (outgoing_reset_request asked answered reset ∷ parameters) has = absurd has
+  parameters_end own state false held (outgoing_reset_request asked answered reset ∷ parameters) has =
+      let first = outgoing_by held asked state (request_place held.peer_last asked) in
+      elim (has_either (effects.completes my number) first.effects (work_parameters own state true first.held parameters).effects has) [
+        | inl front ↦ absurd (outgoing_none held asked state (request_place held.peer_last asked) front)
         | inr behind ↦
-            (let later : Ends own first.held.own_outstanding = parameters_end own reached true first.held parameters behind in
-            (later.0, sym (outgoing_out held asked reached (request_place held.peer_last asked)) ∙ later.1))
+            (let later : Ends own first.held.own_outstanding = parameters_end own state true first.held parameters behind in
+            (later.0, sym (outgoing_out held asked state (request_place held.peer_last asked)) ∙ later.1))
       ]
-  parameters_end own reached has_worked held (incoming_reset_request asked streams ∷ parameters) has =
+  parameters_end own state has_worked held (incoming_reset_request asked streams ∷ parameters) has =
       let first = incoming_by held asked (request_place held.peer_last asked) in
-      elim (has_either (effects.completes my number) first.effects (work_parameters own reached has_worked first.held parameters).effects has) [
+      elim (has_either (effects.completes my number) first.effects (work_parameters own state has_worked first.held parameters).effects has) [
         | inl front ↦ absurd (incoming_none held asked (request_place held.peer_last asked) front)
         | inr behind ↦
-            (let later : Ends own first.held.own_outstanding = parameters_end own reached has_worked first.held parameters behind in
+            (let later : Ends own first.held.own_outstanding = parameters_end own state has_worked first.held parameters behind in
             (later.0, sym (incoming_out held asked (request_place held.peer_last asked)) ∙ later.1))
       ]
-  parameters_end own reached has_worked held (reconfiguration_response answered result ∷ parameters) has =
+  parameters_end own state has_worked held (reconfiguration_response answered result ∷ parameters) has =
       let first = informed_where own held answered result (is_outstanding answered held.own_outstanding) in
-      elim (has_either (effects.completes my number) first.effects (work_parameters own reached has_worked first.held parameters).effects has) [
+      elim (has_either (effects.completes my number) first.effects (work_parameters own state has_worked first.held parameters).effects has) [
         | inl front ↦ informed_ends own held answered result (is_outstanding answered held.own_outstanding) refl front
         | inr behind ↦
-            (let later : Ends own first.held.own_outstanding = parameters_end own reached has_worked first.held parameters behind in
+            (let later : Ends own first.held.own_outstanding = parameters_end own state has_worked first.held parameters behind in
             (later.0, informed_out own held answered result (is_outstanding answered held.own_outstanding) later.1))
       ]
-  parameters_end own reached has_worked held (other_reset_parameter parameter ∷ parameters) has = parameters_end own reached has_worked held parameters has
+  parameters_end own state has_worked held (other_reset_parameter parameter ∷ parameters) has = parameters_end own state has_worked held parameters has
 
-  chunk_ends : (own : Pair) (reached : Bool) (held : Held) (parameters : List ResetParameter) → Completed (work_chunk own reached held parameters).effects → Ends own held.own_outstanding
-  chunk_ends own reached held [] has = absurd has
-  chunk_ends own reached held (parameter ∷ parameters) has = parameters_end own reached false held (parameter ∷ parameters) has
+  chunk_ends : (own : Pair) (state : RequestState) (held : Held) (parameters : List ResetParameter) → Completed (work_chunk own state held parameters).effects → Ends own held.own_outstanding
+  chunk_ends own state held [] has = absurd has
+  chunk_ends own state held (parameter ∷ parameters) has = parameters_end own state false held (parameter ∷ parameters) has
 
   -- ---- the turn of RE-CONFIG
 
@@ -178,13 +183,13 @@ module _ (my : Pair) (number : ℕ) where
       → WorksResets e own held parameters o → Completed o.effects → EndsOwn e my number
   works_ends e own held parameters o linked kept turn has =
       let w : HandledParameters = parameters_handled_in e own held parameters in
-      let reached : Bool = is_request_reached e.queues.transfer (requested_in parameters) in
-      let base : Endpoint = resets_handled e (answered_in held w parameters) w.held turn.left in
+      let state : RequestState = request_state e held parameters in
+      let base : Endpoint = resets_handled e (answered_in held w parameters) w.held turn.left (renewable_left e held w parameters) in
       let last : Outcome = responses_by w.is_refused base (reset_events_of e parameters w.effects) w.held parameters w.answers turn.answers in
       let happened : Completed (w.effects ++ last.effects) = subst (λ (x : Outcome). Completed x.effects) turn.is has in
       let ends : Ends own held.own_outstanding =
       elim (has_either (effects.completes my number) w.effects last.effects happened) [
-        | inl front ↦ chunk_ends own reached held parameters front
+        | inl front ↦ chunk_ends own state held parameters front
         | inr behind ↦ absurd (sent_none w.is_refused base (reset_events_of e parameters w.effects) w.held parameters w.answers turn.answers turn.allowed behind)
       ] in
       record { link = identity_of own held; linked = linked; mine = ends.0; own = own_with held e.outstanding; kept = kept; outstanding = ends.1 }

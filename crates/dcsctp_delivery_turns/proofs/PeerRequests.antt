@@ -9,13 +9,13 @@ use Rattle.dcsctp_spec_lemmas.specs.spec.endpoint.Endpoint.{Endpoint}
 use Rattle.dcsctp_spec_lemmas.specs.spec.endpoint.Event.{Event}
 use Rattle.dcsctp_spec_lemmas.specs.spec.endpoint.Outcome.{Outcome, quiet, sends, fits, to_peer}
 use Rattle.dcsctp_spec_lemmas.specs.spec.Packet.{Emission, re_config}
-use Rattle.dcsctp_spec_lemmas.specs.spec.Reconfiguration.{RequestedReset, ResetParameter, outgoing_reset_request, incoming_reset_request, reconfiguration_response, other_reset_parameter}
+use Rattle.dcsctp_spec_lemmas.specs.spec.Reconfiguration.{RequestState, RequestedReset, ResetParameter, outgoing_reset_request, incoming_reset_request, reconfiguration_response, other_reset_parameter}
 use Rattle.dcsctp_spec_lemmas.specs.spec.association.Effect.{Effect}
 use Rattle.dcsctp_spec_lemmas.specs.spec.association.ResetChanges.{informed_where, is_outstanding, HandledParameters, work_parameters, work_chunk}
 use Rattle.dcsctp_spec_lemmas.specs.spec.queues.Transfer.{Transfer}
 use Rattle.dcsctp_spec_lemmas.specs.spec.endpoint.BegunResets.{BegunReset, begun_effects}
 use Rattle.dcsctp_spec_lemmas.specs.spec.endpoint.FlushOutcomes.{Answer, draft_to, flush_of, first_ask, packets_allowed}
-use Rattle.dcsctp_spec_lemmas.specs.spec.endpoint.ResetOutcomes.{requested_in, is_request_reached, parameters_handled_in, has_reset, answers_in_progress, ResetsInQueues, defers_reset, answered_in, resets_handled, reset_events_of, responses_outcome, responses_by, ResponseAnswers, WorksResets}
+use Rattle.dcsctp_spec_lemmas.specs.spec.endpoint.ResetOutcomes.{requested_in, request_state, renewable_left, parameters_handled_in, has_reset, answers_in_progress, ResetsInQueues, defers_reset, answered_in, resets_handled, reset_events_of, responses_outcome, responses_by, ResponseAnswers, WorksResets}
 use Rattle.dcsctp_spec_lemmas.proofs.FlushKeeps.{begun_by, flush_keeps}
 use Rattle.dcsctp_delivery_sending.specs.Flushes.{NoRequests}
 use Rattle.dcsctp_delivery_turns.specs.PeerRequests.{NoneAsked}
@@ -54,7 +54,7 @@ pub record Works (e : Endpoint) (w : HandledParameters) (reset : Option Requeste
 pub works_of : (e : Endpoint) (my : Pair) (held : Held) (parameters : List ResetParameter) (o : Outcome) → WorksResets e my held parameters o → Works e (parameters_handled_in e my held parameters) (requested_in parameters) o
 works_of e my held parameters o turn =
     let w : HandledParameters = parameters_handled_in e my held parameters in
-    let base : Endpoint = resets_handled e (answered_in held w parameters) w.held turn.left in
+    let base : Endpoint = resets_handled e (answered_in held w parameters) w.held turn.left (renewable_left e held w parameters) in
     let told : List (Event Emission) = reset_events_of e parameters w.effects in
     let behind = sent_behind w.is_refused base told w.held parameters w.answers turn.answers turn.allowed in
     subst (Works e w (requested_in parameters)) (sym turn.is)
@@ -78,19 +78,19 @@ informed_unasked my held number ErrorRequestAlreadyInProgress true = tt
 informed_unasked my held number ErrorBadSequenceNumber true = tt
 informed_unasked my held number InProgress true = tt
 
-parameters_unasked : (my : Pair) (reached has_worked : Bool) (held : Held) (parameters : List ResetParameter) → NoRequests parameters → NoneAsked (work_parameters my reached has_worked held parameters).effects
-parameters_unasked my reached has_worked held [] none = tt
-parameters_unasked my reached has_worked held (outgoing_reset_request number answered reset ∷ parameters) none = absurd none
-parameters_unasked my reached has_worked held (incoming_reset_request number streams ∷ parameters) none = absurd none
-parameters_unasked my reached has_worked held (reconfiguration_response number result ∷ parameters) none =
+parameters_unasked : (my : Pair) (state : RequestState) (has_worked : Bool) (held : Held) (parameters : List ResetParameter) → NoRequests parameters → NoneAsked (work_parameters my state has_worked held parameters).effects
+parameters_unasked my state has_worked held [] none = tt
+parameters_unasked my state has_worked held (outgoing_reset_request number answered reset ∷ parameters) none = absurd none
+parameters_unasked my state has_worked held (incoming_reset_request number streams ∷ parameters) none = absurd none
+parameters_unasked my state has_worked held (reconfiguration_response number result ∷ parameters) none =
     let first = informed_where my held number result (is_outstanding number held.own_outstanding) in
-    unasked_append first.effects (work_parameters my reached has_worked first.held parameters).effects (informed_unasked my held number result (is_outstanding number held.own_outstanding))
-    (parameters_unasked my reached has_worked first.held parameters none)
-parameters_unasked my reached has_worked held (other_reset_parameter parameter ∷ parameters) none = parameters_unasked my reached has_worked held parameters none
+    unasked_append first.effects (work_parameters my state has_worked first.held parameters).effects (informed_unasked my held number result (is_outstanding number held.own_outstanding))
+    (parameters_unasked my state has_worked first.held parameters none)
+parameters_unasked my state has_worked held (other_reset_parameter parameter ∷ parameters) none = parameters_unasked my state has_worked held parameters none
 
-chunk_unasked : (my : Pair) (reached : Bool) (held : Held) (parameters : List ResetParameter) → NoRequests parameters → NoneAsked (work_chunk my reached held parameters).effects
-chunk_unasked my reached held [] none = tt
-chunk_unasked my reached held (parameter ∷ parameters) none = parameters_unasked my reached false held (parameter ∷ parameters) none
+chunk_unasked : (my : Pair) (state : RequestState) (held : Held) (parameters : List ResetParameter) → NoRequests parameters → NoneAsked (work_chunk my state held parameters).effects
+chunk_unasked my state held [] none = tt
+chunk_unasked my state held (parameter ∷ parameters) none = parameters_unasked my state false held (parameter ∷ parameters) none
 
 pub none_requested : (parameters : List ResetParameter) → NoRequests parameters → requested_in parameters ≡ None
 none_requested [] none = refl
@@ -112,7 +112,7 @@ answers_ask e my held parameters o none turn =
     none_below (has_reset w.effects) (answers_in_progress w.answers) e.queues.transfer works.left
     (subst (λ (r : Option RequestedReset). ResetsInQueues (has_reset w.effects) (answers_in_progress w.answers) r e.queues.transfer works.left) (none_requested parameters none) works.below) in
     record {
-      none = subst NoneAsked (sym works.is) (unasked_append w.effects (begun_effects works.begun) (chunk_unasked my (is_request_reached e.queues.transfer (requested_in parameters)) held parameters none) (begun_unasked works.begun));
+      none = subst NoneAsked (sym works.is) (unasked_append w.effects (begun_effects works.begun) (chunk_unasked my (request_state e held parameters) held parameters none) (begun_unasked works.begun));
       waits = subst (λ (l : Option Transfer). StillWaits l o.after.queues.transfer) same works.waits;
     }
 
@@ -148,7 +148,7 @@ pub none_ends : (e : Endpoint) (my : Pair) (held : Held) (parameters : List Rese
     → o.after.queues.transfer ≡ None → ⊥
 none_ends e my held parameters o transfer known turn none =
     let w : HandledParameters = parameters_handled_in e my held parameters in
-    let base : Endpoint = resets_handled e (answered_in held w parameters) w.held turn.left in
+    let base : Endpoint = resets_handled e (answered_in held w parameters) w.held turn.left (renewable_left e held w parameters) in
     let found = below_some (has_reset w.effects) (answers_in_progress w.answers) (requested_in parameters) transfer turn.left
     (subst (λ (t : Option Transfer). ResetsInQueues (has_reset w.effects) (answers_in_progress w.answers) (requested_in parameters) t turn.left) known turn.below) in
     let kept = sent_left w.is_refused base (reset_events_of e parameters w.effects) w.held parameters w.answers turn.answers found.0 found.1 turn.allowed in

@@ -5,9 +5,9 @@ use Rattle.dcsctp_spec_lemmas.specs.wire.declared.reconfiguration.Reconfiguratio
 use Rattle.dcsctp_spec_lemmas.specs.wire.declared.reconfiguration.ReconfigurationResponseResult.TheVariants.{SuccessNothingToDo, SuccessPerformed, Denied, ErrorWrongSSN, ErrorRequestAlreadyInProgress, ErrorBadSequenceNumber, InProgress}
 use Rattle.dcsctp_spec_lemmas.specs.types.declared.association.Pair.{Pair}
 use Rattle.dcsctp_spec_lemmas.specs.types.declared.association.Held.{Held}
-use Rattle.dcsctp_spec_lemmas.specs.spec.Reconfiguration.{RequestedReset, ResetParameter, outgoing_reset_request, incoming_reset_request, reconfiguration_response, other_reset_parameter}
+use Rattle.dcsctp_spec_lemmas.specs.spec.Reconfiguration.{RequestState, early, due, renewed, RequestedReset, ResetParameter, outgoing_reset_request, incoming_reset_request, reconfiguration_response, other_reset_parameter}
 use Rattle.dcsctp_spec_lemmas.specs.spec.association.Effect.{Effect}
-use Rattle.dcsctp_spec_lemmas.specs.spec.association.ResetChanges.{RequestPlace, again, next, astray, request_place, performed_request, repeated, outgoing_by, incoming_by, informed_where, is_outstanding, work_parameters, work_chunk}
+use Rattle.dcsctp_spec_lemmas.specs.spec.association.ResetChanges.{RequestPlace, again, next, astray, request_place, performed_request, repeated, next_request, is_due, outgoing_by, incoming_by, informed_where, is_outstanding, work_parameters, work_chunk}
 use Rattle.dcsctp_spec_lemmas.specs.spec.endpoint.BegunResets.{BegunReset, begun_effects}
 use Rattle.dcsctp_spec_lemmas.specs.spec.endpoint.ResetOutcomes.{requested_in, OwnAnswer, unanswered, retried, was_performed, has_failed, own_answer, has_completed, has_reset}
 use Rattle.dcsctp_delivery_sending.specs.Flushes.{NoRequests}
@@ -40,17 +40,20 @@ refused_behind (effect ∷ happened) later is = refused_behind happened later is
 pub reset_in_front : (happened later : List Effect) → has_reset later ≡ false → has_reset (happened ++ later) ≡ has_reset happened
 reset_in_front [] later none = none
 reset_in_front (effects.performs peer number ∷ happened) later none = refl
+reset_in_front (effects.renews peer number ∷ happened) later none = refl
 reset_in_front (effect ∷ happened) later none = reset_in_front happened later none
 
 -- and the other way around
 reset_behind : (happened later : List Effect) → has_reset happened ≡ false → has_reset (happened ++ later) ≡ has_reset later
 reset_behind [] later none = refl
 reset_behind (effects.performs peer number ∷ happened) later none = absurd (cc)
+reset_behind (effects.renews peer number ∷ happened) later none = absurd (cc)
 reset_behind (effect ∷ happened) later none = reset_behind happened later none
 
 reset_in : (happened later : List Effect) → has_reset (happened ++ later) ≡ true → (has_reset happened ≡ true) ⊎ (has_reset later ≡ true)
 reset_in [] later is = inr is
 reset_in (effects.performs peer number ∷ happened) later is = inl refl
+reset_in (effects.renews peer number ∷ happened) later is = inl refl
 reset_in (effect ∷ happened) later is = reset_in happened later is
 
 -- A flush resets none of the peer's.
@@ -73,10 +76,15 @@ repeated_reached held ErrorWrongSSN reached is = absurd (cc)
 repeated_reached held ErrorRequestAlreadyInProgress reached is = absurd (cc)
 repeated_reached held ErrorBadSequenceNumber reached is = absurd (cc)
 
-outgoing_reached : (held : Held) (number : ℕ) (reached : Bool) (place : RequestPlace) → has_reset (outgoing_by held number reached place).effects ≡ true → reached ≡ true
-outgoing_reached held number reached again is = repeated_reached held held.peer_result reached is
-outgoing_reached held number reached next is = worked_none held number reached is
-outgoing_reached held number reached astray is = absurd (cc)
+next_reached : (held : Held) (number : ℕ) (state : RequestState) → has_reset (next_request held number state).effects ≡ true → is_due state ≡ true
+next_reached held number early is = absurd (cc)
+next_reached held number due is = refl
+next_reached held number renewed is = refl
+
+outgoing_reached : (held : Held) (number : ℕ) (state : RequestState) (place : RequestPlace) → has_reset (outgoing_by held number state place).effects ≡ true → is_due state ≡ true
+outgoing_reached held number state again is = repeated_reached held held.peer_result (is_due state) is
+outgoing_reached held number state next is = next_reached held number state is
+outgoing_reached held number state astray is = absurd (cc)
 
 incoming_none : (held : Held) (number : ℕ) (place : RequestPlace) → has_reset (incoming_by held number place).effects ≡ false
 incoming_none held number again = refl
@@ -93,60 +101,60 @@ informed_none my held number ErrorRequestAlreadyInProgress true = refl
 informed_none my held number ErrorBadSequenceNumber true = refl
 informed_none my held number InProgress true = refl
 
--- The one request that is handled was reached.
-pub record Performs (reached has_worked : Bool) (parameters : List ResetParameter) : Type 0 where
+-- The one request that is handled was state.
+pub record Performs (state : RequestState) (has_worked : Bool) (parameters : List ResetParameter) : Type 0 where
   first : has_worked ≡ false
-  pub all : reached ≡ true
+  pub all : is_due state ≡ true
   pub reset : RequestedReset
   pub asked : requested_in parameters ≡ Some reset
 
-parameters_perform : (my : Pair) (reached has_worked : Bool) (held : Held) (parameters : List ResetParameter) → has_reset (work_parameters my reached has_worked held parameters).effects ≡ true
-    → Performs reached has_worked parameters
-parameters_perform my reached has_worked held [] is = absurd (cc)
-parameters_perform my reached true held (outgoing_reset_request number answered reset ∷ parameters) is = absurd (cc)
-parameters_perform my reached false held (outgoing_reset_request number answered reset ∷ parameters) is =
-    let first = outgoing_by held number reached (request_place held.peer_last number) in
-    elim (reset_in first.effects (work_parameters my reached true first.held parameters).effects is) [
-      | inl at ↦ record { first = refl; all = outgoing_reached held number reached (request_place held.peer_last number) at; reset = reset; asked = refl }
-      | inr later ↦ (let none : true ≡ false = (parameters_perform my reached true first.held parameters later).first in absurd (cc))
+parameters_perform : (my : Pair) (state : RequestState) (has_worked : Bool) (held : Held) (parameters : List ResetParameter) → has_reset (work_parameters my state has_worked held parameters).effects ≡ true
+    → Performs state has_worked parameters
+parameters_perform my state has_worked held [] is = absurd (cc)
+parameters_perform my state true held (outgoing_reset_request number answered reset ∷ parameters) is = absurd (cc)
+parameters_perform my state false held (outgoing_reset_request number answered reset ∷ parameters) is =
+    let first = outgoing_by held number state (request_place held.peer_last number) in
+    elim (reset_in first.effects (work_parameters my state true first.held parameters).effects is) [
+      | inl at ↦ record { first = refl; all = outgoing_reached held number state (request_place held.peer_last number) at; reset = reset; asked = refl }
+      | inr later ↦ (let none : true ≡ false = (parameters_perform my state true first.held parameters later).first in absurd (cc))
     ]
-parameters_perform my reached has_worked held (incoming_reset_request number streams ∷ parameters) is =
+parameters_perform my state has_worked held (incoming_reset_request number streams ∷ parameters) is =
     let first = incoming_by held number (request_place held.peer_last number) in
-    let rest = work_parameters my reached has_worked first.held parameters in
-    let later : Performs reached has_worked parameters =
-    parameters_perform my reached has_worked first.held parameters (sym (reset_behind first.effects rest.effects (incoming_none held number (request_place held.peer_last number))) ∙ is) in
+    let rest = work_parameters my state has_worked first.held parameters in
+    let later : Performs state has_worked parameters =
+    parameters_perform my state has_worked first.held parameters (sym (reset_behind first.effects rest.effects (incoming_none held number (request_place held.peer_last number))) ∙ is) in
     record { first = later.first; all = later.all; reset = later.reset; asked = later.asked }
-parameters_perform my reached has_worked held (reconfiguration_response number result ∷ parameters) is =
+parameters_perform my state has_worked held (reconfiguration_response number result ∷ parameters) is =
     let first = informed_where my held number result (is_outstanding number held.own_outstanding) in
-    let rest = work_parameters my reached has_worked first.held parameters in
-    let later : Performs reached has_worked parameters =
-    parameters_perform my reached has_worked first.held parameters
+    let rest = work_parameters my state has_worked first.held parameters in
+    let later : Performs state has_worked parameters =
+    parameters_perform my state has_worked first.held parameters
     (sym (reset_behind first.effects rest.effects (informed_none my held number result (is_outstanding number held.own_outstanding))) ∙ is) in
     record { first = later.first; all = later.all; reset = later.reset; asked = later.asked }
-parameters_perform my reached has_worked held (other_reset_parameter parameter ∷ parameters) is =
-    let later : Performs reached has_worked parameters = parameters_perform my reached has_worked held parameters is in
+parameters_perform my state has_worked held (other_reset_parameter parameter ∷ parameters) is =
+    let later : Performs state has_worked parameters = parameters_perform my state has_worked held parameters is in
     record { first = later.first; all = later.all; reset = later.reset; asked = later.asked }
 
-pub chunk_performs : (my : Pair) (reached : Bool) (held : Held) (parameters : List ResetParameter) → has_reset (work_chunk my reached held parameters).effects ≡ true → Performs reached false parameters
-chunk_performs my reached held [] is = absurd (cc)
-chunk_performs my reached held (parameter ∷ parameters) is = parameters_perform my reached false held (parameter ∷ parameters) is
+pub chunk_performs : (my : Pair) (state : RequestState) (held : Held) (parameters : List ResetParameter) → has_reset (work_chunk my state held parameters).effects ≡ true → Performs state false parameters
+chunk_performs my state held [] is = absurd (cc)
+chunk_performs my state held (parameter ∷ parameters) is = parameters_perform my state false held (parameter ∷ parameters) is
 
 -- ---- how it is answered
 
-parameters_answer : (my : Pair) (reached has_worked : Bool) (held : Held) (parameters : List ResetParameter) → NoRequests (work_parameters my reached has_worked held parameters).answers
-parameters_answer my reached has_worked held [] = tt
-parameters_answer my reached true held (outgoing_reset_request number answered reset ∷ parameters) = tt
-parameters_answer my reached false held (outgoing_reset_request number answered reset ∷ parameters) =
-    parameters_answer my reached true (outgoing_by held number reached (request_place held.peer_last number)).held parameters
-parameters_answer my reached has_worked held (incoming_reset_request number streams ∷ parameters) =
-    parameters_answer my reached has_worked (incoming_by held number (request_place held.peer_last number)).held parameters
-parameters_answer my reached has_worked held (reconfiguration_response number result ∷ parameters) =
-    parameters_answer my reached has_worked (informed_where my held number result (is_outstanding number held.own_outstanding)).held parameters
-parameters_answer my reached has_worked held (other_reset_parameter parameter ∷ parameters) = parameters_answer my reached has_worked held parameters
+parameters_answer : (my : Pair) (state : RequestState) (has_worked : Bool) (held : Held) (parameters : List ResetParameter) → NoRequests (work_parameters my state has_worked held parameters).answers
+parameters_answer my state has_worked held [] = tt
+parameters_answer my state true held (outgoing_reset_request number answered reset ∷ parameters) = tt
+parameters_answer my state false held (outgoing_reset_request number answered reset ∷ parameters) =
+    parameters_answer my state true (outgoing_by held number state (request_place held.peer_last number)).held parameters
+parameters_answer my state has_worked held (incoming_reset_request number streams ∷ parameters) =
+    parameters_answer my state has_worked (incoming_by held number (request_place held.peer_last number)).held parameters
+parameters_answer my state has_worked held (reconfiguration_response number result ∷ parameters) =
+    parameters_answer my state has_worked (informed_where my held number result (is_outstanding number held.own_outstanding)).held parameters
+parameters_answer my state has_worked held (other_reset_parameter parameter ∷ parameters) = parameters_answer my state has_worked held parameters
 
-pub chunk_answers : (my : Pair) (reached : Bool) (held : Held) (parameters : List ResetParameter) → NoRequests (work_chunk my reached held parameters).answers
-chunk_answers my reached held [] = tt
-chunk_answers my reached held (parameter ∷ parameters) = parameters_answer my reached false held (parameter ∷ parameters)
+pub chunk_answers : (my : Pair) (state : RequestState) (held : Held) (parameters : List ResetParameter) → NoRequests (work_chunk my state held parameters).answers
+chunk_answers my state held [] = tt
+chunk_answers my state held (parameter ∷ parameters) = parameters_answer my state false held (parameter ∷ parameters)
 
 -- ---- what becomes of our request
 
@@ -174,10 +182,12 @@ repeated_out held ErrorRequestAlreadyInProgress reached = refl
 repeated_out held ErrorBadSequenceNumber reached = refl
 repeated_out held InProgress reached = worked_out held held.peer_last reached
 
-pub outgoing_out : (held : Held) (number : ℕ) (reached : Bool) (place : RequestPlace) → (outgoing_by held number reached place).held.own_outstanding ≡ held.own_outstanding
-outgoing_out held number reached again = repeated_out held held.peer_result reached
-outgoing_out held number reached next = worked_out held number reached
-outgoing_out held number reached astray = refl
+pub outgoing_out : (held : Held) (number : ℕ) (state : RequestState) (place : RequestPlace) → (outgoing_by held number state place).held.own_outstanding ≡ held.own_outstanding
+outgoing_out held number state again = repeated_out held held.peer_result (is_due state)
+outgoing_out held number early next = refl
+outgoing_out held number due next = refl
+outgoing_out held number renewed next = refl
+outgoing_out held number state astray = refl
 
 pub incoming_out : (held : Held) (number : ℕ) (place : RequestPlace) → (incoming_by held number place).held.own_outstanding ≡ held.own_outstanding
 incoming_out held number again = refl
@@ -195,28 +205,28 @@ informed_said my held number ErrorRequestAlreadyInProgress true = inr (inr refl)
 informed_said my held number ErrorBadSequenceNumber true = inr (inr refl)
 informed_said my held number InProgress true = inl refl
 
-parameters_say : (my : Pair) (reached has_worked : Bool) (held : Held) (parameters : List ResetParameter)
-    → Said held.own_outstanding (work_parameters my reached has_worked held parameters).held.own_outstanding (work_parameters my reached has_worked held parameters).effects
-parameters_say my reached has_worked held [] = inl refl
-parameters_say my reached true held (outgoing_reset_request number answered reset ∷ parameters) = inl refl
-parameters_say my reached false held (outgoing_reset_request number answered reset ∷ parameters) =
-    let first = outgoing_by held number reached (request_place held.peer_last number) in
-    said_then held.own_outstanding first.held.own_outstanding _ first.effects _ (inl (outgoing_out held number reached (request_place held.peer_last number)))
-    (parameters_say my reached true first.held parameters)
-parameters_say my reached has_worked held (incoming_reset_request number streams ∷ parameters) =
+parameters_say : (my : Pair) (state : RequestState) (has_worked : Bool) (held : Held) (parameters : List ResetParameter)
+    → Said held.own_outstanding (work_parameters my state has_worked held parameters).held.own_outstanding (work_parameters my state has_worked held parameters).effects
+parameters_say my state has_worked held [] = inl refl
+parameters_say my state true held (outgoing_reset_request number answered reset ∷ parameters) = inl refl
+parameters_say my state false held (outgoing_reset_request number answered reset ∷ parameters) =
+    let first = outgoing_by held number state (request_place held.peer_last number) in
+    said_then held.own_outstanding first.held.own_outstanding _ first.effects _ (inl (outgoing_out held number state (request_place held.peer_last number)))
+    (parameters_say my state true first.held parameters)
+parameters_say my state has_worked held (incoming_reset_request number streams ∷ parameters) =
     let first = incoming_by held number (request_place held.peer_last number) in
     said_then held.own_outstanding first.held.own_outstanding _ first.effects _ (inl (incoming_out held number (request_place held.peer_last number)))
-    (parameters_say my reached has_worked first.held parameters)
-parameters_say my reached has_worked held (reconfiguration_response number result ∷ parameters) =
+    (parameters_say my state has_worked first.held parameters)
+parameters_say my state has_worked held (reconfiguration_response number result ∷ parameters) =
     let first = informed_where my held number result (is_outstanding number held.own_outstanding) in
     said_then held.own_outstanding first.held.own_outstanding _ first.effects _ (informed_said my held number result (is_outstanding number held.own_outstanding))
-    (parameters_say my reached has_worked first.held parameters)
-parameters_say my reached has_worked held (other_reset_parameter parameter ∷ parameters) = parameters_say my reached has_worked held parameters
+    (parameters_say my state has_worked first.held parameters)
+parameters_say my state has_worked held (other_reset_parameter parameter ∷ parameters) = parameters_say my state has_worked held parameters
 
-pub chunk_says : (my : Pair) (reached : Bool) (held : Held) (parameters : List ResetParameter)
-    → Said held.own_outstanding (work_chunk my reached held parameters).held.own_outstanding (work_chunk my reached held parameters).effects
-chunk_says my reached held [] = inl refl
-chunk_says my reached held (parameter ∷ parameters) = parameters_say my reached false held (parameter ∷ parameters)
+pub chunk_says : (my : Pair) (state : RequestState) (held : Held) (parameters : List ResetParameter)
+    → Said held.own_outstanding (work_chunk my state held parameters).held.own_outstanding (work_chunk my state held parameters).effects
+chunk_says my state held [] = inl refl
+chunk_says my state held (parameter ∷ parameters) = parameters_say my state false held (parameter ∷ parameters)
 
 -- by its number before and after, and whether it was performed or refused
 abbrev pub Stays : OwnAnswer → Option ℕ → Option ℕ → Bool → Bool → Type 0

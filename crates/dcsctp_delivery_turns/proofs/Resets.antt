@@ -1,20 +1,21 @@
 -- The turn of RE-CONFIG, as actions (RFC 6525, section 5.2).
 use Rattle.dcsctp_spec_lemmas.specs.spec.association.Effect as effects
-use Rattle.std.proofs.Common.{◌≡◌, ℕ, Bool, true, false, Option, None, Some, List, [], ◌∷◌, ◌++◌, refl, sym, ◌∙◌, subst, ap}
+use Rattle.std.proofs.Common.{◌≡◌, ℕ, Bool, true, false, cond, Option, None, Some, List, [], ◌∷◌, ◌++◌, refl, sym, ◌∙◌, subst, ap}
+use Rattle.std.specs.Prelude.{◌&&◌}
 use Rattle.dcsctp_spec_lemmas.specs.types.declared.association.Pair.{Pair}
 use Rattle.dcsctp_spec_lemmas.specs.types.declared.association.Held.{Held}
 use Rattle.dcsctp_spec_lemmas.specs.types.declared.kinds.ErrorKind.TheVariants.{ProtocolViolation}
 use Rattle.dcsctp_spec_lemmas.specs.spec.endpoint.Event.{Event, error, packets_in}
 use Rattle.dcsctp_spec_lemmas.specs.spec.Packet.{Content, re_config, Emission}
-use Rattle.dcsctp_spec_lemmas.specs.spec.Reconfiguration.{RequestedReset, ResetParameter}
+use Rattle.dcsctp_spec_lemmas.specs.spec.Reconfiguration.{RequestState, early, RequestedReset, ResetParameter}
 use Rattle.dcsctp_spec_lemmas.specs.spec.endpoint.Endpoint.{Endpoint, Core, closed, cookie_wait, cookie_echoed, open_in, OutstandingRequest}
 use Rattle.dcsctp_spec_lemmas.specs.spec.endpoint.Outcome.{Outcome, still, to_peer}
 use Rattle.dcsctp_spec_lemmas.specs.spec.association.Effect.{Effect}
-use Rattle.dcsctp_spec_lemmas.specs.spec.association.ResetChanges.{HandledParameters}
+use Rattle.dcsctp_spec_lemmas.specs.spec.association.ResetChanges.{is_due, HandledParameters}
 use Rattle.dcsctp_spec_lemmas.specs.spec.queues.Transfer.{Transfer, EndpointQueues}
 use Rattle.dcsctp_spec_lemmas.specs.spec.endpoint.FlushOutcomes.{Answer, draft_to, flush_of, first_ask, packets_allowed}
 use Rattle.dcsctp_spec_lemmas.specs.spec.endpoint.ReconfigurationOutcomes.{reset_again}
-use Rattle.dcsctp_spec_lemmas.specs.spec.endpoint.ResetOutcomes.{own_moved, waiting, has_completed, requested_in, parameters_handled_in, has_reset, answers_in_progress, ResetsInQueues, OwnAnswer, unanswered, retried, was_performed, has_failed, answered_in, own_streams, their_streams, reset_events, reset_events_of, resets_handled, reset_refusal_text, responses_outcome, responses_by, ResponseAnswers, WorksResets, ResetTurn, is_request_reached, core_with}
+use Rattle.dcsctp_spec_lemmas.specs.spec.endpoint.ResetOutcomes.{own_moved, waiting, has_completed, requested_in, is_renewal, request_number_in, state_by, request_state, renewable_left, parameters_handled_in, has_reset, answers_in_progress, ResetsInQueues, OwnAnswer, unanswered, retried, was_performed, has_failed, answered_in, own_streams, their_streams, reset_events, reset_events_of, resets_handled, reset_refusal_text, responses_outcome, responses_by, ResponseAnswers, WorksResets, ResetTurn, is_request_reached, core_with}
 use Rattle.dcsctp_theorem_sockets.proofs.Bursts.{packets_in-append, emits_core}
 use Rattle.dcsctp_delivery_turns.specs.Actions.{Inside, inside, MakesPackets, has_refused, OwnEnds, unended, committed, rolled_back, PeerResets, unreset, absent, deferred, reset_now, works_resets}
 use Rattle.dcsctp_delivery_turns.specs.Asking.{Own, own_with, own_in, own_of}
@@ -42,6 +43,7 @@ events_none theirs own (effects.completes my number ∷ happened) = events_none 
 events_none theirs own (effects.fails number ∷ happened) = events_none theirs own happened
 events_none theirs own (effects.accepts number ∷ happened) = events_none theirs own happened
 events_none theirs own (effects.performs peer number ∷ happened) = events_none theirs own happened
+events_none theirs own (effects.renews peer number ∷ happened) = events_none theirs own happened
 events_none theirs own (effects.resumes link first last ∷ happened) = events_none theirs own happened
 
 abbrev the_link : AssociationIdentity → Option AssociationIdentity
@@ -183,6 +185,16 @@ module _ (came : Option Content) (to : ℕ) where
       let base : Endpoint = (responses_outcome e held responses).after in
       ap has_reset (flush_keeps first_ask (packets_allowed base.options.max_burst base.core) base (draft_to held) answers allowed).effects ∙ begun_none (begun_by answers)
 
+-- ---- what is performed was reached
+
+reached_by : (reached is_renewed : Bool) → is_due (cond reached (state_by is_renewed) early) ≡ true → reached ≡ true
+reached_by true is_renewed is = refl
+reached_by false is_renewed is = absurd (cc)
+
+due_reached : (e : Endpoint) (held : Held) (parameters : List ResetParameter) → is_due (request_state e held parameters) ≡ true → is_request_reached e.queues.transfer (requested_in parameters) ≡ true
+due_reached e held parameters is =
+    reached_by (is_request_reached e.queues.transfer (requested_in parameters)) (e.options.follow_rfc && is_renewal e.renewable held.peer_last (request_number_in parameters) (requested_in parameters)) is
+
 -- ---- the turn
 
 module _ (to : ℕ) where
@@ -190,24 +202,24 @@ module _ (to : ℕ) where
       → ((new : Held) (request : Option OutstandingRequest) → own_in (core_with e.core new) request ≡ Some (own_with new request)) → WorksResets e my held parameters o → Goes (Some (re_config parameters)) to e o
   works_goes e my held parameters o linked at is own own_later turn =
       let w : HandledParameters = parameters_handled_in e my held parameters in
-      let reached : Bool = is_request_reached e.queues.transfer (requested_in parameters) in
-      let brought = chunk_brings my reached held parameters in
+      let state : RequestState = request_state e held parameters in
+      let brought = chunk_brings my state held parameters in
       let answer : OwnAnswer = answered_in held w parameters in
       let tag : w.held.peer.tag ≡ to = ap (λ (p : Pair). p.tag) brought.keeps.peer ∙ is in
-      let base : Endpoint = resets_handled e answer w.held turn.left in
-      let kept = (worked_keeps e answer w.held turn.left).core in
+      let base : Endpoint = resets_handled e answer w.held turn.left (renewable_left e held w parameters) in
+      let kept = (worked_keeps e answer w.held turn.left (renewable_left e held w parameters)).core in
       let told : List (Event Emission) = reset_events_of e parameters w.effects in
       let last : Outcome = responses_by w.is_refused base told w.held parameters w.answers turn.answers in
       let between : Inside = moved_inside answer e w.held in
       let silent_end : has_reset (w.effects ++ last.effects) ≡ has_reset w.effects = reset_in_front w.effects last.effects (sent_none (Some (re_config parameters)) to w.is_refused base told w.held parameters w.answers turn.answers turn.allowed) in
       let ends : OwnEnds (w.effects ++ last.effects) (inside e) between =
       own_ends answer e held w.held (has_completed w.effects) (has_refused w.effects) (w.effects ++ last.effects)
-      (own_stays held.own_outstanding w.held.own_outstanding _ w.effects brought.keeps.own_outstanding (chunk_says my reached held parameters)) brought.keeps.own_next own
+      (own_stays held.own_outstanding w.held.own_outstanding _ w.effects brought.keeps.own_outstanding (chunk_says my state held parameters)) brought.keeps.own_next own
       (completed_among w.effects last.effects) (refused_among w.effects last.effects) in
       let asks : PeerResets (Some (re_config parameters)) (w.effects ++ last.effects) between (with_left turn.left between) =
       peer_resets parameters (w.effects ++ last.effects) (has_reset w.effects) (answers_in_progress w.answers) (requested_in parameters) e.queues.transfer turn.left between silent_end refl
       (moved_transfer answer e)
-      (λ performed. ((chunk_performs my reached held parameters performed).all, ((chunk_performs my reached held parameters performed).reset, (chunk_performs my reached held parameters performed).asked))) turn.below in
+      (λ performed. (due_reached e held parameters (chunk_performs my state held parameters performed).all, ((chunk_performs my state held parameters performed).reset, (chunk_performs my state held parameters performed).asked))) turn.below in
       let later : inside base ≡ with_left turn.left between = ap (λ (i : Option Own). record { queues = base.queues; own = i }) (own_later w.held (own_moved answer e).outstanding) in
       subst (Goes (Some (re_config parameters)) to e) (sym turn.is)
       (works_resets
@@ -217,7 +229,7 @@ module _ (to : ℕ) where
       (subst (λ (i : Inside). MakesPackets (Some (re_config parameters)) to i (packets_in last.events) (inside last.after)) later
       (sent_makes (Some (re_config parameters)) to w.is_refused base told w.held parameters w.answers turn.answers
       (subst (λ (c : Core). IsPeerTag c to) (sym kept) (with_peer (Some (re_config parameters)) to e.core w.held at tag)) tag
-      (events_none (their_streams (requested_in parameters)) (own_streams e.outstanding) w.effects) (chunk_answers my reached held parameters) turn.allowed)))
+      (events_none (their_streams (requested_in parameters)) (own_streams e.outstanding) w.effects) (chunk_answers my state held parameters) turn.allowed)))
 
   idle_goes : (e : Endpoint) (parameters : List ResetParameter) → Goes (Some (re_config parameters)) to e (still e)
   idle_goes e parameters = works_resets refl (inside e) (inside e) unended (unreset refl) (rests (Some (re_config parameters)) to (inside e))

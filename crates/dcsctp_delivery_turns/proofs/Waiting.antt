@@ -29,6 +29,7 @@ pub unasked_append : (first later : List Effect) → NoneAsked first → NoneAsk
 unasked_append [] later none rest = rest
 unasked_append (effects.accepts number ∷ first) later none rest = absurd none
 unasked_append (effects.performs peer number ∷ first) later none rest = absurd none
+unasked_append (effects.renews peer number ∷ first) later none rest = absurd none
 unasked_append (effects.resumes link own last ∷ first) later none rest = absurd none
 unasked_append (effect ∷ first) later none rest = unasked_append first later none rest
 

@@ -6,11 +6,11 @@ use Rattle.dcsctp_spec_lemmas.specs.types.declared.association.Pair.{Pair}
 use Rattle.dcsctp_spec_lemmas.specs.spec.endpoint.Endpoint.{Endpoint, Core, closed, cookie_wait, cookie_echoed, open_in}
 use Rattle.dcsctp_spec_lemmas.specs.spec.endpoint.Outcome.{Outcome}
 use Rattle.dcsctp_spec_lemmas.specs.spec.Packet.{Content, re_config}
-use Rattle.dcsctp_spec_runs.specs.Past.{HasEffect, number_to_accept, number_to_perform}
+use Rattle.dcsctp_spec_runs.specs.Past.{WasPerformed, HasEffect, number_to_accept, number_to_perform}
 use Rattle.dcsctp_spec_lemmas.specs.spec.Reconfiguration.{RequestedReset, outgoing_reset_request}
 use Rattle.dcsctp_spec_lemmas.specs.spec.endpoint.Turn.{Input, Turn}
 use Rattle.dcsctp_spec_runs.specs.World.{after_effects}
-use Rattle.dcsctp_spec_lemmas.specs.spec.association.Effect.{AssociationIdentity, Effect, accepts, performs, resumes, identity_of, identity_in}
+use Rattle.dcsctp_spec_lemmas.specs.spec.association.Effect.{AssociationIdentity, Effect, accepts, performs, renews, resumes, identity_of, identity_in}
 use Rattle.dcsctp_spec_lemmas.specs.spec.association.FlushChanges.{next_number, reset_request}
 use Rattle.dcsctp_spec_lemmas.specs.spec.queues.Reassembly.{DeferralModel}
 use Rattle.dcsctp_spec_lemmas.specs.spec.queues.Transfer.{Transfer}
@@ -22,6 +22,7 @@ abbrev pub NoneAsked : List Effect → Type 0
 NoneAsked [] = Unit {0}
 NoneAsked (accepts number ∷ effects) = ⊥
 NoneAsked (performs peer number ∷ effects) = ⊥
+NoneAsked (renews peer number ∷ effects) = ⊥
 NoneAsked (resumes link own last ∷ effects) = ⊥
 NoneAsked (effect ∷ effects) = NoneAsked effects
 
@@ -61,11 +62,11 @@ pub data PeerTurns (link : AssociationIdentity) (past : List Effect) (e : Endpoi
   asks_nothing : NoneAsked o.effects → SameWaits old new → PeerTurns link past e input o old new
   -- A request is performed: the next one, or the one in progress.
   performs_it : (number : ℕ) (reset : RequestedReset) → came_by input ≡ Some (reset_request number reset) → IsDue past number
-      → ((peer : Pair) (other : ℕ) → HasEffect (performs peer other) o.effects → (peer ≡ link.peer) × (other ≡ number)) → HasEffect (performs link.peer number) o.effects
+      → ((peer : Pair) (other : ℕ) → WasPerformed peer other o.effects → (peer ≡ link.peer) × (other ≡ number)) → WasPerformed link.peer number o.effects
       → number_to_accept (after_effects o.effects past) ≡ Some (next_number number) → number_to_perform (after_effects o.effects past) ≡ None → new ≡ None → PeerTurns link past e input o old new
   -- It is in progress from here on, or still.
   defers_it : (number : ℕ) (reset : RequestedReset) → came_by input ≡ Some (reset_request number reset) → IsDue past number
-      → ((peer : Pair) (other : ℕ) → HasEffect (performs peer other) o.effects → ⊥)
+      → ((peer : Pair) (other : ℕ) → WasPerformed peer other o.effects → ⊥)
       → number_to_accept (after_effects o.effects past) ≡ Some (next_number number) → number_to_perform (after_effects o.effects past) ≡ Some number
       → (left : DeferralModel) → new ≡ Some left → WaitsFor reset old left → PeerTurns link past e input o old new
   -- Another association begins.

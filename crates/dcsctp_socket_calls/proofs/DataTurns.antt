@@ -18,7 +18,7 @@ use Rattle.dcsctp_core.specs.spec.endpoint.FlushOutcomes.{Answer, first_ask, pac
 use Rattle.dcsctp_core.specs.spec.endpoint.HandshakeOutcomes.{connected_after, cookie_ack_by, CookieAckAnswers, CookieAckTurn}
 use Rattle.dcsctp_core.specs.spec.endpoint.HeardShutdown.{said_by_shutdown, heeds_shutdown, ShutdownWhere, ShutdownBy, ShutdownTurn}
 use Rattle.dcsctp_core.specs.spec.endpoint.ShutdownOutcomes.{may_go_on, step_by, phase_at, shutdown_outcome_in}
-use Rattle.dcsctp_core.specs.spec.endpoint.ResetOutcomes.{responses_outcome, responses_by, ResponseAnswers, parameters_handled_in, answered_in, resets_handled, reset_events_of, WorksResets, ResetTurn}
+use Rattle.dcsctp_core.specs.spec.endpoint.ResetOutcomes.{responses_outcome, responses_by, ResponseAnswers, parameters_handled_in, answered_in, resets_handled, renewable_left, reset_events_of, WorksResets, ResetTurn}
 use Rattle.dcsctp_core.proofs.spec_lemmas.FlushKeeps.{flush_keeps}
 
 -- The next chunk follows.
@@ -122,7 +122,8 @@ works_go : (e : Endpoint) (my : Pair) (held : Held) (parameters : List ResetPara
 works_go e my held parameters o h =
     let worked = parameters_handled_in e my held parameters in
     goes_as o _ h.is
-    (responses_go worked.is_refused (resets_handled e (answered_in held worked parameters) worked.held h.left) (reset_events_of e parameters worked.effects) worked.held parameters worked.answers h.answers h.allowed)
+    (responses_go worked.is_refused (resets_handled e (answered_in held worked parameters) worked.held h.left (renewable_left e held worked parameters))
+    (reset_events_of e parameters worked.effects) worked.held parameters worked.answers h.answers h.allowed)
 
 reset_by_goes : (e : Endpoint) (core : Core) (parameters : List ResetParameter) (o : Outcome) → ResetTurn e core parameters o → GoesOn o
 reset_by_goes e closed parameters o is = goes_as o _ is refl

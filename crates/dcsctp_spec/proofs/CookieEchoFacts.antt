@@ -31,6 +31,7 @@ made e waiting packets_sent =
       tie = 55;
       heartbeat_sent = None;
       outstanding = None;
+      renewable = None;
       timers = record stopped_timers { heartbeat_interval = heartbeats_due 35_000_000_000 30_000_000_000; heartbeat_timeout = e.timers.heartbeat_timeout };
       queues = record { queue = waiting; transfer = transfer_begun 1191 11910 4764 };
       left = [];

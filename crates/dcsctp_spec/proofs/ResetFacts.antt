@@ -1,5 +1,5 @@
 -- Outside examples of RE-CONFIG that comes in, computed by the definitions.
-use Rattle.std.proofs.Common.{◌≡◌, ◌^◌, ◌-◌, ℕ, Bool, true, false, None, Some, [], ◌∷◌, refl}
+use Rattle.std.proofs.Common.{◌≡◌, ◌^◌, ◌-◌, ℕ, Bool, true, false, None, Some, List, [], ◌∷◌, refl}
 use Rattle.dcsctp_types.specs.wire.declared.reconfiguration.ReconfigurationResponseResult.TheVariants.{SuccessNothingToDo, SuccessPerformed, Denied, ErrorBadSequenceNumber, InProgress}
 use Rattle.dcsctp_types.specs.wire.Content.{outgoing_ssn_reset_request, forward_tsn_supported, re_config_chunk}
 use Rattle.dcsctp_types.specs.wire.Content as wire
@@ -8,12 +8,12 @@ use Rattle.dcsctp_types.specs.declared.association.Held.{Held}
 use Rattle.dcsctp_types.specs.declared.capabilities.Capabilities.{Capabilities}
 use Rattle.dcsctp_spec.specs.endpoint.Event.{incoming_stream_reset, streams_reset_failed, streams_reset_performed}
 use Rattle.dcsctp_spec.specs.Packet.{re_config, content_in}
-use Rattle.dcsctp_spec.specs.Reconfiguration.{ResetParameter, outgoing_reset_request, incoming_reset_request, reconfiguration_response, other_reset_parameter, reset_streams_in}
+use Rattle.dcsctp_spec.specs.Reconfiguration.{early, due, renewed, ResetParameter, outgoing_reset_request, incoming_reset_request, reconfiguration_response, other_reset_parameter, reset_streams_in}
 use Rattle.dcsctp_spec.specs.endpoint.Endpoint.{Endpoint, closed, cookie_wait}
 use Rattle.dcsctp_spec.specs.endpoint.Outcome.{still}
-use Rattle.dcsctp_spec.specs.association.Effect.{accepts, performs}
+use Rattle.dcsctp_spec.specs.association.Effect.{accepts, performs, renews}
 use Rattle.dcsctp_spec.specs.association.ResetChanges.{HandledParameters, work_chunk}
-use Rattle.dcsctp_spec.specs.endpoint.ResetOutcomes.{requested_in, unanswered, retried, was_performed, has_failed, answered_in, own_moved, reset_events, their_streams, ResetTurn}
+use Rattle.dcsctp_spec.specs.endpoint.ResetOutcomes.{requested_in, is_renewal, request_state, renewable_after, unanswered, retried, was_performed, has_failed, answered_in, own_moved, reset_events, their_streams, ResetTurn}
 use Rattle.dcsctp_spec.specs.queues.Numbers.{is_tsn_beyond}
 
 -- ---- what is read
@@ -57,13 +57,13 @@ abbrev request : ResetParameter
 request = outgoing_reset_request 10 3 (record { last_tsn = 11; streams = 1 ∷ [] })
 
 abbrev first_time : (c : Capabilities) → HandledParameters
-first_time c = work_chunk own false (held c 9) (request ∷ [])
+first_time c = work_chunk own early (held c 9) (request ∷ [])
 
 abbrev second_time : (c : Capabilities) → HandledParameters
-second_time c = work_chunk own true (first_time c).held (request ∷ [])
+second_time c = work_chunk own due (first_time c).held (request ∷ [])
 
 abbrev third_time : (c : Capabilities) → HandledParameters
-third_time c = work_chunk own true (second_time c).held (request ∷ [])
+third_time c = work_chunk own due (second_time c).held (request ∷ [])
 
 in_progress : (c : Capabilities) → (first_time c).answers ≡ reconfiguration_response 10 InProgress ∷ []
 in_progress c = refl
@@ -83,26 +83,103 @@ answered_again c = refl
 told_once : (c : Capabilities) → reset_events (their_streams (requested_in (request ∷ []))) [] (third_time c).effects ≡ []
 told_once c = refl
 
+-- ---- a request that comes again under the next number: 10 was in progress, came late and was performed, and then comes 11
+
+abbrev request_11 : ResetParameter
+request_11 = outgoing_reset_request 11 3 (record { last_tsn = 11; streams = 1 ∷ [] })
+
+abbrev after_10 : (c : Capabilities) → Held
+after_10 c = (second_time c).held
+
+abbrev holding_10 : Bool → Endpoint → Endpoint
+holding_10 follows e = record e { options = record e.options { follow_rfc = follows }; renewable = Some (record { number = 10; reset = record { last_tsn = 11; streams = 1 ∷ [] } }) }
+
+-- By the RFCs' rules what was in progress may come again; what was performed at once can't.
+records_10 : (e : Endpoint) → renewable_after (record e { options = record e.options { follow_rfc = true } }) 10 (request ∷ []) true ≡ Some (record { number = 10; reset = record { last_tsn = 11; streams = 1 ∷ [] } })
+records_10 e = refl
+
+records_none_at_once : (e : Endpoint) → renewable_after (record e { options = record e.options { follow_rfc = true } }) 9 (request ∷ []) true ≡ None
+records_none_at_once e = refl
+
+records_none_by_port : (e : Endpoint) → renewable_after (record e { options = record e.options { follow_rfc = false } }) 10 (request ∷ []) true ≡ None
+records_none_by_port e = refl
+
+is_renewed : (e : Endpoint) (c : Capabilities) → request_state (record (holding_10 true e) { queues = record e.queues { transfer = None } }) (after_10 c) (request_11 ∷ []) ≡ renewed
+is_renewed e c = refl
+
+-- It is answered as performed, and isn't reported.
+renewed_answer : (c : Capabilities) → (work_chunk own renewed (after_10 c) (request_11 ∷ [])).answers ≡ reconfiguration_response 11 SuccessPerformed ∷ []
+renewed_answer c = refl
+
+renewed_effects : (c : Capabilities) → (work_chunk own renewed (after_10 c) (request_11 ∷ [])).effects ≡ accepts 11 ∷ renews theirs 11 ∷ []
+renewed_effects c = refl
+
+renewed_untold : (c : Capabilities) → reset_events (their_streams (requested_in (request_11 ∷ []))) [] (work_chunk own renewed (after_10 c) (request_11 ∷ [])).effects ≡ []
+renewed_untold c = refl
+
+-- By the port it is performed again.
+is_due_by_port : (e : Endpoint) (c : Capabilities) → request_state (record (holding_10 false e) { queues = record e.queues { transfer = None } }) (after_10 c) (request_11 ∷ []) ≡ due
+is_due_by_port e c = refl
+
+performed_by_port : (c : Capabilities) → (work_chunk own due (after_10 c) (request_11 ∷ [])).effects ≡ accepts 11 ∷ performs theirs 11 ∷ []
+performed_by_port c = refl
+
+-- Another request isn't it: of other streams, in another order, up to another TSN, or under another number.
+abbrev asks_other : ℕ → ℕ → List ℕ → Bool
+asks_other number last_tsn streams =
+    is_renewal (Some (record { number = 10; reset = record { last_tsn = 11; streams = 1 ∷ 2 ∷ [] } })) 10 (Some number) (Some (record { last_tsn = last_tsn; streams = streams }))
+
+the_same : asks_other 11 11 (1 ∷ 2 ∷ []) ≡ true
+the_same = refl
+
+fewer_streams : asks_other 11 11 (1 ∷ []) ≡ false
+fewer_streams = refl
+
+more_streams : asks_other 11 11 (1 ∷ 2 ∷ 3 ∷ []) ≡ false
+more_streams = refl
+
+all_streams : asks_other 11 11 [] ≡ false
+all_streams = refl
+
+other_order : asks_other 11 11 (2 ∷ 1 ∷ []) ≡ false
+other_order = refl
+
+other_tsn : asks_other 11 12 (1 ∷ 2 ∷ []) ≡ false
+other_tsn = refl
+
+same_number : asks_other 10 11 (1 ∷ 2 ∷ []) ≡ false
+same_number = refl
+
+later_number : asks_other 12 11 (1 ∷ 2 ∷ []) ≡ false
+later_number = refl
+
+-- What was accepted since took the number.
+number_is_taken : is_renewal (Some (record { number = 10; reset = record { last_tsn = 11; streams = [] } })) 11 (Some 12) (Some (record { last_tsn = 11; streams = [] })) ≡ false
+number_is_taken = refl
+
+beyond_the_last_number : is_renewal (Some (record { number = 2 ^ 32 - 1; reset = record { last_tsn = 11; streams = [] } })) (2 ^ 32 - 1) (Some 0) (Some (record { last_tsn = 11; streams = [] })) ≡ true
+beyond_the_last_number = refl
+
 -- ---- requests of the other kind
 
-next_incoming : (c : Capabilities) → (work_chunk own true (held c 9) (incoming_reset_request 10 (1 ∷ []) ∷ [])).answers ≡ reconfiguration_response 10 SuccessNothingToDo ∷ []
+next_incoming : (c : Capabilities) → (work_chunk own due (held c 9) (incoming_reset_request 10 (1 ∷ []) ∷ [])).answers ≡ reconfiguration_response 10 SuccessNothingToDo ∷ []
 next_incoming c = refl
 
-astray_incoming : (c : Capabilities) → (work_chunk own true (held c 10) (incoming_reset_request 12 (1 ∷ []) ∷ [])).answers ≡ reconfiguration_response 12 ErrorBadSequenceNumber ∷ []
+astray_incoming : (c : Capabilities) → (work_chunk own due (held c 10) (incoming_reset_request 12 (1 ∷ []) ∷ [])).answers ≡ reconfiguration_response 12 ErrorBadSequenceNumber ∷ []
 astray_incoming c = refl
 
 -- A repeat of the number, by an outgoing request, is answered as before, and nothing is reset.
-repeated_by_outgoing : (c : Capabilities) → (work_chunk own true (held c 10) (request ∷ [])).effects ≡ []
+repeated_by_outgoing : (c : Capabilities) → (work_chunk own due (held c 10) (request ∷ [])).effects ≡ []
 repeated_by_outgoing c = refl
 
 -- ---- what is an error
 
-no_parameters : (c : Capabilities) → (work_chunk own true (held c 9) []).is_refused ≡ true
+no_parameters : (c : Capabilities) → (work_chunk own due (held c 9) []).is_refused ≡ true
 no_parameters c = refl
 
 -- The first of two was handled, and no answer is sent.
 abbrev twice : (c : Capabilities) → HandledParameters
-twice c = work_chunk own true (held c 9) (request ∷ outgoing_reset_request 11 3 (record { last_tsn = 11; streams = 2 ∷ [] }) ∷ [])
+twice c = work_chunk own due (held c 9) (request ∷ outgoing_reset_request 11 3 (record { last_tsn = 11; streams = 2 ∷ [] }) ∷ [])
 
 second_is_refused : (c : Capabilities) → (twice c).is_refused ≡ true
 second_is_refused c = refl
@@ -116,7 +193,7 @@ abbrev asking : (c : Capabilities) → Held
 asking c = record (held c 9) { own_next = 4; own_outstanding = Some 3 }
 
 abbrev after_answer : (c : Capabilities) → ResetParameter → HandledParameters
-after_answer c answer = work_chunk own true (asking c) (answer ∷ [])
+after_answer c answer = work_chunk own due (asking c) (answer ∷ [])
 
 performed : (c : Capabilities) → reset_events [] (4 ∷ []) (after_answer c (reconfiguration_response 3 SuccessPerformed)).effects ≡ streams_reset_performed (4 ∷ []) ∷ []
 performed c = refl
@@ -158,7 +235,7 @@ no_answer_keeps_errors e = refl
 of_another_number : (c : Capabilities) → answered_in (asking c) (after_answer c (reconfiguration_response 2 SuccessPerformed)) (reconfiguration_response 2 SuccessPerformed ∷ []) ≡ unanswered
 of_another_number c = refl
 
-none_is_asked : (c : Capabilities) → answered_in (held c 9) (work_chunk own true (held c 9) (reconfiguration_response 3 SuccessPerformed ∷ [])) (reconfiguration_response 3 SuccessPerformed ∷ []) ≡ unanswered
+none_is_asked : (c : Capabilities) → answered_in (held c 9) (work_chunk own due (held c 9) (reconfiguration_response 3 SuccessPerformed ∷ [])) (reconfiguration_response 3 SuccessPerformed ∷ []) ≡ unanswered
 none_is_asked c = refl
 
 -- ---- without a peer

@@ -12,6 +12,20 @@ pub record RequestedReset : Type 0 where
   pub last_tsn : ℕ
   pub streams : List ℕ
 
+-- a request of the peer by its number
+pub record NumberedReset : Type 0 where
+  pub number : ℕ
+  pub reset : RequestedReset
+
+-- what an Outgoing SSN Reset Request finds
+pub data RequestState : Type 0 where
+  -- Something is missing that was sent before it.
+  early : RequestState
+  -- All has come that was sent before it.
+  due : RequestState
+  -- All has come; and it was performed and reported already, under the number before.
+  renewed : RequestState
+
 pub data ResetParameter : Type 0 where
   -- Outgoing SSN Reset Request (RFC 6525, section 4.1): its number, the number of the request that it
   -- answers, and what is wanted

@@ -8,7 +8,7 @@ use Rattle.dcsctp_spec_lemmas.specs.types.declared.word.Word.TheVariants.{U32, U
 use Rattle.dcsctp_spec_lemmas.specs.types.declared.kinds.ErrorKind.TheVariants.{ProtocolViolation}
 use Rattle.dcsctp_spec_lemmas.specs.spec.Cookie.{Cookie, cookie_at}
 use Rattle.dcsctp_spec_lemmas.specs.spec.Packet.{Introduction, cookie_echo, shutdown_ack, re_config, Emission}
-use Rattle.dcsctp_spec_lemmas.specs.spec.Reconfiguration.{RequestedReset, ResetParameter}
+use Rattle.dcsctp_spec_lemmas.specs.spec.Reconfiguration.{NumberedReset, RequestedReset, ResetParameter}
 use Rattle.dcsctp_spec_lemmas.specs.spec.association.CookieEchoChanges.{Resolution, establish_new, restart, simultaneous_init, discard, maintain_existing, invalid_tag, stale, held_by_cookie}
 use Rattle.dcsctp_spec_lemmas.specs.spec.association.ResetChanges.{HandledParameters}
 use Rattle.dcsctp_spec_lemmas.specs.spec.queues.SendQueue.{SendQueueState}
@@ -21,7 +21,7 @@ use Rattle.dcsctp_spec_lemmas.specs.spec.endpoint.FlushOutcomes.{Answer, draft_t
 use Rattle.dcsctp_spec_lemmas.specs.spec.endpoint.EndOutcomes.{ended_outcome, abort_outcome}
 use Rattle.dcsctp_spec_lemmas.specs.spec.endpoint.HandshakeOutcomes.{pair_from, renewed_pair, init_ack_emission, init_outcome, InitTurn, no_cookie_text, abort_emission, awaits_cookie_ack, echo_emission, EchoAnswers, init_ack_by, InitAckAnswers, InitAckTurn, connected_after, cookie_ack_by, CookieAckAnswers, CookieAckTurn}
 use Rattle.dcsctp_spec_lemmas.specs.spec.endpoint.CookieEchoOutcomes.{established_by, cookie_ack_emission, establish_by, queue_begun, queue_kept, restart_by_in, restart_by_where, maintain_by, resolved_by, resolved_now, cookie_echo_by, EstablishAnswers, RestartAnswersIn, RestartAnswers, MaintainAnswers, ResolvedAnswers, EchoedAnswers, CookieEchoTurn}
-use Rattle.dcsctp_spec_lemmas.specs.spec.endpoint.ResetOutcomes.{requested_in, has_reset, answers_in_progress, ResetsInQueues, OwnAnswer, unanswered, retried, was_performed, has_failed, parameters_handled_in, answered_in, reset_events_of, resets_handled, responses_outcome, responses_by, ResponseAnswers, WorksResets, ResetTurn}
+use Rattle.dcsctp_spec_lemmas.specs.spec.endpoint.ResetOutcomes.{requested_in, renewable_left, has_reset, answers_in_progress, ResetsInQueues, OwnAnswer, unanswered, retried, was_performed, has_failed, parameters_handled_in, answered_in, reset_events_of, resets_handled, responses_outcome, responses_by, ResponseAnswers, WorksResets, ResetTurn}
 use Rattle.dcsctp_spec_lemmas.specs.spec.endpoint.ShutdownOutcomes.{shutdown_ack_outcome, shutdown_complete_outcome}
 use Rattle.dcsctp_spec_lemmas.proofs.AbortLemmas.{by_abort_outcome}
 use Rattle.dcsctp_spec_laws.proofs.LeftLemmas.{is_there, Stays, Ends, StaysIn, LeavesIn, unmoved, stays_then, begins_then, emits_stays, flush_stays}
@@ -141,11 +141,12 @@ below_there false true (Some reset) None new h = ap is_there h
 below_there false true None old new h = ap is_there h
 below_there false false reset old new h = ap is_there h
 
-worked_stays : (e : Endpoint) (answer : OwnAnswer) (held : Held) (left : Option Transfer) → is_there left ≡ is_there e.queues.transfer → Stays e (resets_handled e answer held left)
-worked_stays e unanswered held left same = record { left = refl; there = same; last = refl }
-worked_stays e retried held left same = record { left = refl; there = same; last = refl }
-worked_stays e was_performed held left same = record { left = refl; there = same; last = refl }
-worked_stays e has_failed held left same = record { left = refl; there = same; last = refl }
+worked_stays : (e : Endpoint) (answer : OwnAnswer) (held : Held) (left : Option Transfer) (renewable : Option NumberedReset) → is_there left ≡ is_there e.queues.transfer
+    → Stays e (resets_handled e answer held left renewable)
+worked_stays e unanswered held left renewable same = record { left = refl; there = same; last = refl }
+worked_stays e retried held left renewable same = record { left = refl; there = same; last = refl }
+worked_stays e was_performed held left renewable same = record { left = refl; there = same; last = refl }
+worked_stays e has_failed held left renewable same = record { left = refl; there = same; last = refl }
 
 response_stays : (e : Endpoint) (held : Held) (responses : List ResetParameter) → StaysIn e (responses_outcome e held responses)
 response_stays e held [] = unmoved e
@@ -161,10 +162,10 @@ responses_stay false e told held parameters responses answers h =
 works_resets_stay : (e : Endpoint) (my : Pair) (held : Held) (parameters : List ResetParameter) (o : Outcome) → WorksResets e my held parameters o → StaysIn e o
 works_resets_stay e my held parameters o turn =
     let w : HandledParameters = parameters_handled_in e my held parameters in
-    let base : Endpoint = resets_handled e (answered_in held w parameters) w.held turn.left in
+    let base : Endpoint = resets_handled e (answered_in held w parameters) w.held turn.left (renewable_left e held w parameters) in
     subst (StaysIn e) (sym turn.is)
     (stays_then e base _
-    (worked_stays e (answered_in held w parameters) w.held turn.left (below_there (has_reset w.effects) (answers_in_progress w.answers) (requested_in parameters) e.queues.transfer turn.left turn.below))
+    (worked_stays e (answered_in held w parameters) w.held turn.left (renewable_left e held w parameters) (below_there (has_reset w.effects) (answers_in_progress w.answers) (requested_in parameters) e.queues.transfer turn.left turn.below))
     (responses_stay w.is_refused base (reset_events_of e parameters w.effects) w.held parameters w.answers turn.answers turn.allowed))
 
 resets_stay : (e : Endpoint) (core : Core) (parameters : List ResetParameter) (o : Outcome) → ResetTurn e core parameters o → StaysIn e o

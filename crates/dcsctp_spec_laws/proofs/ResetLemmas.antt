@@ -9,18 +9,18 @@ use Rattle.dcsctp_spec_lemmas.specs.types.declared.kinds.ErrorKind.TheVariants.{
 use Rattle.dcsctp_spec_lemmas.specs.types.Settings.{SameOptions}
 use Rattle.dcsctp_spec_lemmas.specs.spec.endpoint.Event.{Event, sent, error}
 use Rattle.dcsctp_spec_lemmas.specs.spec.Packet.{re_config, Packet, Emission}
-use Rattle.dcsctp_spec_lemmas.specs.spec.Reconfiguration.{ResetParameter, outgoing_reset_request, incoming_reset_request, reconfiguration_response, other_reset_parameter}
+use Rattle.dcsctp_spec_lemmas.specs.spec.Reconfiguration.{NumberedReset, RequestState, early, due, renewed, ResetParameter, outgoing_reset_request, incoming_reset_request, reconfiguration_response, other_reset_parameter}
 use Rattle.dcsctp_spec_lemmas.specs.spec.queues.Transfer.{Transfer}
 use Rattle.dcsctp_spec_lemmas.specs.spec.endpoint.Endpoint.{Endpoint, Core, closed, cookie_wait, cookie_echoed, open_in}
 use Rattle.dcsctp_spec_lemmas.specs.spec.endpoint.Outcome.{Outcome, quiet, packet_counted, behind, noting, to_peer, fits as fits_mtu, sends as sends_out}
 use Rattle.dcsctp_spec_lemmas.specs.spec.endpoint.Following.{next_chunk}
-use Rattle.dcsctp_spec_lemmas.specs.spec.association.Effect.{Effect, accepts, performs, completes, fails, sends, noted, unchanged}
+use Rattle.dcsctp_spec_lemmas.specs.spec.association.Effect.{Effect, accepts, performs, renews, completes, fails, sends, noted, unchanged}
 use Rattle.dcsctp_spec_lemmas.specs.spec.association.Choices.{Choices}
 use Rattle.dcsctp_spec_lemmas.specs.spec.association.FlushChanges.{Flushed, flush}
-use Rattle.dcsctp_spec_lemmas.specs.spec.association.ResetChanges.{RequestPlace, again, next, astray, request_place, RequestOutcome, performed_request, repeated, outgoing_by, incoming_by, Informed, informed_by, is_outstanding, informed_where, HandledParameters, work_parameters, work_chunk, reset_sent, peer_part_handled, re_config_change}
+use Rattle.dcsctp_spec_lemmas.specs.spec.association.ResetChanges.{RequestPlace, again, next, astray, request_place, RequestOutcome, performed_request, repeated, next_request, is_due, outgoing_by, incoming_by, Informed, informed_by, is_outstanding, informed_where, HandledParameters, work_parameters, work_chunk, reset_sent, peer_part_handled, re_config_change}
 use Rattle.dcsctp_spec_lemmas.specs.spec.association.Controlled.{Observation, packet_sent, peer_reset_performed, own_reset_performed, own_reset_failed, observations_of_events, observations_of_effects, IsControlled, ControlledChunk}
 use Rattle.dcsctp_spec_lemmas.specs.spec.endpoint.FlushOutcomes.{Answer, draft_to, flush_of, FlushAnswers}
-use Rattle.dcsctp_spec_lemmas.specs.spec.endpoint.ResetOutcomes.{requested_in, is_request_reached, parameters_handled_in, OwnAnswer, unanswered, retried, was_performed, has_failed, answered_in, reset_events, reset_events_of, core_with, resets_handled, reset_refusal_text, responses_by, ResponseAnswers, WorksResets, ResetTurn}
+use Rattle.dcsctp_spec_lemmas.specs.spec.endpoint.ResetOutcomes.{request_state, renewable_left, parameters_handled_in, OwnAnswer, unanswered, retried, was_performed, has_failed, answered_in, reset_events, reset_events_of, core_with, resets_handled, reset_refusal_text, responses_by, ResponseAnswers, WorksResets, ResetTurn}
 use Rattle.dcsctp_spec_lemmas.proofs.ControlHandshake.{no_choices, ControlledAt, still_controlled}
 use Rattle.dcsctp_spec_lemmas.proofs.FlushKeeps.{IsPeerTag, filling_of, flush_effects, Rebuilds, rebuilds_open, rebuilds_echoed, FlushesTo, flush_controlled, signs_append}
 
@@ -31,6 +31,7 @@ pub data AreResets : List Effect → Type 0 where
   nothing : AreResets []
   acceptance : (number : ℕ) (es : List Effect) → AreResets es → AreResets (accepts number ∷ es)
   performance : (peer : Pair) (number : ℕ) (es : List Effect) → AreResets es → AreResets (performs peer number ∷ es)
+  renewal : (peer : Pair) (number : ℕ) (es : List Effect) → AreResets es → AreResets (renews peer number ∷ es)
   completion : (my : Pair) (number : ℕ) (es : List Effect) → AreResets es → AreResets (completes my number ∷ es)
   failure : (number : ℕ) (es : List Effect) → AreResets es → AreResets (fails number ∷ es)
 
@@ -47,6 +48,9 @@ in_front _ rest (acceptance number front are) =
 in_front _ rest (performance peer number front are) =
     let h : InFront front rest = in_front front rest are in
     record { observations = ap (λ (ss : List Observation). peer_reset_performed ∷ ss) h.observations; notes = ap (λ (es : List Effect). performs peer number ∷ es) h.notes }
+in_front _ rest (renewal peer number front are) =
+    let h : InFront front rest = in_front front rest are in
+    record { observations = h.observations; notes = ap (λ (es : List Effect). renews peer number ∷ es) h.notes }
 in_front _ rest (completion my number front are) =
     let h : InFront front rest = in_front front rest are in
     record { observations = ap (λ (ss : List Observation). own_reset_performed ∷ ss) h.observations; notes = ap (λ (es : List Effect). completes my number ∷ es) h.notes }
@@ -58,6 +62,7 @@ both_are : (front rest : List Effect) → AreResets front → AreResets rest →
 both_are _ rest nothing more = more
 both_are _ rest (acceptance number front are) more = acceptance number (front ++ rest) (both_are front rest are more)
 both_are _ rest (performance peer number front are) more = performance peer number (front ++ rest) (both_are front rest are more)
+both_are _ rest (renewal peer number front are) more = renewal peer number (front ++ rest) (both_are front rest are more)
 both_are _ rest (completion my number front are) more = completion my number (front ++ rest) (both_are front rest are more)
 both_are _ rest (failure number front are) more = failure number (front ++ rest) (both_are front rest are more)
 
@@ -66,6 +71,7 @@ told_signs : (theirs own : List ℕ) (es : List Effect) → AreResets es → obs
 told_signs theirs own _ nothing = refl
 told_signs theirs own _ (acceptance number es are) = told_signs theirs own es are
 told_signs theirs own _ (performance peer number es are) = ap (λ (ss : List Observation). peer_reset_performed ∷ ss) (told_signs theirs own es are)
+told_signs theirs own _ (renewal peer number es are) = told_signs theirs own es are
 told_signs theirs own _ (completion my number es are) = ap (λ (ss : List Observation). own_reset_performed ∷ ss) (told_signs theirs own es are)
 told_signs theirs own _ (failure number es are) = ap (λ (ss : List Observation). own_reset_failed ∷ ss) (told_signs theirs own es are)
 
@@ -112,12 +118,17 @@ repeated_brings held ErrorRequestAlreadyInProgress reached = record { keeps = ke
 repeated_brings held ErrorBadSequenceNumber reached = record { keeps = kept held; are = nothing }
 repeated_brings held InProgress reached = worked_brings held held.peer_last reached
 
-outgoing_brings : (held : Held) (number : ℕ) (reached : Bool) (place : RequestPlace) → Brings held (outgoing_by held number reached place).held (outgoing_by held number reached place).effects
-outgoing_brings held number reached again = repeated_brings held held.peer_result reached
-outgoing_brings held number reached next =
-    let h = worked_brings held number reached in
-    record { keeps = h.keeps; are = acceptance number (performed_request held number reached).effects h.are }
-outgoing_brings held number reached astray = record { keeps = kept held; are = nothing }
+next_brings : (held : Held) (number : ℕ) (state : RequestState) → Brings held (next_request held number state).held (next_request held number state).effects
+next_brings held number early = worked_brings held number false
+next_brings held number due = worked_brings held number true
+next_brings held number renewed = record { keeps = record { peer = refl; capabilities = refl; own_next = refl; own_outstanding = inl refl }; are = renewal held.peer number [] nothing }
+
+outgoing_brings : (held : Held) (number : ℕ) (state : RequestState) (place : RequestPlace) → Brings held (outgoing_by held number state place).held (outgoing_by held number state place).effects
+outgoing_brings held number state again = repeated_brings held held.peer_result (is_due state)
+outgoing_brings held number state next =
+    let h = next_brings held number state in
+    record { keeps = h.keeps; are = acceptance number (next_request held number state).effects h.are }
+outgoing_brings held number state astray = record { keeps = kept held; are = nothing }
 
 incoming_brings : (held : Held) (number : ℕ) (place : RequestPlace) → Brings held (incoming_by held number place).held (incoming_by held number place).effects
 incoming_brings held number again = record { keeps = record { peer = refl; capabilities = refl; own_next = refl; own_outstanding = inl refl }; are = nothing }
@@ -142,27 +153,27 @@ informed_brings false my held number result = record { keeps = kept held; are = 
 brings_then : (held first last : Held) (front rest : List Effect) → Brings held first front → Brings first last rest → Brings held last (front ++ rest)
 brings_then held first last front rest h k = record { keeps = kept_then held first last h.keeps k.keeps; are = both_are front rest h.are k.are }
 
-parameters_bring : (my : Pair) (reached has_worked : Bool) (held : Held) (parameters : List ResetParameter)
-    → Brings held (work_parameters my reached has_worked held parameters).held (work_parameters my reached has_worked held parameters).effects
-parameters_bring my reached has_worked held [] = record { keeps = kept held; are = nothing }
-parameters_bring my reached true held (outgoing_reset_request number answered reset ∷ parameters) = record { keeps = kept held; are = nothing }
-parameters_bring my reached false held (outgoing_reset_request number answered reset ∷ parameters) =
-    let first : RequestOutcome = outgoing_by held number reached (request_place held.peer_last number) in
-    let rest : HandledParameters = work_parameters my reached true first.held parameters in
-    brings_then held first.held rest.held first.effects rest.effects (outgoing_brings held number reached (request_place held.peer_last number)) (parameters_bring my reached true first.held parameters)
-parameters_bring my reached has_worked held (incoming_reset_request number streams ∷ parameters) =
+parameters_bring : (my : Pair) (state : RequestState) (has_worked : Bool) (held : Held) (parameters : List ResetParameter)
+    → Brings held (work_parameters my state has_worked held parameters).held (work_parameters my state has_worked held parameters).effects
+parameters_bring my state has_worked held [] = record { keeps = kept held; are = nothing }
+parameters_bring my state true held (outgoing_reset_request number answered reset ∷ parameters) = record { keeps = kept held; are = nothing }
+parameters_bring my state false held (outgoing_reset_request number answered reset ∷ parameters) =
+    let first : RequestOutcome = outgoing_by held number state (request_place held.peer_last number) in
+    let rest : HandledParameters = work_parameters my state true first.held parameters in
+    brings_then held first.held rest.held first.effects rest.effects (outgoing_brings held number state (request_place held.peer_last number)) (parameters_bring my state true first.held parameters)
+parameters_bring my state has_worked held (incoming_reset_request number streams ∷ parameters) =
     let first : RequestOutcome = incoming_by held number (request_place held.peer_last number) in
-    let rest : HandledParameters = work_parameters my reached has_worked first.held parameters in
-    brings_then held first.held rest.held first.effects rest.effects (incoming_brings held number (request_place held.peer_last number)) (parameters_bring my reached has_worked first.held parameters)
-parameters_bring my reached has_worked held (reconfiguration_response number result ∷ parameters) =
+    let rest : HandledParameters = work_parameters my state has_worked first.held parameters in
+    brings_then held first.held rest.held first.effects rest.effects (incoming_brings held number (request_place held.peer_last number)) (parameters_bring my state has_worked first.held parameters)
+parameters_bring my state has_worked held (reconfiguration_response number result ∷ parameters) =
     let first : Informed = informed_where my held number result (is_outstanding number held.own_outstanding) in
-    let rest : HandledParameters = work_parameters my reached has_worked first.held parameters in
-    brings_then held first.held rest.held first.effects rest.effects (informed_brings (is_outstanding number held.own_outstanding) my held number result) (parameters_bring my reached has_worked first.held parameters)
-parameters_bring my reached has_worked held (other_reset_parameter parameter ∷ parameters) = parameters_bring my reached has_worked held parameters
+    let rest : HandledParameters = work_parameters my state has_worked first.held parameters in
+    brings_then held first.held rest.held first.effects rest.effects (informed_brings (is_outstanding number held.own_outstanding) my held number result) (parameters_bring my state has_worked first.held parameters)
+parameters_bring my state has_worked held (other_reset_parameter parameter ∷ parameters) = parameters_bring my state has_worked held parameters
 
-pub chunk_brings : (my : Pair) (reached : Bool) (held : Held) (parameters : List ResetParameter) → Brings held (work_chunk my reached held parameters).held (work_chunk my reached held parameters).effects
-chunk_brings my reached held [] = record { keeps = kept held; are = nothing }
-chunk_brings my reached held (parameter ∷ parameters) = parameters_bring my reached false held (parameter ∷ parameters)
+pub chunk_brings : (my : Pair) (state : RequestState) (held : Held) (parameters : List ResetParameter) → Brings held (work_chunk my state held parameters).held (work_chunk my state held parameters).effects
+chunk_brings my state held [] = record { keeps = kept held; are = nothing }
+chunk_brings my state held (parameter ∷ parameters) = parameters_bring my state false held (parameter ∷ parameters)
 
 -- ---- answers, and a flush
 
@@ -237,32 +248,32 @@ refusing e base core es told text is same are shown =
     }
 
 -- what a turn chooses: whether all has come, whether the answers fit, and what the flush is answered
-abbrev choosing : Endpoint → Bool → Bool → List Answer → Choices
-choosing e reached fits answers = record (no_choices e fits) { is_reached = reached; filling = filling_of answers }
+abbrev choosing : Endpoint → RequestState → Bool → List Answer → Choices
+choosing e state fits answers = record (no_choices e fits) { state = state; filling = filling_of answers }
 
 -- where the answers fit or not
-fitting : (b : Bool) (e base : Endpoint) (reached : Bool) (rebuilt : Held → Core) (held : Held) (es : List Effect) (told : List (Event Emission)) (response : ResetParameter) (responses : List ResetParameter) (answers : List Answer)
+fitting : (b : Bool) (e base : Endpoint) (state : RequestState) (rebuilt : Held → Core) (held : Held) (es : List Effect) (told : List (Event Emission)) (response : ResetParameter) (responses : List ResetParameter) (answers : List Answer)
     → Rebuilds rebuilt held → base.core ≡ rebuilt held → SameOptions e.options base.options → IsPeerTag (rebuilt held) held.peer.tag → AreResets es → observations_of_events told ≡ observations_of_effects es
     → let o : Outcome = cond b (sends_out base [] [] (to_peer held (re_config (response ∷ responses)))) (quiet base [] []) in
     FlushAnswers o.after (draft_to held) answers
-    → MovesTo e rebuilt es (noting es (behind [] (told ++ o.events) (flush_of o.after (draft_to held) answers))) (reset_sent false held (response ∷ responses) (choosing e reached b answers))
-fitting true e base reached rebuilt held es told response responses answers builds is same peer are shown h =
+    → MovesTo e rebuilt es (noting es (behind [] (told ++ o.events) (flush_of o.after (draft_to held) answers))) (reset_sent false held (response ∷ responses) (choosing e state b answers))
+fitting true e base state rebuilt held es told response responses answers builds is same peer are shown h =
     answering e (packet_counted base) rebuilt held es told (to_peer held (re_config (response ∷ responses))) answers builds is same peer h are shown
-fitting false e base reached rebuilt held es told response responses answers builds is same peer are shown h = silently e base rebuilt held es told answers builds is same peer h are shown
+fitting false e base state rebuilt held es told response responses answers builds is same peer are shown h = silently e base rebuilt held es told answers builds is same peer h are shown
 
 -- do the answers fit?
 abbrev responses_fit : Endpoint → Held → List ResetParameter → Bool
 responses_fit base held responses = fits_mtu base (to_peer held (re_config responses))
 
-sent_at : (refused : Bool) (e base : Endpoint) (reached : Bool) (rebuilt : Held → Core) (held : Held) (es : List Effect) (told : List (Event Emission)) (parameters responses : List ResetParameter) (answers : List Answer)
+sent_at : (refused : Bool) (e base : Endpoint) (state : RequestState) (rebuilt : Held → Core) (held : Held) (es : List Effect) (told : List (Event Emission)) (parameters responses : List ResetParameter) (answers : List Answer)
     → Rebuilds rebuilt held → base.core ≡ rebuilt held → SameOptions e.options base.options → IsPeerTag (rebuilt held) held.peer.tag → AreResets es → observations_of_events told ≡ observations_of_effects es
     → ResponseAnswers refused base held responses answers
-    → MovesTo e rebuilt es (noting es (responses_by refused base told held parameters responses answers)) (reset_sent refused held responses (choosing e reached (responses_fit base held responses) answers))
-sent_at true e base reached rebuilt held es told parameters responses answers builds is same peer are shown h =
+    → MovesTo e rebuilt es (noting es (responses_by refused base told held parameters responses answers)) (reset_sent refused held responses (choosing e state (responses_fit base held responses) answers))
+sent_at true e base state rebuilt held es told parameters responses answers builds is same peer are shown h =
     refusing e base (rebuilt held) es told (reset_refusal_text parameters) is same are shown
-sent_at false e base reached rebuilt held es told parameters [] answers builds is same peer are shown h = silently e base rebuilt held es told answers builds is same peer h are shown
-sent_at false e base reached rebuilt held es told parameters (response ∷ responses) answers builds is same peer are shown h =
-    fitting (responses_fit base held (response ∷ responses)) e base reached rebuilt held es told response responses answers builds is same peer are shown h
+sent_at false e base state rebuilt held es told parameters [] answers builds is same peer are shown h = silently e base rebuilt held es told answers builds is same peer h are shown
+sent_at false e base state rebuilt held es told parameters (response ∷ responses) answers builds is same peer are shown h =
+    fitting (responses_fit base held (response ∷ responses)) e base state rebuilt held es told response responses answers builds is same peer are shown h
 
 -- ---- the turn
 
@@ -272,11 +283,11 @@ pub record KeepsRest (e after : Endpoint) (left : Core) : Type 0 where
   pub options : after.options ≡ e.options
   pub t1 : after.timers.t1 ≡ e.timers.t1
 
-pub worked_keeps : (e : Endpoint) (answer : OwnAnswer) (held : Held) (left : Option Transfer) → KeepsRest e (resets_handled e answer held left) (core_with e.core held)
-worked_keeps e unanswered held left = record { core = refl; options = refl; t1 = refl }
-worked_keeps e retried held left = record { core = refl; options = refl; t1 = refl }
-worked_keeps e was_performed held left = record { core = refl; options = refl; t1 = refl }
-worked_keeps e has_failed held left = record { core = refl; options = refl; t1 = refl }
+pub worked_keeps : (e : Endpoint) (answer : OwnAnswer) (held : Held) (left : Option Transfer) (renewable : Option NumberedReset) → KeepsRest e (resets_handled e answer held left renewable) (core_with e.core held)
+worked_keeps e unanswered held left renewable = record { core = refl; options = refl; t1 = refl }
+worked_keeps e retried held left renewable = record { core = refl; options = refl; t1 = refl }
+worked_keeps e was_performed held left renewable = record { core = refl; options = refl; t1 = refl }
+worked_keeps e has_failed held left renewable = record { core = refl; options = refl; t1 = refl }
 
 -- by what is held of the peer
 abbrev ResetBy : Endpoint → (Held → Core) → Pair → Held → List ResetParameter → Outcome → Choices → Type 0
@@ -287,15 +298,15 @@ resets_at : (e : Endpoint) (rebuilt : Held → Core) (my : Pair) (held : Held) (
     → ((h : Held) → core_with (rebuilt held) h ≡ rebuilt h) → ((h : Held) → IsPeerTag (rebuilt h) h.peer.tag) → ((h : Held) → Rebuilds rebuilt h)
     → WorksResets e my held parameters o → (choices : Choices) × ResetBy e rebuilt my held parameters o choices
 resets_at e rebuilt my held parameters o is with peer builds turn =
-    let reached : Bool = is_request_reached e.queues.transfer (requested_in parameters) in
+    let state : RequestState = request_state e held parameters in
     let w : HandledParameters = parameters_handled_in e my held parameters in
-    let brought = chunk_brings my reached held parameters in
-    let base : Endpoint = resets_handled e (answered_in held w parameters) w.held turn.left in
-    let kept = worked_keeps e (answered_in held w parameters) w.held turn.left in
-    let choices : Choices = choosing e reached (responses_fit base w.held w.answers) turn.answers in (
+    let brought = chunk_brings my state held parameters in
+    let base : Endpoint = resets_handled e (answered_in held w parameters) w.held turn.left (renewable_left e held w parameters) in
+    let kept = worked_keeps e (answered_in held w parameters) w.held turn.left (renewable_left e held w parameters) in
+    let choices : Choices = choosing e state (responses_fit base w.held w.answers) turn.answers in (
       choices,
       subst (λ (x : Outcome). ResetBy e rebuilt my held parameters x choices) (sym turn.is)
-          (sent_at w.is_refused e base reached rebuilt w.held w.effects (reset_events_of e parameters w.effects) parameters w.answers turn.answers
+          (sent_at w.is_refused e base state rebuilt w.held w.effects (reset_events_of e parameters w.effects) parameters w.answers turn.answers
           (builds w.held) (kept.core ∙ ap (λ (c : Core). core_with c w.held) is ∙ with w.held) (subst (SameOptions e.options) (sym kept.options) refl) (peer w.held) brought.are
           (told_signs _ _ w.effects brought.are) turn.allowed),
     )

@@ -6,10 +6,10 @@ use Rattle.dcsctp_spec_lemmas.specs.types.declared.association.Pair.{Pair}
 use Rattle.dcsctp_spec_lemmas.specs.types.declared.association.Held.{Held}
 use Rattle.dcsctp_spec_lemmas.specs.types.declared.options.Options.{Options}
 use Rattle.dcsctp_spec_lemmas.specs.spec.endpoint.Endpoint.{Core, closed, cookie_wait, cookie_echoed, open_in}
-use Rattle.dcsctp_spec_lemmas.specs.spec.Reconfiguration.{ResetParameter, outgoing_reset_request, incoming_reset_request, reconfiguration_response, other_reset_parameter}
+use Rattle.dcsctp_spec_lemmas.specs.spec.Reconfiguration.{RequestState, early, due, renewed, ResetParameter, outgoing_reset_request, incoming_reset_request, reconfiguration_response, other_reset_parameter}
 use Rattle.dcsctp_spec_lemmas.specs.spec.Soundness.{IsSoundHeld, IsSoundCore}
 use Rattle.dcsctp_spec_lemmas.specs.spec.association.Choices.{Choices}
-use Rattle.dcsctp_spec_lemmas.specs.spec.association.ResetChanges.{RequestPlace, again, next, astray, request_place, performed_request, repeated, outgoing_by, incoming_by, informed_by, informed_where, is_outstanding, HandledParameters, work_parameters, work_chunk, reset_sent, re_config_change}
+use Rattle.dcsctp_spec_lemmas.specs.spec.association.ResetChanges.{RequestPlace, again, next, astray, request_place, performed_request, repeated, next_request, is_due, outgoing_by, incoming_by, informed_by, informed_where, is_outstanding, HandledParameters, work_parameters, work_chunk, reset_sent, re_config_change}
 use Rattle.dcsctp_spec_laws.proofs.SoundHandshakes.{flush_sound}
 
 module _ (p : Options) where
@@ -26,10 +26,15 @@ module _ (p : Options) where
   repeated_sound held ErrorBadSequenceNumber is_reached h = h
   repeated_sound held InProgress is_reached h = worked_sound held held.peer_last is_reached h
 
-  outgoing_sound : (held : Held) (number : ℕ) (is_reached : Bool) (place : RequestPlace) → IsSoundHeld p held → IsSoundHeld p (outgoing_by held number is_reached place).held
-  outgoing_sound held number is_reached again h = repeated_sound held held.peer_result is_reached h
-  outgoing_sound held number is_reached next h = worked_sound held number is_reached h
-  outgoing_sound held number is_reached astray h = h
+  next_sound : (held : Held) (number : ℕ) (state : RequestState) → IsSoundHeld p held → IsSoundHeld p (next_request held number state).held
+  next_sound held number early h = worked_sound held number false h
+  next_sound held number due h = worked_sound held number true h
+  next_sound held number renewed h = record { tag_is_not_zero = h.tag_is_not_zero; method = h.method }
+
+  outgoing_sound : (held : Held) (number : ℕ) (state : RequestState) (place : RequestPlace) → IsSoundHeld p held → IsSoundHeld p (outgoing_by held number state place).held
+  outgoing_sound held number state again h = repeated_sound held held.peer_result (is_due state) h
+  outgoing_sound held number state next h = next_sound held number state h
+  outgoing_sound held number state astray h = h
 
   incoming_sound : (held : Held) (number : ℕ) (place : RequestPlace) → IsSoundHeld p held → IsSoundHeld p (incoming_by held number place).held
   incoming_sound held number again h = record { tag_is_not_zero = h.tag_is_not_zero; method = h.method }
@@ -50,31 +55,31 @@ module _ (p : Options) where
   informed_sound true my held number result h = informed_by_sound my held number result h
   informed_sound false my held number result h = h
 
-  parameters_sound : (my : Pair) (is_reached has_worked : Bool) (held : Held) (parameters : List ResetParameter) → IsSoundHeld p held
-      → IsSoundHeld p (work_parameters my is_reached has_worked held parameters).held
-  parameters_sound my is_reached has_worked held [] h = h
-  parameters_sound my is_reached true held (outgoing_reset_request number answered reset ∷ parameters) h = h
-  parameters_sound my is_reached false held (outgoing_reset_request number answered reset ∷ parameters) h =
-      parameters_sound my is_reached true _ parameters (outgoing_sound held number is_reached (request_place held.peer_last number) h)
-  parameters_sound my is_reached has_worked held (incoming_reset_request number streams ∷ parameters) h =
-      parameters_sound my is_reached has_worked _ parameters (incoming_sound held number (request_place held.peer_last number) h)
-  parameters_sound my is_reached has_worked held (reconfiguration_response number result ∷ parameters) h =
-      parameters_sound my is_reached has_worked _ parameters (informed_sound (is_outstanding number held.own_outstanding) my held number result h)
-  parameters_sound my is_reached has_worked held (other_reset_parameter parameter ∷ parameters) h = parameters_sound my is_reached has_worked held parameters h
+  parameters_sound : (my : Pair) (state : RequestState) (has_worked : Bool) (held : Held) (parameters : List ResetParameter) → IsSoundHeld p held
+      → IsSoundHeld p (work_parameters my state has_worked held parameters).held
+  parameters_sound my state has_worked held [] h = h
+  parameters_sound my state true held (outgoing_reset_request number answered reset ∷ parameters) h = h
+  parameters_sound my state false held (outgoing_reset_request number answered reset ∷ parameters) h =
+      parameters_sound my state true _ parameters (outgoing_sound held number state (request_place held.peer_last number) h)
+  parameters_sound my state has_worked held (incoming_reset_request number streams ∷ parameters) h =
+      parameters_sound my state has_worked _ parameters (incoming_sound held number (request_place held.peer_last number) h)
+  parameters_sound my state has_worked held (reconfiguration_response number result ∷ parameters) h =
+      parameters_sound my state has_worked _ parameters (informed_sound (is_outstanding number held.own_outstanding) my held number result h)
+  parameters_sound my state has_worked held (other_reset_parameter parameter ∷ parameters) h = parameters_sound my state has_worked held parameters h
 
-  chunk_worked_sound : (my : Pair) (is_reached : Bool) (held : Held) (parameters : List ResetParameter) → IsSoundHeld p held → IsSoundHeld p (work_chunk my is_reached held parameters).held
-  chunk_worked_sound my is_reached held [] h = h
-  chunk_worked_sound my is_reached held (parameter ∷ parameters) h = parameters_sound my is_reached false held (parameter ∷ parameters) h
+  chunk_worked_sound : (my : Pair) (state : RequestState) (held : Held) (parameters : List ResetParameter) → IsSoundHeld p held → IsSoundHeld p (work_chunk my state held parameters).held
+  chunk_worked_sound my state held [] h = h
+  chunk_worked_sound my state held (parameter ∷ parameters) h = parameters_sound my state false held (parameter ∷ parameters) h
 
   reset_sent_sound : (is_refused : Bool) (held : Held) (answers : List ResetParameter) (choices : Choices) → IsSoundHeld p held → IsSoundHeld p (reset_sent is_refused held answers choices).held
   reset_sent_sound true held answers choices h = h
   reset_sent_sound false held answers choices h = flush_sound p held.peer.tag held [] choices.filling h
 
   reset_worked_sound : (my : Pair) (held : Held) (parameters : List ResetParameter) (choices : Choices) → IsSoundHeld p held
-      → IsSoundHeld p (reset_sent (work_chunk my choices.is_reached held parameters).is_refused (work_chunk my choices.is_reached held parameters).held (work_chunk my choices.is_reached held parameters).answers choices).held
+      → IsSoundHeld p (reset_sent (work_chunk my choices.state held parameters).is_refused (work_chunk my choices.state held parameters).held (work_chunk my choices.state held parameters).answers choices).held
   reset_worked_sound my held parameters choices h =
-      let after : HandledParameters = work_chunk my choices.is_reached held parameters in
-      reset_sent_sound after.is_refused after.held after.answers choices (chunk_worked_sound my choices.is_reached held parameters h)
+      let after : HandledParameters = work_chunk my choices.state held parameters in
+      reset_sent_sound after.is_refused after.held after.answers choices (chunk_worked_sound my choices.state held parameters h)
 
   pub re_config_sound : (core : Core) (parameters : List ResetParameter) (choices : Choices) → IsSoundCore p core → IsSoundCore p (re_config_change core parameters choices).core
   re_config_sound closed parameters choices h = h

@@ -4,7 +4,7 @@ use Rattle.dcsctp_spec.specs.types.declared.association.Pair.{Pair}
 use Rattle.dcsctp_spec.specs.types.declared.word.Word.{Word}
 use Rattle.dcsctp_spec.specs.Packet.{Emission}
 use Rattle.dcsctp_spec.specs.endpoint.Endpoint.{Endpoint}
-use Rattle.dcsctp_spec.specs.association.Effect.{Effect, draws, sends, holds, connects, ends, begins, gives_up, completes, fails, accepts, performs, resumes, drawn_in}
+use Rattle.dcsctp_spec.specs.association.Effect.{Effect, draws, sends, holds, connects, ends, begins, gives_up, completes, fails, accepts, performs, renews, resumes, drawn_in}
 use Rattle.dcsctp_spec.specs.endpoint.Event.{Event}
 use Rattle.dcsctp_spec.specs.endpoint.CallTurns.{Transition, after_all, words_of, effects_of, pairs_of, events_of}
 
@@ -33,6 +33,7 @@ drawn_in-append (completes my number ∷ xs) ys = drawn_in-append xs ys
 drawn_in-append (fails number ∷ xs) ys = drawn_in-append xs ys
 drawn_in-append (accepts number ∷ xs) ys = drawn_in-append xs ys
 drawn_in-append (performs peer number ∷ xs) ys = drawn_in-append xs ys
+drawn_in-append (renews peer number ∷ xs) ys = drawn_in-append xs ys
 drawn_in-append (resumes link own last ∷ xs) ys = drawn_in-append xs ys
 
 pub pairs_of-append : (xs ys : List Transition) → pairs_of (xs ++ ys) ≡ pairs_of xs ++ pairs_of ys

@@ -1,7 +1,7 @@
 -- What one side has done so far, newest first, and where in it each effect may be.
 use Rattle.std.specs.Prelude.{◌≡◌, ◌≢◌, ℕ, ◌+◌, ◌%◌, ◌^◌, Option, None, Some, List, [], ◌∷◌, ◌⊎◌}
 use Rattle.dcsctp_spec_lemmas.specs.types.declared.association.Pair.{Pair}
-use Rattle.dcsctp_spec_lemmas.specs.spec.association.Effect.{AssociationIdentity, Effect, draws, sends, holds, connects, ends, begins, gives_up, completes, fails, accepts, performs, resumes}
+use Rattle.dcsctp_spec_lemmas.specs.spec.association.Effect.{AssociationIdentity, Effect, draws, sends, holds, connects, ends, begins, gives_up, completes, fails, accepts, performs, renews, resumes}
 use Rattle.dcsctp_spec_lemmas.specs.spec.association.FlushChanges.{next_number}
 
 -- It is one of these.
@@ -29,6 +29,7 @@ FreshDraw (fails number) earlier = Unit {0}
 FreshDraw (gives_up number) earlier = Unit {0}
 FreshDraw (accepts number) earlier = Unit {0}
 FreshDraw (performs peer number) earlier = Unit {0}
+FreshDraw (renews peer number) earlier = Unit {0}
 FreshDraw (resumes link own last) earlier = Unit {0}
 
 -- No verification tag is drawn twice by this side.
@@ -52,6 +53,7 @@ current (fails number ∷ earlier) = current earlier
 current (gives_up number ∷ earlier) = current earlier
 current (accepts number ∷ earlier) = current earlier
 current (performs peer number ∷ earlier) = current earlier
+current (renews peer number ∷ earlier) = current earlier
 
 -- the existing association and hasn't connected
 abbrev pub unconnected : List Effect → Option AssociationIdentity
@@ -68,6 +70,7 @@ unconnected (fails number ∷ earlier) = unconnected earlier
 unconnected (gives_up number ∷ earlier) = unconnected earlier
 unconnected (accepts number ∷ earlier) = unconnected earlier
 unconnected (performs peer number ∷ earlier) = unconnected earlier
+unconnected (renews peer number ∷ earlier) = unconnected earlier
 
 -- the number that its own request must carry: its own first TSN or what it was restored with, and then one more each time
 abbrev pub number_to_begin : List Effect → Option ℕ
@@ -84,6 +87,7 @@ number_to_begin (fails number ∷ earlier) = number_to_begin earlier
 number_to_begin (gives_up number ∷ earlier) = number_to_begin earlier
 number_to_begin (accepts number ∷ earlier) = number_to_begin earlier
 number_to_begin (performs peer number ∷ earlier) = number_to_begin earlier
+number_to_begin (renews peer number ∷ earlier) = number_to_begin earlier
 
 -- the number of its own request that has not ended
 abbrev pub outstanding : List Effect → Option ℕ
@@ -100,6 +104,7 @@ outstanding (sends packet ∷ earlier) = outstanding earlier
 outstanding (connects link ∷ earlier) = outstanding earlier
 outstanding (accepts number ∷ earlier) = outstanding earlier
 outstanding (performs peer number ∷ earlier) = outstanding earlier
+outstanding (renews peer number ∷ earlier) = outstanding earlier
 
 -- how many of its own requests were begun in the existing association
 abbrev pub requests_begun : List Effect → ℕ
@@ -116,6 +121,7 @@ requests_begun (fails number ∷ earlier) = requests_begun earlier
 requests_begun (gives_up number ∷ earlier) = requests_begun earlier
 requests_begun (accepts number ∷ earlier) = requests_begun earlier
 requests_begun (performs peer number ∷ earlier) = requests_begun earlier
+requests_begun (renews peer number ∷ earlier) = requests_begun earlier
 
 -- the number that a request of the peer must carry to be accepted: its first TSN or the one after what was restored, and then
 -- one more each time
@@ -133,6 +139,7 @@ number_to_accept (completes my number ∷ earlier) = number_to_accept earlier
 number_to_accept (fails number ∷ earlier) = number_to_accept earlier
 number_to_accept (gives_up number ∷ earlier) = number_to_accept earlier
 number_to_accept (performs peer number ∷ earlier) = number_to_accept earlier
+number_to_accept (renews peer number ∷ earlier) = number_to_accept earlier
 
 -- the number of the peer's request that was accepted last and not performed
 abbrev pub number_to_perform : List Effect → Option ℕ
@@ -141,6 +148,7 @@ number_to_perform (holds link ∷ earlier) = None
 number_to_perform (resumes link own last ∷ earlier) = None
 number_to_perform (accepts number ∷ earlier) = Some number
 number_to_perform (performs peer number ∷ earlier) = None
+number_to_perform (renews peer number ∷ earlier) = None
 number_to_perform (ends ∷ earlier) = None
 number_to_perform (draws pair ∷ earlier) = number_to_perform earlier
 number_to_perform (sends packet ∷ earlier) = number_to_perform earlier
@@ -159,12 +167,18 @@ abbrev pub peer_of : Option AssociationIdentity → Option Pair
 peer_of None = None
 peer_of (Some link) = Some link.peer
 
+-- ---- what was performed
+
+-- The peer's request of this number was performed, under this peer's pair; or it was found to be the one before, which was.
+abbrev pub WasPerformed : Pair → ℕ → List Effect → Type 0
+WasPerformed peer number past = HasEffect (performs peer number) past ⊎ HasEffect (renews peer number) past
+
 -- ---- the rules of one side
 
 -- In one lifetime an association connects at most once, and as it is then. Its own requests go up by one from its own first TSN,
 -- one at a time: the next one is begun once the one before has ended, or is given up. Each has at most one end, under its own
 -- pair; one that is given up has none. The peer's accepted requests go up by one from its first TSN. Each is performed at most
--- once, under its pair, and none that wasn't accepted. An association that is restored takes the place of none, and its numbers go
+-- once, or found to be the one before, under its pair, and none that wasn't accepted. An association that is restored takes the place of none, and its numbers go
 -- on from those of the snapshot.
 abbrev pub InPlace : Effect → List Effect → Type 0
 InPlace (connects link) earlier = unconnected earlier ≡ Some link
@@ -174,6 +188,7 @@ InPlace (fails number) earlier = outstanding earlier ≡ Some number
 InPlace (gives_up number) earlier = outstanding earlier ≡ Some number
 InPlace (accepts number) earlier = number_to_accept earlier ≡ Some number
 InPlace (performs peer number) earlier = (number_to_perform earlier ≡ Some number) × (peer_of (current earlier) ≡ Some peer)
+InPlace (renews peer number) earlier = (number_to_perform earlier ≡ Some number) × (peer_of (current earlier) ≡ Some peer)
 InPlace (draws pair) earlier = Unit {0}
 InPlace (sends packet) earlier = Unit {0}
 InPlace (holds link) earlier = Unit {0}

@@ -4,9 +4,9 @@ use Rattle.dcsctp_spec_lemmas.specs.types.declared.association.Pair.{Pair}
 use Rattle.dcsctp_spec_lemmas.specs.types.declared.options.Options.{Options}
 use Rattle.dcsctp_spec_lemmas.specs.types.Offer.{Offer, offer_of}
 use Rattle.dcsctp_spec_runs.specs.Laws.{AnswerKeepsAgreement}
-use Rattle.dcsctp_spec_lemmas.specs.spec.association.Effect.{Effect, draws, sends, holds, connects, ends, begins, gives_up, completes, fails, accepts, performs, resumes, Change}
+use Rattle.dcsctp_spec_lemmas.specs.spec.association.Effect.{Effect, draws, sends, holds, connects, ends, begins, gives_up, completes, fails, accepts, performs, renews, resumes, Change}
 use Rattle.dcsctp_spec_lemmas.specs.spec.association.FlushChanges.{next_number}
-use Rattle.dcsctp_spec_runs.specs.Past.{HasEffect, Each, HasFreshTags, InPlace, current, my_of, outstanding, number_to_begin, requests_begun}
+use Rattle.dcsctp_spec_runs.specs.Past.{HasEffect, WasPerformed, Each, HasFreshTags, InPlace, current, my_of, outstanding, number_to_begin, requests_begun}
 use Rattle.dcsctp_spec_runs.specs.World.{SideState, after_changes, after_change, Which, at_a, at_b, Move, MoveChanges, WorldStep, World, step_after, world_after, StepChanges, WorldRun, steps_of}
 use Rattle.dcsctp_theorem_association.specs.Agreement.{ConnectsCrossed, FindsPerformed, AgreesWithPeer, SidesAgree, RunsAlone, SidesRunAlone}
 use Rattle.dcsctp_theorem_association.specs.OneSide.{EffectsInPlace}
@@ -94,6 +94,7 @@ none_resumed my_offer their_offer (fails number ∷ earlier) theirs h = none_res
 none_resumed my_offer their_offer (gives_up number ∷ earlier) theirs h = none_resumed my_offer their_offer earlier theirs h.1
 none_resumed my_offer their_offer (accepts number ∷ earlier) theirs h = none_resumed my_offer their_offer earlier theirs h.1
 none_resumed my_offer their_offer (performs peer number ∷ earlier) theirs h = none_resumed my_offer their_offer earlier theirs h.1
+none_resumed my_offer their_offer (renews peer number ∷ earlier) theirs h = none_resumed my_offer their_offer earlier theirs h.1
 none_resumed my_offer their_offer (resumes link own last ∷ earlier) theirs h = absurd h.0
 
 -- our next number is our first TSN plus the number of requests that were begun
@@ -118,6 +119,7 @@ next_counted (fails before ∷ earlier) number my rules none n m = next_counted 
 next_counted (gives_up before ∷ earlier) number my rules none n m = next_counted earlier number my rules.1 none n m
 next_counted (accepts before ∷ earlier) number my rules none n m = next_counted earlier number my rules.1 none n m
 next_counted (performs peer before ∷ earlier) number my rules none n m = next_counted earlier number my rules.1 none n m
+next_counted (renews peer before ∷ earlier) number my rules none n m = next_counted earlier number my rules.1 none n m
 next_counted (resumes link own last ∷ earlier) number my rules none n m = absurd none
 
 -- the outstanding number is the last of those
@@ -141,6 +143,7 @@ outstanding_counted (fails before ∷ earlier) number my rules none n m = absurd
 outstanding_counted (gives_up before ∷ earlier) number my rules none n m = absurd (cc)
 outstanding_counted (accepts before ∷ earlier) number my rules none n m = outstanding_counted earlier number my rules.1 none n m
 outstanding_counted (performs peer before ∷ earlier) number my rules none n m = outstanding_counted earlier number my rules.1 none n m
+outstanding_counted (renews peer before ∷ earlier) number my rules none n m = outstanding_counted earlier number my rules.1 none n m
 outstanding_counted (resumes link own last ∷ earlier) number my rules none n m = absurd none
 
 -- So none of the first carries the number before the first TSN.
@@ -151,7 +154,7 @@ not_before number begun my counted few is =
     absurd (omega arith)
 
 performed_where : (theirs : List Effect) (my : Pair) (number : ℕ) (earlier : List Effect) → Counted number my (requests_begun earlier) → requests_begun earlier ≤ 2 ^ 32 - 1
-    → HasEffect (performs my number) theirs ⊎ (number ≡ number_before my) → HasEffect (performs my number) theirs
+    → WasPerformed my number theirs ⊎ (number ≡ number_before my) → WasPerformed my number theirs
 performed_where theirs my number earlier counted few (inl h) = h
 performed_where theirs my number earlier counted few (inr e) = absurd (not_before number (requests_begun earlier) my counted few e)
 
@@ -164,13 +167,14 @@ performed my_offer their_offer (connects link ∷ earlier) theirs rules h = (tt,
 performed my_offer their_offer (ends ∷ earlier) theirs rules h = (tt, performed my_offer their_offer earlier theirs rules.1 h.1)
 performed my_offer their_offer (begins number ∷ earlier) theirs rules h = (tt, performed my_offer their_offer earlier theirs rules.1 h.1)
 performed my_offer their_offer (completes my number ∷ earlier) theirs rules h =
-    let found : requests_begun earlier ≤ 2 ^ 32 - 1 → HasEffect (performs my number) theirs = λ few. performed_where theirs my number earlier
+    let found : requests_begun earlier ≤ 2 ^ 32 - 1 → WasPerformed my number theirs = λ few. performed_where theirs my number earlier
     (outstanding_counted earlier number my rules.1 (none_resumed my_offer their_offer earlier theirs h.1) rules.0.0 rules.0.1) few h.0 in
     (found, performed my_offer their_offer earlier theirs rules.1 h.1)
 performed my_offer their_offer (fails number ∷ earlier) theirs rules h = (tt, performed my_offer their_offer earlier theirs rules.1 h.1)
 performed my_offer their_offer (gives_up number ∷ earlier) theirs rules h = (tt, performed my_offer their_offer earlier theirs rules.1 h.1)
 performed my_offer their_offer (accepts number ∷ earlier) theirs rules h = (tt, performed my_offer their_offer earlier theirs rules.1 h.1)
 performed my_offer their_offer (performs peer number ∷ earlier) theirs rules h = (tt, performed my_offer their_offer earlier theirs rules.1 h.1)
+performed my_offer their_offer (renews peer number ∷ earlier) theirs rules h = (tt, performed my_offer their_offer earlier theirs rules.1 h.1)
 performed my_offer their_offer (resumes link own last ∷ earlier) theirs rules h = (tt, performed my_offer their_offer earlier theirs rules.1 h.1)
 
 -- ---- the theorem

@@ -5,12 +5,12 @@ use Rattle.dcsctp_spec_lemmas.specs.types.declared.association.Pair.{Pair}
 use Rattle.dcsctp_spec_lemmas.specs.types.declared.association.Held.{Held}
 use Rattle.dcsctp_spec_lemmas.specs.wire.declared.reconfiguration.ReconfigurationResponseResult.{ReconfigurationResponseResult}
 use Rattle.dcsctp_spec_lemmas.specs.wire.declared.reconfiguration.ReconfigurationResponseResult.TheVariants.{SuccessNothingToDo, SuccessPerformed, Denied, ErrorWrongSSN, ErrorRequestAlreadyInProgress, ErrorBadSequenceNumber, InProgress}
-use Rattle.dcsctp_spec_lemmas.specs.spec.Reconfiguration.{RequestedReset, ResetParameter, outgoing_reset_request, incoming_reset_request, reconfiguration_response, other_reset_parameter}
+use Rattle.dcsctp_spec_lemmas.specs.spec.Reconfiguration.{RequestState, early, due, renewed, RequestedReset, ResetParameter, outgoing_reset_request, incoming_reset_request, reconfiguration_response, other_reset_parameter}
 use Rattle.dcsctp_spec_lemmas.specs.spec.Packet.{Plain, Content, re_config}
 use Rattle.dcsctp_spec_lemmas.specs.spec.association.Effect.{Effect, ends, completes, fails, emitted, emitted_alone}
 use Rattle.dcsctp_spec_lemmas.specs.spec.association.Choices.{plain_contents, Filling, Choices}
 use Rattle.dcsctp_spec_lemmas.specs.spec.association.FlushChanges.{reset_to_begin, further_packets, chunks_behind, flush_packets, flushed_with, flush_where, flush}
-use Rattle.dcsctp_spec_lemmas.specs.spec.association.ResetChanges.{RequestPlace, again, next, astray, request_place, RequestOutcome, performed_request, repeated, outgoing_by, incoming_by, Informed, informed_where, is_outstanding, HandledParameters, work_parameters, work_chunk, answers_emitted, reset_sent, peer_part_handled}
+use Rattle.dcsctp_spec_lemmas.specs.spec.association.ResetChanges.{RequestPlace, again, next, astray, request_place, RequestOutcome, performed_request, repeated, next_request, is_due, outgoing_by, incoming_by, Informed, informed_where, is_outstanding, HandledParameters, work_parameters, work_chunk, answers_emitted, reset_sent, peer_part_handled}
 use Rattle.dcsctp_spec_runs.specs.Past.{HasEffect}
 use Rattle.dcsctp_theorem_association.specs.OneSide.{IsSuccess, IsRefusal, HasResponse}
 
@@ -101,10 +101,15 @@ module _ (parameters : List ResetParameter) where
   repeated_answers held InProgress is_reached = worked_answers held held.peer_last is_reached
   repeated_answers held result is_reached = tt
 
-  outgoing_answers : (held : Held) (number : ℕ) (is_reached : Bool) (place : RequestPlace) → AllAnswer parameters (outgoing_by held number is_reached place).effects
-  outgoing_answers held number is_reached again = repeated_answers held held.peer_result is_reached
-  outgoing_answers held number is_reached next = (tt, worked_answers held number is_reached)
-  outgoing_answers held number is_reached astray = tt
+  next_answers : (held : Held) (number : ℕ) (state : RequestState) → AllAnswer parameters (next_request held number state).effects
+  next_answers held number early = tt
+  next_answers held number due = (tt, tt)
+  next_answers held number renewed = (tt, tt)
+
+  outgoing_answers : (held : Held) (number : ℕ) (state : RequestState) (place : RequestPlace) → AllAnswer parameters (outgoing_by held number state place).effects
+  outgoing_answers held number state again = repeated_answers held held.peer_result (is_due state)
+  outgoing_answers held number state next = (tt, next_answers held number state)
+  outgoing_answers held number state astray = tt
 
   incoming_answers : (held : Held) (number : ℕ) (place : RequestPlace) → AllAnswer parameters (incoming_by held number place).effects
   incoming_answers held number again = tt
@@ -138,38 +143,38 @@ module _ (my : Pair) where
   informed_answers held number ErrorBadSequenceNumber true parameters = (inl (refl, tt), tt)
   informed_answers held number InProgress true parameters = tt
 
-  parameters_answer : (is_reached has_worked : Bool) (held : Held) (parameters : List ResetParameter)
-      → AllAnswer parameters (work_parameters my is_reached has_worked held parameters).effects
-  parameters_answer is_reached has_worked held [] = tt
-  parameters_answer is_reached true held (outgoing_reset_request number answered reset ∷ parameters) = tt
-  parameters_answer is_reached false held (outgoing_reset_request number answered reset ∷ parameters) =
+  parameters_answer : (state : RequestState) (has_worked : Bool) (held : Held) (parameters : List ResetParameter)
+      → AllAnswer parameters (work_parameters my state has_worked held parameters).effects
+  parameters_answer state has_worked held [] = tt
+  parameters_answer state true held (outgoing_reset_request number answered reset ∷ parameters) = tt
+  parameters_answer state false held (outgoing_reset_request number answered reset ∷ parameters) =
       let all : List ResetParameter = outgoing_reset_request number answered reset ∷ parameters in
-      let first : RequestOutcome = outgoing_by held number is_reached (request_place held.peer_last number) in
-      let rest : List Effect = (work_parameters my is_reached true first.held parameters).effects in
-      all_answer-append all first.effects rest (outgoing_answers all held number is_reached (request_place held.peer_last number))
-      (all_answer-more (outgoing_reset_request number answered reset) parameters rest (parameters_answer is_reached true first.held parameters))
-  parameters_answer is_reached has_worked held (incoming_reset_request number streams ∷ parameters) =
+      let first : RequestOutcome = outgoing_by held number state (request_place held.peer_last number) in
+      let rest : List Effect = (work_parameters my state true first.held parameters).effects in
+      all_answer-append all first.effects rest (outgoing_answers all held number state (request_place held.peer_last number))
+      (all_answer-more (outgoing_reset_request number answered reset) parameters rest (parameters_answer state true first.held parameters))
+  parameters_answer state has_worked held (incoming_reset_request number streams ∷ parameters) =
       let all : List ResetParameter = incoming_reset_request number streams ∷ parameters in
       let first : RequestOutcome = incoming_by held number (request_place held.peer_last number) in
-      let rest : List Effect = (work_parameters my is_reached has_worked first.held parameters).effects in
+      let rest : List Effect = (work_parameters my state has_worked first.held parameters).effects in
       all_answer-append all first.effects rest (incoming_answers all held number (request_place held.peer_last number))
-      (all_answer-more (incoming_reset_request number streams) parameters rest (parameters_answer is_reached has_worked first.held parameters))
-  parameters_answer is_reached has_worked held (reconfiguration_response number result ∷ parameters) =
+      (all_answer-more (incoming_reset_request number streams) parameters rest (parameters_answer state has_worked first.held parameters))
+  parameters_answer state has_worked held (reconfiguration_response number result ∷ parameters) =
       let all : List ResetParameter = reconfiguration_response number result ∷ parameters in
       let first : Informed = informed_where my held number result (is_outstanding number held.own_outstanding) in
-      let rest : List Effect = (work_parameters my is_reached has_worked first.held parameters).effects in
+      let rest : List Effect = (work_parameters my state has_worked first.held parameters).effects in
       all_answer-append all first.effects rest (informed_answers held number result (is_outstanding number held.own_outstanding) parameters)
-      (all_answer-more (reconfiguration_response number result) parameters rest (parameters_answer is_reached has_worked first.held parameters))
-  parameters_answer is_reached has_worked held (other_reset_parameter parameter ∷ parameters) =
-      all_answer-more (other_reset_parameter parameter) parameters (work_parameters my is_reached has_worked held parameters).effects
-      (parameters_answer is_reached has_worked held parameters)
+      (all_answer-more (reconfiguration_response number result) parameters rest (parameters_answer state has_worked first.held parameters))
+  parameters_answer state has_worked held (other_reset_parameter parameter ∷ parameters) =
+      all_answer-more (other_reset_parameter parameter) parameters (work_parameters my state has_worked held parameters).effects
+      (parameters_answer state has_worked held parameters)
 
-  chunk_answers : (is_reached : Bool) (held : Held) (parameters : List ResetParameter) → AllAnswer parameters (work_chunk my is_reached held parameters).effects
-  chunk_answers is_reached held [] = tt
-  chunk_answers is_reached held (parameter ∷ parameters) = parameters_answer is_reached false held (parameter ∷ parameters)
+  chunk_answers : (state : RequestState) (held : Held) (parameters : List ResetParameter) → AllAnswer parameters (work_chunk my state held parameters).effects
+  chunk_answers state held [] = tt
+  chunk_answers state held (parameter ∷ parameters) = parameters_answer state false held (parameter ∷ parameters)
 
   pub reset_answers : (held : Held) (parameters : List ResetParameter) (choices : Choices) → AllAnswer parameters (peer_part_handled my held parameters choices).effects
   reset_answers held parameters choices =
-      let first : HandledParameters = work_chunk my choices.is_reached held parameters in
+      let first : HandledParameters = work_chunk my choices.state held parameters in
       all_answer-append parameters first.effects (reset_sent first.is_refused first.held first.answers choices).effects
-      (chunk_answers choices.is_reached held parameters) (sent_answers parameters first.is_refused first.held first.answers choices)
+      (chunk_answers choices.state held parameters) (sent_answers parameters first.is_refused first.held first.answers choices)

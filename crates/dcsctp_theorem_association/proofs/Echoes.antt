@@ -4,7 +4,7 @@ use Rattle.std.proofs.Common.{◌≡◌, ℕ, List, [], ◌∷◌, ◌++◌, inl
 use Rattle.dcsctp_spec_lemmas.specs.types.Offer.{Offer}
 use Rattle.dcsctp_spec_lemmas.specs.spec.Packet.{Content, init, init_ack, cookie_echo, cookie_ack, re_config, abort, shutdown, shutdown_ack, shutdown_complete, plain}
 use Rattle.dcsctp_spec_lemmas.specs.spec.endpoint.Endpoint.{Core, closed, cookie_wait, cookie_echoed, open_in}
-use Rattle.dcsctp_spec_lemmas.specs.spec.association.Effect.{Effect, draws, sends, holds, connects, ends, begins, gives_up, completes, fails, accepts, performs, resumes}
+use Rattle.dcsctp_spec_lemmas.specs.spec.association.Effect.{Effect, draws, sends, holds, connects, ends, begins, gives_up, completes, fails, accepts, performs, renews, resumes}
 use Rattle.dcsctp_spec_runs.specs.World.{after_effects}
 use Rattle.dcsctp_theorem_association.proofs.Facts.{NoEcho, OneEcho, AllBehind, TrueCore}
 use Rattle.dcsctp_theorem_association.proofs.Growth.{Within, same, after_within, peer_grows}
@@ -70,6 +70,7 @@ effect_only echoed (completes my number) h = tt
 effect_only echoed (fails number) h = tt
 effect_only echoed (accepts number) h = tt
 effect_only echoed (performs peer number) h = tt
+effect_only echoed (renews peer number) h = tt
 effect_only echoed (resumes link own last) h = tt
 
 pub free_is_only : (echoed : List ℕ) (effects : List Effect) → AllEchoFree effects → AllEchoOnly echoed effects

@@ -11,8 +11,8 @@ use Rattle.dcsctp_spec_lemmas.specs.spec.Cookie.{Cookie, cookie_at}
 use Rattle.dcsctp_spec_lemmas.specs.spec.Reconfiguration.{ResetParameter, outgoing_reset_request, incoming_reset_request, reconfiguration_response, other_reset_parameter}
 use Rattle.dcsctp_spec_lemmas.specs.spec.Packet.{Introduction, Content, init, init_ack, cookie_echo, cookie_ack, re_config, plain}
 use Rattle.dcsctp_spec_lemmas.specs.spec.endpoint.Endpoint.{Core, closed, cookie_wait, cookie_echoed, open_in}
-use Rattle.dcsctp_spec_lemmas.specs.spec.association.Effect.{AssociationIdentity, Effect, draws, sends, holds, connects, completes, performs, resumes}
-use Rattle.dcsctp_spec_runs.specs.Past.{HasEffect}
+use Rattle.dcsctp_spec_lemmas.specs.spec.association.Effect.{AssociationIdentity, Effect, draws, sends, holds, connects, completes, resumes}
+use Rattle.dcsctp_spec_runs.specs.Past.{HasEffect, WasPerformed}
 
 -- Names: `mine` and `theirs` are the pasts of the side that is spoken of and of the other, `my_offer` and
 -- `their_offer` what the two announce.
@@ -59,12 +59,12 @@ pub record TrueAck (my_offer their_offer : Offer) (mine theirs : List Effect) (t
   pub under : tag ≡ cookie.addressee.tag
   pub held : HasEffect (holds (agreed_link my_offer their_offer cookie.maker cookie.addressee)) mine
 
--- An answer to a reset request: one that was performed was performed under the pair of the packet's tag.
+-- An answer to a reset request: one that was performed was performed under the pair of the packet's tag, or the one before was.
 pub record TruePerformed (mine theirs : List Effect) (tag number : ℕ) : Type 0 where
   pub pair : Pair
   pub under : tag ≡ pair.tag
   pub drawn : HasEffect (draws pair) theirs
-  pub performed : HasEffect (performs pair number) mine
+  pub performed : WasPerformed pair number mine
 
 -- With nothing to do, it has the number before that pair's first TSN.
 pub record TrueNothing (theirs : List Effect) (tag number : ℕ) : Type 0 where
@@ -130,7 +130,7 @@ pub record Found (my_offer their_offer : Offer) (theirs : List Effect) (link : A
 abbrev pub TrueEffect : Offer → Offer → List Effect → List Effect → Effect → Type 0
 TrueEffect my_offer their_offer mine theirs (sends packet) = TrueContents my_offer their_offer mine theirs packet.tag packet.contents
 TrueEffect my_offer their_offer mine theirs (connects link) = Found my_offer their_offer theirs link
-TrueEffect my_offer their_offer mine theirs (completes my number) = HasEffect (performs my number) theirs ⊎ (number ≡ number_before my)
+TrueEffect my_offer their_offer mine theirs (completes my number) = WasPerformed my number theirs ⊎ (number ≡ number_before my)
 TrueEffect my_offer their_offer mine theirs (resumes link own last) = ⊥
 TrueEffect my_offer their_offer mine theirs effect = Unit {0}
 
@@ -153,7 +153,7 @@ pub record PeerFacts (my_offer their_offer : Offer) (mine theirs : List Effect) 
   pub capabilities : held.capabilities ≡ negotiated my_offer their_offer
   pub shown : HasEffect (holds (agreed_link my_offer their_offer my held.peer)) mine
   pub nothing : held.peer_result ≡ SuccessNothingToDo → held.peer_last ≡ number_before held.peer
-  pub performed : held.peer_result ≡ SuccessPerformed → HasEffect (performs held.peer held.peer_last) mine
+  pub performed : held.peer_result ≡ SuccessPerformed → WasPerformed held.peer held.peer_last mine
 
 -- No cookie whose addressee has this tag was ever echoed.
 abbrev pub NoEcho : ℕ → List Effect → Type 0

@@ -7,8 +7,8 @@ use Rattle.dcsctp_spec_lemmas.specs.types.declared.association.Held.{Held}
 use Rattle.dcsctp_spec_lemmas.specs.types.Offer.{Offer}
 use Rattle.dcsctp_spec_lemmas.specs.spec.Reconfiguration.{ResetParameter, outgoing_reset_request, incoming_reset_request, reconfiguration_response, other_reset_parameter}
 use Rattle.dcsctp_spec_lemmas.specs.spec.Packet.{Content, init, init_ack, cookie_echo, cookie_ack, re_config, abort, shutdown, shutdown_ack, shutdown_complete, plain}
-use Rattle.dcsctp_spec_lemmas.specs.spec.association.Effect.{Effect, draws, sends, holds, connects, ends, begins, gives_up, completes, fails, accepts, performs, resumes}
-use Rattle.dcsctp_spec_runs.specs.Past.{HasEffect}
+use Rattle.dcsctp_spec_lemmas.specs.spec.association.Effect.{Effect, draws, sends, holds, connects, ends, begins, gives_up, completes, fails, accepts, performs, renews, resumes}
+use Rattle.dcsctp_spec_runs.specs.Past.{HasEffect, WasPerformed}
 use Rattle.dcsctp_spec_runs.specs.World.{after_effects}
 use Rattle.dcsctp_theorem_association.proofs.Facts.{TrueResult, TrueParameter, TrueParameters, TrueFront, TrueContents, TrueEffect, TruePast, TrueEffects, PeerFacts}
 
@@ -34,12 +34,16 @@ pub after_effects-append : (xs ys past : List Effect) → after_effects (xs ++ y
 after_effects-append [] ys past = refl
 after_effects-append (x ∷ xs) ys past = after_effects-append xs ys (x ∷ past)
 
+pub performed_grows : (past past' : List Effect) (peer : Pair) (number : ℕ) → Within past past' → WasPerformed peer number past → WasPerformed peer number past'
+performed_grows past past' peer number w (inl h) = inl (w _ h)
+performed_grows past past' peer number w (inr h) = inr (w _ h)
+
 -- ---- what packets say
 
 result_grows : (mine theirs mine' theirs' : List Effect) (tag number : ℕ) (result : ReconfigurationResponseResult) → Within mine mine' → Within theirs theirs'
     → TrueResult mine theirs tag number result → TrueResult mine' theirs' tag number result
 result_grows mine theirs mine' theirs' tag number SuccessNothingToDo v w h = record { pair = h.pair; under = h.under; drawn = w _ h.drawn; before = h.before }
-result_grows mine theirs mine' theirs' tag number SuccessPerformed v w h = record { pair = h.pair; under = h.under; drawn = w _ h.drawn; performed = v _ h.performed }
+result_grows mine theirs mine' theirs' tag number SuccessPerformed v w h = record { pair = h.pair; under = h.under; drawn = w _ h.drawn; performed = performed_grows mine mine' h.pair number v h.performed }
 result_grows mine theirs mine' theirs' tag number Denied v w h = tt
 result_grows mine theirs mine' theirs' tag number ErrorWrongSSN v w h = tt
 result_grows mine theirs mine' theirs' tag number ErrorRequestAlreadyInProgress v w h = tt
@@ -93,11 +97,12 @@ effect_grows my_offer their_offer mine theirs mine' theirs' (connects link) v w 
 effect_grows my_offer their_offer mine theirs mine' theirs' ends v w h = tt
 effect_grows my_offer their_offer mine theirs mine' theirs' (begins number) v w h = tt
 effect_grows my_offer their_offer mine theirs mine' theirs' (gives_up number) v w h = tt
-effect_grows my_offer their_offer mine theirs mine' theirs' (completes my number) v w (inl h) = inl (w _ h)
+effect_grows my_offer their_offer mine theirs mine' theirs' (completes my number) v w (inl h) = inl (performed_grows theirs theirs' my number w h)
 effect_grows my_offer their_offer mine theirs mine' theirs' (completes my number) v w (inr h) = inr h
 effect_grows my_offer their_offer mine theirs mine' theirs' (fails number) v w h = tt
 effect_grows my_offer their_offer mine theirs mine' theirs' (accepts number) v w h = tt
 effect_grows my_offer their_offer mine theirs mine' theirs' (performs peer number) v w h = tt
+effect_grows my_offer their_offer mine theirs mine' theirs' (renews peer number) v w h = tt
 effect_grows my_offer their_offer mine theirs mine' theirs' (resumes link own last) v w h = h
 
 -- the other side did more
@@ -153,5 +158,5 @@ peer_grows my_offer their_offer mine theirs mine' theirs' my held v w h =
       capabilities = h.capabilities;
       shown = v _ h.shown;
       nothing = h.nothing;
-      performed = λ is. v _ (h.performed is);
+      performed = λ is. performed_grows mine mine' held.peer held.peer_last v (h.performed is);
     }

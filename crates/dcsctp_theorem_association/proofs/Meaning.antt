@@ -6,7 +6,7 @@ use Rattle.dcsctp_spec_lemmas.specs.spec.Packet.{Plain, Content}
 use Rattle.dcsctp_spec_lemmas.specs.spec.Reconfiguration.{RequestedReset}
 use Rattle.dcsctp_spec_lemmas.specs.spec.endpoint.Endpoint.{Core, closed, open_in, established}
 use Rattle.dcsctp_spec_lemmas.specs.spec.endpoint.Following.{Following}
-use Rattle.dcsctp_spec_lemmas.specs.spec.association.Effect.{AssociationIdentity, Effect, draws, holds, connects, ends, begins, completes, performs, resumes, Change, emitted, emitted_alone, identity_of, identity_in}
+use Rattle.dcsctp_spec_lemmas.specs.spec.association.Effect.{AssociationIdentity, Effect, draws, holds, connects, ends, begins, completes, performs, renews, resumes, Change, emitted, emitted_alone, identity_of, identity_in}
 use Rattle.dcsctp_spec_lemmas.specs.spec.association.Choices.{plain_contents, Filling, Choices}
 use Rattle.dcsctp_spec_lemmas.specs.spec.association.FlushChanges.{reset_to_begin, further_packets, chunks_behind, flushed_with, flush_where, flush}
 use Rattle.dcsctp_spec_lemmas.specs.spec.association.Acts.{sent_then_flushed, renewed_by}
@@ -26,6 +26,7 @@ Says core ends = core ≡ closed
 Says core (begins number) = outstanding_in core ≡ Some number
 Says core (completes my number) = (link : AssociationIdentity) × (identity_in core ≡ Some link) × (link.my ≡ my)
 Says core (performs peer number) = (link : AssociationIdentity) × (identity_in core ≡ Some link) × (link.peer ≡ peer)
+Says core (renews peer number) = (link : AssociationIdentity) × (identity_in core ≡ Some link) × (link.peer ≡ peer)
 Says core effect = Unit {0}
 
 abbrev pub AllSay : Core → List Effect → Type 0
@@ -88,6 +89,7 @@ means_of core change says shown =
       begun = λ number h. tells (begins number) h;
       completed = λ my number h. tells (completes my number) h;
       performed = λ peer number h. tells (performs peer number) h;
+      renewed = λ peer number h. tells (renews peer number) h;
     }
 
 pub means_by : (core : Core) (change : Change) → Meant core change → Means core change

@@ -4,13 +4,13 @@ use Rattle.dcsctp_spec_lemmas.specs.types.declared.association.Pair.{Pair}
 use Rattle.dcsctp_spec_lemmas.specs.types.declared.association.Held.{Held}
 use Rattle.dcsctp_spec_lemmas.specs.wire.declared.reconfiguration.ReconfigurationResponseResult.{ReconfigurationResponseResult}
 use Rattle.dcsctp_spec_lemmas.specs.wire.declared.reconfiguration.ReconfigurationResponseResult.TheVariants.{SuccessNothingToDo, SuccessPerformed, InProgress}
-use Rattle.dcsctp_spec_lemmas.specs.spec.Reconfiguration.{ResetParameter, outgoing_reset_request, incoming_reset_request, reconfiguration_response, other_reset_parameter}
+use Rattle.dcsctp_spec_lemmas.specs.spec.Reconfiguration.{RequestState, early, due, renewed, ResetParameter, outgoing_reset_request, incoming_reset_request, reconfiguration_response, other_reset_parameter}
 use Rattle.dcsctp_spec_lemmas.specs.spec.Packet.{re_config}
 use Rattle.dcsctp_spec_lemmas.specs.spec.endpoint.Endpoint.{Core}
 use Rattle.dcsctp_spec_lemmas.specs.spec.association.Effect.{AssociationIdentity, identity_of, identity_in}
 use Rattle.dcsctp_spec_lemmas.specs.spec.association.Choices.{Choices}
 use Rattle.dcsctp_spec_lemmas.specs.spec.association.FlushChanges.{flush}
-use Rattle.dcsctp_spec_lemmas.specs.spec.association.ResetChanges.{RequestPlace, again, next, astray, request_place, RequestOutcome, performed_request, repeated, outgoing_by, incoming_by, Informed, informed_where, is_outstanding, HandledParameters, work_parameters, work_chunk, answers_emitted, reset_sent, peer_part_handled}
+use Rattle.dcsctp_spec_lemmas.specs.spec.association.ResetChanges.{RequestPlace, again, next, astray, request_place, RequestOutcome, performed_request, repeated, next_request, is_due, outgoing_by, incoming_by, Informed, informed_where, is_outstanding, HandledParameters, work_parameters, work_chunk, answers_emitted, reset_sent, peer_part_handled}
 use Rattle.dcsctp_theorem_association.specs.OneSide.{outstanding_in}
 use Rattle.dcsctp_theorem_association.proofs.Meaning.{AllSay, all_say-append, alone_says, flush_link, flush_says}
 
@@ -25,10 +25,15 @@ module _ (my : Pair) where
   repeated_link held InProgress is_reached = worked_link held held.peer_last is_reached
   repeated_link held result is_reached = refl
 
-  outgoing_link : (held : Held) (number : ℕ) (is_reached : Bool) (place : RequestPlace) → identity_of my (outgoing_by held number is_reached place).held ≡ identity_of my held
-  outgoing_link held number is_reached again = repeated_link held held.peer_result is_reached
-  outgoing_link held number is_reached next = worked_link held number is_reached
-  outgoing_link held number is_reached astray = refl
+  next_link : (held : Held) (number : ℕ) (state : RequestState) → identity_of my (next_request held number state).held ≡ identity_of my held
+  next_link held number early = refl
+  next_link held number due = refl
+  next_link held number renewed = refl
+
+  outgoing_link : (held : Held) (number : ℕ) (state : RequestState) (place : RequestPlace) → identity_of my (outgoing_by held number state place).held ≡ identity_of my held
+  outgoing_link held number state again = repeated_link held held.peer_result (is_due state)
+  outgoing_link held number state next = next_link held number state
+  outgoing_link held number state astray = refl
 
   incoming_link : (held : Held) (number : ℕ) (place : RequestPlace) → identity_of my (incoming_by held number place).held ≡ identity_of my held
   incoming_link held number again = refl
@@ -39,24 +44,24 @@ module _ (my : Pair) where
   informed_link held number InProgress true = refl
   informed_link held number result true = refl
 
-  parameters_link : (is_reached has_worked : Bool) (held : Held) (parameters : List ResetParameter)
-      → identity_of my (work_parameters my is_reached has_worked held parameters).held ≡ identity_of my held
-  parameters_link is_reached has_worked held [] = refl
-  parameters_link is_reached true held (outgoing_reset_request number answered reset ∷ parameters) = refl
-  parameters_link is_reached false held (outgoing_reset_request number answered reset ∷ parameters) =
-      let first : RequestOutcome = outgoing_by held number is_reached (request_place held.peer_last number) in
-      parameters_link is_reached true first.held parameters ∙ outgoing_link held number is_reached (request_place held.peer_last number)
-  parameters_link is_reached has_worked held (incoming_reset_request number streams ∷ parameters) =
+  parameters_link : (state : RequestState) (has_worked : Bool) (held : Held) (parameters : List ResetParameter)
+      → identity_of my (work_parameters my state has_worked held parameters).held ≡ identity_of my held
+  parameters_link state has_worked held [] = refl
+  parameters_link state true held (outgoing_reset_request number answered reset ∷ parameters) = refl
+  parameters_link state false held (outgoing_reset_request number answered reset ∷ parameters) =
+      let first : RequestOutcome = outgoing_by held number state (request_place held.peer_last number) in
+      parameters_link state true first.held parameters ∙ outgoing_link held number state (request_place held.peer_last number)
+  parameters_link state has_worked held (incoming_reset_request number streams ∷ parameters) =
       let first : RequestOutcome = incoming_by held number (request_place held.peer_last number) in
-      parameters_link is_reached has_worked first.held parameters ∙ incoming_link held number (request_place held.peer_last number)
-  parameters_link is_reached has_worked held (reconfiguration_response number result ∷ parameters) =
+      parameters_link state has_worked first.held parameters ∙ incoming_link held number (request_place held.peer_last number)
+  parameters_link state has_worked held (reconfiguration_response number result ∷ parameters) =
       let first : Informed = informed_where my held number result (is_outstanding number held.own_outstanding) in
-      parameters_link is_reached has_worked first.held parameters ∙ informed_link held number result (is_outstanding number held.own_outstanding)
-  parameters_link is_reached has_worked held (other_reset_parameter parameter ∷ parameters) = parameters_link is_reached has_worked held parameters
+      parameters_link state has_worked first.held parameters ∙ informed_link held number result (is_outstanding number held.own_outstanding)
+  parameters_link state has_worked held (other_reset_parameter parameter ∷ parameters) = parameters_link state has_worked held parameters
 
-  chunk_link : (is_reached : Bool) (held : Held) (parameters : List ResetParameter) → identity_of my (work_chunk my is_reached held parameters).held ≡ identity_of my held
-  chunk_link is_reached held [] = refl
-  chunk_link is_reached held (parameter ∷ parameters) = parameters_link is_reached false held (parameter ∷ parameters)
+  chunk_link : (state : RequestState) (held : Held) (parameters : List ResetParameter) → identity_of my (work_chunk my state held parameters).held ≡ identity_of my held
+  chunk_link state held [] = refl
+  chunk_link state held (parameter ∷ parameters) = parameters_link state false held (parameter ∷ parameters)
 
   sent_link : (is_refused : Bool) (held : Held) (answers : List ResetParameter) (choices : Choices) → identity_of my (reset_sent is_refused held answers choices).held ≡ identity_of my held
   sent_link true held answers choices = refl
@@ -64,8 +69,8 @@ module _ (my : Pair) where
 
   pub reset_link : (held : Held) (parameters : List ResetParameter) (choices : Choices) → identity_of my (peer_part_handled my held parameters choices).held ≡ identity_of my held
   reset_link held parameters choices =
-      let first : HandledParameters = work_chunk my choices.is_reached held parameters in
-      sent_link first.is_refused first.held first.answers choices ∙ chunk_link choices.is_reached held parameters
+      let first : HandledParameters = work_chunk my choices.state held parameters in
+      sent_link first.is_refused first.held first.answers choices ∙ chunk_link choices.state held parameters
 
 -- ---- the effects
 
@@ -86,10 +91,15 @@ module _ (core : Core) (my : Pair) where
   repeated_says held InProgress is_reached h = worked_says held held.peer_last is_reached h
   repeated_says held result is_reached h = tt
 
-  outgoing_says : (held : Held) (number : ℕ) (is_reached : Bool) (place : RequestPlace) → HoldsNow held → AllSay core (outgoing_by held number is_reached place).effects
-  outgoing_says held number is_reached again h = repeated_says held held.peer_result is_reached h
-  outgoing_says held number is_reached next h = (tt, worked_says held number is_reached h)
-  outgoing_says held number is_reached astray h = tt
+  next_says : (held : Held) (number : ℕ) (state : RequestState) → HoldsNow held → AllSay core (next_request held number state).effects
+  next_says held number early h = tt
+  next_says held number due h = ((identity_of my held, h, refl), tt)
+  next_says held number renewed h = ((identity_of my held, h, refl), tt)
+
+  outgoing_says : (held : Held) (number : ℕ) (state : RequestState) (place : RequestPlace) → HoldsNow held → AllSay core (outgoing_by held number state place).effects
+  outgoing_says held number state again h = repeated_says held held.peer_result (is_due state) h
+  outgoing_says held number state next h = (tt, next_says held number state h)
+  outgoing_says held number state astray h = tt
 
   incoming_says : (held : Held) (number : ℕ) (place : RequestPlace) → AllSay core (incoming_by held number place).effects
   incoming_says held number again = tt
@@ -103,30 +113,30 @@ module _ (core : Core) (my : Pair) where
   informed_says held number InProgress true h = tt
   informed_says held number result true h = (tt, tt)
 
-  parameters_say : (is_reached has_worked : Bool) (held : Held) (parameters : List ResetParameter) → HoldsNow held
-      → AllSay core (work_parameters my is_reached has_worked held parameters).effects
-  parameters_say is_reached has_worked held [] h = tt
-  parameters_say is_reached true held (outgoing_reset_request number answered reset ∷ parameters) h = tt
-  parameters_say is_reached false held (outgoing_reset_request number answered reset ∷ parameters) h =
-      let first : RequestOutcome = outgoing_by held number is_reached (request_place held.peer_last number) in
-      all_say-append core first.effects (work_parameters my is_reached true first.held parameters).effects
-      (outgoing_says held number is_reached (request_place held.peer_last number) h)
-      (parameters_say is_reached true first.held parameters (holds_same held first.held h (outgoing_link my held number is_reached (request_place held.peer_last number))))
-  parameters_say is_reached has_worked held (incoming_reset_request number streams ∷ parameters) h =
+  parameters_say : (state : RequestState) (has_worked : Bool) (held : Held) (parameters : List ResetParameter) → HoldsNow held
+      → AllSay core (work_parameters my state has_worked held parameters).effects
+  parameters_say state has_worked held [] h = tt
+  parameters_say state true held (outgoing_reset_request number answered reset ∷ parameters) h = tt
+  parameters_say state false held (outgoing_reset_request number answered reset ∷ parameters) h =
+      let first : RequestOutcome = outgoing_by held number state (request_place held.peer_last number) in
+      all_say-append core first.effects (work_parameters my state true first.held parameters).effects
+      (outgoing_says held number state (request_place held.peer_last number) h)
+      (parameters_say state true first.held parameters (holds_same held first.held h (outgoing_link my held number state (request_place held.peer_last number))))
+  parameters_say state has_worked held (incoming_reset_request number streams ∷ parameters) h =
       let first : RequestOutcome = incoming_by held number (request_place held.peer_last number) in
-      all_say-append core first.effects (work_parameters my is_reached has_worked first.held parameters).effects
+      all_say-append core first.effects (work_parameters my state has_worked first.held parameters).effects
       (incoming_says held number (request_place held.peer_last number))
-      (parameters_say is_reached has_worked first.held parameters (holds_same held first.held h (incoming_link my held number (request_place held.peer_last number))))
-  parameters_say is_reached has_worked held (reconfiguration_response number result ∷ parameters) h =
+      (parameters_say state has_worked first.held parameters (holds_same held first.held h (incoming_link my held number (request_place held.peer_last number))))
+  parameters_say state has_worked held (reconfiguration_response number result ∷ parameters) h =
       let first : Informed = informed_where my held number result (is_outstanding number held.own_outstanding) in
-      all_say-append core first.effects (work_parameters my is_reached has_worked first.held parameters).effects
+      all_say-append core first.effects (work_parameters my state has_worked first.held parameters).effects
       (informed_says held number result (is_outstanding number held.own_outstanding) h)
-      (parameters_say is_reached has_worked first.held parameters (holds_same held first.held h (informed_link my held number result (is_outstanding number held.own_outstanding))))
-  parameters_say is_reached has_worked held (other_reset_parameter parameter ∷ parameters) h = parameters_say is_reached has_worked held parameters h
+      (parameters_say state has_worked first.held parameters (holds_same held first.held h (informed_link my held number result (is_outstanding number held.own_outstanding))))
+  parameters_say state has_worked held (other_reset_parameter parameter ∷ parameters) h = parameters_say state has_worked held parameters h
 
-  chunk_says : (is_reached : Bool) (held : Held) (parameters : List ResetParameter) → HoldsNow held → AllSay core (work_chunk my is_reached held parameters).effects
-  chunk_says is_reached held [] h = tt
-  chunk_says is_reached held (parameter ∷ parameters) h = parameters_say is_reached false held (parameter ∷ parameters) h
+  chunk_says : (state : RequestState) (held : Held) (parameters : List ResetParameter) → HoldsNow held → AllSay core (work_chunk my state held parameters).effects
+  chunk_says state held [] h = tt
+  chunk_says state held (parameter ∷ parameters) h = parameters_say state false held (parameter ∷ parameters) h
 
   answers_say : (fits : Bool) (tag : ℕ) (answers : List ResetParameter) → AllSay core (answers_emitted fits tag answers)
   answers_say fits tag [] = tt
@@ -143,8 +153,8 @@ module _ (core : Core) (my : Pair) where
       → outstanding_in core ≡ (peer_part_handled my held parameters choices).held.own_outstanding
       → AllSay core (peer_part_handled my held parameters choices).effects
   reset_says held parameters choices h e =
-      let first : HandledParameters = work_chunk my choices.is_reached held parameters in
+      let first : HandledParameters = work_chunk my choices.state held parameters in
       all_say-append core first.effects (reset_sent first.is_refused first.held first.answers choices).effects
-      (chunk_says choices.is_reached held parameters
+      (chunk_says choices.state held parameters
       (holds_same (peer_part_handled my held parameters choices).held held h (sym (reset_link my held parameters choices))))
       (sent_says first.is_refused first.held first.answers choices e)

@@ -4,12 +4,12 @@ use Rattle.dcsctp_spec_lemmas.specs.types.declared.association.Pair.{Pair}
 use Rattle.dcsctp_spec_lemmas.specs.types.declared.association.Held.{Held}
 use Rattle.dcsctp_spec_lemmas.specs.wire.declared.reconfiguration.ReconfigurationResponseResult.{ReconfigurationResponseResult}
 use Rattle.dcsctp_spec_lemmas.specs.wire.declared.reconfiguration.ReconfigurationResponseResult.TheVariants.{InProgress}
-use Rattle.dcsctp_spec_lemmas.specs.spec.Reconfiguration.{ResetParameter, RequestedReset, outgoing_reset_request, incoming_reset_request, reconfiguration_response, other_reset_parameter}
+use Rattle.dcsctp_spec_lemmas.specs.spec.Reconfiguration.{RequestState, early, due, renewed, ResetParameter, RequestedReset, outgoing_reset_request, incoming_reset_request, reconfiguration_response, other_reset_parameter}
 use Rattle.dcsctp_spec_lemmas.specs.spec.Packet.{Plain, Content, re_config}
 use Rattle.dcsctp_spec_lemmas.specs.spec.association.Effect.{Effect, ends, emitted, emitted_alone}
 use Rattle.dcsctp_spec_lemmas.specs.spec.association.Choices.{plain_contents, Filling, Choices}
 use Rattle.dcsctp_spec_lemmas.specs.spec.association.FlushChanges.{Flushed, reset_to_begin, further_packets, flushed_with, flush_where, flush}
-use Rattle.dcsctp_spec_lemmas.specs.spec.association.ResetChanges.{RequestPlace, again, next, astray, request_place, RequestOutcome, performed_request, repeated, outgoing_by, incoming_by, Informed, informed_where, is_outstanding, HandledParameters, work_parameters, work_chunk, answers_emitted, reset_sent, peer_part_handled}
+use Rattle.dcsctp_spec_lemmas.specs.spec.association.ResetChanges.{RequestPlace, again, next, astray, request_place, RequestOutcome, performed_request, repeated, next_request, is_due, outgoing_by, incoming_by, Informed, informed_where, is_outstanding, HandledParameters, work_parameters, work_chunk, answers_emitted, reset_sent, peer_part_handled}
 use Rattle.dcsctp_spec_lemmas.specs.spec.association.Acts.{sent_then_flushed}
 use Rattle.dcsctp_theorem_association.specs.OneSide.{ends_in}
 
@@ -65,10 +65,15 @@ no_ends-repeated : (held : Held) (result : ReconfigurationResponseResult) (is_re
 no_ends-repeated held InProgress is_reached = no_ends-worked held held.peer_last is_reached
 no_ends-repeated held result is_reached = refl
 
-no_ends-outgoing : (held : Held) (number : ℕ) (is_reached : Bool) (place : RequestPlace) → ends_in (outgoing_by held number is_reached place).effects ≡ 0
-no_ends-outgoing held number is_reached again = no_ends-repeated held held.peer_result is_reached
-no_ends-outgoing held number is_reached next = no_ends-worked held number is_reached
-no_ends-outgoing held number is_reached astray = refl
+no_ends-next : (held : Held) (number : ℕ) (state : RequestState) → ends_in (next_request held number state).effects ≡ 0
+no_ends-next held number early = refl
+no_ends-next held number due = refl
+no_ends-next held number renewed = refl
+
+no_ends-outgoing : (held : Held) (number : ℕ) (state : RequestState) (place : RequestPlace) → ends_in (outgoing_by held number state place).effects ≡ 0
+no_ends-outgoing held number state again = no_ends-repeated held held.peer_result (is_due state)
+no_ends-outgoing held number state next = no_ends-next held number state
+no_ends-outgoing held number state astray = refl
 
 no_ends-incoming : (held : Held) (number : ℕ) (place : RequestPlace) → ends_in (incoming_by held number place).effects ≡ 0
 no_ends-incoming held number again = refl
@@ -79,29 +84,29 @@ no_ends-informed my held number result false = refl
 no_ends-informed my held number InProgress true = refl
 no_ends-informed my held number result true = refl
 
-no_ends-parameters : (my : Pair) (is_reached has_worked : Bool) (held : Held) (parameters : List ResetParameter) → ends_in (work_parameters my is_reached has_worked held parameters).effects ≡ 0
-no_ends-parameters my is_reached has_worked held [] = refl
-no_ends-parameters my is_reached true held (outgoing_reset_request number answered reset ∷ parameters) = refl
-no_ends-parameters my is_reached false held (outgoing_reset_request number answered reset ∷ parameters) =
-    let first : RequestOutcome = outgoing_by held number is_reached (request_place held.peer_last number) in
-    no_ends-append first.effects (work_parameters my is_reached true first.held parameters).effects
-    (no_ends-outgoing held number is_reached (request_place held.peer_last number))
-    (no_ends-parameters my is_reached true first.held parameters)
-no_ends-parameters my is_reached has_worked held (incoming_reset_request number streams ∷ parameters) =
+no_ends-parameters : (my : Pair) (state : RequestState) (has_worked : Bool) (held : Held) (parameters : List ResetParameter) → ends_in (work_parameters my state has_worked held parameters).effects ≡ 0
+no_ends-parameters my state has_worked held [] = refl
+no_ends-parameters my state true held (outgoing_reset_request number answered reset ∷ parameters) = refl
+no_ends-parameters my state false held (outgoing_reset_request number answered reset ∷ parameters) =
+    let first : RequestOutcome = outgoing_by held number state (request_place held.peer_last number) in
+    no_ends-append first.effects (work_parameters my state true first.held parameters).effects
+    (no_ends-outgoing held number state (request_place held.peer_last number))
+    (no_ends-parameters my state true first.held parameters)
+no_ends-parameters my state has_worked held (incoming_reset_request number streams ∷ parameters) =
     let first : RequestOutcome = incoming_by held number (request_place held.peer_last number) in
-    no_ends-append first.effects (work_parameters my is_reached has_worked first.held parameters).effects
+    no_ends-append first.effects (work_parameters my state has_worked first.held parameters).effects
     (no_ends-incoming held number (request_place held.peer_last number))
-    (no_ends-parameters my is_reached has_worked first.held parameters)
-no_ends-parameters my is_reached has_worked held (reconfiguration_response number result ∷ parameters) =
+    (no_ends-parameters my state has_worked first.held parameters)
+no_ends-parameters my state has_worked held (reconfiguration_response number result ∷ parameters) =
     let first : Informed = informed_where my held number result (is_outstanding number held.own_outstanding) in
-    no_ends-append first.effects (work_parameters my is_reached has_worked first.held parameters).effects
+    no_ends-append first.effects (work_parameters my state has_worked first.held parameters).effects
     (no_ends-informed my held number result (is_outstanding number held.own_outstanding))
-    (no_ends-parameters my is_reached has_worked first.held parameters)
-no_ends-parameters my is_reached has_worked held (other_reset_parameter parameter ∷ parameters) = no_ends-parameters my is_reached has_worked held parameters
+    (no_ends-parameters my state has_worked first.held parameters)
+no_ends-parameters my state has_worked held (other_reset_parameter parameter ∷ parameters) = no_ends-parameters my state has_worked held parameters
 
-no_ends-chunk : (my : Pair) (is_reached : Bool) (held : Held) (parameters : List ResetParameter) → ends_in (work_chunk my is_reached held parameters).effects ≡ 0
-no_ends-chunk my is_reached held [] = refl
-no_ends-chunk my is_reached held (parameter ∷ parameters) = no_ends-parameters my is_reached false held (parameter ∷ parameters)
+no_ends-chunk : (my : Pair) (state : RequestState) (held : Held) (parameters : List ResetParameter) → ends_in (work_chunk my state held parameters).effects ≡ 0
+no_ends-chunk my state held [] = refl
+no_ends-chunk my state held (parameter ∷ parameters) = no_ends-parameters my state false held (parameter ∷ parameters)
 
 no_ends-answers : (fits : Bool) (tag : ℕ) (answers : List ResetParameter) → ends_in (answers_emitted fits tag answers) ≡ 0
 no_ends-answers fits tag [] = refl
@@ -115,8 +120,8 @@ no_ends-reset_sent false held answers choices =
 
 pub no_ends-reset : (my : Pair) (held : Held) (parameters : List ResetParameter) (choices : Choices) → ends_in (peer_part_handled my held parameters choices).effects ≡ 0
 no_ends-reset my held parameters choices =
-    let first : HandledParameters = work_chunk my choices.is_reached held parameters in
+    let first : HandledParameters = work_chunk my choices.state held parameters in
     let after : Flushed = reset_sent first.is_refused first.held first.answers choices in
     no_ends-append first.effects after.effects
-    (no_ends-chunk my choices.is_reached held parameters)
+    (no_ends-chunk my choices.state held parameters)
     (no_ends-reset_sent first.is_refused first.held first.answers choices)

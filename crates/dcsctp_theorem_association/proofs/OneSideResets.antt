@@ -4,11 +4,11 @@ use Rattle.std.proofs.lemmas.Bool.Decides.{Decides-eqb}
 use Rattle.dcsctp_spec_lemmas.specs.types.declared.association.Held.{Held}
 use Rattle.dcsctp_spec_lemmas.specs.wire.declared.reconfiguration.ReconfigurationResponseResult.{ReconfigurationResponseResult}
 use Rattle.dcsctp_spec_lemmas.specs.wire.declared.reconfiguration.ReconfigurationResponseResult.TheVariants.{SuccessNothingToDo, SuccessPerformed, InProgress}
-use Rattle.dcsctp_spec_lemmas.specs.spec.Reconfiguration.{ResetParameter, outgoing_reset_request, incoming_reset_request, reconfiguration_response, other_reset_parameter}
-use Rattle.dcsctp_spec_lemmas.specs.spec.association.Effect.{AssociationIdentity, Effect, completes, fails, accepts, performs}
+use Rattle.dcsctp_spec_lemmas.specs.spec.Reconfiguration.{RequestState, early, due, renewed, ResetParameter, outgoing_reset_request, incoming_reset_request, reconfiguration_response, other_reset_parameter}
+use Rattle.dcsctp_spec_lemmas.specs.spec.association.Effect.{AssociationIdentity, Effect, completes, fails, accepts, performs, renews}
 use Rattle.dcsctp_spec_lemmas.specs.spec.association.Choices.{Choices}
 use Rattle.dcsctp_spec_lemmas.specs.spec.association.FlushChanges.{Flushed, next_number, flush}
-use Rattle.dcsctp_spec_lemmas.specs.spec.association.ResetChanges.{RequestPlace, again, next, astray, request_place, RequestOutcome, with_last, performed_request, repeated, outgoing_by, incoming_by, without_outstanding, informed_by, informed_where, is_outstanding, Informed, HandledParameters, work_parameters, work_chunk, answers_emitted, reset_sent, peer_part_handled}
+use Rattle.dcsctp_spec_lemmas.specs.spec.association.ResetChanges.{RequestPlace, again, next, astray, request_place, RequestOutcome, with_last, performed_request, repeated, next_request, is_due, outgoing_by, incoming_by, without_outstanding, informed_by, informed_where, is_outstanding, Informed, HandledParameters, work_parameters, work_chunk, answers_emitted, reset_sent, peer_part_handled}
 use Rattle.dcsctp_spec_runs.specs.Past.{my_of, peer_of}
 use Rattle.dcsctp_theorem_association.proofs.OneSideLemmas.{Stands, Leads, stands-sends, leads-append, flush_leads}
 
@@ -50,6 +50,21 @@ stands-accepts number result e s = record {
 stands-performs : {link : AssociationIdentity} {waiting : Option AssociationIdentity} {held : Held} {past : List Effect} → held.peer_result ≡ InProgress
     → Stands link waiting held past → Stands link waiting (with_last held held.peer_last SuccessPerformed) (performs held.peer held.peer_last ∷ past)
 stands-performs {held = held} e s = record {
+  same_peer = s.same_peer;
+  same_capabilities = s.same_capabilities;
+  is_current = s.is_current;
+  is_waiting = s.is_waiting;
+  begins_next = s.begins_next;
+  is_outstanding = s.is_outstanding;
+  accepts_next = s.accepts_next;
+  performs_last = λ i. absurd (cc);
+  in_place = ((s.performs_last e, ap peer_of s.is_current ∙ ap (λ p. Some p) (sym s.same_peer)), s.in_place);
+}
+
+-- The last request is one that was performed under the number before.
+stands-renews : {link : AssociationIdentity} {waiting : Option AssociationIdentity} {held : Held} {past : List Effect} → held.peer_result ≡ InProgress
+    → Stands link waiting held past → Stands link waiting (with_last held held.peer_last SuccessPerformed) (renews held.peer held.peer_last ∷ past)
+stands-renews {held = held} e s = record {
   same_peer = s.same_peer;
   same_capabilities = s.same_capabilities;
   is_current = s.is_current;
@@ -121,16 +136,17 @@ module _ (link : AssociationIdentity) (waiting : Option AssociationIdentity) whe
   repeated_leads held InProgress is_reached e past s = worked_leads held is_reached e past s
   repeated_leads held result is_reached e past s = s
 
-  accepted_leads : (held : Held) (number : ℕ) (is_reached : Bool) → number ≡ next_number held.peer_last
-      → Leads link waiting held (accepts number ∷ (performed_request held number is_reached).effects) (performed_request held number is_reached).held
-  accepted_leads held number true e past s = stands-performs refl (stands-accepts number InProgress e s)
-  accepted_leads held number false e past s = stands-accepts number InProgress e s
+  accepted_leads : (held : Held) (number : ℕ) (state : RequestState) → number ≡ next_number held.peer_last
+      → Leads link waiting held (accepts number ∷ (next_request held number state).effects) (next_request held number state).held
+  accepted_leads held number early e past s = stands-accepts number InProgress e s
+  accepted_leads held number due e past s = stands-performs refl (stands-accepts number InProgress e s)
+  accepted_leads held number renewed e past s = stands-renews refl (stands-accepts number InProgress e s)
 
-  outgoing_leads : (held : Held) (number : ℕ) (is_reached : Bool) (place : RequestPlace) → Placed place held.peer_last number
-      → Leads link waiting held (outgoing_by held number is_reached place).effects (outgoing_by held number is_reached place).held
-  outgoing_leads held number is_reached again e past s = repeated_leads held held.peer_result is_reached refl past s
-  outgoing_leads held number is_reached next e past s = accepted_leads held number is_reached e past s
-  outgoing_leads held number is_reached astray e past s = s
+  outgoing_leads : (held : Held) (number : ℕ) (state : RequestState) (place : RequestPlace) → Placed place held.peer_last number
+      → Leads link waiting held (outgoing_by held number state place).effects (outgoing_by held number state place).held
+  outgoing_leads held number state again e past s = repeated_leads held held.peer_result (is_due state) refl past s
+  outgoing_leads held number state next e past s = accepted_leads held number state e past s
+  outgoing_leads held number state astray e past s = s
 
   incoming_leads : (held : Held) (number : ℕ) (place : RequestPlace) → Placed place held.peer_last number
       → Leads link waiting held (incoming_by held number place).effects (incoming_by held number place).held
@@ -154,36 +170,36 @@ module _ (link : AssociationIdentity) (waiting : Option AssociationIdentity) whe
 
   -- ---- the parameters
 
-  parameters_lead : (is_reached has_worked : Bool) (held : Held) (parameters : List ResetParameter)
-      → Leads link waiting held (work_parameters link.my is_reached has_worked held parameters).effects (work_parameters link.my is_reached has_worked held parameters).held
-  parameters_lead is_reached has_worked held [] past s = s
-  parameters_lead is_reached true held (outgoing_reset_request number answered reset ∷ parameters) past s = s
-  parameters_lead is_reached false held (outgoing_reset_request number answered reset ∷ parameters) past s =
-      let first : RequestOutcome = outgoing_by held number is_reached (request_place held.peer_last number) in
-      let rest : HandledParameters = work_parameters link.my is_reached true first.held parameters in
+  parameters_lead : (state : RequestState) (has_worked : Bool) (held : Held) (parameters : List ResetParameter)
+      → Leads link waiting held (work_parameters link.my state has_worked held parameters).effects (work_parameters link.my state has_worked held parameters).held
+  parameters_lead state has_worked held [] past s = s
+  parameters_lead state true held (outgoing_reset_request number answered reset ∷ parameters) past s = s
+  parameters_lead state false held (outgoing_reset_request number answered reset ∷ parameters) past s =
+      let first : RequestOutcome = outgoing_by held number state (request_place held.peer_last number) in
+      let rest : HandledParameters = work_parameters link.my state true first.held parameters in
       leads-append link waiting held first.held rest.held first.effects rest.effects
-      (outgoing_leads held number is_reached (request_place held.peer_last number) (placed held.peer_last number))
-      (parameters_lead is_reached true first.held parameters) past s
-  parameters_lead is_reached has_worked held (incoming_reset_request number streams ∷ parameters) past s =
+      (outgoing_leads held number state (request_place held.peer_last number) (placed held.peer_last number))
+      (parameters_lead state true first.held parameters) past s
+  parameters_lead state has_worked held (incoming_reset_request number streams ∷ parameters) past s =
       let first : RequestOutcome = incoming_by held number (request_place held.peer_last number) in
-      let rest : HandledParameters = work_parameters link.my is_reached has_worked first.held parameters in
+      let rest : HandledParameters = work_parameters link.my state has_worked first.held parameters in
       leads-append link waiting held first.held rest.held first.effects rest.effects
       (incoming_leads held number (request_place held.peer_last number) (placed held.peer_last number))
-      (parameters_lead is_reached has_worked first.held parameters) past s
-  parameters_lead is_reached has_worked held (reconfiguration_response number result ∷ parameters) past s =
+      (parameters_lead state has_worked first.held parameters) past s
+  parameters_lead state has_worked held (reconfiguration_response number result ∷ parameters) past s =
       let first : Informed = informed_where link.my held number result (is_outstanding number held.own_outstanding) in
-      let rest : HandledParameters = work_parameters link.my is_reached has_worked first.held parameters in
+      let rest : HandledParameters = work_parameters link.my state has_worked first.held parameters in
       leads-append link waiting held first.held rest.held first.effects rest.effects
       (informed_leads_where held number result (is_outstanding number held.own_outstanding) (is_outstanding_means number held.own_outstanding))
-      (parameters_lead is_reached has_worked first.held parameters) past s
-  parameters_lead is_reached has_worked held (other_reset_parameter parameter ∷ parameters) past s = parameters_lead is_reached has_worked held parameters past s
+      (parameters_lead state has_worked first.held parameters) past s
+  parameters_lead state has_worked held (other_reset_parameter parameter ∷ parameters) past s = parameters_lead state has_worked held parameters past s
 
   -- ---- the chunk
 
-  chunk_leads : (is_reached : Bool) (held : Held) (parameters : List ResetParameter)
-      → Leads link waiting held (work_chunk link.my is_reached held parameters).effects (work_chunk link.my is_reached held parameters).held
-  chunk_leads is_reached held [] past s = s
-  chunk_leads is_reached held (parameter ∷ parameters) past s = parameters_lead is_reached false held (parameter ∷ parameters) past s
+  chunk_leads : (state : RequestState) (held : Held) (parameters : List ResetParameter)
+      → Leads link waiting held (work_chunk link.my state held parameters).effects (work_chunk link.my state held parameters).held
+  chunk_leads state held [] past s = s
+  chunk_leads state held (parameter ∷ parameters) past s = parameters_lead state false held (parameter ∷ parameters) past s
 
   answers_lead : (held : Held) (fits : Bool) (tag : ℕ) (answers : List ResetParameter) → Leads link waiting held (answers_emitted fits tag answers) held
   answers_lead held fits tag [] past s = s
@@ -202,8 +218,8 @@ module _ (link : AssociationIdentity) (waiting : Option AssociationIdentity) whe
   pub reset_leads : (held : Held) (parameters : List ResetParameter) (choices : Choices)
       → Leads link waiting held (peer_part_handled link.my held parameters choices).effects (peer_part_handled link.my held parameters choices).held
   reset_leads held parameters choices =
-      let performed_request : HandledParameters = work_chunk link.my choices.is_reached held parameters in
+      let performed_request : HandledParameters = work_chunk link.my choices.state held parameters in
       let after : Flushed = reset_sent performed_request.is_refused performed_request.held performed_request.answers choices in
       leads-append link waiting held performed_request.held after.held performed_request.effects after.effects
-      (chunk_leads choices.is_reached held parameters)
+      (chunk_leads choices.state held parameters)
       (sent_lead performed_request.is_refused performed_request.held performed_request.answers choices)

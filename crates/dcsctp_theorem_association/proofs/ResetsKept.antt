@@ -3,7 +3,7 @@ use Rattle.std.proofs.Common.{◌≡◌, ℕ, Bool, true, false, List, [], ◌�
 use Rattle.dcsctp_spec_lemmas.specs.types.declared.association.Pair.{Pair}
 use Rattle.dcsctp_spec_lemmas.specs.types.declared.association.Held.{Held}
 use Rattle.dcsctp_spec_lemmas.specs.types.Offer.{Offer}
-use Rattle.dcsctp_spec_lemmas.specs.spec.Reconfiguration.{ResetParameter, outgoing_reset_request, incoming_reset_request, reconfiguration_response, other_reset_parameter}
+use Rattle.dcsctp_spec_lemmas.specs.spec.Reconfiguration.{RequestState, ResetParameter, outgoing_reset_request, incoming_reset_request, reconfiguration_response, other_reset_parameter}
 use Rattle.dcsctp_spec_lemmas.specs.spec.Packet.{re_config}
 use Rattle.dcsctp_spec_lemmas.specs.spec.endpoint.Endpoint.{Core, closed, cookie_wait, cookie_echoed, open_in, own_tag}
 use Rattle.dcsctp_spec_lemmas.specs.spec.association.Effect.{Effect}
@@ -64,36 +64,36 @@ nothing_worked : (my_offer their_offer : Offer) (mine theirs : List Effect) (my 
     → WorkedKept my_offer their_offer mine theirs my held (record { held = held; effects = []; answers = []; is_refused = is_refused })
 nothing_worked my_offer their_offer mine theirs my held is_refused h = record { working = record { true_effects = tt; free = tt; facts = h; pair = refl; tags = λ t. t }; answers = tt }
 
-parameters_kept : (my_offer their_offer : Offer) (mine theirs : List Effect) (my : Pair) (is_reached has_worked : Bool) (held : Held) (parameters : List ResetParameter)
+parameters_kept : (my_offer their_offer : Offer) (mine theirs : List Effect) (my : Pair) (state : RequestState) (has_worked : Bool) (held : Held) (parameters : List ResetParameter)
     → SameTag mine → PeerFacts my_offer their_offer mine theirs my held → TrueParameters theirs mine my.tag parameters
-    → WorkedKept my_offer their_offer mine theirs my held (work_parameters my is_reached has_worked held parameters)
-parameters_kept my_offer their_offer mine theirs my is_reached true held [] tags h are = nothing_worked my_offer their_offer mine theirs my held false h
-parameters_kept my_offer their_offer mine theirs my is_reached false held [] tags h are = nothing_worked my_offer their_offer mine theirs my held false h
-parameters_kept my_offer their_offer mine theirs my is_reached true held (outgoing_reset_request number answered reset ∷ parameters) tags h are =
+    → WorkedKept my_offer their_offer mine theirs my held (work_parameters my state has_worked held parameters)
+parameters_kept my_offer their_offer mine theirs my state true held [] tags h are = nothing_worked my_offer their_offer mine theirs my held false h
+parameters_kept my_offer their_offer mine theirs my state false held [] tags h are = nothing_worked my_offer their_offer mine theirs my held false h
+parameters_kept my_offer their_offer mine theirs my state true held (outgoing_reset_request number answered reset ∷ parameters) tags h are =
     nothing_worked my_offer their_offer mine theirs my held true h
-parameters_kept my_offer their_offer mine theirs my is_reached false held (outgoing_reset_request number answered reset ∷ parameters) tags h are =
-    let first : RequestOutcome = outgoing_by held number is_reached (request_place held.peer_last number) in
-    let one : Answering my_offer their_offer mine theirs my held number first = outgoing_answer my_offer their_offer mine theirs my held number is_reached (request_place held.peer_last number) h (again_is_last held.peer_last number) in
-    then_request my_offer their_offer mine theirs my held number first (work_parameters my is_reached true first.held parameters) one
-    (parameters_kept my_offer their_offer (after_effects first.effects mine) theirs my is_reached true first.held parameters (one.working.tags tags) one.working.facts
+parameters_kept my_offer their_offer mine theirs my state false held (outgoing_reset_request number answered reset ∷ parameters) tags h are =
+    let first : RequestOutcome = outgoing_by held number state (request_place held.peer_last number) in
+    let one : Answering my_offer their_offer mine theirs my held number first = outgoing_answer my_offer their_offer mine theirs my held number state (request_place held.peer_last number) h (again_is_last held.peer_last number) in
+    then_request my_offer their_offer mine theirs my held number first (work_parameters my state true first.held parameters) one
+    (parameters_kept my_offer their_offer (after_effects first.effects mine) theirs my state true first.held parameters (one.working.tags tags) one.working.facts
     (parameters_grow theirs mine theirs (after_effects first.effects mine) my.tag parameters (same theirs) (after_within first.effects mine) are.1))
-parameters_kept my_offer their_offer mine theirs my is_reached has_worked held (incoming_reset_request number streams ∷ parameters) tags h are = absurd are.0
-parameters_kept my_offer their_offer mine theirs my is_reached true held (reconfiguration_response number result ∷ parameters) tags h are =
+parameters_kept my_offer their_offer mine theirs my state has_worked held (incoming_reset_request number streams ∷ parameters) tags h are = absurd are.0
+parameters_kept my_offer their_offer mine theirs my state true held (reconfiguration_response number result ∷ parameters) tags h are =
     let first : Informed = informed_where my held number result (is_outstanding number held.own_outstanding) in
     let one : Working my_offer their_offer mine theirs my held first.held first.effects = informed_where_working my_offer their_offer mine theirs my held number result (is_outstanding number held.own_outstanding) tags h are.0 in
-    then_answer my_offer their_offer mine theirs my held first (work_parameters my is_reached true first.held parameters) one
-    (parameters_kept my_offer their_offer (after_effects first.effects mine) theirs my is_reached true first.held parameters (one.tags tags) one.facts
+    then_answer my_offer their_offer mine theirs my held first (work_parameters my state true first.held parameters) one
+    (parameters_kept my_offer their_offer (after_effects first.effects mine) theirs my state true first.held parameters (one.tags tags) one.facts
     (parameters_grow theirs mine theirs (after_effects first.effects mine) my.tag parameters (same theirs) (after_within first.effects mine) are.1))
-parameters_kept my_offer their_offer mine theirs my is_reached false held (reconfiguration_response number result ∷ parameters) tags h are =
+parameters_kept my_offer their_offer mine theirs my state false held (reconfiguration_response number result ∷ parameters) tags h are =
     let first : Informed = informed_where my held number result (is_outstanding number held.own_outstanding) in
     let one : Working my_offer their_offer mine theirs my held first.held first.effects = informed_where_working my_offer their_offer mine theirs my held number result (is_outstanding number held.own_outstanding) tags h are.0 in
-    then_answer my_offer their_offer mine theirs my held first (work_parameters my is_reached false first.held parameters) one
-    (parameters_kept my_offer their_offer (after_effects first.effects mine) theirs my is_reached false first.held parameters (one.tags tags) one.facts
+    then_answer my_offer their_offer mine theirs my held first (work_parameters my state false first.held parameters) one
+    (parameters_kept my_offer their_offer (after_effects first.effects mine) theirs my state false first.held parameters (one.tags tags) one.facts
     (parameters_grow theirs mine theirs (after_effects first.effects mine) my.tag parameters (same theirs) (after_within first.effects mine) are.1))
-parameters_kept my_offer their_offer mine theirs my is_reached true held (other_reset_parameter parameter ∷ parameters) tags h are =
-    parameters_kept my_offer their_offer mine theirs my is_reached true held parameters tags h are.1
-parameters_kept my_offer their_offer mine theirs my is_reached false held (other_reset_parameter parameter ∷ parameters) tags h are =
-    parameters_kept my_offer their_offer mine theirs my is_reached false held parameters tags h are.1
+parameters_kept my_offer their_offer mine theirs my state true held (other_reset_parameter parameter ∷ parameters) tags h are =
+    parameters_kept my_offer their_offer mine theirs my state true held parameters tags h are.1
+parameters_kept my_offer their_offer mine theirs my state false held (other_reset_parameter parameter ∷ parameters) tags h are =
+    parameters_kept my_offer their_offer mine theirs my state false held parameters tags h are.1
 
 -- ---- the chunk
 
@@ -127,12 +127,12 @@ answers_kept my_offer their_offer mine theirs my false held answers choices h ar
       pair = flush_pair held.peer.tag held [] choices.filling;
     }
 
-chunk_kept : (my_offer their_offer : Offer) (mine theirs : List Effect) (my : Pair) (is_reached : Bool) (held : Held) (parameters : List ResetParameter)
+chunk_kept : (my_offer their_offer : Offer) (mine theirs : List Effect) (my : Pair) (state : RequestState) (held : Held) (parameters : List ResetParameter)
     → SameTag mine → PeerFacts my_offer their_offer mine theirs my held → TrueParameters theirs mine my.tag parameters
-    → WorkedKept my_offer their_offer mine theirs my held (work_chunk my is_reached held parameters)
-chunk_kept my_offer their_offer mine theirs my is_reached held [] tags h are = nothing_worked my_offer their_offer mine theirs my held true h
-chunk_kept my_offer their_offer mine theirs my is_reached held (parameter ∷ parameters) tags h are =
-    parameters_kept my_offer their_offer mine theirs my is_reached false held (parameter ∷ parameters) tags h are
+    → WorkedKept my_offer their_offer mine theirs my held (work_chunk my state held parameters)
+chunk_kept my_offer their_offer mine theirs my state held [] tags h are = nothing_worked my_offer their_offer mine theirs my held true h
+chunk_kept my_offer their_offer mine theirs my state held (parameter ∷ parameters) tags h are =
+    parameters_kept my_offer their_offer mine theirs my state false held (parameter ∷ parameters) tags h are
 
 -- the whole chunk
 pub record ResetKept (my_offer their_offer : Offer) (mine theirs : List Effect) (my : Pair) (held : Held) (after : Informed) : Type 0 where
@@ -145,9 +145,9 @@ reset_kept : (my_offer their_offer : Offer) (mine theirs : List Effect) (my : Pa
     → SameTag mine → PeerFacts my_offer their_offer mine theirs my held → TrueParameters theirs mine my.tag parameters
     → ResetKept my_offer their_offer mine theirs my held (peer_part_handled my held parameters choices)
 reset_kept my_offer their_offer mine theirs my held parameters choices tags h are =
-    let worked : HandledParameters = work_chunk my choices.is_reached held parameters in
+    let worked : HandledParameters = work_chunk my choices.state held parameters in
     let past : List Effect = after_effects worked.effects mine in
-    let k : WorkedKept my_offer their_offer mine theirs my held worked = chunk_kept my_offer their_offer mine theirs my choices.is_reached held parameters tags h are in
+    let k : WorkedKept my_offer their_offer mine theirs my held worked = chunk_kept my_offer their_offer mine theirs my choices.state held parameters tags h are in
     let answers : TrueParameters past theirs worked.held.peer.tag worked.answers = subst (λ (p : Pair). TrueParameters past theirs p.tag worked.answers) (sym k.working.pair) k.answers in
     let sent : SentKept my_offer their_offer past theirs my worked.held (reset_sent worked.is_refused worked.held worked.answers choices) =
     answers_kept my_offer their_offer past theirs my worked.is_refused worked.held worked.answers choices k.working.facts answers in

@@ -9,7 +9,7 @@ use Rattle.dcsctp_spec_lemmas.specs.types.declared.capabilities.Capabilities.{Ca
 use Rattle.dcsctp_spec_lemmas.specs.types.declared.options.Options.{Options}
 use Rattle.dcsctp_spec_lemmas.specs.types.Offer.{Offer}
 use Rattle.dcsctp_spec_lemmas.specs.spec.Cookie.{Cookie, cookie_bytes}
-use Rattle.dcsctp_spec_lemmas.specs.spec.Reconfiguration.{RequestedReset}
+use Rattle.dcsctp_spec_lemmas.specs.spec.Reconfiguration.{early, due, RequestedReset}
 use Rattle.dcsctp_spec_lemmas.specs.spec.Packet.{Introduction, Content, Packet}
 use Rattle.dcsctp_spec_lemmas.specs.spec.endpoint.Endpoint.{Core}
 use Rattle.dcsctp_spec_lemmas.specs.spec.association.Effect.{AssociationIdentity, Effect, sends}
@@ -71,7 +71,7 @@ bytes_of maker addressee tie = cookie_bytes (cookie maker addressee tie)
 
 -- Packets fit, all data is acknowledged, and there is nothing to send.
 abbrev pub plain : Choices
-plain = record (idle_choices (pair 1 1)) { is_reached = false }
+plain = record (idle_choices (pair 1 1)) { state = early }
 
 abbrev pub with_drawn : Pair → Choices
 with_drawn drawn = record plain { drawn = drawn }
@@ -88,7 +88,7 @@ with_reset reset = record plain { filling = record nothing_to_send { reset = Som
 
 -- All data has come that was sent before a reset was requested.
 abbrev pub reached : Choices
-reached = record plain { is_reached = true }
+reached = record plain { state = due }
 
 -- ---- schedules
 

@@ -2,8 +2,8 @@
 use Rattle.std.specs.Prelude.{◌≡◌, ◌-◌, ◌^◌, ◌≤◌, List}
 use Rattle.dcsctp_spec_lemmas.specs.types.declared.options.Options.{Options}
 use Rattle.dcsctp_spec_lemmas.specs.types.Offer.{offer_of, negotiated}
-use Rattle.dcsctp_spec_lemmas.specs.spec.association.Effect.{AssociationIdentity, Effect, holds, connects, completes, performs}
-use Rattle.dcsctp_spec_runs.specs.Past.{HasEffect, Each, HasFreshTags, requests_begun}
+use Rattle.dcsctp_spec_lemmas.specs.spec.association.Effect.{AssociationIdentity, Effect, holds, connects, completes}
+use Rattle.dcsctp_spec_runs.specs.Past.{HasEffect, WasPerformed, Each, HasFreshTags, requests_begun}
 use Rattle.dcsctp_spec_runs.specs.World.{SideState, SideRun, side_after, at_a, at_b, World, WorldStep, world_after, WorldRun, steps_of}
 
 -- The two ends of one association match: each one's own pair is the other's peer pair.
@@ -23,11 +23,11 @@ pub record FindsCrossed (mine theirs : SideState) (link : AssociationIdentity) :
 abbrev pub ConnectsCrossed : SideState → SideState → Type 0
 ConnectsCrossed mine theirs = (link : AssociationIdentity) → HasEffect (connects link) mine.past → FindsCrossed mine theirs link
 
--- Only for `completes` (OnStreamsResetPerformed): the other performed a request of that number, in an association whose peer pair
--- is its own pair. That holds if in this lifetime of the association at most 2^32 - 1 requests were begun so far, as
+-- Only for `completes` (OnStreamsResetPerformed): the other performed a request of that number, or found that it is the one before,
+-- in an association whose peer pair is its own pair. That holds if in this lifetime of the association at most 2^32 - 1 requests were begun so far, as
 -- `requests_begun` counts. Of every other effect it says nothing.
 abbrev pub FindsPerformed : List Effect → Effect → List Effect → Type 0
-FindsPerformed theirs (completes my number) earlier = requests_begun earlier ≤ 2 ^ 32 - 1 → HasEffect (performs my number) theirs
+FindsPerformed theirs (completes my number) earlier = requests_begun earlier ≤ 2 ^ 32 - 1 → WasPerformed my number theirs
 FindsPerformed theirs effect earlier = Unit {0}
 
 pub record AgreesWithPeer (mine theirs : SideState) : Type 0 where

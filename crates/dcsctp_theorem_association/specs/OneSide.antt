@@ -4,7 +4,7 @@ use Rattle.dcsctp_spec_lemmas.specs.types.declared.options.Options.{Options}
 use Rattle.dcsctp_spec_lemmas.specs.types.declared.association.Pair.{Pair}
 use Rattle.dcsctp_spec_lemmas.specs.types.declared.association.Held.{Held}
 use Rattle.dcsctp_spec_lemmas.specs.spec.endpoint.Endpoint.{Core, closed, cookie_wait, cookie_echoed, open_in, established}
-use Rattle.dcsctp_spec_lemmas.specs.spec.association.Effect.{AssociationIdentity, Effect, draws, holds, connects, ends, begins, completes, fails, performs, resumes, Change, identity_of, identity_in}
+use Rattle.dcsctp_spec_lemmas.specs.spec.association.Effect.{AssociationIdentity, Effect, draws, holds, connects, ends, begins, completes, fails, performs, renews, resumes, Change, identity_of, identity_in}
 use Rattle.dcsctp_spec_lemmas.specs.wire.declared.reconfiguration.ReconfigurationResponseResult.{ReconfigurationResponseResult}
 use Rattle.dcsctp_spec_lemmas.specs.wire.declared.reconfiguration.ReconfigurationResponseResult.TheVariants.{SuccessNothingToDo, SuccessPerformed, Denied, ErrorWrongSSN, ErrorRequestAlreadyInProgress, ErrorBadSequenceNumber}
 use Rattle.dcsctp_spec_lemmas.specs.spec.Reconfiguration.{ResetParameter, reconfiguration_response}
@@ -75,6 +75,8 @@ pub record Means (core : Core) (change : Change) : Type 0 where
   pub completed : (my : Pair) (number : ℕ) → HasEffect (completes my number) change.effects
       → (link : AssociationIdentity) × (identity_in change.core ≡ Some link) × (link.my ≡ my)
   pub performed : (peer : Pair) (number : ℕ) → HasEffect (performs peer number) change.effects → (link : AssociationIdentity) × (identity_in change.core ≡ Some link)
+      × (link.peer ≡ peer)
+  pub renewed : (peer : Pair) (number : ℕ) → HasEffect (renews peer number) change.effects → (link : AssociationIdentity) × (identity_in change.core ≡ Some link)
       × (link.peer ≡ peer)
 
 abbrev pub EffectsMean : Type 0

@@ -18,7 +18,7 @@ use Rattle.dcsctp_spec_lemmas.specs.spec.endpoint.Turn.{Input, chunk_input, Turn
 use Rattle.dcsctp_spec_lemmas.specs.spec.endpoint.CallTurns.{Transition, IsTurn, AlongTurns, events_of}
 use Rattle.dcsctp_spec_lemmas.specs.spec.association.Choices.{Choices}
 use Rattle.dcsctp_spec_lemmas.specs.spec.association.CookieEchoChanges.{Resolution, establish_new, restart, simultaneous_init, discard, maintain_existing, invalid_tag, stale, aged, resolve, maintain_change}
-use Rattle.dcsctp_spec_lemmas.specs.spec.association.Effect.{AssociationIdentity, Effect, draws, sends, holds, connects, ends, begins, gives_up, completes, fails, accepts, performs, resumes, noted}
+use Rattle.dcsctp_spec_lemmas.specs.spec.association.Effect.{AssociationIdentity, Effect, draws, sends, holds, connects, ends, begins, gives_up, completes, fails, accepts, performs, renews, resumes, noted}
 use Rattle.dcsctp_spec_lemmas.specs.spec.association.Controlled.{IsControlled}
 use Rattle.dcsctp_spec_laws.specs.TurnLaws.{ChunksAreControlled, ActsAreControlled}
 use Rattle.dcsctp_spec_runs.specs.Past.{HasEffect}
@@ -157,6 +157,8 @@ not_noted (accepts number ∷ effects) link none (inl is) = absurd (cc)
 not_noted (accepts number ∷ effects) link none (inr has) = not_noted effects link none.1 has
 not_noted (performs peer number ∷ effects) link none (inl is) = absurd (cc)
 not_noted (performs peer number ∷ effects) link none (inr has) = not_noted effects link none.1 has
+not_noted (renews peer number ∷ effects) link none (inl is) = absurd (cc)
+not_noted (renews peer number ∷ effects) link none (inr has) = not_noted effects link none.1 has
 not_noted (resumes other own last ∷ effects) link none (inl is) = absurd (cc)
 not_noted (resumes other own last ∷ effects) link none (inr has) = not_noted effects link none.1 has
 

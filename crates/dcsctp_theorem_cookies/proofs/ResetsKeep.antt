@@ -5,12 +5,12 @@ use Rattle.dcsctp_spec_lemmas.specs.wire.declared.reconfiguration.Reconfiguratio
 use Rattle.dcsctp_spec_lemmas.specs.wire.declared.reconfiguration.ReconfigurationResponseResult.TheVariants.{InProgress}
 use Rattle.dcsctp_spec_lemmas.specs.types.declared.association.Pair.{Pair}
 use Rattle.dcsctp_spec_lemmas.specs.types.declared.association.Held.{Held}
-use Rattle.dcsctp_spec_lemmas.specs.spec.Reconfiguration.{ResetParameter, RequestedReset, outgoing_reset_request, incoming_reset_request, reconfiguration_response, other_reset_parameter}
+use Rattle.dcsctp_spec_lemmas.specs.spec.Reconfiguration.{RequestState, early, due, renewed, ResetParameter, RequestedReset, outgoing_reset_request, incoming_reset_request, reconfiguration_response, other_reset_parameter}
 use Rattle.dcsctp_spec_lemmas.specs.spec.Packet.{re_config}
 use Rattle.dcsctp_spec_lemmas.specs.spec.endpoint.Endpoint.{Core, cookie_echoed, open_in}
 use Rattle.dcsctp_spec_lemmas.specs.spec.association.Choices.{Choices}
 use Rattle.dcsctp_spec_lemmas.specs.spec.association.FlushChanges.{reset_request, flush}
-use Rattle.dcsctp_spec_lemmas.specs.spec.association.ResetChanges.{RequestPlace, again, next, astray, request_place, RequestOutcome, performed_request, repeated, outgoing_by, incoming_by, Informed, informed_where, is_outstanding, HandledParameters, work_parameters, work_chunk, answers_emitted, reset_sent, peer_part_handled, re_config_change}
+use Rattle.dcsctp_spec_lemmas.specs.spec.association.ResetChanges.{RequestPlace, again, next, astray, request_place, RequestOutcome, performed_request, repeated, next_request, is_due, outgoing_by, incoming_by, Informed, informed_where, is_outstanding, HandledParameters, work_parameters, work_chunk, answers_emitted, reset_sent, peer_part_handled, re_config_change}
 use Rattle.dcsctp_spec_lemmas.specs.spec.association.Acts.{request_sent, request_again_change, renewed_by, request_renewed_change}
 use Rattle.dcsctp_theorem_cookies.proofs.CookieRules.{Rules, EffectsKeep, CoreKeeps, ChangeKeeps, unchanged_keeps, effects_append, alone_keeps, flush_keeps}
 
@@ -25,10 +25,15 @@ module _ (rules : Rules) where
   repeated_keeps held InProgress is_reached = worked_keeps held held.peer_last is_reached
   repeated_keeps held result is_reached = tt
 
-  outgoing_keeps : (held : Held) (number : ℕ) (is_reached : Bool) (place : RequestPlace) → EffectsKeep rules (outgoing_by held number is_reached place).effects
-  outgoing_keeps held number is_reached again = repeated_keeps held held.peer_result is_reached
-  outgoing_keeps held number is_reached next = (tt, worked_keeps held number is_reached)
-  outgoing_keeps held number is_reached astray = tt
+  next_keeps : (held : Held) (number : ℕ) (state : RequestState) → EffectsKeep rules (next_request held number state).effects
+  next_keeps held number early = tt
+  next_keeps held number due = (tt, tt)
+  next_keeps held number renewed = (tt, tt)
+
+  outgoing_keeps : (held : Held) (number : ℕ) (state : RequestState) (place : RequestPlace) → EffectsKeep rules (outgoing_by held number state place).effects
+  outgoing_keeps held number state again = repeated_keeps held held.peer_result (is_due state)
+  outgoing_keeps held number state next = (tt, next_keeps held number state)
+  outgoing_keeps held number state astray = tt
 
   incoming_keeps : (held : Held) (number : ℕ) (place : RequestPlace) → EffectsKeep rules (incoming_by held number place).effects
   incoming_keeps held number next = (tt, tt)
@@ -39,27 +44,27 @@ module _ (rules : Rules) where
   informed_keeps my held number InProgress true = tt
   informed_keeps my held number result true = (tt, tt)
 
-  parameters_keep : (my : Pair) (is_reached has_worked : Bool) (held : Held) (parameters : List ResetParameter)
-      → EffectsKeep rules (work_parameters my is_reached has_worked held parameters).effects
-  parameters_keep my is_reached has_worked held [] = tt
-  parameters_keep my is_reached true held (outgoing_reset_request number answered reset ∷ parameters) = tt
-  parameters_keep my is_reached false held (outgoing_reset_request number answered reset ∷ parameters) =
-      let first : RequestOutcome = outgoing_by held number is_reached (request_place held.peer_last number) in
-      effects_append rules first.effects (work_parameters my is_reached true first.held parameters).effects
-      (outgoing_keeps held number is_reached (request_place held.peer_last number)) (parameters_keep my is_reached true first.held parameters)
-  parameters_keep my is_reached has_worked held (incoming_reset_request number streams ∷ parameters) =
+  parameters_keep : (my : Pair) (state : RequestState) (has_worked : Bool) (held : Held) (parameters : List ResetParameter)
+      → EffectsKeep rules (work_parameters my state has_worked held parameters).effects
+  parameters_keep my state has_worked held [] = tt
+  parameters_keep my state true held (outgoing_reset_request number answered reset ∷ parameters) = tt
+  parameters_keep my state false held (outgoing_reset_request number answered reset ∷ parameters) =
+      let first : RequestOutcome = outgoing_by held number state (request_place held.peer_last number) in
+      effects_append rules first.effects (work_parameters my state true first.held parameters).effects
+      (outgoing_keeps held number state (request_place held.peer_last number)) (parameters_keep my state true first.held parameters)
+  parameters_keep my state has_worked held (incoming_reset_request number streams ∷ parameters) =
       let first : RequestOutcome = incoming_by held number (request_place held.peer_last number) in
-      effects_append rules first.effects (work_parameters my is_reached has_worked first.held parameters).effects
-      (incoming_keeps held number (request_place held.peer_last number)) (parameters_keep my is_reached has_worked first.held parameters)
-  parameters_keep my is_reached has_worked held (reconfiguration_response number result ∷ parameters) =
+      effects_append rules first.effects (work_parameters my state has_worked first.held parameters).effects
+      (incoming_keeps held number (request_place held.peer_last number)) (parameters_keep my state has_worked first.held parameters)
+  parameters_keep my state has_worked held (reconfiguration_response number result ∷ parameters) =
       let first : Informed = informed_where my held number result (is_outstanding number held.own_outstanding) in
-      effects_append rules first.effects (work_parameters my is_reached has_worked first.held parameters).effects
-      (informed_keeps my held number result (is_outstanding number held.own_outstanding)) (parameters_keep my is_reached has_worked first.held parameters)
-  parameters_keep my is_reached has_worked held (other_reset_parameter parameter ∷ parameters) = parameters_keep my is_reached has_worked held parameters
+      effects_append rules first.effects (work_parameters my state has_worked first.held parameters).effects
+      (informed_keeps my held number result (is_outstanding number held.own_outstanding)) (parameters_keep my state has_worked first.held parameters)
+  parameters_keep my state has_worked held (other_reset_parameter parameter ∷ parameters) = parameters_keep my state has_worked held parameters
 
-  chunk_keeps_in : (my : Pair) (is_reached : Bool) (held : Held) (parameters : List ResetParameter) → EffectsKeep rules (work_chunk my is_reached held parameters).effects
-  chunk_keeps_in my is_reached held [] = tt
-  chunk_keeps_in my is_reached held (parameter ∷ parameters) = parameters_keep my is_reached false held (parameter ∷ parameters)
+  chunk_keeps_in : (my : Pair) (state : RequestState) (held : Held) (parameters : List ResetParameter) → EffectsKeep rules (work_chunk my state held parameters).effects
+  chunk_keeps_in my state held [] = tt
+  chunk_keeps_in my state held (parameter ∷ parameters) = parameters_keep my state false held (parameter ∷ parameters)
 
   answers_keep : (fits : Bool) (tag : ℕ) (answers : List ResetParameter) → EffectsKeep rules (answers_emitted fits tag answers)
   answers_keep fits tag [] = tt
@@ -73,9 +78,9 @@ module _ (rules : Rules) where
 
   reset_keeps : (my : Pair) (held : Held) (parameters : List ResetParameter) (choices : Choices) → EffectsKeep rules (peer_part_handled my held parameters choices).effects
   reset_keeps my held parameters choices =
-      let first : HandledParameters = work_chunk my choices.is_reached held parameters in
+      let first : HandledParameters = work_chunk my choices.state held parameters in
       effects_append rules first.effects (reset_sent first.is_refused first.held first.answers choices).effects
-      (chunk_keeps_in my choices.is_reached held parameters) (reset_sent_keeps first.is_refused first.held first.answers choices)
+      (chunk_keeps_in my choices.state held parameters) (reset_sent_keeps first.is_refused first.held first.answers choices)
 
   pub re_config_keeps : (core : Core) (parameters : List ResetParameter) (choices : Choices) → CoreKeeps rules core → ChangeKeeps rules (re_config_change core parameters choices)
   re_config_keeps (cookie_echoed my held bytes) parameters choices h = record { effects = reset_keeps my held parameters choices; core = h }

@@ -22,8 +22,8 @@ use Rattle.dcsctp_spec_lemmas.specs.spec.endpoint.HeartbeatOutcomes.{heartbeat_o
 use Rattle.dcsctp_spec_lemmas.specs.spec.endpoint.OwnTimers.{OwnTimer, acknowledgement_delay, retransmission, heartbeat_interval, heartbeat_timeout, reconfiguration, TimerTurn}
 use Rattle.dcsctp_spec_lemmas.specs.spec.endpoint.PlainOutcomes.{PlainTurn, PlainTurnBy, violation_by, violation_at, is_reported, after_unknown, unknown_bytes, unknown_chunk_outcome, error_outcome}
 use Rattle.dcsctp_spec_lemmas.specs.spec.endpoint.ReconfigurationOutcomes.{reset_again, request_emitted, renewed_request_where, request_renewed, request_unless, is_renewed, request_errors, request_expired, reconfiguration_outcome}
-use Rattle.dcsctp_spec_lemmas.specs.spec.endpoint.ResetOutcomes.{requested_in, is_request_reached, parameters_handled_in, OwnAnswer, answered_in, reset_events, reset_events_of, reset_refusal_text, resets_handled, responses_outcome, core_with, responses_by, ResponseAnswers, WorksResets, ResetTurn}
-use Rattle.dcsctp_spec_laws.proofs.ResetLemmas.{AreResets, nothing, acceptance, performance, completion, failure, chunk_brings}
+use Rattle.dcsctp_spec_lemmas.specs.spec.endpoint.ResetOutcomes.{request_state, renewable_left, parameters_handled_in, OwnAnswer, answered_in, reset_events, reset_events_of, reset_refusal_text, resets_handled, responses_outcome, core_with, responses_by, ResponseAnswers, WorksResets, ResetTurn, requested_in, is_request_reached}
+use Rattle.dcsctp_spec_laws.proofs.ResetLemmas.{AreResets, nothing, acceptance, performance, renewal, completion, failure, chunk_brings}
 use Rattle.dcsctp_theorem_sockets.specs.Bursts.{packets_of_plain, packets_of_timer}
 use Rattle.dcsctp_theorem_sockets.proofs.Bursts.{count, append_few, none_in_front, Few, none, one, emits_core, emits_few, HasPeer, allowed_after, flush_is_burst}
 use Rattle.dcsctp_theorem_sockets.proofs.BurstData.{IsBehind, data_few, forward_few, sack_behind, delay_few, loss_few}
@@ -111,6 +111,7 @@ told_few : (theirs own : List ℕ) (es : List Effect) → AreResets es → count
 told_few theirs own _ nothing = none 0
 told_few theirs own _ (acceptance number es are) = told_few theirs own es are
 told_few theirs own _ (performance peer number es are) = told_few theirs own es are
+told_few theirs own _ (renewal peer number es are) = told_few theirs own es are
 told_few theirs own _ (completion my number es are) = told_few theirs own es are
 told_few theirs own _ (failure number es are) = told_few theirs own es are
 
@@ -144,10 +145,10 @@ with_peer (open_in phase my own) held peer = tt
 works_behind : (e : Endpoint) (my : Pair) (held : Held) (parameters : List ResetParameter) (o : Outcome) → HasPeer e.core → WorksResets e my held parameters o → IsBehind 1 o
 works_behind e my held parameters o peer turn =
     let w : HandledParameters = parameters_handled_in e my held parameters in
-    let brought = chunk_brings my (is_request_reached e.queues.transfer (requested_in parameters)) held parameters in
+    let brought = chunk_brings my (request_state e held parameters) held parameters in
     let answer : OwnAnswer = answered_in held w parameters in
     subst (IsBehind 1) (sym turn.is)
-    (sent_behind w.is_refused (resets_handled e answer w.held turn.left) (reset_events_of e parameters w.effects) w.held parameters w.answers turn.answers (with_peer e.core w.held peer) turn.allowed
+    (sent_behind w.is_refused (resets_handled e answer w.held turn.left (renewable_left e held w parameters)) (reset_events_of e parameters w.effects) w.held parameters w.answers turn.answers (with_peer e.core w.held peer) turn.allowed
     (told_few _ _ w.effects brought.are))
 
 pub reset_behind : (e : Endpoint) (core : Core) (parameters : List ResetParameter) (o : Outcome) → e.core ≡ core → ResetTurn e core parameters o → IsBehind 1 o

@@ -11,7 +11,7 @@ use Rattle.dcsctp_spec_lemmas.specs.spec.endpoint.Outcome.{Outcome}
 use Rattle.dcsctp_spec_lemmas.specs.types.Settings.{SameOptions}
 use Rattle.dcsctp_spec_lemmas.specs.spec.endpoint.CallTurns.{Transition, after_all, effects_of, events_of, pairs_of}
 use Rattle.dcsctp_spec_lemmas.specs.spec.association.Controlled.{IsControlled}
-use Rattle.dcsctp_spec_lemmas.specs.spec.association.Effect.{AssociationIdentity, Effect, draws, sends, holds, connects, ends, begins, gives_up, completes, fails, accepts, performs, resumes, drawn_in, noted, Change, unchanged, identity_in}
+use Rattle.dcsctp_spec_lemmas.specs.spec.association.Effect.{AssociationIdentity, Effect, draws, sends, holds, connects, ends, begins, gives_up, completes, fails, accepts, performs, renews, resumes, drawn_in, noted, Change, unchanged, identity_in}
 use Rattle.dcsctp_spec_runs.specs.Laws.{AllControlled}
 use Rattle.dcsctp_spec_runs.specs.Past.{HasEffect, HasFreshTags}
 use Rattle.dcsctp_spec_runs.specs.World.{SideState, after_effects, after_change, after_changes, ControlTurn, ControlTurns}
@@ -87,6 +87,7 @@ drawn_noted (completes my number ∷ effects) = drawn_noted effects
 drawn_noted (fails number ∷ effects) = drawn_noted effects
 drawn_noted (accepts number ∷ effects) = drawn_noted effects
 drawn_noted (performs peer number ∷ effects) = drawn_noted effects
+drawn_noted (renews peer number ∷ effects) = drawn_noted effects
 drawn_noted (resumes link own last ∷ effects) = drawn_noted effects
 
 pub noted_after : (effects past : List Effect) → noted (after_effects effects past) ≡ after_effects (noted effects) (noted past)
@@ -102,6 +103,7 @@ noted_after (completes my number ∷ effects) past = noted_after effects (comple
 noted_after (fails number ∷ effects) past = noted_after effects (fails number ∷ past)
 noted_after (accepts number ∷ effects) past = noted_after effects (accepts number ∷ past)
 noted_after (performs peer number ∷ effects) past = noted_after effects (performs peer number ∷ past)
+noted_after (renews peer number ∷ effects) past = noted_after effects (renews peer number ∷ past)
 noted_after (resumes link own last ∷ effects) past = noted_after effects (resumes link own last ∷ past)
 
 pub after_both : (xs ys past : List Effect) → after_effects (xs ++ ys) past ≡ after_effects ys (after_effects xs past)

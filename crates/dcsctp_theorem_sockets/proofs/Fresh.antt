@@ -2,7 +2,7 @@
 use Rattle.std.proofs.Common.{◌≡◌, ◌≢◌, List, [], ◌∷◌, ◌++◌, ◌⊎◌, inl, inr, sym, subst, append_assoc}
 use Rattle.std.specs.List.{AllByRecursion}
 use Rattle.dcsctp_spec_lemmas.specs.types.declared.association.Pair.{Pair}
-use Rattle.dcsctp_spec_lemmas.specs.spec.association.Effect.{drawn_in, Effect, draws, sends, holds, connects, ends, begins, gives_up, completes, fails, accepts, performs, resumes}
+use Rattle.dcsctp_spec_lemmas.specs.spec.association.Effect.{drawn_in, Effect, draws, sends, holds, connects, ends, begins, gives_up, completes, fails, accepts, performs, renews, resumes}
 use Rattle.dcsctp_spec_runs.specs.Past.{HasEffect, HasFreshTags}
 use Rattle.dcsctp_spec_runs.specs.World.{after_effects}
 use Rattle.dcsctp_theorem_sockets.specs.Agreement.{HasDistinctTags}
@@ -46,6 +46,8 @@ drawn_pair pair (accepts number ∷ effects) (inr h) = drawn_pair pair effects h
 drawn_pair pair (performs peer number ∷ effects) (inl is) = absurd (cc)
 drawn_pair pair (resumes link own last ∷ effects) (inl is) = absurd (cc)
 drawn_pair pair (performs peer number ∷ effects) (inr h) = drawn_pair pair effects h
+drawn_pair pair (renews peer number ∷ effects) (inl is) = absurd (cc)
+drawn_pair pair (renews peer number ∷ effects) (inr h) = drawn_pair pair effects h
 drawn_pair pair (resumes link own last ∷ effects) (inr h) = drawn_pair pair effects h
 
 -- ---- distinct tags
@@ -95,4 +97,5 @@ stays_fresh (completes my number ∷ effects) past known fresh knows distinct = 
 stays_fresh (fails number ∷ effects) past known fresh knows distinct = stays_fresh effects (fails number ∷ past) known (tt, fresh) (λ other h. elim h [ inl is ↦ absurd (cc) | inr before ↦ knows other before ]) distinct
 stays_fresh (accepts number ∷ effects) past known fresh knows distinct = stays_fresh effects (accepts number ∷ past) known (tt, fresh) (λ other h. elim h [ inl is ↦ absurd (cc) | inr before ↦ knows other before ]) distinct
 stays_fresh (performs peer number ∷ effects) past known fresh knows distinct = stays_fresh effects (performs peer number ∷ past) known (tt, fresh) (λ other h. elim h [ inl is ↦ absurd (cc) | inr before ↦ knows other before ]) distinct
+stays_fresh (renews peer number ∷ effects) past known fresh knows distinct = stays_fresh effects (renews peer number ∷ past) known (tt, fresh) (λ other h. elim h [ inl is ↦ absurd (cc) | inr before ↦ knows other before ]) distinct
 stays_fresh (resumes link own last ∷ effects) past known fresh knows distinct = stays_fresh effects (resumes link own last ∷ past) known (tt, fresh) (λ other h. elim h [ inl is ↦ absurd (cc) | inr before ↦ knows other before ]) distinct

@@ -5,12 +5,12 @@ use Rattle.dcsctp_spec_lemmas.specs.types.declared.association.Pair.{Pair}
 use Rattle.dcsctp_spec_lemmas.specs.types.declared.association.Held.{Held}
 use Rattle.dcsctp_spec_lemmas.specs.wire.declared.reconfiguration.ReconfigurationResponseResult.{ReconfigurationResponseResult}
 use Rattle.dcsctp_spec_lemmas.specs.wire.declared.reconfiguration.ReconfigurationResponseResult.TheVariants.{InProgress}
-use Rattle.dcsctp_spec_lemmas.specs.spec.Reconfiguration.{ResetParameter, RequestedReset, outgoing_reset_request, incoming_reset_request, reconfiguration_response, other_reset_parameter}
+use Rattle.dcsctp_spec_lemmas.specs.spec.Reconfiguration.{RequestState, early, due, renewed, ResetParameter, RequestedReset, outgoing_reset_request, incoming_reset_request, reconfiguration_response, other_reset_parameter}
 use Rattle.dcsctp_spec_lemmas.specs.spec.Packet.{Plain, Content, re_config}
 use Rattle.dcsctp_spec_lemmas.specs.spec.association.Effect.{Effect, holds, emitted, emitted_alone}
 use Rattle.dcsctp_spec_lemmas.specs.spec.association.Choices.{plain_contents, Filling, Choices}
 use Rattle.dcsctp_spec_lemmas.specs.spec.association.FlushChanges.{Flushed, reset_request, reset_to_begin, further_packets, chunks_behind, flushed_with, flush_where, flush}
-use Rattle.dcsctp_spec_lemmas.specs.spec.association.ResetChanges.{RequestPlace, again, next, astray, request_place, RequestOutcome, performed_request, repeated, outgoing_by, incoming_by, Informed, informed_where, is_outstanding, HandledParameters, work_parameters, work_chunk, answers_emitted, reset_sent, peer_part_handled}
+use Rattle.dcsctp_spec_lemmas.specs.spec.association.ResetChanges.{RequestPlace, again, next, astray, request_place, RequestOutcome, performed_request, repeated, next_request, is_due, outgoing_by, incoming_by, Informed, informed_where, is_outstanding, HandledParameters, work_parameters, work_chunk, answers_emitted, reset_sent, peer_part_handled}
 use Rattle.dcsctp_spec_lemmas.specs.spec.association.Acts.{sent_then_flushed, request_sent, renewed_by}
 
 -- It isn't that an association is there from here on.
@@ -78,10 +78,15 @@ none-repeated : (held : Held) (result : ReconfigurationResponseResult) (is_reach
 none-repeated held InProgress is_reached = none-worked held held.peer_last is_reached
 none-repeated held result is_reached = tt
 
-none-outgoing : (held : Held) (number : ℕ) (is_reached : Bool) (place : RequestPlace) → HoldsNone (outgoing_by held number is_reached place).effects
-none-outgoing held number is_reached again = none-repeated held held.peer_result is_reached
-none-outgoing held number is_reached next = (tt, none-worked held number is_reached)
-none-outgoing held number is_reached astray = tt
+none-next : (held : Held) (number : ℕ) (state : RequestState) → HoldsNone (next_request held number state).effects
+none-next held number early = tt
+none-next held number due = (tt, tt)
+none-next held number renewed = (tt, tt)
+
+none-outgoing : (held : Held) (number : ℕ) (state : RequestState) (place : RequestPlace) → HoldsNone (outgoing_by held number state place).effects
+none-outgoing held number state again = none-repeated held held.peer_result (is_due state)
+none-outgoing held number state next = (tt, none-next held number state)
+none-outgoing held number state astray = tt
 
 none-incoming : (held : Held) (number : ℕ) (place : RequestPlace) → HoldsNone (incoming_by held number place).effects
 none-incoming held number again = tt
@@ -93,26 +98,26 @@ none-informed my held number result false = tt
 none-informed my held number InProgress true = tt
 none-informed my held number result true = (tt, tt)
 
-none-parameters : (my : Pair) (is_reached has_worked : Bool) (held : Held) (parameters : List ResetParameter) → HoldsNone (work_parameters my is_reached has_worked held parameters).effects
-none-parameters my is_reached has_worked held [] = tt
-none-parameters my is_reached true held (outgoing_reset_request number answered reset ∷ parameters) = tt
-none-parameters my is_reached false held (outgoing_reset_request number answered reset ∷ parameters) =
-    let first : RequestOutcome = outgoing_by held number is_reached (request_place held.peer_last number) in
-    none-append first.effects (work_parameters my is_reached true first.held parameters).effects
-    (none-outgoing held number is_reached (request_place held.peer_last number)) (none-parameters my is_reached true first.held parameters)
-none-parameters my is_reached has_worked held (incoming_reset_request number streams ∷ parameters) =
+none-parameters : (my : Pair) (state : RequestState) (has_worked : Bool) (held : Held) (parameters : List ResetParameter) → HoldsNone (work_parameters my state has_worked held parameters).effects
+none-parameters my state has_worked held [] = tt
+none-parameters my state true held (outgoing_reset_request number answered reset ∷ parameters) = tt
+none-parameters my state false held (outgoing_reset_request number answered reset ∷ parameters) =
+    let first : RequestOutcome = outgoing_by held number state (request_place held.peer_last number) in
+    none-append first.effects (work_parameters my state true first.held parameters).effects
+    (none-outgoing held number state (request_place held.peer_last number)) (none-parameters my state true first.held parameters)
+none-parameters my state has_worked held (incoming_reset_request number streams ∷ parameters) =
     let first : RequestOutcome = incoming_by held number (request_place held.peer_last number) in
-    none-append first.effects (work_parameters my is_reached has_worked first.held parameters).effects
-    (none-incoming held number (request_place held.peer_last number)) (none-parameters my is_reached has_worked first.held parameters)
-none-parameters my is_reached has_worked held (reconfiguration_response number result ∷ parameters) =
+    none-append first.effects (work_parameters my state has_worked first.held parameters).effects
+    (none-incoming held number (request_place held.peer_last number)) (none-parameters my state has_worked first.held parameters)
+none-parameters my state has_worked held (reconfiguration_response number result ∷ parameters) =
     let first : Informed = informed_where my held number result (is_outstanding number held.own_outstanding) in
-    none-append first.effects (work_parameters my is_reached has_worked first.held parameters).effects
-    (none-informed my held number result (is_outstanding number held.own_outstanding)) (none-parameters my is_reached has_worked first.held parameters)
-none-parameters my is_reached has_worked held (other_reset_parameter parameter ∷ parameters) = none-parameters my is_reached has_worked held parameters
+    none-append first.effects (work_parameters my state has_worked first.held parameters).effects
+    (none-informed my held number result (is_outstanding number held.own_outstanding)) (none-parameters my state has_worked first.held parameters)
+none-parameters my state has_worked held (other_reset_parameter parameter ∷ parameters) = none-parameters my state has_worked held parameters
 
-none-chunk : (my : Pair) (is_reached : Bool) (held : Held) (parameters : List ResetParameter) → HoldsNone (work_chunk my is_reached held parameters).effects
-none-chunk my is_reached held [] = tt
-none-chunk my is_reached held (parameter ∷ parameters) = none-parameters my is_reached false held (parameter ∷ parameters)
+none-chunk : (my : Pair) (state : RequestState) (held : Held) (parameters : List ResetParameter) → HoldsNone (work_chunk my state held parameters).effects
+none-chunk my state held [] = tt
+none-chunk my state held (parameter ∷ parameters) = none-parameters my state false held (parameter ∷ parameters)
 
 none-answers : (fits : Bool) (tag : ℕ) (answers : List ResetParameter) → HoldsNone (answers_emitted fits tag answers)
 none-answers fits tag [] = tt
@@ -126,6 +131,6 @@ none-reset_sent false held answers choices =
 
 pub none-reset : (my : Pair) (held : Held) (parameters : List ResetParameter) (choices : Choices) → HoldsNone (peer_part_handled my held parameters choices).effects
 none-reset my held parameters choices =
-    let first : HandledParameters = work_chunk my choices.is_reached held parameters in
+    let first : HandledParameters = work_chunk my choices.state held parameters in
     let after : Flushed = reset_sent first.is_refused first.held first.answers choices in
-    none-append first.effects after.effects (none-chunk my choices.is_reached held parameters) (none-reset_sent first.is_refused first.held first.answers choices)
+    none-append first.effects after.effects (none-chunk my choices.state held parameters) (none-reset_sent first.is_refused first.held first.answers choices)

@@ -1,8 +1,8 @@
 -- The recorded past, which has no packets, leaves what the whole past leaves.
 use Rattle.std.proofs.Common.{◌≡◌, ℕ, ◌+◌, ◌-◌, ◌^◌, ◌≤◌, List, [], ◌∷◌, inl, inr, refl, subst, ap, ◌∙◌}
 use Rattle.dcsctp_spec_lemmas.specs.types.declared.association.Pair.{Pair}
-use Rattle.dcsctp_spec_lemmas.specs.spec.association.Effect.{Effect, draws, sends, holds, connects, ends, begins, gives_up, completes, fails, accepts, performs, resumes, noted}
-use Rattle.dcsctp_spec_runs.specs.Past.{HasEffect, Each, InPlace, current, unconnected, number_to_begin, outstanding, requests_begun, number_to_accept, number_to_perform, my_of, peer_of}
+use Rattle.dcsctp_spec_lemmas.specs.spec.association.Effect.{Effect, draws, sends, holds, connects, ends, begins, gives_up, completes, fails, accepts, performs, renews, resumes, noted}
+use Rattle.dcsctp_spec_runs.specs.Past.{HasEffect, WasPerformed, Each, InPlace, current, unconnected, number_to_begin, outstanding, requests_begun, number_to_accept, number_to_perform, my_of, peer_of}
 use Rattle.dcsctp_theorem_association.specs.Agreement.{FindsPerformed}
 
 -- ---- each thing that the past leaves
@@ -20,6 +20,7 @@ current-noted (fails number ∷ past) = current-noted past
 current-noted (gives_up number ∷ past) = current-noted past
 current-noted (accepts number ∷ past) = current-noted past
 current-noted (performs peer number ∷ past) = current-noted past
+current-noted (renews peer number ∷ past) = current-noted past
 current-noted (resumes link own last ∷ past) = refl
 
 unconnected-noted : (past : List Effect) → unconnected (noted past) ≡ unconnected past
@@ -35,6 +36,7 @@ unconnected-noted (fails number ∷ past) = unconnected-noted past
 unconnected-noted (gives_up number ∷ past) = unconnected-noted past
 unconnected-noted (accepts number ∷ past) = unconnected-noted past
 unconnected-noted (performs peer number ∷ past) = unconnected-noted past
+unconnected-noted (renews peer number ∷ past) = unconnected-noted past
 unconnected-noted (resumes link own last ∷ past) = refl
 
 pub number_to_begin-noted : (past : List Effect) → number_to_begin (noted past) ≡ number_to_begin past
@@ -50,6 +52,7 @@ number_to_begin-noted (fails number ∷ past) = number_to_begin-noted past
 number_to_begin-noted (gives_up number ∷ past) = number_to_begin-noted past
 number_to_begin-noted (accepts number ∷ past) = number_to_begin-noted past
 number_to_begin-noted (performs peer number ∷ past) = number_to_begin-noted past
+number_to_begin-noted (renews peer number ∷ past) = number_to_begin-noted past
 number_to_begin-noted (resumes link own last ∷ past) = refl
 
 pub outstanding-noted : (past : List Effect) → outstanding (noted past) ≡ outstanding past
@@ -65,6 +68,7 @@ outstanding-noted (fails number ∷ past) = refl
 outstanding-noted (gives_up number ∷ past) = refl
 outstanding-noted (accepts number ∷ past) = outstanding-noted past
 outstanding-noted (performs peer number ∷ past) = outstanding-noted past
+outstanding-noted (renews peer number ∷ past) = outstanding-noted past
 outstanding-noted (resumes link own last ∷ past) = refl
 
 pub number_to_accept-noted : (past : List Effect) → number_to_accept (noted past) ≡ number_to_accept past
@@ -80,6 +84,7 @@ number_to_accept-noted (fails number ∷ past) = number_to_accept-noted past
 number_to_accept-noted (gives_up number ∷ past) = number_to_accept-noted past
 number_to_accept-noted (accepts number ∷ past) = refl
 number_to_accept-noted (performs peer number ∷ past) = number_to_accept-noted past
+number_to_accept-noted (renews peer number ∷ past) = number_to_accept-noted past
 number_to_accept-noted (resumes link own last ∷ past) = refl
 
 number_to_perform-noted : (past : List Effect) → number_to_perform (noted past) ≡ number_to_perform past
@@ -95,6 +100,7 @@ number_to_perform-noted (fails number ∷ past) = number_to_perform-noted past
 number_to_perform-noted (gives_up number ∷ past) = number_to_perform-noted past
 number_to_perform-noted (accepts number ∷ past) = refl
 number_to_perform-noted (performs peer number ∷ past) = refl
+number_to_perform-noted (renews peer number ∷ past) = refl
 number_to_perform-noted (resumes link own last ∷ past) = refl
 
 requests_begun-noted : (past : List Effect) → requests_begun (noted past) ≡ requests_begun past
@@ -110,6 +116,7 @@ requests_begun-noted (fails number ∷ past) = requests_begun-noted past
 requests_begun-noted (gives_up number ∷ past) = requests_begun-noted past
 requests_begun-noted (accepts number ∷ past) = requests_begun-noted past
 requests_begun-noted (performs peer number ∷ past) = requests_begun-noted past
+requests_begun-noted (renews peer number ∷ past) = requests_begun-noted past
 requests_begun-noted (resumes link own last ∷ past) = refl
 
 -- ---- each effect in its place
@@ -127,6 +134,7 @@ in_place-noted (fails number ∷ past) each = (outstanding-noted past ∙ each.0
 in_place-noted (gives_up number ∷ past) each = (outstanding-noted past ∙ each.0, in_place-noted past each.1)
 in_place-noted (accepts number ∷ past) each = (number_to_accept-noted past ∙ each.0, in_place-noted past each.1)
 in_place-noted (performs peer number ∷ past) each = ((number_to_perform-noted past ∙ each.0.0, ap peer_of (current-noted past) ∙ each.0.1), in_place-noted past each.1)
+in_place-noted (renews peer number ∷ past) each = ((number_to_perform-noted past ∙ each.0.0, ap peer_of (current-noted past) ∙ each.0.1), in_place-noted past each.1)
 in_place-noted (resumes link own last ∷ past) each = (current-noted past ∙ each.0, in_place-noted past each.1)
 
 -- ---- performed requests
@@ -155,8 +163,43 @@ performs_noted my number (accepts other ∷ past) (inl is) = inl is
 performs_noted my number (accepts other ∷ past) (inr has) = inr (performs_noted my number past has)
 performs_noted my number (performs peer other ∷ past) (inl is) = inl is
 performs_noted my number (performs peer other ∷ past) (inr has) = inr (performs_noted my number past has)
+performs_noted my number (renews peer other ∷ past) (inl is) = inl is
+performs_noted my number (renews peer other ∷ past) (inr has) = inr (performs_noted my number past has)
 performs_noted my number (resumes link own last ∷ past) (inl is) = inl is
 performs_noted my number (resumes link own last ∷ past) (inr has) = inr (performs_noted my number past has)
+
+renews_noted : (my : Pair) (number : ℕ) (past : List Effect) → HasEffect (renews my number) past → HasEffect (renews my number) (noted past)
+renews_noted my number [] has = absurd has
+renews_noted my number (draws pair ∷ past) (inl is) = inl is
+renews_noted my number (draws pair ∷ past) (inr has) = inr (renews_noted my number past has)
+renews_noted my number (sends packet ∷ past) (inl is) = absurd (cc)
+renews_noted my number (sends packet ∷ past) (inr has) = renews_noted my number past has
+renews_noted my number (holds link ∷ past) (inl is) = inl is
+renews_noted my number (holds link ∷ past) (inr has) = inr (renews_noted my number past has)
+renews_noted my number (connects link ∷ past) (inl is) = inl is
+renews_noted my number (connects link ∷ past) (inr has) = inr (renews_noted my number past has)
+renews_noted my number (ends ∷ past) (inl is) = inl is
+renews_noted my number (ends ∷ past) (inr has) = inr (renews_noted my number past has)
+renews_noted my number (begins other ∷ past) (inl is) = inl is
+renews_noted my number (begins other ∷ past) (inr has) = inr (renews_noted my number past has)
+renews_noted my number (completes mine other ∷ past) (inl is) = inl is
+renews_noted my number (completes mine other ∷ past) (inr has) = inr (renews_noted my number past has)
+renews_noted my number (fails other ∷ past) (inl is) = inl is
+renews_noted my number (gives_up other ∷ past) (inl is) = inl is
+renews_noted my number (fails other ∷ past) (inr has) = inr (renews_noted my number past has)
+renews_noted my number (gives_up other ∷ past) (inr has) = inr (renews_noted my number past has)
+renews_noted my number (accepts other ∷ past) (inl is) = inl is
+renews_noted my number (accepts other ∷ past) (inr has) = inr (renews_noted my number past has)
+renews_noted my number (performs peer other ∷ past) (inl is) = inl is
+renews_noted my number (performs peer other ∷ past) (inr has) = inr (renews_noted my number past has)
+renews_noted my number (renews peer other ∷ past) (inl is) = inl is
+renews_noted my number (renews peer other ∷ past) (inr has) = inr (renews_noted my number past has)
+renews_noted my number (resumes link own last ∷ past) (inl is) = inl is
+renews_noted my number (resumes link own last ∷ past) (inr has) = inr (renews_noted my number past has)
+
+pub was_performed-noted : (my : Pair) (number : ℕ) (past : List Effect) → WasPerformed my number past → WasPerformed my number (noted past)
+was_performed-noted my number past (inl has) = inl (performs_noted my number past has)
+was_performed-noted my number past (inr has) = inr (renews_noted my number past has)
 
 pub performed-noted : (theirs mine : List Effect) → Each (FindsPerformed theirs) mine → Each (FindsPerformed (noted theirs)) (noted mine)
 performed-noted theirs [] each = tt
@@ -167,9 +210,10 @@ performed-noted theirs (connects link ∷ mine) each = (tt, performed-noted thei
 performed-noted theirs (ends ∷ mine) each = (tt, performed-noted theirs mine each.1)
 performed-noted theirs (begins number ∷ mine) each = (tt, performed-noted theirs mine each.1)
 performed-noted theirs (completes my number ∷ mine) each =
-    ((λ few. performs_noted my number theirs (each.0 (subst (λ (n : ℕ). n ≤ 2 ^ 32 - 1) (requests_begun-noted mine) few))), performed-noted theirs mine each.1)
+    ((λ few. was_performed-noted my number theirs (each.0 (subst (λ (n : ℕ). n ≤ 2 ^ 32 - 1) (requests_begun-noted mine) few))), performed-noted theirs mine each.1)
 performed-noted theirs (fails number ∷ mine) each = (tt, performed-noted theirs mine each.1)
 performed-noted theirs (gives_up number ∷ mine) each = (tt, performed-noted theirs mine each.1)
 performed-noted theirs (accepts number ∷ mine) each = (tt, performed-noted theirs mine each.1)
 performed-noted theirs (performs peer number ∷ mine) each = (tt, performed-noted theirs mine each.1)
+performed-noted theirs (renews peer number ∷ mine) each = (tt, performed-noted theirs mine each.1)
 performed-noted theirs (resumes link own last ∷ mine) each = (tt, performed-noted theirs mine each.1)

@@ -2,7 +2,7 @@
 use Rattle.std.proofs.Common.{◌≡◌, List, [], ◌∷◌, inl, refl, sym, subst, ◌∙◌}
 use Rattle.dcsctp_spec_lemmas.specs.types.declared.options.Options.{Options}
 use Rattle.dcsctp_spec_lemmas.specs.spec.endpoint.Endpoint.{Endpoint, Core, closed, cookie_wait, cookie_echoed, open_in, fresh_endpoint}
-use Rattle.dcsctp_spec_lemmas.specs.spec.association.Effect.{Effect, draws, sends, holds, connects, ends, begins, gives_up, completes, fails, accepts, performs, resumes, noted, Change, identity_in}
+use Rattle.dcsctp_spec_lemmas.specs.spec.association.Effect.{Effect, draws, sends, holds, connects, ends, begins, gives_up, completes, fails, accepts, performs, renews, resumes, noted, Change, identity_in}
 use Rattle.dcsctp_spec_lemmas.specs.spec.endpoint.CallTurns.{Transition}
 use Rattle.dcsctp_spec_runs.specs.Past.{HasEffect, Each, current}
 use Rattle.dcsctp_spec_runs.specs.World.{SideState, after_effects, after_changes, ControlTurns, SideRun, side_after}
@@ -38,6 +38,7 @@ none_is_anew (completes my number ∷ effects) past none each = none_is_anew eff
 none_is_anew (fails number ∷ effects) past none each = none_is_anew effects (fails number ∷ past) none.1 (tt, each)
 none_is_anew (accepts number ∷ effects) past none each = none_is_anew effects (accepts number ∷ past) none.1 (tt, each)
 none_is_anew (performs peer number ∷ effects) past none each = none_is_anew effects (performs peer number ∷ past) none.1 (tt, each)
+none_is_anew (renews peer number ∷ effects) past none each = none_is_anew effects (renews peer number ∷ past) none.1 (tt, each)
 none_is_anew (resumes link own last ∷ effects) past none each = none_is_anew effects (resumes link own last ∷ past) none.1 (tt, each)
 
 -- the association that the past leaves is the one that is there
@@ -83,6 +84,7 @@ anew-noted (completes my number ∷ past) each = (tt, anew-noted past each.1)
 anew-noted (fails number ∷ past) each = (tt, anew-noted past each.1)
 anew-noted (accepts number ∷ past) each = (tt, anew-noted past each.1)
 anew-noted (performs peer number ∷ past) each = (tt, anew-noted past each.1)
+anew-noted (renews peer number ∷ past) each = (tt, anew-noted past each.1)
 anew-noted (resumes link own last ∷ past) each = (tt, anew-noted past each.1)
 
 -- ---- a run

@@ -12,7 +12,7 @@ use Rattle.dcsctp_spec_lemmas.specs.spec.endpoint.OwnTimers.{timer_act}
 use Rattle.dcsctp_spec_laws.proofs.HeartbeatLemmas.{timer_controlled}
 use Rattle.dcsctp_spec_lemmas.specs.spec.endpoint.Turn.{Input, arrival, refusal, packet_begins, chunk_input, packet_ends, act_input, user_sets, user_sends, user_resets, user_takes, timer_expires, time_passes, restores, has_data_chunk}
 use Rattle.dcsctp_spec_lemmas.specs.spec.endpoint.HandshakeOutcomes.{pair_from, renewed_pair, renewed_pair_outcome, init_ack_emission, init_outcome}
-use Rattle.dcsctp_spec_lemmas.specs.spec.association.Effect.{Effect, draws, sends, holds, connects, ends, begins, gives_up, completes, fails, accepts, performs, resumes, noted, Change}
+use Rattle.dcsctp_spec_lemmas.specs.spec.association.Effect.{Effect, draws, sends, holds, connects, ends, begins, gives_up, completes, fails, accepts, performs, renews, resumes, noted, Change}
 use Rattle.dcsctp_spec_lemmas.specs.spec.association.Acts.{Act, shutdown_repeats, flushes}
 use Rattle.dcsctp_spec_lemmas.specs.spec.association.Controlled.{ControlledChunk, ControlledAct}
 use Rattle.dcsctp_spec_lemmas.specs.spec.endpoint.CallTurns.{Transition, IsTurn, AlongTurns}
@@ -61,6 +61,8 @@ noted_happened effect (accepts number ∷ effects) (inr has) = inr (noted_happen
 noted_happened effect (performs peer number ∷ effects) (inl is) = inl is
 noted_happened effect (resumes link own last ∷ effects) (inl is) = inl is
 noted_happened effect (performs peer number ∷ effects) (inr has) = inr (noted_happened effect effects has)
+noted_happened effect (renews peer number ∷ effects) (inl is) = inl is
+noted_happened effect (renews peer number ∷ effects) (inr has) = inr (noted_happened effect effects has)
 noted_happened effect (resumes link own last ∷ effects) (inr has) = inr (noted_happened effect effects has)
 
 -- a turn whose effects end no request

@@ -15,7 +15,7 @@ use Rattle.dcsctp_spec_lemmas.specs.types.declared.association.Held.{Held}
 use Rattle.dcsctp_spec_lemmas.specs.types.Settings.{packet_size_limit, IsValid, FitsOptions}
 use Rattle.dcsctp_spec_lemmas.specs.spec.endpoint.Event.{Event}
 use Rattle.dcsctp_spec_lemmas.specs.spec.Packet.{re_config, Emission}
-use Rattle.dcsctp_spec_lemmas.specs.spec.Reconfiguration.{ResetParameter, outgoing_reset_request, incoming_reset_request, reconfiguration_response, other_reset_parameter, reset_parameter_content, reset_parameter_in}
+use Rattle.dcsctp_spec_lemmas.specs.spec.Reconfiguration.{NumberedReset, RequestState, early, due, renewed, ResetParameter, outgoing_reset_request, incoming_reset_request, reconfiguration_response, other_reset_parameter, reset_parameter_content, reset_parameter_in}
 use Rattle.dcsctp_spec_lemmas.specs.spec.queues.Transfer.{Transfer}
 use Rattle.dcsctp_spec_runs.specs.Deadlines.{T1Runs}
 use Rattle.dcsctp_spec_lemmas.specs.spec.endpoint.Endpoint.{Endpoint, Core, closed, cookie_wait, cookie_echoed, open_in}
@@ -23,12 +23,12 @@ use Rattle.dcsctp_spec_lemmas.specs.spec.endpoint.Timers.{RunningTimer}
 use Rattle.dcsctp_spec_lemmas.specs.spec.endpoint.Outcome.{Outcome, quiet, sends, to_peer}
 use Rattle.dcsctp_spec_lemmas.specs.spec.endpoint.Outcome.{fits as fits_mtu}
 use Rattle.dcsctp_spec_lemmas.specs.spec.association.Effect.{Effect}
-use Rattle.dcsctp_spec_lemmas.specs.spec.association.ResetChanges.{RequestPlace, again, next, astray, request_place, repeated, outgoing_by, incoming_by, informed_by, is_outstanding, informed_where, HandledParameters, work_parameters, work_chunk}
+use Rattle.dcsctp_spec_lemmas.specs.spec.association.ResetChanges.{RequestPlace, again, next, astray, request_place, repeated, is_due, outgoing_by, incoming_by, informed_by, is_outstanding, informed_where, HandledParameters, work_parameters, work_chunk}
 use Rattle.dcsctp_spec_lemmas.specs.spec.endpoint.FlushOutcomes.{Answer, draft_to, flush_of}
-use Rattle.dcsctp_spec_lemmas.specs.spec.endpoint.ResetOutcomes.{requested_in, is_request_reached, parameters_handled_in, OwnAnswer, answered_in, reset_events, reset_events_of, core_with, resets_handled, responses_outcome, responses_by, ResponseAnswers, WorksResets, ResetTurn}
+use Rattle.dcsctp_spec_lemmas.specs.spec.endpoint.ResetOutcomes.{request_state, renewable_left, parameters_handled_in, OwnAnswer, answered_in, reset_events, reset_events_of, core_with, resets_handled, responses_outcome, responses_by, ResponseAnswers, WorksResets, ResetTurn}
 use Rattle.dcsctp_spec_lemmas.specs.spec.CookieFits.{FitsPair}
 use Rattle.dcsctp_spec_runs.specs.Fitting.{AllSent, FitsNumber, FitsHeld, FitsCore, FitsEndpoint, IsSendable, Sendable, TurnFits}
-use Rattle.dcsctp_spec_laws.proofs.ResetLemmas.{AreResets, nothing, acceptance, performance, completion, failure, KeepsPeer, chunk_brings, worked_keeps}
+use Rattle.dcsctp_spec_laws.proofs.ResetLemmas.{AreResets, nothing, acceptance, performance, renewal, completion, failure, KeepsPeer, chunk_brings, worked_keeps}
 use Rattle.dcsctp_theorem_sockets.proofs.FlushFits.{still_fits, draft_sendable, flush_fits, behind_fits}
 use Rattle.dcsctp_theorem_sockets.proofs.Sent.{all_sent_append}
 use Rattle.dcsctp_theorem_sockets.proofs.T1Turns.{Up, UpAfter, flush_up}
@@ -41,10 +41,10 @@ with_runs (cookie_wait my) held t1 h = h
 with_runs (cookie_echoed my old cookie) held t1 h = h
 with_runs (open_in phase my old) held t1 h = h
 
-worked_up : (e : Endpoint) (answer : OwnAnswer) (held : Held) (left : Option Transfer) → Up e → Up (resets_handled e answer held left)
-worked_up e answer held left h =
-    let kept = worked_keeps e answer held left in
-    subst (λ (core : Core). T1Runs core (resets_handled e answer held left).timers.t1) (sym kept.core)
+worked_up : (e : Endpoint) (answer : OwnAnswer) (held : Held) (left : Option Transfer) (renewable : Option NumberedReset) → Up e → Up (resets_handled e answer held left renewable)
+worked_up e answer held left renewable h =
+    let kept = worked_keeps e answer held left renewable in
+    subst (λ (core : Core). T1Runs core (resets_handled e answer held left renewable).timers.t1) (sym kept.core)
     (subst (T1Runs (core_with e.core held)) (sym kept.t1) (with_runs e.core held e.timers.t1 h))
 
 emitted_up : (b : Bool) (e : Endpoint) (emission : Emission) → Up e → UpAfter (cond b (sends e [] [] emission) (quiet e [] []))
@@ -65,9 +65,9 @@ sent_up false e told held parameters responses answers allowed h =
 resets_up : (e : Endpoint) (my : Pair) (held : Held) (parameters : List ResetParameter) (o : Outcome) → WorksResets e my held parameters o → Up e → UpAfter o
 resets_up e my held parameters o turn h =
     let w : HandledParameters = parameters_handled_in e my held parameters in
-    let base : Endpoint = resets_handled e (answered_in held w parameters) w.held turn.left in
+    let base : Endpoint = resets_handled e (answered_in held w parameters) w.held turn.left (renewable_left e held w parameters) in
     subst UpAfter (sym turn.is)
-    (sent_up w.is_refused base (reset_events_of e parameters w.effects) w.held parameters w.answers turn.answers turn.allowed (worked_up e (answered_in held w parameters) w.held turn.left h))
+    (sent_up w.is_refused base (reset_events_of e parameters w.effects) w.held parameters w.answers turn.answers turn.allowed (worked_up e (answered_in held w parameters) w.held turn.left (renewable_left e held w parameters) h))
 
 pub reset_up : (e : Endpoint) (core : Core) (parameters : List ResetParameter) (o : Outcome) → ResetTurn e core parameters o → Up e → UpAfter o
 reset_up e closed parameters o turn h = subst UpAfter (sym turn) h
@@ -96,11 +96,12 @@ repeated_last held ErrorBadSequenceNumber reached h = h
 repeated_last held InProgress true h = h
 repeated_last held InProgress false h = h
 
-outgoing_last : (held : Held) (number : ℕ) (reached : Bool) (place : RequestPlace) → held.peer_last < 2 ^ 32 → number < 2 ^ 32 → (outgoing_by held number reached place).held.peer_last < 2 ^ 32
-outgoing_last held number reached again h fits = repeated_last held held.peer_result reached h
-outgoing_last held number true next h fits = fits
-outgoing_last held number false next h fits = fits
-outgoing_last held number reached astray h fits = h
+outgoing_last : (held : Held) (number : ℕ) (state : RequestState) (place : RequestPlace) → held.peer_last < 2 ^ 32 → number < 2 ^ 32 → (outgoing_by held number state place).held.peer_last < 2 ^ 32
+outgoing_last held number state again h fits = repeated_last held held.peer_result (is_due state) h
+outgoing_last held number early next h fits = fits
+outgoing_last held number due next h fits = fits
+outgoing_last held number renewed next h fits = fits
+outgoing_last held number state astray h fits = h
 
 incoming_last : (held : Held) (number : ℕ) (place : RequestPlace) → held.peer_last < 2 ^ 32 → number < 2 ^ 32 → (incoming_by held number place).held.peer_last < 2 ^ 32
 incoming_last held number again h fits = fits
@@ -124,27 +125,27 @@ informed_last false my held number result h = h
 abbrev FitParameters : List ResetParameter → Type 0
 FitParameters parameters = AllByRecursion FitsParameter (map reset_parameter_content parameters)
 
-parameters_fit : (my : Pair) (reached has_worked : Bool) (held : Held) (parameters : List ResetParameter) → held.peer_last < 2 ^ 32 → FitParameters parameters
-    → FitsWorked (work_parameters my reached has_worked held parameters)
-parameters_fit my reached has_worked held [] h fit = record { last = h; answers = tt }
-parameters_fit my reached true held (outgoing_reset_request number answered reset ∷ parameters) h fit = record { last = h; answers = tt }
-parameters_fit my reached false held (outgoing_reset_request number answered reset ∷ parameters) h fit =
-    let rest = parameters_fit my reached true (outgoing_by held number reached (request_place held.peer_last number)).held parameters
-    (outgoing_last held number reached (request_place held.peer_last number) h fit.0.number_fits) fit.1 in
+parameters_fit : (my : Pair) (state : RequestState) (has_worked : Bool) (held : Held) (parameters : List ResetParameter) → held.peer_last < 2 ^ 32 → FitParameters parameters
+    → FitsWorked (work_parameters my state has_worked held parameters)
+parameters_fit my state has_worked held [] h fit = record { last = h; answers = tt }
+parameters_fit my state true held (outgoing_reset_request number answered reset ∷ parameters) h fit = record { last = h; answers = tt }
+parameters_fit my state false held (outgoing_reset_request number answered reset ∷ parameters) h fit =
+    let rest = parameters_fit my state true (outgoing_by held number state (request_place held.peer_last number)).held parameters
+    (outgoing_last held number state (request_place held.peer_last number) h fit.0.number_fits) fit.1 in
     record { last = rest.last; answers = (fit.0.number_fits, rest.answers) }
-parameters_fit my reached has_worked held (incoming_reset_request number streams ∷ parameters) h fit =
-    let rest = parameters_fit my reached has_worked (incoming_by held number (request_place held.peer_last number)).held parameters
+parameters_fit my state has_worked held (incoming_reset_request number streams ∷ parameters) h fit =
+    let rest = parameters_fit my state has_worked (incoming_by held number (request_place held.peer_last number)).held parameters
     (incoming_last held number (request_place held.peer_last number) h fit.0.0) fit.1 in
     record { last = rest.last; answers = (fit.0.0, rest.answers) }
-parameters_fit my reached has_worked held (reconfiguration_response number result ∷ parameters) h fit =
-    let rest = parameters_fit my reached has_worked (informed_where my held number result (is_outstanding number held.own_outstanding)).held parameters
+parameters_fit my state has_worked held (reconfiguration_response number result ∷ parameters) h fit =
+    let rest = parameters_fit my state has_worked (informed_where my held number result (is_outstanding number held.own_outstanding)).held parameters
     (informed_last (is_outstanding number held.own_outstanding) my held number result h) fit.1 in
     record { last = rest.last; answers = rest.answers }
-parameters_fit my reached has_worked held (other_reset_parameter parameter ∷ parameters) h fit = parameters_fit my reached has_worked held parameters h fit.1
+parameters_fit my state has_worked held (other_reset_parameter parameter ∷ parameters) h fit = parameters_fit my state has_worked held parameters h fit.1
 
-chunk_fits : (my : Pair) (reached : Bool) (held : Held) (parameters : List ResetParameter) → held.peer_last < 2 ^ 32 → FitParameters parameters → FitsWorked (work_chunk my reached held parameters)
-chunk_fits my reached held [] h fit = record { last = h; answers = tt }
-chunk_fits my reached held (parameter ∷ parameters) h fit = parameters_fit my reached false held (parameter ∷ parameters) h fit
+chunk_fits : (my : Pair) (state : RequestState) (held : Held) (parameters : List ResetParameter) → held.peer_last < 2 ^ 32 → FitParameters parameters → FitsWorked (work_chunk my state held parameters)
+chunk_fits my state held [] h fit = record { last = h; answers = tt }
+chunk_fits my state held (parameter ∷ parameters) h fit = parameters_fit my state false held (parameter ∷ parameters) h fit
 
 number_fits : (new old : Option ℕ) → (new ≡ old) ⊎ (new ≡ None) → FitsNumber old → FitsNumber new
 number_fits new old (inl same) fits = subst FitsNumber (sym same) fits
@@ -217,6 +218,7 @@ told_sends : (theirs own : List ℕ) (es : List Effect) → AreResets es → All
 told_sends theirs own _ nothing = tt
 told_sends theirs own _ (acceptance number es are) = told_sends theirs own es are
 told_sends theirs own _ (performance peer number es are) = (tt, told_sends theirs own es are)
+told_sends theirs own _ (renewal peer number es are) = told_sends theirs own es are
 told_sends theirs own _ (completion my number es are) = (tt, told_sends theirs own es are)
 told_sends theirs own _ (failure number es are) = (tt, told_sends theirs own es are)
 
@@ -237,27 +239,27 @@ with_fits (cookie_wait my) held own fits = own
 with_fits (cookie_echoed my old cookie) held own fits = (own.0, fits, own.2)
 with_fits (open_in phase my old) held own fits = (own.0, fits)
 
-worked_fits : (e : Endpoint) (answer : OwnAnswer) (held : Held) (left : Option Transfer) → FitsEndpoint e → FitsHeld held → FitsEndpoint (resets_handled e answer held left)
-worked_fits e answer held left h fits =
-    let kept = worked_keeps e answer held left in
+worked_fits : (e : Endpoint) (answer : OwnAnswer) (held : Held) (left : Option Transfer) (renewable : Option NumberedReset) → FitsEndpoint e → FitsHeld held → FitsEndpoint (resets_handled e answer held left renewable)
+worked_fits e answer held left renewable h fits =
+    let kept = worked_keeps e answer held left renewable in
     record {
       valid = subst IsValid (sym kept.options) h.valid;
       options = subst FitsOptions (sym kept.options) h.options;
       core = subst FitsCore (sym kept.core) (with_fits e.core held h.core fits);
-      t1 = subst (λ (core : Core). T1Runs core (resets_handled e answer held left).timers.t1) (sym kept.core)
+      t1 = subst (λ (core : Core). T1Runs core (resets_handled e answer held left renewable).timers.t1) (sym kept.core)
           (subst (T1Runs (core_with e.core held)) (sym kept.t1) (with_runs e.core held e.timers.t1 h.t1));
     }
 
 resets_fit : (e : Endpoint) (my : Pair) (held : Held) (parameters : List ResetParameter) (o : Outcome) → WorksResets e my held parameters o → FitsEndpoint e → FitsHeld held → FitParameters parameters → TurnFits o
 resets_fit e my held parameters o turn h fits fit =
-    let reached : Bool = is_request_reached e.queues.transfer (requested_in parameters) in
+    let state : RequestState = request_state e held parameters in
     let w : HandledParameters = parameters_handled_in e my held parameters in
-    let brought = chunk_brings my reached held parameters in
-    let numbers : FitsWorked w = chunk_fits my reached held parameters fits.peer_last fit in
+    let brought = chunk_brings my state held parameters in
+    let numbers : FitsWorked w = chunk_fits my state held parameters fits.peer_last fit in
     let after : FitsHeld w.held = held_fits held w.held brought.keeps fits numbers.last in
-    let base : Endpoint = resets_handled e (answered_in held w parameters) w.held turn.left in
+    let base : Endpoint = resets_handled e (answered_in held w parameters) w.held turn.left (renewable_left e held w parameters) in
     let sent = sent_fits w.is_refused base (reset_events_of e parameters w.effects) w.held parameters w.answers turn.answers turn.allowed
-    (worked_fits e (answered_in held w parameters) w.held turn.left h after) after numbers.answers (told_sends _ _ w.effects brought.are) in
+    (worked_fits e (answered_in held w parameters) w.held turn.left (renewable_left e held w parameters) h after) after numbers.answers (told_sends _ _ w.effects brought.are) in
     subst TurnFits (sym turn.is) (record { after = sent.after; sends = sent.sends })
 
 pub reset_fits : (e : Endpoint) (core : Core) (parameters : List ResetParameter) (o : Outcome) → ResetTurn e core parameters o → FitsEndpoint e → FitsCore core → Sendable (re_config parameters) → TurnFits o

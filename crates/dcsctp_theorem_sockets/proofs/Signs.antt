@@ -2,7 +2,7 @@
 use Rattle.std.proofs.Common.{◌≡◌, List, [], ◌∷◌, ◌⊎◌, inl, inr, refl, subst}
 use Rattle.dcsctp_spec_lemmas.specs.spec.endpoint.Event.{Event, sent, connected, closed, connection_restarted, aborted, error, buffered_amount_low, total_buffered_amount_low, streams_reset_failed, streams_reset_performed, incoming_stream_reset, lifecycle_message_fully_sent, lifecycle_message_maybe_expired, lifecycle_message_expired, lifecycle_message_delivered, lifecycle_end}
 use Rattle.dcsctp_spec_lemmas.specs.spec.Packet.{Packet, Emission}
-use Rattle.dcsctp_spec_lemmas.specs.spec.association.Effect.{AssociationIdentity, Effect, draws, sends, holds, connects, ends, begins, gives_up, completes, fails, accepts, performs, resumes}
+use Rattle.dcsctp_spec_lemmas.specs.spec.association.Effect.{AssociationIdentity, Effect, draws, sends, holds, connects, ends, begins, gives_up, completes, fails, accepts, performs, renews, resumes}
 use Rattle.dcsctp_spec_lemmas.specs.spec.association.Controlled.{Observation, packet_sent, has_connected, has_ended, own_reset_performed, own_reset_failed, peer_reset_performed, observations_of_events, observations_of_effects}
 use Rattle.dcsctp_spec_runs.specs.Past.{HasEffect}
 use Rattle.dcsctp_spec_runs.specs.World.{after_effects}
@@ -76,6 +76,7 @@ shown_is_effect packet (fails number ∷ effects) (inr shown) = inr (shown_is_ef
 shown_is_effect packet (accepts number ∷ effects) shown = inr (shown_is_effect packet effects shown)
 shown_is_effect packet (performs peer number ∷ effects) (inl is) = absurd (cc)
 shown_is_effect packet (performs peer number ∷ effects) (inr shown) = inr (shown_is_effect packet effects shown)
+shown_is_effect packet (renews peer number ∷ effects) shown = inr (shown_is_effect packet effects shown)
 shown_is_effect packet (resumes link own last ∷ effects) shown = inr (shown_is_effect packet effects shown)
 
 abbrev pub WasSent : List Effect → Emission → Type 0
@@ -132,6 +133,7 @@ shown_connects (fails number ∷ effects) (inr shown) = behind (fails number) ef
 shown_connects (accepts number ∷ effects) shown = behind (accepts number) effects (shown_connects effects shown)
 shown_connects (performs peer number ∷ effects) (inl is) = absurd (cc)
 shown_connects (performs peer number ∷ effects) (inr shown) = behind (performs peer number) effects (shown_connects effects shown)
+shown_connects (renews peer number ∷ effects) shown = behind (renews peer number) effects (shown_connects effects shown)
 shown_connects (resumes link own last ∷ effects) shown = behind (resumes link own last) effects (shown_connects effects shown)
 
 pub connected_connects : (events : List (Event Emission)) (effects : List Effect) → observations_of_events events ≡ observations_of_effects effects → HasConnected events → Connects effects

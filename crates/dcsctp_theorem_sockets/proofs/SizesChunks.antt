@@ -25,8 +25,8 @@ use Rattle.dcsctp_spec_lemmas.specs.spec.endpoint.HeartbeatOutcomes.{heartbeat_o
 use Rattle.dcsctp_spec_lemmas.specs.spec.endpoint.OwnTimers.{OwnTimer, acknowledgement_delay, retransmission, heartbeat_interval, heartbeat_timeout, reconfiguration, TimerTurn}
 use Rattle.dcsctp_spec_lemmas.specs.spec.endpoint.PlainOutcomes.{PlainTurn, PlainTurnBy, violation_at, is_reported, after_unknown, unknown_bytes, unknown_error, unknown_chunk_outcome, error_outcome}
 use Rattle.dcsctp_spec_lemmas.specs.spec.endpoint.ReconfigurationOutcomes.{reset_again, request_emitted, renewed_request_where, request_renewed, request_unless, is_renewed, request_errors, request_expired, reconfiguration_outcome}
-use Rattle.dcsctp_spec_lemmas.specs.spec.endpoint.ResetOutcomes.{requested_in, is_request_reached, parameters_handled_in, OwnAnswer, answered_in, reset_events, reset_events_of, resets_handled, responses_outcome, responses_by, ResponseAnswers, WorksResets, ResetTurn}
-use Rattle.dcsctp_spec_laws.proofs.ResetLemmas.{AreResets, nothing, acceptance, performance, completion, failure, chunk_brings, worked_keeps}
+use Rattle.dcsctp_spec_lemmas.specs.spec.endpoint.ResetOutcomes.{request_state, renewable_left, parameters_handled_in, OwnAnswer, answered_in, reset_events, reset_events_of, resets_handled, responses_outcome, responses_by, ResponseAnswers, WorksResets, ResetTurn, requested_in, is_request_reached}
+use Rattle.dcsctp_spec_laws.proofs.ResetLemmas.{AreResets, nothing, acceptance, performance, renewal, completion, failure, chunk_brings, worked_keeps}
 use Rattle.dcsctp_theorem_sockets.proofs.Sizes.{AtLimit, AllShort, TurnSizes, short_append, packet_sizes, emits_sizes, flush_sizes}
 use Rattle.dcsctp_theorem_sockets.proofs.SizesData.{data_sizes, forward_sizes, sack_sizes, delay_sizes, loss_sizes}
 use Rattle.dcsctp_theorem_sockets.proofs.SizesTurns.{aborting_sizes}
@@ -136,6 +136,7 @@ told_short : (limit : ℕ) (theirs own : List ℕ) (es : List Effect) → AreRes
 told_short limit theirs own _ nothing = tt
 told_short limit theirs own _ (acceptance number es are) = told_short limit theirs own es are
 told_short limit theirs own _ (performance peer number es are) = told_short limit theirs own es are
+told_short limit theirs own _ (renewal peer number es are) = told_short limit theirs own es are
 told_short limit theirs own _ (completion my number es are) = told_short limit theirs own es are
 told_short limit theirs own _ (failure number es are) = told_short limit theirs own es are
 
@@ -157,11 +158,11 @@ sent_sizes false limit e told held parameters responses answers allowed h before
 works_sizes : (limit : ℕ) (e : Endpoint) (my : Pair) (held : Held) (parameters : List ResetParameter) (o : Outcome) → WorksResets e my held parameters o → AtLimit limit e → TurnSizes limit o
 works_sizes limit e my held parameters o turn h =
     let w : HandledParameters = parameters_handled_in e my held parameters in
-    let brought = chunk_brings my (is_request_reached e.queues.transfer (requested_in parameters)) held parameters in
+    let brought = chunk_brings my (request_state e held parameters) held parameters in
     let answer : OwnAnswer = answered_in held w parameters in
-    let kept = worked_keeps e answer w.held turn.left in
+    let kept = worked_keeps e answer w.held turn.left (renewable_left e held w parameters) in
     subst (TurnSizes limit) (sym turn.is)
-    (sent_sizes w.is_refused limit (resets_handled e answer w.held turn.left) (reset_events_of e parameters w.effects) w.held parameters w.answers turn.answers turn.allowed
+    (sent_sizes w.is_refused limit (resets_handled e answer w.held turn.left (renewable_left e held w parameters)) (reset_events_of e parameters w.effects) w.held parameters w.answers turn.answers turn.allowed
     (subst (λ (o : Options). packet_size_limit o ≡ limit) (sym kept.options) h.0, h.1) (told_short limit _ _ w.effects brought.are))
 
 pub reset_sizes : (limit : ℕ) (e : Endpoint) (core : Core) (parameters : List ResetParameter) (o : Outcome) → ResetTurn e core parameters o → AtLimit limit e → TurnSizes limit o

@@ -7,7 +7,7 @@ use Rattle.dcsctp_spec_lemmas.specs.spec.endpoint.Event.{Event, sent, connected,
 use Rattle.dcsctp_spec_lemmas.specs.spec.Packet.{Emission}
 use Rattle.dcsctp_spec_lemmas.specs.spec.endpoint.Endpoint.{Endpoint, Core, cookie_wait, cookie_echoed, open_in, fresh_endpoint}
 use Rattle.dcsctp_spec_lemmas.specs.spec.endpoint.Endpoint as machine
-use Rattle.dcsctp_spec_lemmas.specs.spec.association.Effect.{Effect, draws, sends, holds, connects, ends, begins, gives_up, completes, fails, accepts, performs, resumes, noted}
+use Rattle.dcsctp_spec_lemmas.specs.spec.association.Effect.{Effect, draws, sends, holds, connects, ends, begins, gives_up, completes, fails, accepts, performs, renews, resumes, noted}
 use Rattle.dcsctp_spec_lemmas.specs.spec.association.Controlled.{Observation, packet_sent, has_connected, has_ended, own_reset_performed, own_reset_failed, peer_reset_performed, observations_of_events, observations_of_effects}
 use Rattle.dcsctp_spec_lemmas.specs.spec.endpoint.CallTurns.{Transition, after_all}
 use Rattle.dcsctp_spec_runs.specs.World.{side_after}
@@ -63,6 +63,7 @@ noted_without (completes my number ∷ effects) = ap (λ (observations : List Ob
 noted_without (fails number ∷ effects) = ap (λ (observations : List Observation). own_reset_failed ∷ observations) (noted_without effects)
 noted_without (accepts number ∷ effects) = noted_without effects
 noted_without (performs peer number ∷ effects) = ap (λ (observations : List Observation). peer_reset_performed ∷ observations) (noted_without effects)
+noted_without (renews peer number ∷ effects) = (noted_without effects)
 noted_without (resumes link own last ∷ effects) = noted_without effects
 
 -- ---- one turn, and a run

@@ -5,7 +5,7 @@ use Rattle.dcsctp_types.specs.declared.association.Pair.{Pair}
 use Rattle.dcsctp_spec.specs.endpoint.Cause.{Cause}
 use Rattle.dcsctp_spec.specs.Packet.{Plain, Content, plain}
 use Rattle.dcsctp_spec.specs.endpoint.Following.{Following, next_chunk}
-use Rattle.dcsctp_spec.specs.Reconfiguration.{RequestedReset}
+use Rattle.dcsctp_spec.specs.Reconfiguration.{RequestedReset, RequestState, due}
 
 abbrev pub plain_contents : List Plain → List Content
 plain_contents chunks = map plain chunks
@@ -36,8 +36,8 @@ pub record Choices : Type 0 where
   pub fits : Bool
   -- May a shutdown continue: is all data acknowledged that was sent?
   pub is_acknowledged : Bool
-  -- Has all data come that was sent before a reset was requested?
-  pub is_reached : Bool
+  -- what an Outgoing SSN Reset Request finds
+  pub state : RequestState
   -- Does the chunk break the negotiated protocol, and with which text?
   pub is_violation : Bool
   pub causes : List Cause
@@ -63,7 +63,7 @@ idle_choices drawn =
       is_stale = false;
       fits = true;
       is_acknowledged = true;
-      is_reached = true;
+      state = due;
       is_violation = false;
       causes = [];
       tsn = 0;

@@ -8,7 +8,7 @@ use Rattle.dcsctp_spec.specs.Packet.{Content, Packet, Emission}
 use Rattle.dcsctp_spec.specs.endpoint.Event.{Event, sent, connected, closed, aborted, streams_reset_failed, streams_reset_performed, incoming_stream_reset}
 use Rattle.dcsctp_spec.specs.endpoint.Endpoint.{Endpoint}
 use Rattle.dcsctp_spec.specs.endpoint.Outcome.{Outcome}
-use Rattle.dcsctp_spec.specs.association.Effect.{Effect, draws, sends, holds, connects, ends, begins, gives_up, completes, fails, accepts, performs, resumes, noted, Change}
+use Rattle.dcsctp_spec.specs.association.Effect.{Effect, draws, sends, holds, connects, ends, begins, gives_up, completes, fails, accepts, performs, renews, resumes, noted, Change}
 use Rattle.dcsctp_spec.specs.association.Choices.{Choices}
 use Rattle.dcsctp_spec.specs.association.Acts.{Act, act_change, ChunkChange}
 
@@ -40,6 +40,7 @@ observations_of_effects (ends ∷ effects) = has_ended ∷ observations_of_effec
 observations_of_effects (completes my number ∷ effects) = own_reset_performed ∷ observations_of_effects effects
 observations_of_effects (fails number ∷ effects) = own_reset_failed ∷ observations_of_effects effects
 observations_of_effects (performs peer number ∷ effects) = peer_reset_performed ∷ observations_of_effects effects
+observations_of_effects (renews peer number ∷ effects) = observations_of_effects effects
 observations_of_effects (draws pair ∷ effects) = observations_of_effects effects
 observations_of_effects (holds link ∷ effects) = observations_of_effects effects
 observations_of_effects (begins number ∷ effects) = observations_of_effects effects

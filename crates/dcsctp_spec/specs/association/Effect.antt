@@ -36,6 +36,9 @@ pub data Effect : Type 0 where
   accepts : ℕ → Effect
   -- OnIncomingStreamReset: the peer's request of this number was performed, under this peer's pair.
   performs : Pair → ℕ → Effect
+  -- The peer's request of this number was performed too, under this peer's pair; but it is the one before, once more, which was
+  -- reported. No event reports it again.
+  renews : Pair → ℕ → Effect
   -- From here on this is the association, restored from a snapshot. Its next own request has the first number, and the peer's
   -- last one that was accepted had the second.
   resumes : AssociationIdentity → ℕ → ℕ → Effect
@@ -54,6 +57,7 @@ drawn_in (completes my number ∷ effects) = drawn_in effects
 drawn_in (fails number ∷ effects) = drawn_in effects
 drawn_in (accepts number ∷ effects) = drawn_in effects
 drawn_in (performs peer number ∷ effects) = drawn_in effects
+drawn_in (renews peer number ∷ effects) = drawn_in effects
 drawn_in (resumes link own last ∷ effects) = drawn_in effects
 
 -- all but the packets
@@ -70,6 +74,7 @@ noted (completes my number ∷ effects) = completes my number ∷ noted effects
 noted (fails number ∷ effects) = fails number ∷ noted effects
 noted (accepts number ∷ effects) = accepts number ∷ noted effects
 noted (performs peer number ∷ effects) = performs peer number ∷ noted effects
+noted (renews peer number ∷ effects) = renews peer number ∷ noted effects
 noted (resumes link own last ∷ effects) = resumes link own last ∷ noted effects
 
 -- What one turn makes of the association, and its effects in order.

@@ -4,11 +4,11 @@ use Rattle.dcsctp_types.specs.declared.association.Pair.{Pair}
 use Rattle.dcsctp_types.specs.declared.association.Held.{Held}
 use Rattle.dcsctp_types.specs.wire.declared.reconfiguration.ReconfigurationResponseResult.{ReconfigurationResponseResult}
 use Rattle.dcsctp_types.specs.wire.declared.reconfiguration.ReconfigurationResponseResult.TheVariants.{SuccessNothingToDo, SuccessPerformed, Denied, ErrorWrongSSN, ErrorRequestAlreadyInProgress, ErrorBadSequenceNumber, InProgress}
-use Rattle.dcsctp_spec.specs.Reconfiguration.{ResetParameter, outgoing_reset_request, incoming_reset_request, reconfiguration_response, other_reset_parameter}
+use Rattle.dcsctp_spec.specs.Reconfiguration.{RequestState, early, due, renewed, ResetParameter, outgoing_reset_request, incoming_reset_request, reconfiguration_response, other_reset_parameter}
 use Rattle.dcsctp_spec.specs.Packet.{re_config}
 use Rattle.dcsctp_spec.specs.endpoint.Endpoint.{Core, cookie_echoed, open_in}
 use Rattle.dcsctp_spec.specs.endpoint.Following.{next_chunk}
-use Rattle.dcsctp_spec.specs.association.Effect.{Effect, completes, fails, accepts, performs, Change, unchanged, emitted_alone}
+use Rattle.dcsctp_spec.specs.association.Effect.{Effect, completes, fails, accepts, performs, renews, Change, unchanged, emitted_alone}
 use Rattle.dcsctp_spec.specs.association.Choices.{Choices}
 use Rattle.dcsctp_spec.specs.association.FlushChanges.{Flushed, flush, next_number}
 
@@ -61,10 +61,25 @@ refused held = record { held = held; result = ErrorBadSequenceNumber; effects = 
 abbrev pub accepted_request : ℕ → RequestOutcome → RequestOutcome
 accepted_request number after = record after { effects = accepts number ∷ after.effects }
 
-abbrev pub outgoing_by : Held → ℕ → Bool → RequestPlace → RequestOutcome
-outgoing_by held number is_reached again = repeated held held.peer_result is_reached
-outgoing_by held number is_reached next = accepted_request number (performed_request held number is_reached)
-outgoing_by held number is_reached astray = refused held
+-- What was performed under the number before is performed again, since nothing came on its streams meanwhile; but no event reports it.
+abbrev pub renewed_request : Held → ℕ → RequestOutcome
+renewed_request held number = record { held = with_last held number SuccessPerformed; result = SuccessPerformed; effects = renews held.peer number ∷ [] }
+
+abbrev pub next_request : Held → ℕ → RequestState → RequestOutcome
+next_request held number early = performed_request held number false
+next_request held number due = performed_request held number true
+next_request held number renewed = renewed_request held number
+
+-- has all come that was sent before it?
+abbrev pub is_due : RequestState → Bool
+is_due early = false
+is_due due = true
+is_due renewed = true
+
+abbrev pub outgoing_by : Held → ℕ → RequestState → RequestPlace → RequestOutcome
+outgoing_by held number state again = repeated held held.peer_result (is_due state)
+outgoing_by held number state next = accepted_request number (next_request held number state)
+outgoing_by held number state astray = refused held
 
 -- No stream is reset for an Incoming SSN Reset Request: it is answered by this, even if the answer before was in progress.
 abbrev pub nothing_to_do : Held → ℕ → RequestOutcome
@@ -127,28 +142,28 @@ after_request number first rest =
 abbrev pub after_answer : Informed → HandledParameters → HandledParameters
 after_answer first rest = record rest { effects = first.effects ++ rest.effects }
 
--- its own pair, whether data has come that was sent before, and whether an outgoing request was handled so far
-abbrev pub work_parameters : Pair → Bool → Bool → Held → List ResetParameter → HandledParameters
-work_parameters my is_reached has_worked held [] = record { held = held; effects = []; answers = []; is_refused = false }
-work_parameters my is_reached true held (outgoing_reset_request number answered reset ∷ parameters) =
+-- its own pair, what an outgoing request finds, and whether one was handled so far
+abbrev pub work_parameters : Pair → RequestState → Bool → Held → List ResetParameter → HandledParameters
+work_parameters my state has_worked held [] = record { held = held; effects = []; answers = []; is_refused = false }
+work_parameters my state true held (outgoing_reset_request number answered reset ∷ parameters) =
     record { held = held; effects = []; answers = []; is_refused = true }
-work_parameters my is_reached false held (outgoing_reset_request number answered reset ∷ parameters) =
-    let first : RequestOutcome = outgoing_by held number is_reached (request_place held.peer_last number) in
-    after_request number first (work_parameters my is_reached true first.held parameters)
-work_parameters my is_reached has_worked held (incoming_reset_request number streams ∷ parameters) =
+work_parameters my state false held (outgoing_reset_request number answered reset ∷ parameters) =
+    let first : RequestOutcome = outgoing_by held number state (request_place held.peer_last number) in
+    after_request number first (work_parameters my state true first.held parameters)
+work_parameters my state has_worked held (incoming_reset_request number streams ∷ parameters) =
     let first : RequestOutcome = incoming_by held number (request_place held.peer_last number) in
-    after_request number first (work_parameters my is_reached has_worked first.held parameters)
-work_parameters my is_reached has_worked held (reconfiguration_response number result ∷ parameters) =
+    after_request number first (work_parameters my state has_worked first.held parameters)
+work_parameters my state has_worked held (reconfiguration_response number result ∷ parameters) =
     let first : Informed = informed_where my held number result (is_outstanding number held.own_outstanding) in
-    after_answer first (work_parameters my is_reached has_worked first.held parameters)
-work_parameters my is_reached has_worked held (other_reset_parameter parameter ∷ parameters) = work_parameters my is_reached has_worked held parameters
+    after_answer first (work_parameters my state has_worked first.held parameters)
+work_parameters my state has_worked held (other_reset_parameter parameter ∷ parameters) = work_parameters my state has_worked held parameters
 
 -- ---- the chunk
 
 -- A chunk without parameters is an error too.
-abbrev pub work_chunk : Pair → Bool → Held → List ResetParameter → HandledParameters
-work_chunk my is_reached held [] = record { held = held; effects = []; answers = []; is_refused = true }
-work_chunk my is_reached held (parameter ∷ parameters) = work_parameters my is_reached false held (parameter ∷ parameters)
+abbrev pub work_chunk : Pair → RequestState → Held → List ResetParameter → HandledParameters
+work_chunk my state held [] = record { held = held; effects = []; answers = []; is_refused = true }
+work_chunk my state held (parameter ∷ parameters) = work_parameters my state false held (parameter ∷ parameters)
 
 -- If there are answers, they are sent in a packet of one RE-CONFIG.
 abbrev pub answers_emitted : Bool → ℕ → List ResetParameter → List Effect
@@ -165,7 +180,7 @@ reset_sent false held answers choices =
 -- the peer part and effects after the chunk
 abbrev pub peer_part_handled : Pair → Held → List ResetParameter → Choices → Informed
 peer_part_handled my held parameters choices =
-    let performed_request : HandledParameters = work_chunk my choices.is_reached held parameters in
+    let performed_request : HandledParameters = work_chunk my choices.state held parameters in
     let sent : Flushed = reset_sent performed_request.is_refused performed_request.held performed_request.answers choices in
     record { held = sent.held; effects = performed_request.effects ++ sent.effects }
 

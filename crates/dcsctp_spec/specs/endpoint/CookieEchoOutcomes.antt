@@ -69,6 +69,7 @@ established_by e cookie queue tie =
       core = open_in established cookie.maker (held_by_cookie e.options cookie);
       tie = tie;
       outstanding = None;
+      renewable = None;
       error_count = errors_begun e;
       heartbeat_sent = None;
       timers = heartbeats_begun e (record stopped_timers { heartbeat_interval = e.timers.heartbeat_interval; heartbeat_timeout = e.timers.heartbeat_timeout });

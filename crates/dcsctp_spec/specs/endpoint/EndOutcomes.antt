@@ -38,6 +38,7 @@ closed_after e =
       last_tag = ended_tag e.core e.last_tag;
       tie = 0;
       outstanding = None;
+      renewable = None;
       heartbeat_sent = None;
       timers = stopped_timers;
       queues = record e.queues { transfer = None };

@@ -3,6 +3,7 @@ use Rattle.std.specs.Prelude.{◌==◌, ℕ, Bool, if◌then◌else◌, Option, 
 use Rattle.std.specs.Duration.{as_nanos}
 use Rattle.dcsctp_spec.specs.endpoint.Timers.{TimerSettings, RunningTimer, started}
 use Rattle.dcsctp_spec.specs.queues.Transfer.{EndpointQueues, empty_queues}
+use Rattle.dcsctp_spec.specs.Reconfiguration.{NumberedReset}
 use Rattle.dcsctp_types.specs.declared.association.Pair.{Pair}
 use Rattle.dcsctp_types.specs.declared.association.Held.{Held}
 use Rattle.dcsctp_types.specs.declared.association.Association.{Association}
@@ -101,6 +102,9 @@ pub record Endpoint : Type 0 where
   -- the association's tie tag (RFC 9260, section 5.2.2), 0 if the peer isn't known
   pub tie : ℕ
   pub outstanding : Option OutstandingRequest
+  -- The peer's request that was performed last, if it was in progress before: the peer may send it again under the next number. None
+  -- without an association.
+  pub renewable : Option NumberedReset
   -- the own tag of the last association that had a peer and has ended; None: of none
   pub last_tag : Option ℕ
   -- RFC 9260, section 8.1
@@ -136,6 +140,7 @@ fresh_endpoint options =
       core = closed;
       tie = 0;
       outstanding = None;
+      renewable = None;
       last_tag = None;
       error_count = 0;
       heartbeat_counter = 0;

@@ -1,7 +1,7 @@
 -- The turn of RE-CONFIG: what the peer asks to be reset, how it is answered, and what it answers (RFC 6525, section 5.2). Which
 -- numbers are accepted, and with which answer, is in association/ResetChanges (`work_chunk`); the rest is here.
-use Rattle.std.specs.Prelude.{◌≡◌, ◌==◌, ℕ, Bool, true, false, not, Option, None, Some, List, [], ◌∷◌, ◌++◌, codes, if◌then◌else◌}
-use Rattle.std.specs.List.{list_any}
+use Rattle.std.specs.Prelude.{◌≡◌, ◌==◌, ◌&&◌, ℕ, nat_eq, length, Bool, true, false, not, Option, None, Some, List, [], ◌∷◌, ◌++◌, codes, if◌then◌else◌}
+use Rattle.std.specs.List.{list_any, starts_with}
 use Rattle.std.specs.Option.{option_map}
 use Rattle.dcsctp_types.specs.wire.declared.reconfiguration.ReconfigurationResponseResult.TheVariants.{InProgress}
 use Rattle.dcsctp_types.specs.declared.association.Pair.{Pair}
@@ -9,7 +9,7 @@ use Rattle.dcsctp_types.specs.declared.association.Held.{Held}
 use Rattle.dcsctp_types.specs.declared.kinds.ErrorKind.TheVariants.{ProtocolViolation}
 use Rattle.dcsctp_spec.specs.endpoint.Event.{Event, error, incoming_stream_reset, streams_reset_failed, streams_reset_performed}
 use Rattle.dcsctp_spec.specs.Packet.{re_config, Emission}
-use Rattle.dcsctp_spec.specs.Reconfiguration.{RequestedReset, ResetParameter, outgoing_reset_request, incoming_reset_request, reconfiguration_response, other_reset_parameter}
+use Rattle.dcsctp_spec.specs.Reconfiguration.{RequestedReset, NumberedReset, RequestState, early, due, renewed, ResetParameter, outgoing_reset_request, incoming_reset_request, reconfiguration_response, other_reset_parameter}
 use Rattle.dcsctp_spec.specs.queues.Reassembly.{deferring, EndsDeferral}
 use Rattle.dcsctp_spec.specs.queues.Tracker.{cumulative_tsn}
 use Rattle.dcsctp_spec.specs.queues.OwnResets.{queue_committed, queue_rolled_back}
@@ -18,7 +18,8 @@ use Rattle.dcsctp_spec.specs.queues.Transfer.{Transfer}
 use Rattle.dcsctp_spec.specs.endpoint.Endpoint.{Endpoint, Core, cookie_echoed, open_in, OutstandingRequest}
 use Rattle.dcsctp_spec.specs.endpoint.Timers.{started}
 use Rattle.dcsctp_spec.specs.endpoint.Outcome.{Outcome, still, quiet, emits, behind, noting, to_peer}
-use Rattle.dcsctp_spec.specs.association.Effect.{Effect, completes, fails, performs}
+use Rattle.dcsctp_spec.specs.association.Effect.{Effect, completes, fails, performs, renews}
+use Rattle.dcsctp_spec.specs.association.FlushChanges.{next_number}
 use Rattle.dcsctp_spec.specs.association.ResetChanges.{HandledParameters, work_chunk}
 use Rattle.dcsctp_spec.specs.endpoint.FlushOutcomes.{Answer, draft_to, flush_of, FlushAnswers}
 use Rattle.dcsctp_spec.specs.queues.Numbers.{is_tsn_beyond}
@@ -39,9 +40,45 @@ abbrev pub is_request_reached : Option Transfer → Option RequestedReset → Bo
 is_request_reached (Some transfer) (Some reset) = not (is_tsn_beyond reset.last_tsn (cumulative_tsn transfer.tracker))
 is_request_reached transfer reset = true
 
+-- ---- a request that comes again under the next number
+
+-- the number of that request
+abbrev pub request_number_in : List ResetParameter → Option ℕ
+request_number_in [] = None
+request_number_in (outgoing_reset_request number answered reset ∷ parameters) = Some number
+request_number_in (incoming_reset_request number streams ∷ parameters) = request_number_in parameters
+request_number_in (reconfiguration_response number result ∷ parameters) = request_number_in parameters
+request_number_in (other_reset_parameter parameter ∷ parameters) = request_number_in parameters
+
+-- are they the same numbers, in the same order?
+abbrev pub is_same_list : List ℕ → List ℕ → Bool
+is_same_list one other = length one == length other && starts_with nat_eq one other
+
+-- do both want the same: up to the same TSN, the same list of streams?
+abbrev pub is_same_reset : RequestedReset → RequestedReset → Bool
+is_same_reset one other = one.last_tsn == other.last_tsn && is_same_list one.streams other.streams
+
+-- is this request of the peer the last one of its, once more under the next number?
+abbrev pub is_renewal : Option NumberedReset → ℕ → Option ℕ → Option RequestedReset → Bool
+is_renewal (Some old) last (Some number) (Some reset) = old.number == last && (number == next_number last && is_same_reset old.reset reset)
+is_renewal old last number reset = false
+
+-- what a request finds that was reached, if it is renewed, and if it isn't
+abbrev pub state_by : Bool → RequestState
+state_by true = renewed
+state_by false = due
+
+-- Where a request was in progress, the peer sends it again under the next number (RFC 6525, section 5.2.7). A late copy of the old one
+-- may be performed before that comes. With the option the new one is known to be the same. It is answered as performed, and isn't
+-- reported a second time. On its streams nothing may come between the two, so to reset them once more changes nothing.
+abbrev pub request_state : Endpoint → Held → List ResetParameter → RequestState
+request_state e held parameters =
+    if is_request_reached e.queues.transfer (requested_in parameters) then state_by (e.options.follow_rfc && is_renewal e.renewable held.peer_last (request_number_in parameters) (requested_in parameters))
+    else early
+
 -- what the parameters of a chunk make of the numbers, and how they are answered
 abbrev pub parameters_handled_in : Endpoint → Pair → Held → List ResetParameter → HandledParameters
-parameters_handled_in e my held parameters = work_chunk my (is_request_reached e.queues.transfer (requested_in parameters)) held parameters
+parameters_handled_in e my held parameters = work_chunk my (request_state e held parameters) held parameters
 
 -- ---- the peer's request
 
@@ -49,7 +86,19 @@ parameters_handled_in e my held parameters = work_chunk my (is_request_reached e
 abbrev pub has_reset : List Effect → Bool
 has_reset [] = false
 has_reset (performs peer number ∷ effects) = true
+has_reset (renews peer number ∷ effects) = true
 has_reset (effect ∷ effects) = has_reset effects
+
+-- What may come again under the next number, once this was performed: it, if it was in progress before, under the last number. It is
+-- recorded with the option alone.
+abbrev pub renewable_by : Endpoint → ℕ → Option ℕ → Option RequestedReset → Option NumberedReset
+renewable_by e last (Some number) (Some reset) = if e.options.follow_rfc && number == last then Some (record { number = number; reset = reset }) else None
+renewable_by e last number reset = None
+
+-- the same once the parameters of a chunk were handled
+abbrev pub renewable_after : Endpoint → ℕ → List ResetParameter → Bool → Option NumberedReset
+renewable_after e last parameters true = renewable_by e last (request_number_in parameters) (requested_in parameters)
+renewable_after e last parameters false = e.renewable
 
 -- is the peer's request answered as in progress?
 abbrev pub answers_in_progress : List ResetParameter → Bool
@@ -179,10 +228,14 @@ core_with (open_in phase my old) held = open_in phase my held
 core_with core held = core
 
 -- the endpoint once the parameters were handled, with this below its association
-abbrev pub resets_handled : Endpoint → OwnAnswer → Held → Option Transfer → Endpoint
-resets_handled e answer held left =
+abbrev pub resets_handled : Endpoint → OwnAnswer → Held → Option Transfer → Option NumberedReset → Endpoint
+resets_handled e answer held left renewable =
     let moved : Endpoint = own_moved answer e in
-    record moved { core = core_with e.core held; queues = record moved.queues { transfer = left } }
+    record moved { core = core_with e.core held; renewable = renewable; queues = record moved.queues { transfer = left } }
+
+-- what is renewable then
+abbrev pub renewable_left : Endpoint → Held → HandledParameters → List ResetParameter → Option NumberedReset
+renewable_left e held worked parameters = renewable_after e held.peer_last parameters (has_reset worked.effects)
 
 -- why a chunk is an error: it has no parameter, or a second Outgoing SSN Reset Request
 abbrev pub reset_refusal_text : List ResetParameter → List ℕ
@@ -208,7 +261,7 @@ ResponseAnswers false e held responses answers = FlushAnswers (responses_outcome
 -- by what the parameters make of the numbers, and with this below the association
 abbrev pub resets_by : Endpoint → Held → HandledParameters → List ResetParameter → Option Transfer → List Answer → Outcome
 resets_by e held worked parameters left answers =
-    noting worked.effects (responses_by worked.is_refused (resets_handled e (answered_in held worked parameters) worked.held left) (reset_events_of e parameters worked.effects) worked.held parameters worked.answers answers)
+    noting worked.effects (responses_by worked.is_refused (resets_handled e (answered_in held worked parameters) worked.held left (renewable_left e held worked parameters)) (reset_events_of e parameters worked.effects) worked.held parameters worked.answers answers)
 
 -- Its change is `re_config_change`.
 pub record WorksResets (e : Endpoint) (my : Pair) (held : Held) (parameters : List ResetParameter) (o : Outcome) : Type 0 where
@@ -217,7 +270,9 @@ pub record WorksResets (e : Endpoint) (my : Pair) (held : Held) (parameters : Li
       (requested_in parameters) e.queues.transfer left
   pub answers : List Answer
   pub allowed : ResponseAnswers (parameters_handled_in e my held parameters).is_refused
-      (resets_handled e (answered_in held (parameters_handled_in e my held parameters) parameters) (parameters_handled_in e my held parameters).held left) (parameters_handled_in e my held parameters).held
+      (resets_handled e (answered_in held (parameters_handled_in e my held parameters) parameters) (parameters_handled_in e my held parameters).held left
+      (renewable_left e held (parameters_handled_in e my held parameters) parameters))
+      (parameters_handled_in e my held parameters).held
       (parameters_handled_in e my held parameters).answers answers
   pub is : o ≡ resets_by e held (parameters_handled_in e my held parameters) parameters left answers
 
