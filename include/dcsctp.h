@@ -390,9 +390,10 @@ typedef struct dcsctp_socket {
  *   once it opens. Errors are counted for each association. A shutdown also waits until the peer
  *   knows what was abandoned. A SACK lists as many gaps as fit. An ABORT ends an attempt to
  *   connect. A late COOKIE ECHO of the last association begins none. Parts of messages count 256
- *   bytes more in the receive window. At 0, and with upstream's limits (above), the socket behaves
- *   as upstream, but for a few differences: docs/design/differences.md has a row for each, and for
- *   each rule. */
+ *   bytes more in the receive window. A packet brings one answer to its HEARTBEATs, INITs and
+ *   RE-CONFIGs. A shutdown also waits for a message behind a reset of its stream, if it has no
+ *   lifetime. At 0, and with upstream's limits (above), the socket behaves as upstream, but for a
+ *   few differences: docs/design/differences.md has a row for each, and for each rule. */
 typedef struct dcsctp_options {
     size_t size;                                         /* sizeof(dcsctp_options) */
     size_t mtu;                                          /* longest packet that is sent: 1,191 */

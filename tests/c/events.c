@@ -246,7 +246,7 @@ static void many_answers(void) {
         size_t packets;
     } rows[] = {
         {"HEARTBEAT", 4, 0, 290},
-        {"HEARTBEAT, follow_rfc", 4, 1, 290},
+        {"HEARTBEAT, follow_rfc", 4, 1, 1},
         {"SHUTDOWN ACK", 8, 0, 290},
         {"SHUTDOWN ACK, follow_rfc", 8, 1, 1},
     };

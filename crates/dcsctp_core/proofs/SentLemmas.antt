@@ -12,12 +12,12 @@ use Rattle.dcsctp_transfer.specs.types.declared.options.Options.{Options}
 use Rattle.dcsctp_transfer.specs.types.Settings.{ports_of, packet_size_limit}
 use Rattle.dcsctp_transfer.specs.spec.endpoint.Event.{sent}
 use Rattle.dcsctp_transfer.specs.spec.Packet.{Content, Emission, unworked, chunk_out, emission_bytes}
-use Rattle.dcsctp_transfer.specs.spec.endpoint.Endpoint.{Endpoint}
-use Rattle.dcsctp_transfer.specs.spec.endpoint.Outcome.{still, packet_counted, fits, quiet, sends, emits, to_peer, contents_len}
+use Rattle.dcsctp_transfer.specs.spec.endpoint.Endpoint.{Endpoint, may_answer}
+use Rattle.dcsctp_transfer.specs.spec.endpoint.Outcome.{Outcome, still, packet_counted, fits, quiet, sends, emits, answering, answered_where, answers_with, to_peer, contents_len}
 use Rattle.dcsctp_transfer.specs.spec.association.Choices.{plain_contents}
 use Rattle.dcsctp_transfer.specs.spec.endpoint.FlushOutcomes.{is_none, room_in}
 use Rattle.dcsctp_core.specs.View.{View, Moves}
-use Rattle.dcsctp_core.specs.Handling.{chunk_emitted, emitted_to, sent_to_peer}
+use Rattle.dcsctp_core.specs.Handling.{chunk_emitted, emitted_to, sent_to_peer, answered_to_peer, answer_counted, answered_to}
 use Rattle.dcsctp_core.proofs.Moving.{moves_still}
 use Rattle.dcsctp_core.specs.Flushing.{packet_being_built, packet_for}
 
@@ -136,3 +136,21 @@ pub told_moves : {R : Type 0} (stream : R → Stream) (a b : View R) (content : 
 told_moves {R = R} stream a b content None here = subst (λ (v : View R). Moves stream a (still a.endpoint) v) (sym here) (moves_still stream a)
 told_moves {R = R} stream a b content (Some held) here =
     subst (λ (v : View R). Moves stream a (emits a.endpoint [] (to_peer held content)) v) (sym here) (emits_moves stream a held content)
+
+-- ---- a chunk that is answered
+
+pub answering_moves : {R : Type 0} (stream : R → Stream) (a b : View R) (o : Outcome) → Moves stream a o b → Moves stream a (answering o) (answer_counted b)
+answering_moves stream a b o m =
+    record { endpoint = ap (λ (e : Endpoint). record e { has_answered = true }) m.endpoint; events = m.events; words = m.words; pairs = m.pairs; drawn = m.drawn }
+
+-- by whether it may be
+answered_at : {R : Type 0} (stream : R → Stream) (v : View R) (may : Bool) (held : Held) (content : Content)
+    → Moves stream v (answered_where may v.endpoint (to_peer held content)) (answered_to may (Some held) (chunk_out content) v)
+answered_at stream v false held content = moves_still stream v
+answered_at stream v true held content = answering_moves stream v _ _ (emits_moves stream v held content)
+
+pub answered_moves : {R : Type 0} (stream : R → Stream) (a b : View R) (content : Content) (peer : Option Held)
+    → b ≡ answered_to (may_answer a.endpoint) peer (chunk_out content) a → Moves stream a (answered_to_peer a.endpoint peer content) b
+answered_moves {R = R} stream a b content None here = subst (λ (v : View R). Moves stream a (still a.endpoint) v) (sym here) (moves_still stream a)
+answered_moves {R = R} stream a b content (Some held) here =
+    subst (λ (v : View R). Moves stream a (answers_with a.endpoint (to_peer held content)) v) (sym here) (answered_at stream a (may_answer a.endpoint) held content)

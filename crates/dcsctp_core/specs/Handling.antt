@@ -1,5 +1,5 @@
 -- What all handlers have in common: how their contracts state a turn, and the turns that all of them share.
-use Rattle.std.specs.Prelude.{◌≡◌, ◌==◌, ℕ, ◌+◌, Bool, Option, None, Some, Result, List, [], ◌∷◌, ◌++◌, length, nat_le, if◌then◌else◌}
+use Rattle.std.specs.Prelude.{◌≡◌, ◌==◌, ℕ, ◌+◌, Bool, true, false, Option, None, Some, Result, List, [], ◌∷◌, ◌++◌, length, nat_le, if◌then◌else◌}
 use Rattle.rand_core.specs.Stream.{Stream}
 use Rattle.dcsctp_transfer.specs.wire.Content.{ChunkContent}
 use Rattle.dcsctp_transfer.specs.wire.Spelling.{chunk_bytes, header_bytes, packet_bytes_of}
@@ -10,10 +10,10 @@ use Rattle.dcsctp_transfer.specs.types.ByResult.{ByResult}
 use Rattle.dcsctp_transfer.specs.types.Settings.{packet_size_limit}
 use Rattle.dcsctp_transfer.specs.types.Sizes.{common_header_size}
 use Rattle.dcsctp_transfer.specs.spec.Packet.{Content, Emission}
-use Rattle.dcsctp_transfer.specs.spec.endpoint.Endpoint.{Endpoint, held_in}
+use Rattle.dcsctp_transfer.specs.spec.endpoint.Endpoint.{Endpoint, held_in, may_answer}
 use Rattle.dcsctp_transfer.specs.spec.endpoint.Event.{Event, sent, aborted}
 use Rattle.dcsctp_transfer.specs.spec.endpoint.Event as events
-use Rattle.dcsctp_transfer.specs.spec.endpoint.Outcome.{Outcome, still, packet_counted, reports, emits, to_peer}
+use Rattle.dcsctp_transfer.specs.spec.endpoint.Outcome.{Outcome, still, packet_counted, reports, emits, answers_with, to_peer}
 use Rattle.dcsctp_transfer.specs.spec.endpoint.Following.{next_chunk, packet_end, dropped_rest}
 use Rattle.dcsctp_transfer.specs.spec.endpoint.Following as machine
 use Rattle.dcsctp_transfer.specs.spec.endpoint.Turn.{arrival_outcome}
@@ -22,7 +22,7 @@ use Rattle.dcsctp_transfer.specs.spec.endpoint.EndOutcomes.{close_outcome}
 use Rattle.dcsctp_core.specs.declared.following.Following.{Following}
 use Rattle.dcsctp_core.specs.declared.following.Following.TheVariants.{NextChunk, PacketEnd, DroppedRest}
 use Rattle.dcsctp_core.specs.declared.context.Context.{Context}
-use Rattle.dcsctp_core.specs.View.{View, core_of, view_of, Moves, CutTurn}
+use Rattle.dcsctp_core.specs.View.{View, core_of, endpoint_of, view_of, Moves, CutTurn}
 
 -- ---- a turn, or an allocation that failed
 
@@ -149,3 +149,25 @@ emitted_to (Some held) chunk view = chunk_emitted (held.capabilities.zero_checks
 abbrev pub EmitsToPeer : {R E : Type 0} → ChunkContent → Context R → Result (Unit {0}) E → Context R → Type 0
 EmitsToPeer chunk old result new =
     ByResult (λ done. view_of new ≡ emitted_to (held_in (core_of old.state)) chunk (view_of old)) (view_of new ≡ view_of old) result
+
+-- ---- a chunk that is answered
+
+abbrev pub answered_to_peer : Endpoint → Option Held → Content → Outcome
+answered_to_peer e None content = still e
+answered_to_peer e (Some held) content = answers_with e (to_peer held content)
+
+-- the view once a chunk of the packet was answered
+abbrev pub answer_counted : {R : Type 0} → View R → View R
+answer_counted view = record view { endpoint = record view.endpoint { has_answered = true } }
+
+-- It is answered by this one to the peer, if there is one, and if it may be.
+abbrev pub answered_to : {R : Type 0} → Bool → Option Held → ChunkContent → View R → View R
+answered_to may None chunk view = view
+answered_to false (Some held) chunk view = view
+answered_to true (Some held) chunk view = answer_counted (emitted_to (Some held) chunk view)
+
+-- That is so; or an allocation failed, and nothing has changed.
+abbrev pub AnswersPeer : {R E : Type 0} → ChunkContent → Context R → Result (Unit {0}) E → Context R → Type 0
+AnswersPeer chunk old result new =
+    ByResult (λ done. view_of new ≡ answered_to (may_answer (endpoint_of old)) (held_in (core_of old.state)) chunk (view_of old))
+    (view_of new ≡ view_of old) result

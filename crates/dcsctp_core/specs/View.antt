@@ -166,6 +166,7 @@ endpoint_of context =
       error_count = context.tx_error_counter.count;
       heartbeat_counter = context.heartbeat_counter;
       heartbeat_sent = context.heartbeat_sent;
+      has_answered = context.has_answered;
       timers = record stopped_timers {
         t1 = t1_of context.state;
         t2 = t2_of context.state;

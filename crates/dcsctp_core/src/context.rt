@@ -75,6 +75,9 @@ pub struct Context<R> {
     /// it again under the next number. `None` without `Options::follow_rfc`.
     pub renewable: Option<PerformedReset>,
 
+    // Was a HEARTBEAT, an INIT or a RE-CONFIG of the present packet answered?
+    has_answered: bool,
+
     // Our verification tag in the last association that had a peer and has ended.
     last_tag: Option<u32>,
 
@@ -118,6 +121,7 @@ impl<R: Rng> Context<R> {
     ghost use Rattle.std.specs.Option.{option_map};
     ghost use Rattle.rand_core.specs.Stream.{next_u32, next_u64};
     ghost use Rattle.dcsctp_transfer.specs.types.declared.word.Word.TheVariants.{U32, U64};
+    ghost use Rattle.dcsctp_transfer.specs.spec.endpoint.Endpoint.{may_answer};
     ghost use Rattle.dcsctp_transfer.specs.spec.endpoint.Outcome.{packet_counted};
     ghost use Rattle.dcsctp_transfer.specs.spec.endpoint.EndOutcomes.{left_by};
     ghost use Rattle.dcsctp_transfer.specs.types.queues.Messages.{message_content};
@@ -134,7 +138,7 @@ impl<R: Rng> Context<R> {
     ghost use Rattle.dcsctp_core.specs.Reconfiguring.{request_over};
     ghost use Rattle.dcsctp_core.specs.View.{Moves, view_of, endpoint_of, outstanding_of, transfer_of, association_dropped, begun_heartbeats, message_counted, fresh_view, call_start};
     ghost use Rattle.dcsctp_core.specs.Drawing.{Draws, KeepsPair};
-    ghost use Rattle.dcsctp_core.specs.Handling.{Tries, Emits, EmitsToPeer, arrival_turn, report_turn, close_turn, end_event};
+    ghost use Rattle.dcsctp_core.specs.Handling.{Tries, Emits, EmitsToPeer, AnswersPeer, answer_counted, arrival_turn, report_turn, close_turn, end_event};
 
     /// A closed socket with these options, at moment zero.
     pub fn new(alloc: Global, options: Options, generator: R) -> Context<R>
@@ -168,6 +172,7 @@ impl<R: Rng> Context<R> {
             heartbeat_counter: 0,
             heartbeat_sent: None,
             renewable: None,
+            has_answered: false,
             last_tag: None,
             tx_error_counter: TxErrorCounter::new(options.max_retransmissions),
             rx_packets_count: 0,
@@ -284,6 +289,41 @@ impl<R: Rng> Context<R> {
                 let tag = tcb.peer.tag;
                 let write_checksum = !tcb.capabilities.zero_checksum_enabled();
                 self.emit(tag, write_checksum, chunk)
+            }
+        }
+    }
+
+    /// May a HEARTBEAT, an INIT or a RE-CONFIG of the present packet be answered? With `Options::follow_rfc` one
+    /// may, so that no packet brings many.
+    pub fn may_answer(&self) -> bool
+        ensures { result ≡ may_answer (endpoint_of self.now) }
+    {
+        !(self.options.follow_rfc && self.has_answered)
+    }
+
+    /// Keeps that a chunk of the present packet was answered.
+    pub fn count_answer(&mut self)
+        ensures { view_of self.new ≡ answer_counted (view_of self.old) }
+    {
+        self.has_answered = true;
+    }
+
+    /// Answers a chunk of the present packet by this one, which `emit_to_peer` sends, if `may_answer`. Without a
+    /// peer nothing is emitted.
+    ///
+    /// `Err`: an allocation failed, and nothing has changed.
+    pub fn answer_peer(&mut self, chunk: &Chunk<'_>) -> Result<(), AllocError>
+        ensures { AnswersPeer (chunk_content chunk.now) self.old result self.new }
+    {
+        match self.state.tcb() {
+            None => Ok(()),
+            Some(_) => {
+                if !self.may_answer() {
+                    return Ok(());
+                }
+                self.emit_to_peer(chunk)?;
+                self.count_answer();
+                Ok(())
             }
         }
     }
@@ -520,11 +560,12 @@ impl<R: Rng> Context<R> {
         self.pairs.clear();
     }
 
-    /// Counts a packet that was handed in; the count saturates.
+    /// Counts a packet that was handed in; the count saturates. No chunk of it was answered yet.
     pub fn count_packet(&mut self)
         ensures { Moves R.stream (view_of self.old) (arrival_turn (view_of self.old)) (view_of self.new) }
     {
         self.rx_packets_count = self.rx_packets_count.saturating_add(1);
+        self.has_answered = false;
     }
 
     /// Reports an error. `Err`: an allocation failed, and nothing has changed.

@@ -8,9 +8,9 @@ use Rattle.dcsctp_core.specs.types.declared.word.Word.TheVariants.{U32}
 use Rattle.dcsctp_core.specs.types.ByResult.{ByResult}
 use Rattle.dcsctp_core.specs.types.Offer.{offer_of, negotiated}
 use Rattle.dcsctp_core.specs.spec.Packet.{Introduction}
-use Rattle.dcsctp_core.specs.spec.endpoint.Endpoint.{Endpoint, Core, closed, cookie_wait, cookie_echoed, open_in, held_in}
+use Rattle.dcsctp_core.specs.spec.endpoint.Endpoint.{Endpoint, Core, closed, cookie_wait, cookie_echoed, open_in, held_in, may_answer}
 use Rattle.dcsctp_core.specs.spec.endpoint.Outcome.{Outcome, still, emits}
-use Rattle.dcsctp_core.specs.spec.endpoint.HandshakeOutcomes.{tag_from, pair_from, init_outcome, renewed_pair_outcome, answer_outcome, awaits_init_ack, connect_outcome, init_emission, send_echo_by, accepted_init_ack_by, abort_emission, refused_init_ack_outcome, InitAckAnswers, InitAckTurn, CookieAckTurn}
+use Rattle.dcsctp_core.specs.spec.endpoint.HandshakeOutcomes.{tag_from, pair_from, init_outcome, init_answered, renewed_pair_outcome, answer_outcome, awaits_init_ack, connect_outcome, init_emission, send_echo_by, accepted_init_ack_by, abort_emission, refused_init_ack_outcome, InitAckAnswers, InitAckTurn, CookieAckTurn}
 use Rattle.dcsctp_core.specs.spec.endpoint.CookieEchoOutcomes.{CookieEchoTurn}
 use Rattle.dcsctp_core.specs.spec.endpoint.FlushOutcomes.{Answer, FlushKind, flush_answered}
 use Rattle.dcsctp_core.specs.spec.endpoint.TimerOutcomes.{AgainAnswers}
@@ -54,8 +54,13 @@ renewed_pair_where e None theirs word = still e
 renewed_pair_where e (Some held) theirs word = renewed_pair_outcome e theirs word
 
 -- with the words that the generator gives next
+abbrev pub init_reply_turn : {R : Type 0} → (R → Stream) → Introduction → View R → Outcome
+init_reply_turn stream theirs view = init_outcome view.endpoint theirs view.endpoint.core (first_word (stream view.generator)) (second_word (stream view.generator))
+
+-- by whether it may be answered
 abbrev pub init_turn : {R : Type 0} → (R → Stream) → Introduction → View R → Outcome
-init_turn stream theirs view = init_outcome view.endpoint theirs view.endpoint.core (first_word (stream view.generator)) (second_word (stream view.generator))
+init_turn stream theirs view =
+    init_answered (may_answer view.endpoint) view.endpoint theirs (first_word (stream view.generator)) (second_word (stream view.generator))
 
 -- while an association is open, with the word that the generator gives next
 abbrev pub renewed_turn : {R : Type 0} → (R → Stream) → Introduction → View R → Outcome

@@ -3,7 +3,7 @@
 ghost use Rattle.dcsctp_core.specs.wire.Content.{init_content};
 ghost use Rattle.dcsctp_core.specs.spec.Packet.{introduction_in};
 ghost use Rattle.dcsctp_core.specs.Handling.{Tries, TriesDrawing};
-ghost use Rattle.dcsctp_core_handshake.specs.Handshake.{DrawsTag, DrawsPair, init_answer_turn, init_turn, renewed_turn};
+ghost use Rattle.dcsctp_core_handshake.specs.Handshake.{DrawsTag, DrawsPair, init_answer_turn, init_reply_turn, init_turn, renewed_turn};
 
 use crate::parameters::introduction;
 use dcsctp_core::api::{Capabilities, Pair, StateCookie};
@@ -92,14 +92,9 @@ fn answer_anew<R: Rng>(context: &mut Context<R>, init: &InitChunk<'_>) -> Result
     Ok(())
 }
 
-/// Handles an INIT, which doesn't change the association. During a handshake the answer carries our own pair
-/// (RFC 9260, section 5.2.1), else one that is drawn for it. While an association is open it also carries the
-/// tie tag (RFC 9260, section 5.2.2). While a SHUTDOWN ACK waits for its answer, that is sent again instead,
-/// and T2 runs on (RFC 9260, section 9.2).
-///
-/// `Err`: an allocation failed, and nothing has changed but the random words that were drawn.
-pub fn handle_init<R: Rng>(context: &mut Context<R>, init: &InitChunk<'_>) -> Result<(), AllocError>
-    ensures { TriesDrawing R.stream (init_turn R.stream (introduction_in (init_content init.now)))
+// Answers an INIT. `Err`: an allocation failed, and nothing has changed but the random words that were drawn.
+fn answer_init<R: Rng>(context: &mut Context<R>, init: &InitChunk<'_>) -> Result<(), AllocError>
+    ensures { TriesDrawing R.stream (init_reply_turn R.stream (introduction_in (init_content init.now)))
         context.old result context.new }
 {
     match &context.state {
@@ -123,5 +118,24 @@ pub fn handle_init<R: Rng>(context: &mut Context<R>, init: &InitChunk<'_>) -> Re
             }
         },
     }
+    Ok(())
+}
+
+/// Handles an INIT, which doesn't change the association. During a handshake the answer carries our own pair
+/// (RFC 9260, section 5.2.1), else one that is drawn for it. While an association is open it also carries the
+/// tie tag (RFC 9260, section 5.2.2). While a SHUTDOWN ACK waits for its answer, that is sent again instead,
+/// and T2 runs on (RFC 9260, section 9.2). With `Options::follow_rfc` it is ignored, and no words are drawn, if
+/// another chunk of its packet was answered.
+///
+/// `Err`: an allocation failed, and nothing has changed but the random words that were drawn.
+pub fn handle_init<R: Rng>(context: &mut Context<R>, init: &InitChunk<'_>) -> Result<(), AllocError>
+    ensures { TriesDrawing R.stream (init_turn R.stream (introduction_in (init_content init.now)))
+        context.old result context.new }
+{
+    if !context.may_answer() {
+        return Ok(());
+    }
+    answer_init(context, init)?;
+    context.count_answer();
     Ok(())
 }

@@ -4,31 +4,31 @@ use Rattle.std.specs.Int.{w32, to_be_bytes}
 use Rattle.rand_core.specs.Stream.{Stream}
 use Rattle.dcsctp_core.specs.wire.Content.{ParameterContent, heartbeat_chunk, heartbeat_ack_chunk, heartbeat_info}
 use Rattle.dcsctp_core.specs.spec.Packet.{Content, heartbeat, heartbeat_ack, plain}
-use Rattle.dcsctp_core.specs.spec.endpoint.Endpoint.{Endpoint, Core, closed, cookie_wait, cookie_echoed, open_in, held_in}
+use Rattle.dcsctp_core.specs.spec.endpoint.Endpoint.{Endpoint, Core, closed, cookie_wait, cookie_echoed, open_in, held_in, may_answer}
 use Rattle.dcsctp_core.specs.spec.endpoint.HeartbeatOutcomes.{heartbeat_outcome, beating}
 use Rattle.dcsctp_core.specs.declared.context.Context.{Context}
 use Rattle.dcsctp_core.specs.declared.state.State.{State}
 use Rattle.dcsctp_core.specs.declared.state.State.TheVariants.{Closed, CookieWait, CookieEchoed, Open}
 use Rattle.dcsctp_core.specs.declared.transmission_control_block.TransmissionControlBlock.{TransmissionControlBlock}
 use Rattle.dcsctp_core.specs.View.{View, core_of, tcb_of, endpoint_of, view_of, Moves}
-use Rattle.dcsctp_core.specs.Handling.{emitted_to, sent_to_peer}
+use Rattle.dcsctp_core.specs.Handling.{emitted_to, sent_to_peer, answered_to_peer, answered_to}
 use Rattle.dcsctp_core.proofs.BelowLemmas.{moves_from}
 use Rattle.dcsctp_core.proofs.Composing.{moves_as}
-use Rattle.dcsctp_core.proofs.SentLemmas.{told_moves}
+use Rattle.dcsctp_core.proofs.SentLemmas.{told_moves, answered_moves}
 use Rattle.dcsctp_core_heartbeat.specs.Heartbeats.{heartbeat_turn, beat_outcome, beat_turn}
 
 answer_is : (e : Endpoint) (core : Core) (parameters : List ParameterContent)
-    → heartbeat_outcome e core parameters ≡ sent_to_peer e (held_in core) (plain (heartbeat_ack parameters))
+    → heartbeat_outcome e core parameters ≡ answered_to_peer e (held_in core) (plain (heartbeat_ack parameters))
 answer_is e closed parameters = refl
 answer_is e (cookie_wait my) parameters = refl
 answer_is e (cookie_echoed my held cookie) parameters = refl
 answer_is e (open_in phase my held) parameters = refl
 
 pub answer_moves : {R : Type 0} (stream : R → Stream) (a b : View R) (parameters : List ParameterContent)
-    → b ≡ emitted_to (held_in a.endpoint.core) (heartbeat_ack_chunk parameters) a → Moves stream a (heartbeat_turn parameters a) b
+    → b ≡ answered_to (may_answer a.endpoint) (held_in a.endpoint.core) (heartbeat_ack_chunk parameters) a → Moves stream a (heartbeat_turn parameters a) b
 answer_moves stream a b parameters here =
     moves_as stream a b _ _ (answer_is a.endpoint a.endpoint.core parameters)
-    (told_moves stream a b (plain (heartbeat_ack parameters)) (held_in a.endpoint.core) here)
+    (answered_moves stream a b (plain (heartbeat_ack parameters)) (held_in a.endpoint.core) here)
 
 -- a HEARTBEAT with this counter
 abbrev beat_of : ℕ → Content

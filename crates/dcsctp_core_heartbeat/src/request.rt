@@ -11,7 +11,7 @@ use rand_core::Rng;
 use std::alloc::AllocError;
 
 /// Answers a HEARTBEAT of the peer, if it is known: a HEARTBEAT ACK is sent with the same parameters, if it
-/// fits `mtu`.
+/// fits `mtu`. With `Options::follow_rfc` that is so unless another chunk of its packet was answered.
 ///
 /// `Err`: an allocation failed, and nothing has changed.
 pub fn handle_heartbeat_request<R: Rng>(
@@ -26,6 +26,6 @@ pub fn handle_heartbeat_request<R: Rng>(
     };
     let parameters = Vec::from_slice(context.alloc, &chunk.parameters)?;
     let ack = HeartbeatAckChunk { parameters };
-    context.emit_to_peer(&Chunk::HeartbeatAck(ack))?;
+    context.answer_peer(&Chunk::HeartbeatAck(ack))?;
     Ok(())
 }

@@ -16,15 +16,16 @@ use Rattle.dcsctp_core.specs.spec.endpoint.Event.{Event, sent, incoming_stream_r
 use Rattle.dcsctp_core.specs.spec.Packet.{re_config, Emission}
 use Rattle.dcsctp_core.specs.spec.Reconfiguration.{RequestState, NumberedReset, RequestedReset, ResetParameter, outgoing_reset_request, incoming_reset_request, reconfiguration_response, other_reset_parameter, reset_parameter_content}
 use Rattle.dcsctp_core.specs.spec.queues.Transfer.{Transfer}
-use Rattle.dcsctp_core.specs.spec.endpoint.Endpoint.{Endpoint, Core, cookie_echoed, open_in, OpenPhase, held_in}
+use Rattle.dcsctp_core.specs.spec.endpoint.Endpoint.{Endpoint, Core, cookie_echoed, open_in, OpenPhase, held_in, may_answer}
 use Rattle.std.specs.Prelude.{if◌then◌else◌}
-use Rattle.dcsctp_core.specs.spec.endpoint.Outcome.{Outcome, still, quiet, sends, fits, noting, to_peer}
+use Rattle.dcsctp_core.specs.spec.endpoint.Outcome.{Outcome, still, quiet, sends, fits, emits, answering, noting, to_peer}
 use Rattle.dcsctp_core.specs.spec.association.Effect.{Effect, drawn_in}
 use Rattle.dcsctp_core.specs.spec.association.ResetChanges.{RequestPlace, again, next, astray, request_place, RequestOutcome, incoming_by, Informed, informed_by, is_outstanding, informed_where, HandledParameters, work_parameters, work_chunk}
 use Rattle.dcsctp_core.specs.spec.endpoint.FlushOutcomes.{is_none, Answer, draft_to, flush_of, first_ask, packets_allowed}
 use Rattle.dcsctp_core.specs.spec.endpoint.DataOutcomes.{flush_by, AnswersTo, FlushTurn}
 use Rattle.dcsctp_core.specs.spec.endpoint.ResetOutcomes.{requested_in, request_number_in, request_state, renewable_after, renewable_left, parameters_handled_in, OwnAnswer, unanswered, retried, was_performed, has_failed, own_moved, own_answer, in_progress_among, answered_in, handled_part, own_streams, has_reset, answers_in_progress, ResetsInQueues, ResetsTransferStreams, defers_reset, their_streams, reset_events_of, core_with, resets_handled, reset_refusal_text, responses_outcome, responses_by, ResponseAnswers, resets_by, WorksResets, ResetTurn}
 use Rattle.dcsctp_core.proofs.spec_lemmas.AnswerLemmas.{any_answers}
+use Rattle.dcsctp_core.proofs.spec_lemmas.OneAnswerLemmas.{answered_by}
 use Rattle.dcsctp_core.proofs.spec_lemmas.ReassemblyLemmas.{any_left}
 use Rattle.dcsctp_core.proofs.spec_lemmas.TurnLists.{drawn_in-append}
 use Rattle.dcsctp_core.specs.api.Calls.{user_event, Drawn}
@@ -36,11 +37,11 @@ use Rattle.dcsctp_core.specs.declared.transmission_control_block.TransmissionCon
 use Rattle.dcsctp_core.specs.declared.state.State.TheVariants.{Closed, CookieWait, CookieEchoed, Open}
 use Rattle.dcsctp_core.specs.Reconfiguring.{request_in}
 use Rattle.dcsctp_core.specs.View.{View, request_number, tcb_of, held_of, phase_in, core_of, outstanding_of, performed_reset, transfer_of, endpoint_of, view_of, Moves}
-use Rattle.dcsctp_core.specs.Handling.{Tries, emitted_to, EmitsToPeer, report_turn, FlushAt, TakesPossibleTurn, CutIn, TakesOne}
+use Rattle.dcsctp_core.specs.Handling.{Tries, emitted_to, EmitsToPeer, report_turn, FlushAt, TakesPossibleTurn, CutIn, TakesOne, answered_to, AnswersPeer}
 use Rattle.dcsctp_core.specs.Below.{ChangesQueues}
 use Rattle.dcsctp_core.proofs.BelowLemmas.{below_view, same_view}
 use Rattle.dcsctp_core.proofs.Moving.{moves_still}
-use Rattle.dcsctp_core.proofs.SentLemmas.{emits_moves}
+use Rattle.dcsctp_core.proofs.SentLemmas.{answered_moves}
 use Rattle.dcsctp_core.proofs.Composing.{behind, Adds, Draws, moves_behind, moves_as, cut_behind, cut_first, cut_longer, moves_noting, cut_noting}
 use Rattle.dcsctp_core_resets.specs.declared.requests.LastRequest.{LastRequest}
 use Rattle.dcsctp_core_resets.specs.declared.requests.Treatment.{Treatment}
@@ -88,9 +89,15 @@ emitted_answers : (b : Bool) (e : Endpoint) (emission : Emission) → Answers e 
 emitted_answers true e emission = record { held = refl; ports = refl; words = refl; effects = refl }
 emitted_answers false e emission = record { held = refl; ports = refl; words = refl; effects = refl }
 
+counted_answers : (e : Endpoint) (o : Outcome) → Answers e o → Answers e (answering o)
+counted_answers e o a = record { held = a.held; ports = a.ports; words = a.words; effects = a.effects }
+
 answers_of : (e : Endpoint) (held : Held) (responses : List ResetParameter) → Answers e (responses_outcome e held responses)
 answers_of e held [] = record { held = refl; ports = refl; words = refl; effects = refl }
-answers_of e held (response ∷ responses) = emitted_answers (fits e (to_peer held (re_config (response ∷ responses)))) e (to_peer held (re_config (response ∷ responses)))
+answers_of e held (response ∷ responses) =
+    let emission : Emission = to_peer held (re_config (response ∷ responses)) in
+    answered_by (Answers e) e emission (record { held = refl; ports = refl; words = refl; effects = refl })
+    (counted_answers e (emits e [] emission) (emitted_answers (fits e emission) e emission))
 
 -- the same of the turn that the handler takes
 turn_is : {R : Type 0} (old : Context R) (held : Held) (responses : List ResetParameter) → held_in (core_of old.state) ≡ Some held → responses_turn responses (view_of old) ≡ responses_outcome (endpoint_of old) held responses
@@ -247,15 +254,15 @@ tcb_holds (Open opened) tcb is = ap (λ (t : Option TransmissionControlBlock). o
 
 -- The answers are sent to the peer, if it is known.
 sent_to : {R : Type 0} (stream : R → Stream) (v : View R) (peer : Option Held) (responses : List ResetParameter) → is_none responses ≡ false
-    → Moves stream v (responses_to v.endpoint peer responses) (emitted_to peer (re_config_chunk (map reset_parameter_content responses)) v)
+    → Moves stream v (responses_to v.endpoint peer responses) (answered_to (may_answer v.endpoint) peer (re_config_chunk (map reset_parameter_content responses)) v)
 sent_to stream v peer [] some = absurd (cc)
 sent_to stream v None (response ∷ responses) some = moves_still stream v
-sent_to stream v (Some held) (response ∷ responses) some = emits_moves stream v held (re_config (response ∷ responses))
+sent_to stream v (Some held) (response ∷ responses) some = answered_moves stream v _ (re_config (response ∷ responses)) (Some held) refl
 
 -- That is so, or an allocation failed.
 pub responses_sent : {R E : Type 0} (stream : R → Stream) (old : Context R) (result : Result (Unit {0}) E) (new : Context R) (responses : List ResetParameter)
     → is_none responses ≡ false
-    → EmitsToPeer (re_config_chunk (map reset_parameter_content responses)) old result new → Tries stream (responses_turn responses) old result new
+    → AnswersPeer (re_config_chunk (map reset_parameter_content responses)) old result new → Tries stream (responses_turn responses) old result new
 responses_sent stream old (Ok done) new responses some h =
     subst (λ (v : View _). Moves stream (view_of old) (responses_turn responses (view_of old)) v) (sym h)
     (sent_to stream (view_of old) (held_in (core_of old.state)) responses some)

@@ -443,8 +443,8 @@ fn refuse<R: Rng>(context: &mut Context<R>, parameters: &[Parameter<'_>]) -> Res
     Ok(())
 }
 
-// Sends these answers to the peer, if there are some and they fit `mtu`. `Err`: an allocation failed, and
-// nothing has changed.
+// Sends these answers to the peer, if there are some, they fit `mtu`, and the packet may be answered. `Err`: an
+// allocation failed, and nothing has changed.
 fn respond<R: Rng>(
     context: &mut Context<R>,
     responses: Vec<Parameter<'static>>,
@@ -459,7 +459,7 @@ fn respond<R: Rng>(
     let chunk = Chunk::ReConfig(ReConfigChunk {
         parameters: responses,
     });
-    context.emit_to_peer(&chunk)
+    context.answer_peer(&chunk)
 }
 
 // Answers the peer, and then sends what waits. A chunk that is an error is reported instead. `Err`: an
@@ -514,6 +514,9 @@ fn handle_parameters<R: Rng>(
 ///
 /// An answer to our outstanding request ends it (section 5.2.7). Its streams are reset, or aren't, which is
 /// reported to the user, and both take messages again. A request that is in progress is sent again later.
+///
+/// With `Options::follow_rfc` no answer is sent if another chunk of the packet was answered. The peer sends its
+/// request again, and then gets the answer that was kept.
 ///
 /// A chunk without parameters, or with a second Outgoing SSN Reset Request, is reported, and no answer is
 /// sent. What came before the second request was handled. Without a peer nothing happens.

@@ -10,8 +10,8 @@ use Rattle.dcsctp_spec_lemmas.specs.spec.endpoint.CallTurns.{Transition, IsTurn,
 use Rattle.dcsctp_spec_lemmas.specs.spec.endpoint.Endpoint.{Endpoint, Core, closed, cookie_wait, cookie_echoed, open_in, shutdown_pending, shutdown_received}
 use Rattle.dcsctp_spec_lemmas.specs.spec.endpoint.Following.{Following, next_chunk, packet_end, dropped_rest}
 use Rattle.dcsctp_spec_laws.specs.TurnLaws.{ChunksAreControlled}
-use Rattle.dcsctp_spec_lemmas.specs.spec.endpoint.Outcome.{Outcome, still, to_peer}
-use Rattle.dcsctp_spec_lemmas.specs.spec.Packet.{Plain, unknown, heartbeat, heartbeat_ack, unworked, Content, init, init_ack, cookie_echo, cookie_ack, re_config, abort, shutdown, shutdown_ack, shutdown_complete, plain}
+use Rattle.dcsctp_spec_lemmas.specs.spec.endpoint.Outcome.{Outcome, still, answers_with, to_peer}
+use Rattle.dcsctp_spec_lemmas.specs.spec.Packet.{Plain, unknown, heartbeat, heartbeat_ack, unworked, Content, init, init_ack, cookie_echo, cookie_ack, re_config, abort, shutdown, shutdown_ack, shutdown_complete, plain, Emission}
 use Rattle.dcsctp_spec_lemmas.specs.spec.Reconfiguration.{ResetParameter}
 use Rattle.dcsctp_spec_lemmas.specs.spec.endpoint.Turn.{chunk_input, packet_ends, ContentTurn}
 use Rattle.dcsctp_spec_lemmas.specs.spec.association.Acts.{flush_change, plain_change}
@@ -24,6 +24,7 @@ use Rattle.dcsctp_spec_lemmas.specs.spec.endpoint.HeartbeatOutcomes.{heartbeat_o
 use Rattle.dcsctp_spec_lemmas.specs.spec.endpoint.PlainOutcomes.{violation_by, violation_at, PlainTurnBy, is_reported, after_unknown, unknown_bytes, unknown_chunk_outcome, unknown_outcome, error_outcome}
 use Rattle.dcsctp_spec_laws.proofs.DataLemmas.{chosen, FlushedAt, data_at, forward_at, end_at}
 use Rattle.dcsctp_spec_laws.proofs.SackLemmas.{SteppedAt, sack_at}
+use Rattle.dcsctp_spec_lemmas.proofs.OneAnswerLemmas.{answered_by}
 use Rattle.dcsctp_theorem_sockets.proofs.Bursts.{emits_core}
 use Rattle.dcsctp_delivery_turns.specs.Actions.{IsOpening}
 use Rattle.dcsctp_delivery_sockets.specs.Echoes.{MayFollow, AllMayFollow}
@@ -96,11 +97,14 @@ unknown_core e (cookie_wait my) type chunk true = refl
 unknown_core e (cookie_echoed my held cookie) type chunk true = refl
 unknown_core e (open_in phase my held) type chunk true = refl
 
+answer_core : (e : Endpoint) (emission : Emission) → (answers_with e emission).after.core ≡ e.core
+answer_core e emission = answered_by (λ (o : Outcome). o.after.core ≡ e.core) e emission refl (emits_core e [] emission)
+
 heartbeat_core : (e : Endpoint) (core : Core) (parameters : List ParameterContent) → (heartbeat_outcome e core parameters).after.core ≡ e.core
 heartbeat_core e closed parameters = refl
 heartbeat_core e (cookie_wait my) parameters = refl
-heartbeat_core e (cookie_echoed my held cookie) parameters = emits_core e [] (to_peer held (plain (heartbeat_ack parameters)))
-heartbeat_core e (open_in phase my held) parameters = emits_core e [] (to_peer held (plain (heartbeat_ack parameters)))
+heartbeat_core e (cookie_echoed my held cookie) parameters = answer_core e (to_peer held (plain (heartbeat_ack parameters)))
+heartbeat_core e (open_in phase my held) parameters = answer_core e (to_peer held (plain (heartbeat_ack parameters)))
 
 counted_core : (b : Bool) (e : Endpoint) → (cond b (still (answered e)) (still e)).after.core ≡ e.core
 counted_core true e = refl

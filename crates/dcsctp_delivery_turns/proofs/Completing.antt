@@ -29,6 +29,7 @@ use Rattle.dcsctp_spec_lemmas.proofs.ControlHandshake.{init_ack_controlled, cook
 use Rattle.dcsctp_spec_laws.proofs.ControlLemmas.{begin_stands, acts_are_controlled}
 use Rattle.dcsctp_spec_laws.proofs.DataLemmas.{flushed_act, end_at, send_at, resets_at, take_at}
 use Rattle.dcsctp_spec_lemmas.proofs.FlushKeeps.{begun_by, flush_keeps}
+use Rattle.dcsctp_spec_lemmas.proofs.OneAnswerLemmas.{init_by}
 use Rattle.dcsctp_spec_laws.proofs.HeartbeatLemmas.{timer_controlled}
 use Rattle.dcsctp_spec_laws.proofs.PlainLemmas.{plain_controlled}
 use Rattle.dcsctp_spec_laws.proofs.HeardShutdownLemmas.{shutdown_controlled}
@@ -240,7 +241,9 @@ module _ (my : Pair) (number : ℕ) where
   init_none e theirs (open_in shutdown_ack_sent own held) word later has = emits_none e [] (to_peer held shutdown_ack) has
 
   content_ends : (e : Endpoint) (tag : ℕ) (content : Content) (o : Outcome) → ContentTurn e tag content o → Completed o.effects → EndsOwn e my number
-  content_ends e tag (init theirs) o turn has = absurd (same_none o _ turn.2 (init_none e theirs e.core turn.0 turn.1) has)
+  content_ends e tag (init theirs) o turn has =
+      absurd (same_none o _ turn.2
+      (init_by (λ (x : Outcome). Completed x.effects → ⊥) e theirs turn.0 turn.1 (λ none. none) (init_none e theirs e.core turn.0 turn.1)) has)
   content_ends e tag (init_ack theirs cookie) o turn has = absurd (by_chunk e tag (init_ack theirs cookie) o (init_ack_controlled e tag theirs cookie o turn) has)
   content_ends e tag (cookie_echo cookie) o turn has = absurd (by_chunk e tag (cookie_echo cookie) o (cookie_echo_controlled e tag cookie o turn) has)
   content_ends e tag cookie_ack o turn has = absurd (by_chunk e tag cookie_ack o (cookie_ack_controlled e tag o turn) has)

@@ -11,12 +11,12 @@ use Rattle.dcsctp_spec_lemmas.specs.spec.Cookie.{Cookie}
 use Rattle.dcsctp_spec_lemmas.specs.spec.endpoint.Event.{Event, packets_in, connected, connection_restarted, aborted}
 use Rattle.dcsctp_spec_lemmas.specs.spec.queues.SendQueue.{queue_restarted, numbered_for}
 use Rattle.dcsctp_spec_lemmas.specs.spec.Packet.{Introduction, Content, cookie_echo, shutdown_ack, Emission}
-use Rattle.dcsctp_spec_lemmas.specs.spec.endpoint.Endpoint.{Endpoint, Core, closed, cookie_wait, cookie_echoed, open_in, established, shutdown_pending, shutdown_sent, shutdown_received, shutdown_ack_sent}
+use Rattle.dcsctp_spec_lemmas.specs.spec.endpoint.Endpoint.{Endpoint, Core, closed, cookie_wait, cookie_echoed, open_in, established, shutdown_pending, shutdown_sent, shutdown_received, shutdown_ack_sent, may_answer}
 use Rattle.dcsctp_spec_lemmas.specs.spec.endpoint.Outcome.{Outcome, quiet, emits, fits, to_peer}
 use Rattle.dcsctp_spec_lemmas.specs.spec.endpoint.FlushOutcomes.{Answer, draft_to, flush_of, flush_answered}
 use Rattle.dcsctp_spec_lemmas.specs.spec.endpoint.EndOutcomes.{abort_outcome, aborting_outcome, abort_to, end_of}
 use Rattle.dcsctp_spec_lemmas.specs.spec.endpoint.HandoverOutcomes.{hand_over_outcome}
-use Rattle.dcsctp_spec_lemmas.specs.spec.endpoint.HandshakeOutcomes.{pair_from, renewed_pair, init_ack_emission, init_outcome, init_emission, awaits_init_ack, connect_outcome, awaits_cookie_ack, echo_emission, EchoAnswers, InitAckAnswers, accepted_init_ack_by, init_ack_by, connected_after, CookieAckAnswers, cookie_ack_by, abort_emission, no_cookie_text}
+use Rattle.dcsctp_spec_lemmas.specs.spec.endpoint.HandshakeOutcomes.{pair_from, renewed_pair, init_ack_emission, init_outcome, init_answered, init_emission, awaits_init_ack, connect_outcome, awaits_cookie_ack, echo_emission, EchoAnswers, InitAckAnswers, accepted_init_ack_by, init_ack_by, connected_after, CookieAckAnswers, cookie_ack_by, abort_emission, no_cookie_text}
 use Rattle.dcsctp_spec_lemmas.specs.spec.endpoint.TimerOutcomes.{AgainAnswers, again_by, t1_gives_up_outcome}
 use Rattle.dcsctp_spec_lemmas.specs.spec.endpoint.CookieEchoOutcomes.{is_spent, established_by, cookie_ack_emission, EstablishAnswers, establish_by, interleaves, queue_where, queue_kept, queue_begun, RestartAnswers, restart_by_where, MaintainAnswers, maintain_by, ResolvedAnswers, resolved_by, EchoedAnswers, cookie_echo_by, resolved_now, shutting_down_emission, window_by_cookie}
 use Rattle.dcsctp_spec_lemmas.specs.spec.association.CookieEchoChanges.{held_by_cookie, Resolution, establish_new, restart, simultaneous_init, discard, maintain_existing, invalid_tag, stale, aged, resolve, case_by}
@@ -28,6 +28,7 @@ use Rattle.dcsctp_delivery_turns.specs.Actions.{IsOpening, IsCalm, Inside, insid
 use Rattle.dcsctp_delivery_turns.specs.Asking.{Own, own_in, own_of}
 use Rattle.dcsctp_spec_lemmas.specs.spec.queues.Transfer.{EndpointQueues}
 use Rattle.dcsctp_spec_lemmas.specs.spec.endpoint.ReconfigurationOutcomes.{reset_again}
+use Rattle.dcsctp_spec_lemmas.proofs.OneAnswerLemmas.{init_by}
 use Rattle.dcsctp_delivery_turns.proofs.Tags.{flush_link}
 use Rattle.dcsctp_delivery_turns.proofs.Actions.{Goes, MakesTo, emits_link, emits_own, rests, spoken, emitted, flushed, makes_behind, ended, end_silent}
 
@@ -55,15 +56,30 @@ module _ (came : Option Content) (calm : IsCalm came) (to : ℕ) where
       subst (λ (i : Inside). MakesTo came to i o)
       (ap (λ (b : EndpointQueues). record { queues = b; own = own_of base }) same ∙ ap (λ (own : Option Own). record { queues = e.queues; own = own }) (sym is)) makes
 
-  pub init_goes : (e : Endpoint) (theirs : Introduction) (core : Core) (word next : ℕ) → Goes came to e (init_outcome e theirs core word next)
-  init_goes e theirs closed word next = goes_on calm (emits_link e (U32 word ∷ U32 next ∷ []) (init_ack_emission e theirs (pair_from word next) 0)) (emitted came to e (U32 word ∷ U32 next ∷ []) (init_ack_emission e theirs (pair_from word next) 0) (tt, tt))
-  init_goes e theirs (cookie_wait my) word next = goes_on calm (emits_link e [] (init_ack_emission e theirs my 0)) (emitted came to e [] (init_ack_emission e theirs my 0) (tt, tt))
-  init_goes e theirs (cookie_echoed my held cookie) word next = goes_on calm (emits_link e [] (init_ack_emission e theirs my 0)) (emitted came to e [] (init_ack_emission e theirs my 0) (tt, tt))
-  init_goes e theirs (open_in established my held) word next = goes_on calm (emits_link e (U32 word ∷ []) (init_ack_emission e theirs (renewed_pair e word) e.tie)) (emitted came to e (U32 word ∷ []) (init_ack_emission e theirs (renewed_pair e word) e.tie) (tt, tt))
-  init_goes e theirs (open_in shutdown_pending my held) word next = goes_on calm (emits_link e (U32 word ∷ []) (init_ack_emission e theirs (renewed_pair e word) e.tie)) (emitted came to e (U32 word ∷ []) (init_ack_emission e theirs (renewed_pair e word) e.tie) (tt, tt))
-  init_goes e theirs (open_in shutdown_sent my held) word next = goes_on calm (emits_link e (U32 word ∷ []) (init_ack_emission e theirs (renewed_pair e word) e.tie)) (emitted came to e (U32 word ∷ []) (init_ack_emission e theirs (renewed_pair e word) e.tie) (tt, tt))
-  init_goes e theirs (open_in shutdown_received my held) word next = goes_on calm (emits_link e (U32 word ∷ []) (init_ack_emission e theirs (renewed_pair e word) e.tie)) (emitted came to e (U32 word ∷ []) (init_ack_emission e theirs (renewed_pair e word) e.tie) (tt, tt))
-  init_goes e theirs (open_in shutdown_ack_sent my held) word next = goes_on calm (emits_link e [] (to_peer held shutdown_ack)) (emitted came to e [] (to_peer held shutdown_ack) (tt, tt))
+  init_link : (e : Endpoint) (theirs : Introduction) (core : Core) (word next : ℕ) → identity_in (init_outcome e theirs core word next).after.core ≡ identity_in e.core
+  init_link e theirs closed word next = emits_link e (U32 word ∷ U32 next ∷ []) (init_ack_emission e theirs (pair_from word next) 0)
+  init_link e theirs (cookie_wait my) word next = emits_link e [] (init_ack_emission e theirs my 0)
+  init_link e theirs (cookie_echoed my held cookie) word next = emits_link e [] (init_ack_emission e theirs my 0)
+  init_link e theirs (open_in established my held) word next = emits_link e (U32 word ∷ []) (init_ack_emission e theirs (renewed_pair e word) e.tie)
+  init_link e theirs (open_in shutdown_pending my held) word next = emits_link e (U32 word ∷ []) (init_ack_emission e theirs (renewed_pair e word) e.tie)
+  init_link e theirs (open_in shutdown_sent my held) word next = emits_link e (U32 word ∷ []) (init_ack_emission e theirs (renewed_pair e word) e.tie)
+  init_link e theirs (open_in shutdown_received my held) word next = emits_link e (U32 word ∷ []) (init_ack_emission e theirs (renewed_pair e word) e.tie)
+  init_link e theirs (open_in shutdown_ack_sent my held) word next = emits_link e [] (to_peer held shutdown_ack)
+
+  init_makes : (e : Endpoint) (theirs : Introduction) (core : Core) (word next : ℕ) → MakesTo came to (inside e) (init_outcome e theirs core word next)
+  init_makes e theirs closed word next = emitted came to e (U32 word ∷ U32 next ∷ []) (init_ack_emission e theirs (pair_from word next) 0) (tt, tt)
+  init_makes e theirs (cookie_wait my) word next = emitted came to e [] (init_ack_emission e theirs my 0) (tt, tt)
+  init_makes e theirs (cookie_echoed my held cookie) word next = emitted came to e [] (init_ack_emission e theirs my 0) (tt, tt)
+  init_makes e theirs (open_in established my held) word next = emitted came to e (U32 word ∷ []) (init_ack_emission e theirs (renewed_pair e word) e.tie) (tt, tt)
+  init_makes e theirs (open_in shutdown_pending my held) word next = emitted came to e (U32 word ∷ []) (init_ack_emission e theirs (renewed_pair e word) e.tie) (tt, tt)
+  init_makes e theirs (open_in shutdown_sent my held) word next = emitted came to e (U32 word ∷ []) (init_ack_emission e theirs (renewed_pair e word) e.tie) (tt, tt)
+  init_makes e theirs (open_in shutdown_received my held) word next = emitted came to e (U32 word ∷ []) (init_ack_emission e theirs (renewed_pair e word) e.tie) (tt, tt)
+  init_makes e theirs (open_in shutdown_ack_sent my held) word next = emitted came to e [] (to_peer held shutdown_ack) (tt, tt)
+
+  pub init_goes : (e : Endpoint) (theirs : Introduction) (word next : ℕ) → Goes came to e (init_answered (may_answer e) e theirs word next)
+  init_goes e theirs word next =
+      init_by (Goes came to e) e theirs word next (goes_on calm refl (rests came to (inside e)))
+      (goes_on calm (init_link e theirs e.core word next) (init_makes e theirs e.core word next))
 
   pub connect_goes : (e : Endpoint) (core : Core) (word next : ℕ) → e.core ≡ core → Goes came to e (connect_outcome e core word next)
   connect_goes e closed word next at =

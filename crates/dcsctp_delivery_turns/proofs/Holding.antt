@@ -16,6 +16,7 @@ use Rattle.dcsctp_spec_lemmas.specs.spec.endpoint.HandshakeOutcomes.{pair_from, 
 use Rattle.dcsctp_spec_lemmas.specs.spec.endpoint.OwnTimers.{timer_act}
 use Rattle.dcsctp_spec_lemmas.proofs.ControlEcho.{cookie_echo_controlled}
 use Rattle.dcsctp_spec_lemmas.proofs.ControlHandshake.{init_ack_controlled, cookie_ack_controlled, abort_controlled}
+use Rattle.dcsctp_spec_lemmas.proofs.OneAnswerLemmas.{init_by}
 use Rattle.dcsctp_spec_laws.proofs.ControlLemmas.{begin_stands, acts_are_controlled}
 use Rattle.dcsctp_spec_laws.proofs.DataLemmas.{flushed_act, end_at, send_at, resets_at, take_at}
 use Rattle.dcsctp_spec_laws.proofs.HeartbeatLemmas.{timer_controlled}
@@ -85,7 +86,7 @@ module _ (noted : Effect) (Is : Core → Type 0) (undrawn : (pair : Pair) → no
   -- ---- every turn
 
   content_stays : (e : Endpoint) (tag : ℕ) (content : Content) (o : Outcome) → ContentTurn e tag content o → Stays o
-  content_stays e tag (init theirs) o turn has = same_none o _ turn.2 (init_none e theirs e.core turn.0 turn.1) has
+  content_stays e tag (init theirs) o turn has = same_none o _ turn.2 (init_by (λ (x : Outcome). Holds x.effects → ⊥) e theirs turn.0 turn.1 (λ none. none) (init_none e theirs e.core turn.0 turn.1)) has
   content_stays e tag (init_ack theirs cookie) o turn has = by_chunk e tag (init_ack theirs cookie) o (init_ack_controlled e tag theirs cookie o turn) has
   content_stays e tag (cookie_echo cookie) o turn has = by_chunk e tag (cookie_echo cookie) o (cookie_echo_controlled e tag cookie o turn) has
   content_stays e tag cookie_ack o turn has = by_chunk e tag cookie_ack o (cookie_ack_controlled e tag o turn) has

@@ -9,7 +9,7 @@ use Rattle.dcsctp_spec_lemmas.specs.spec.endpoint.Cause.{Cause}
 use Rattle.dcsctp_spec_lemmas.specs.spec.Packet.{Content, Plain, plain, unknown, heartbeat, heartbeat_ack, unworked, Emission}
 use Rattle.dcsctp_spec_lemmas.specs.spec.Reconfiguration.{RequestedReset}
 use Rattle.dcsctp_spec_lemmas.specs.spec.endpoint.Endpoint.{Endpoint, Core, closed, cookie_wait, cookie_echoed, open_in, OutstandingRequest, held_in}
-use Rattle.dcsctp_spec_lemmas.specs.spec.endpoint.Outcome.{Outcome, still, to_peer, fits}
+use Rattle.dcsctp_spec_lemmas.specs.spec.endpoint.Outcome.{Outcome, still, to_peer, fits, answers_with}
 use Rattle.dcsctp_spec_lemmas.specs.spec.association.FlushChanges.{reset_request}
 use Rattle.dcsctp_spec_lemmas.specs.spec.endpoint.HeartbeatOutcomes.{heartbeat_outcome, info_in, counter_of, answered, heartbeat_round_trip, heartbeat_ack_outcome, interval_expired, beating, heartbeat_emission, interval_outcome, is_exhausted}
 use Rattle.dcsctp_spec_lemmas.specs.spec.queues.Transfer.{Transfer}
@@ -23,12 +23,14 @@ use Rattle.dcsctp_delivery_turns.specs.Asking.{own_with, own_in, own_of, renewed
 use Rattle.dcsctp_delivery_sending.specs.Places.{HasEntry}
 use Rattle.dcsctp_spec_lemmas.specs.spec.endpoint.BegunResets.{BegunReset, core_asking}
 use Rattle.dcsctp_spec_lemmas.specs.spec.association.Effect.{identity_in}
+use Rattle.dcsctp_spec_lemmas.proofs.OneAnswerLemmas.{answered_by}
 use Rattle.dcsctp_delivery_turns.specs.Tags.{IsPeerTag}
 use Rattle.dcsctp_delivery_turns.proofs.Actions.{action_of, with_inside, emits_link, Goes, MakesTo, rests, spoken, emitted, emission_of, packet_if}
 use Rattle.dcsctp_delivery_turns.proofs.Fixed.{held_tag}
 use Rattle.dcsctp_delivery_turns.proofs.Tags.{asking_link}
 use Rattle.dcsctp_delivery_turns.proofs.Handshake.{aborting_goes}
 use Rattle.dcsctp_delivery_turns.proofs.Data.{data_goes, i_data_goes, sack_goes, forward_goes, i_forward_goes, delay_goes, loss_goes}
+use Rattle.dcsctp_delivery_sending.specs.Flushes.{NoData}
 
 module _ (came : Option Content) (calm : IsCalm came) (to : ℕ) where
   -- ---- chunks that concern no association
@@ -47,11 +49,16 @@ module _ (came : Option Content) (calm : IsCalm came) (to : ℕ) where
   error_goes e (cookie_echoed my held cookie) causes = goes_on calm refl (rests came to (inside e))
   error_goes e (open_in phase my held) causes = goes_on calm refl (rests came to (inside e))
 
+  answer_goes : (e : Endpoint) (emission : Emission) → NoData emission.packet.contents → Goes came to e (answers_with e emission)
+  answer_goes e emission no_data =
+      answered_by (Goes came to e) e emission (goes_on calm refl (rests came to (inside e)))
+      (goes_on calm (emits_link e [] emission) (emitted came to e [] emission no_data))
+
   heartbeat_goes : (e : Endpoint) (core : Core) (parameters : List ParameterContent) → Goes came to e (heartbeat_outcome e core parameters)
   heartbeat_goes e closed parameters = goes_on calm refl (rests came to (inside e))
   heartbeat_goes e (cookie_wait my) parameters = goes_on calm refl (rests came to (inside e))
-  heartbeat_goes e (cookie_echoed my held cookie) parameters = goes_on calm (emits_link e [] (to_peer held (plain (heartbeat_ack parameters)))) (emitted came to e [] (to_peer held (plain (heartbeat_ack parameters))) (tt, tt))
-  heartbeat_goes e (open_in phase my held) parameters = goes_on calm (emits_link e [] (to_peer held (plain (heartbeat_ack parameters)))) (emitted came to e [] (to_peer held (plain (heartbeat_ack parameters))) (tt, tt))
+  heartbeat_goes e (cookie_echoed my held cookie) parameters = answer_goes e (to_peer held (plain (heartbeat_ack parameters))) (tt, tt)
+  heartbeat_goes e (open_in phase my held) parameters = answer_goes e (to_peer held (plain (heartbeat_ack parameters))) (tt, tt)
 
   -- The answer to a HEARTBEAT may measure a round trip.
   measured_makes : (e : Endpoint) (round_trip : Option ℕ) (transfer : Option Transfer) → e.queues.transfer ≡ transfer

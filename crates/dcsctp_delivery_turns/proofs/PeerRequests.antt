@@ -7,7 +7,7 @@ use Rattle.dcsctp_spec_lemmas.specs.types.declared.association.Held.{Held}
 use Rattle.dcsctp_spec_lemmas.specs.types.declared.association.Pair.{Pair}
 use Rattle.dcsctp_spec_lemmas.specs.spec.endpoint.Endpoint.{Endpoint}
 use Rattle.dcsctp_spec_lemmas.specs.spec.endpoint.Event.{Event}
-use Rattle.dcsctp_spec_lemmas.specs.spec.endpoint.Outcome.{Outcome, quiet, sends, fits, to_peer}
+use Rattle.dcsctp_spec_lemmas.specs.spec.endpoint.Outcome.{Outcome, quiet, sends, fits, answers_with, to_peer}
 use Rattle.dcsctp_spec_lemmas.specs.spec.Packet.{Emission, re_config}
 use Rattle.dcsctp_spec_lemmas.specs.spec.Reconfiguration.{RequestState, RequestedReset, ResetParameter, outgoing_reset_request, incoming_reset_request, reconfiguration_response, other_reset_parameter}
 use Rattle.dcsctp_spec_lemmas.specs.spec.association.Effect.{Effect}
@@ -17,6 +17,7 @@ use Rattle.dcsctp_spec_lemmas.specs.spec.endpoint.BegunResets.{BegunReset, begun
 use Rattle.dcsctp_spec_lemmas.specs.spec.endpoint.FlushOutcomes.{Answer, draft_to, flush_of, first_ask, packets_allowed}
 use Rattle.dcsctp_spec_lemmas.specs.spec.endpoint.ResetOutcomes.{requested_in, request_state, renewable_left, parameters_handled_in, has_reset, answers_in_progress, ResetsInQueues, defers_reset, answered_in, resets_handled, reset_events_of, responses_outcome, responses_by, ResponseAnswers, WorksResets}
 use Rattle.dcsctp_spec_lemmas.proofs.FlushKeeps.{begun_by, flush_keeps}
+use Rattle.dcsctp_spec_lemmas.proofs.OneAnswerLemmas.{answered_by}
 use Rattle.dcsctp_delivery_sending.specs.Flushes.{NoRequests}
 use Rattle.dcsctp_delivery_turns.specs.PeerRequests.{NoneAsked}
 use Rattle.dcsctp_delivery_turns.proofs.Received.{Left, alike, flush_left}
@@ -34,7 +35,9 @@ sent_behind false e told held parameters responses answers allowed =
 
 answered_waits : (e : Endpoint) (held : Held) (responses : List ResetParameter) → StillWaits e.queues.transfer (responses_outcome e held responses).after.queues.transfer
 answered_waits e held [] = all_wait e.queues.transfer
-answered_waits e held (response ∷ responses) = (emitted e [] (to_peer held (re_config (response ∷ responses)))).waits
+answered_waits e held (response ∷ responses) =
+    let emission : Emission = to_peer held (re_config (response ∷ responses)) in
+    answered_by (λ (o : Outcome). StillWaits e.queues.transfer o.after.queues.transfer) e emission (all_wait e.queues.transfer) (emitted e [] emission).waits
 
 sent_waits : (refused : Bool) (e : Endpoint) (told : List (Event Emission)) (held : Held) (parameters responses : List ResetParameter) (answers : List Answer) → ResponseAnswers refused e held responses answers
     → StillWaits e.queues.transfer (responses_by refused e told held parameters responses answers).after.queues.transfer
@@ -134,7 +137,7 @@ sent_left true e told held parameters responses answers transfer known allowed =
 sent_left false e told held parameters [] answers transfer known allowed = flush_left first_ask (packets_allowed e.options.max_burst e.core) e (draft_to held) answers transfer known allowed
 sent_left false e told held parameters (response ∷ responses) answers transfer known allowed =
     let base : Endpoint = (responses_outcome e held (response ∷ responses)).after in
-    flush_left first_ask (packets_allowed base.options.max_burst base.core) base (draft_to held) answers transfer (emits_transfer (fits e emission) e emission ∙ known) allowed
+    flush_left first_ask (packets_allowed base.options.max_burst base.core) base (draft_to held) answers transfer (answer_transfer ∙ known) allowed
   where
     emission : Emission
     emission = to_peer held (re_config (response ∷ responses))
@@ -142,6 +145,10 @@ sent_left false e told held parameters (response ∷ responses) answers transfer
     emits_transfer : (b : Bool) (x : Endpoint) (said : Emission) → (cond b (sends x [] [] said) (quiet x [] [])).after.queues.transfer ≡ x.queues.transfer
     emits_transfer true x said = refl
     emits_transfer false x said = refl
+
+    answer_transfer : (answers_with e emission).after.queues.transfer ≡ e.queues.transfer
+    answer_transfer =
+        answered_by (λ (o : Outcome). o.after.queues.transfer ≡ e.queues.transfer) e emission refl (emits_transfer (fits e emission) e emission)
 
 -- So no association ends by a RE-CONFIG.
 pub none_ends : (e : Endpoint) (my : Pair) (held : Held) (parameters : List ResetParameter) (o : Outcome) (transfer : Transfer) → e.queues.transfer ≡ Some transfer → WorksResets e my held parameters o

@@ -7,7 +7,7 @@ use Rattle.dcsctp_spec_lemmas.specs.types.declared.association.Held.{Held}
 use Rattle.dcsctp_spec_lemmas.specs.types.declared.kinds.ErrorKind.TheVariants.{ProtocolViolation}
 use Rattle.dcsctp_spec_lemmas.specs.spec.endpoint.Event.{Event, error, packets_in}
 use Rattle.dcsctp_spec_lemmas.specs.spec.Packet.{Content, re_config, Emission}
-use Rattle.dcsctp_spec_lemmas.specs.spec.Reconfiguration.{RequestState, early, RequestedReset, ResetParameter}
+use Rattle.dcsctp_spec_lemmas.specs.spec.Reconfiguration.{RequestState, early, due, renewed, RequestedReset, ResetParameter}
 use Rattle.dcsctp_spec_lemmas.specs.spec.endpoint.Endpoint.{Endpoint, Core, closed, cookie_wait, cookie_echoed, open_in, OutstandingRequest}
 use Rattle.dcsctp_spec_lemmas.specs.spec.endpoint.Outcome.{Outcome, still, to_peer}
 use Rattle.dcsctp_spec_lemmas.specs.spec.association.Effect.{Effect}
@@ -25,6 +25,7 @@ use Rattle.dcsctp_delivery_sending.specs.Flushes.{NoRequests}
 use Rattle.dcsctp_spec_laws.proofs.ResetLemmas.{KeepsPeer, chunk_brings, worked_keeps}
 use Rattle.dcsctp_spec_lemmas.specs.types.declared.capabilities.Capabilities.{Capabilities}
 use Rattle.dcsctp_spec_lemmas.specs.spec.association.Effect.{AssociationIdentity, identity_of, identity_in}
+use Rattle.dcsctp_spec_lemmas.proofs.OneAnswerLemmas.{answered_by}
 use Rattle.dcsctp_delivery_turns.proofs.Tags.{flush_link}
 use Rattle.dcsctp_delivery_turns.specs.Tags.{IsPeerTag}
 use Rattle.dcsctp_delivery_turns.proofs.Actions.{emits_link, Goes, MakesTo, both, rests, silent, emitted, flushed}
@@ -136,11 +137,15 @@ peer_resets parameters happened false false None None left old has asked known r
 module _ (came : Option Content) (to : ℕ) where
   responses_make : (e : Endpoint) (held : Held) (responses : List ResetParameter) → NoRequests responses → MakesTo came to (inside e) (responses_outcome e held responses)
   responses_make e held [] none = rests came to (inside e)
-  responses_make e held (response ∷ responses) none = emitted came to e [] (to_peer held (re_config (response ∷ responses))) (none, tt)
+  responses_make e held (response ∷ responses) none =
+      let emission : Emission = to_peer held (re_config (response ∷ responses)) in
+      answered_by (MakesTo came to (inside e)) e emission (rests came to (inside e)) (emitted came to e [] emission (none, tt))
 
   responses_peer : (e : Endpoint) (held : Held) (responses : List ResetParameter) → IsPeerTag e.core to → IsPeerTag (responses_outcome e held responses).after.core to
   responses_peer e held [] at = at
-  responses_peer e held (response ∷ responses) at = subst (λ (c : Core). IsPeerTag c to) (sym (emits_core e [] (to_peer held (re_config (response ∷ responses))))) at
+  responses_peer e held (response ∷ responses) at =
+      let emission : Emission = to_peer held (re_config (response ∷ responses)) in
+      answered_by (λ (o : Outcome). IsPeerTag o.after.core to) e emission at (subst (λ (c : Core). IsPeerTag c to) (sym (emits_core e [] emission)) at)
 
   with_peer : (core : Core) (held : Held) → IsPeerTag core to → held.peer.tag ≡ to → IsPeerTag (core_with core held) to
   with_peer closed held at is = tt
@@ -162,7 +167,9 @@ module _ (came : Option Content) (to : ℕ) where
 
   responses_link : (e : Endpoint) (held : Held) (responses : List ResetParameter) → identity_in (responses_outcome e held responses).after.core ≡ identity_in e.core
   responses_link e held [] = refl
-  responses_link e held (response ∷ responses) = emits_link e [] (to_peer held (re_config (response ∷ responses)))
+  responses_link e held (response ∷ responses) =
+      let emission : Emission = to_peer held (re_config (response ∷ responses)) in
+      answered_by (λ (o : Outcome). identity_in o.after.core ≡ identity_in e.core) e emission refl (emits_link e [] emission)
 
   sent_link : (refused : Bool) (e : Endpoint) (told : List (Event Emission)) (held : Held) (parameters responses : List ResetParameter) (answers : List Answer) → ResponseAnswers refused e held responses answers
       → identity_in (responses_by refused e told held parameters responses answers).after.core ≡ identity_in e.core

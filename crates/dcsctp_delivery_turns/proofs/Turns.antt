@@ -30,7 +30,7 @@ pub none_calm : IsCalm None
 none_calm = λ parameters is. absurd (cc)
 
 content_goes : (e : Endpoint) (tag : ℕ) (content : Content) (o : Outcome) → ContentTurn e tag content o → Goes (Some content) (peer_tag e.core) e o
-content_goes e tag (init theirs) o turn = subst (Goes _ (peer_tag e.core) e) (sym turn.2) (init_goes _ (λ parameters is. absurd (cc)) (peer_tag e.core) e theirs e.core turn.0 turn.1)
+content_goes e tag (init theirs) o turn = subst (Goes _ (peer_tag e.core) e) (sym turn.2) (init_goes _ (λ parameters is. absurd (cc)) (peer_tag e.core) e theirs turn.0 turn.1)
 content_goes e tag (init_ack theirs cookie) o turn = subst (Goes _ (peer_tag e.core) e) (sym turn.3) (init_ack_goes (Some (init_ack theirs cookie)) (λ parameters is. absurd (cc)) (peer_tag e.core) tt e theirs cookie e.core turn.0 turn.1 turn.2)
 content_goes e tag (cookie_echo bytes) o turn = subst (Goes _ (peer_tag e.core) e) (sym turn.3) (echo_goes (Some (cookie_echo bytes)) (λ parameters is. absurd (cc)) (peer_tag e.core) tt e e.core tag (cookie_at bytes) turn.0 turn.1 refl (own_peer e.core) (own_peer e.core) turn.2)
 content_goes e tag cookie_ack o turn = subst (Goes _ (peer_tag e.core) e) (sym turn.2) (cookie_ack_goes _ (λ parameters is. absurd (cc)) (peer_tag e.core) e e.core turn.0 refl (own_peer e.core) turn.1)

@@ -8,8 +8,8 @@ use Rattle.dcsctp_spec_lemmas.specs.spec.Cookie.{cookie_at}
 use Rattle.dcsctp_spec_lemmas.specs.types.declared.association.Held.{Held}
 use Rattle.dcsctp_spec_lemmas.specs.types.declared.ends.Violation.{Violation}
 use Rattle.dcsctp_spec_lemmas.specs.spec.endpoint.Endpoint.{Endpoint, Core, closed, cookie_wait, cookie_echoed, open_in, OutstandingRequest, held_in}
-use Rattle.dcsctp_spec_lemmas.specs.spec.endpoint.Outcome.{Outcome, still, fits, to_peer}
-use Rattle.dcsctp_spec_lemmas.specs.spec.Packet.{Content, init, init_ack, cookie_echo, cookie_ack, re_config, abort, shutdown, shutdown_ack, shutdown_complete, Plain, plain, unknown, heartbeat, heartbeat_ack, unworked}
+use Rattle.dcsctp_spec_lemmas.specs.spec.endpoint.Outcome.{Outcome, still, fits, emits, answering, answers_with, to_peer}
+use Rattle.dcsctp_spec_lemmas.specs.spec.Packet.{Content, init, init_ack, cookie_echo, cookie_ack, re_config, abort, shutdown, shutdown_ack, shutdown_complete, Plain, plain, unknown, heartbeat, heartbeat_ack, unworked, Emission}
 use Rattle.dcsctp_spec_lemmas.specs.spec.Reconfiguration.{RequestedReset}
 use Rattle.dcsctp_spec_lemmas.specs.spec.endpoint.Turn.{Input, arrival, refusal, packet_begins, chunk_input, packet_ends, act_input, user_sets, user_sends, user_resets, user_takes, timer_expires, time_passes, restores, has_data_chunk, ContentTurn, ActTurn, Turn}
 use Rattle.dcsctp_spec_lemmas.specs.spec.association.Acts as acts
@@ -26,6 +26,7 @@ use Rattle.dcsctp_delivery_turns.specs.Actions.{IsCalm, IsCall, came_by}
 use Rattle.dcsctp_delivery_turns.proofs.Unasked.{flush_asks, data_asks, forward_asks, sack_asks, end_asks, take_asks, delay_asks, loss_asks, send_asks, own_resets_ask}
 use Rattle.dcsctp_spec_lemmas.specs.spec.endpoint.TransferMoves.{timed_by}
 use Rattle.dcsctp_spec_lemmas.specs.spec.queues.Transfer.{Transfer}
+use Rattle.dcsctp_spec_lemmas.proofs.OneAnswerLemmas.{answered_by, init_by}
 use Rattle.dcsctp_delivery_turns.specs.PeerRequests.{SameWaits}
 use Rattle.dcsctp_delivery_turns.proofs.Waiting.{StillWaits, same_waits, some_wait, all_wait, AsksNothing, as_this, rests, said, emitted}
 use Rattle.dcsctp_delivery_turns.proofs.UnaskedEnds.{step_asks, shut_down_asks, heard_asks, shutdown_ack_asks, shutdown_complete_asks, repeats_ask, begin_asks, abort_asks, aborting_asks, gives_up_asks, hand_over_asks}
@@ -47,11 +48,18 @@ error_asks e (cookie_wait my) causes = rests e
 error_asks e (cookie_echoed my held cookie) causes = said e _ tt refl
 error_asks e (open_in phase my held) causes = said e _ tt refl
 
+counted_asks : (found : Option Transfer) (o : Outcome) → AsksNothing found o → AsksNothing found (answering o)
+counted_asks found o h = record { none = h.none; waits = h.waits }
+
+answer_asks : (e : Endpoint) (emission : Emission) → AsksNothing e.queues.transfer (answers_with e emission)
+answer_asks e emission =
+    answered_by (AsksNothing e.queues.transfer) e emission (rests e) (counted_asks e.queues.transfer (emits e [] emission) (emitted e [] emission))
+
 heartbeat_asks : (e : Endpoint) (core : Core) (parameters : List ParameterContent) → AsksNothing e.queues.transfer (heartbeat_outcome e core parameters)
 heartbeat_asks e closed parameters = rests e
 heartbeat_asks e (cookie_wait my) parameters = rests e
-heartbeat_asks e (cookie_echoed my held cookie) parameters = emitted e [] (to_peer held (plain (heartbeat_ack parameters)))
-heartbeat_asks e (open_in phase my held) parameters = emitted e [] (to_peer held (plain (heartbeat_ack parameters)))
+heartbeat_asks e (cookie_echoed my held cookie) parameters = answer_asks e (to_peer held (plain (heartbeat_ack parameters)))
+heartbeat_asks e (open_in phase my held) parameters = answer_asks e (to_peer held (plain (heartbeat_ack parameters)))
 
 -- The answer to a HEARTBEAT may measure a round trip.
 timed_waits : (round_trip : Option ℕ) (transfer : Transfer) → SameWaits transfer.reassembly.deferral (timed_by round_trip transfer).reassembly.deferral
@@ -125,7 +133,9 @@ plain_asks e (unworked chunk) None o turn = as_this e.queues.transfer o _ turn (
 -- ---- each turn
 
 content_calm : (e : Endpoint) (tag : ℕ) (content : Content) (o : Outcome) → IsCalm (Some content) → ContentTurn e tag content o → CalmTurns (Some content) e o
-content_calm e tag (init theirs) o calm turn = goes_on (as_this e.queues.transfer o _ turn.2 (init_asks e theirs e.core turn.0 turn.1))
+content_calm e tag (init theirs) o calm turn =
+    goes_on (as_this e.queues.transfer o _ turn.2
+    (init_by (AsksNothing e.queues.transfer) e theirs turn.0 turn.1 (rests e) (counted_asks e.queues.transfer _ (init_asks e theirs e.core turn.0 turn.1))))
 content_calm e tag (init_ack theirs cookie) o calm turn = subst (CalmTurns (Some (init_ack theirs cookie)) e) (sym turn.3) (init_ack_calm (Some (init_ack theirs cookie)) tt e theirs cookie e.core turn.0 turn.1 turn.2)
 content_calm e tag (cookie_echo bytes) o calm turn = subst (CalmTurns (Some (cookie_echo bytes)) e) (sym turn.3) (echo_calm (Some (cookie_echo bytes)) tt e e.core tag (cookie_at bytes) turn.0 turn.1 turn.2)
 content_calm e tag cookie_ack o calm turn = goes_on (as_this e.queues.transfer o _ turn.2 (cookie_ack_asks e e.core turn.0 turn.1))

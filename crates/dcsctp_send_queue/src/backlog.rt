@@ -48,7 +48,7 @@ pub struct Backlog {
 impl Backlog {
     ghost use Rattle.dcsctp_send_queue.specs.Backlog.{queue_of};
     ghost use Rattle.dcsctp_api.specs.spec.queues.SendQueue.{CanGoOn, IsUnderWay, has_queued_data, waits_at, stream_changed, used, put_back, with_threshold, with_priority, may_send};
-    ghost use Rattle.dcsctp_api.specs.spec.queues.OwnResets.{with_used, count_under_way};
+    ghost use Rattle.dcsctp_api.specs.spec.queues.OwnResets.{with_used, count_under_way, waits_for_reset};
     ghost use Rattle.dcsctp_api.specs.types.Setting.{stream_priority, stream_low_threshold};
     ghost use Rattle.dcsctp_api.specs.spec.endpoint.SettingOutcomes.{set_in_queue};
     ghost use Rattle.std.specs.Prelude.{◌≡◌, ◌==◌, ◌+◌, ◌-◌, ◌<◌, ◌++◌, length, Some, None, Ok, Err, OnOk, OnErr, IfOk, IfSome};
@@ -150,6 +150,13 @@ impl Backlog {
         ensures { result ≡ waits_at now (queue_of self.now) }
     {
         self.under_way.is_some() || self.streams.waits_at(now)
+    }
+
+    /// Does a message without a lifetime wait for the reset of its stream?
+    pub fn waits_for_reset(&self) -> bool
+        ensures { result ≡ waits_for_reset (queue_of self.now) }
+    {
+        self.streams.waits_for_reset()
     }
 
     /// The place of the stream of the message under way.

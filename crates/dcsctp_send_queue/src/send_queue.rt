@@ -41,7 +41,7 @@ impl SendQueue {
     ghost use Rattle.std.specs.Option.{option_map};
     ghost use Rattle.std.specs.List.{list_all};
     ghost use Rattle.dcsctp_api.specs.types.queues.Messages.{message_content};
-    ghost use Rattle.dcsctp_api.specs.spec.queues.OwnResets.{queue_committed, queue_rolled_back, queue_handing_out, ready_streams, handing_out, prepared, prepare_events};
+    ghost use Rattle.dcsctp_api.specs.spec.queues.OwnResets.{waits_for_reset, queue_committed, queue_rolled_back, queue_handing_out, ready_streams, handing_out, prepared, prepare_events};
     ghost use Rattle.dcsctp_send_streams.specs.Fragment.{HasSize};
     ghost use Rattle.std.specs.Prelude.{◌≡◌, ◌+◌, ◌-◌, ◌<◌, ◌++◌, vec_len, true, IfSome, OnOk, OnErr, IfOk, take, not};
     ghost use Rattle.dcsctp_api.specs.spec.queues.SendQueue.{empty_queue, IsWellFormed, queue_restarted, has_queued_data, waits_at, stream_changed, used, queue_stream, numbered_for, queued, with_added, may_send, with_threshold, with_priority};
@@ -157,6 +157,13 @@ impl SendQueue {
         ensures { result ≡ waits_at now self.now }
     {
         self.backlog.waits_at(now)
+    }
+
+    /// Does a message without a lifetime wait for the reset of its stream, which is to be requested or was?
+    pub fn waits_for_reset(&self) -> bool
+        ensures { result ≡ waits_for_reset self.now }
+    {
+        self.backlog.waits_for_reset()
     }
 
     /// Says whether messages are numbered as for interleaving (RFC 8260, section 2.1): with it message

@@ -89,6 +89,7 @@ impl QueuedMessage {
     ghost use Rattle.dcsctp_send_streams.specs.Fragment.{CopiesRest};
     ghost use Rattle.dcsctp_api.specs.spec.queues.Sending.{fragment};
     ghost use Rattle.dcsctp_api.specs.types.SnapshotItems.{queued_part};
+    ghost use Rattle.dcsctp_api.specs.spec.queues.OwnResets.{is_lasting};
     ghost use Rattle.dcsctp_api.specs.spec.queues.QueuedParts.{whole_message, waiting_again};
 
     /// The message that is added at the moment `now`.
@@ -156,6 +157,16 @@ impl QueuedMessage {
         match self.expires_at {
             None => false,
             Some(moment) => moment < now,
+        }
+    }
+
+    /// Does it wait without a limit of time?
+    pub fn is_lasting(&self) -> bool
+        ensures { result ≡ is_lasting self.now }
+    {
+        match self.expires_at {
+            None => true,
+            Some(_) => false,
         }
     }
 

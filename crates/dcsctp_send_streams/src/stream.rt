@@ -66,6 +66,8 @@ impl OutgoingStream {
     ghost use Rattle.dcsctp_api.specs.types.queues.SendStreams.{payload_size, unused, is_pausing, front_of, with_message, without_front, paused, resumed, handed_out, begun_anew, amount_raised, committed, rolled_back, turn_of};
     ghost use Rattle.std.specs.Option.{option_copied};
     ghost use Rattle.dcsctp_api.specs.spec.queues.SendQueue.{HaveBytes, has_live};
+    ghost use Rattle.std.specs.List.{list_any};
+    ghost use Rattle.dcsctp_api.specs.spec.queues.OwnResets.{is_lasting};
     ghost use Rattle.dcsctp_api.specs.spec.queues.Readiness.{is_paused};
     ghost use Rattle.std.specs.Prelude.{map, IfOk};
     ghost use Rattle.dcsctp_api.specs.types.SnapshotItems.{queued_part};
@@ -149,6 +151,13 @@ impl OutgoingStream {
         ensures { result ≡ has_live now self.now.messages }
     {
         self.messages.iter().any(|message| !message.is_expired(now))
+    }
+
+    /// Is there a message without a lifetime?
+    pub fn has_lasting(&self) -> bool
+        ensures { result ≡ list_any is_lasting self.now.messages }
+    {
+        self.messages.iter().any(|message| message.is_lasting())
     }
 
     /// The stream's turn; none if it is paused or has no message.

@@ -37,6 +37,7 @@ impl Streams {
     ghost use Rattle.std.specs.Prelude.{◌≡◌, ◌-◌, ◌<◌, ◌&&◌, [], length, is_some, map, slice_set, insert, OnOk, OnErr, IfSome, IfNone};
     ghost use Rattle.dcsctp_api.specs.types.queues.SendStreams.{front_of, with_message, without_front, paused, handed_out, begun_anew, amount_raised, stream_counted, served, committed, rolled_back, stream_at, turn_of, turns_of, IsNext, IsAscending};
     ghost use Rattle.dcsctp_api.specs.spec.queues.SendQueue.{HaveBytes, has_live};
+    ghost use Rattle.dcsctp_api.specs.spec.queues.OwnResets.{is_lasting};
     ghost use Rattle.dcsctp_api.specs.spec.queues.Readiness.{has_messages, is_paused};
     ghost use Rattle.dcsctp_send_streams.specs.Ranking.{count_pausing, IsFound};
     ghost use Rattle.dcsctp_api.specs.spec.queues.QueuedParts.{emptied, stream_restored, with_rest};
@@ -141,6 +142,15 @@ impl Streams {
         self.items
             .iter()
             .any(|stream| stream.turn().is_some() && stream.has_live(now))
+    }
+
+    /// Does a message without a lifetime wait for the reset of its stream?
+    pub fn waits_for_reset(&self) -> bool
+        ensures { result ≡ list_any (λ stream. is_paused stream && list_any is_lasting stream.messages) self.now }
+    {
+        self.items
+            .iter()
+            .any(|stream| stream.is_paused() && stream.has_lasting())
     }
 
     /// Does a message wait on any stream, or is one under way?

@@ -7,13 +7,13 @@ use Rattle.dcsctp_core.specs.types.declared.association.Pair.{Pair}
 use Rattle.dcsctp_core.specs.types.declared.word.Word.{Word}
 use Rattle.dcsctp_core.specs.types.declared.word.Word.TheVariants.{U32}
 use Rattle.dcsctp_core.specs.spec.Packet.{Introduction, Content, Emission, init, shutdown_ack}
-use Rattle.dcsctp_core.specs.spec.endpoint.Endpoint.{Endpoint, Core, closed, cookie_wait, cookie_echoed, open_in, established, shutdown_pending, shutdown_sent, shutdown_received, shutdown_ack_sent}
+use Rattle.dcsctp_core.specs.spec.endpoint.Endpoint.{Endpoint, Core, closed, cookie_wait, cookie_echoed, open_in, established, shutdown_pending, shutdown_sent, shutdown_received, shutdown_ack_sent, may_answer}
 use Rattle.dcsctp_core.specs.spec.endpoint.Following.{next_chunk}
 use Rattle.dcsctp_core.specs.spec.endpoint.Outcome.{Outcome, fits, sends, quiet, to_peer}
 use Rattle.dcsctp_core.specs.spec.endpoint.Turn.{ContentTurn, act_input}
 use Rattle.dcsctp_core.specs.spec.association.Acts.{connect}
 use Rattle.dcsctp_core.specs.spec.endpoint.CallTurns.{Transition, transition}
-use Rattle.dcsctp_core.specs.spec.endpoint.HandshakeOutcomes.{pair_from, renewed_pair, init_ack_emission, answer_outcome, init_outcome}
+use Rattle.dcsctp_core.specs.spec.endpoint.HandshakeOutcomes.{pair_from, renewed_pair, init_ack_emission, answer_outcome, init_outcome, init_answered}
 use Rattle.dcsctp_core.specs.declared.following.Following.TheVariants.{NextChunk}
 use Rattle.dcsctp_core.specs.declared.context.Context.{Context}
 use Rattle.dcsctp_core.specs.declared.following.Following.{Following}
@@ -21,6 +21,7 @@ use Rattle.dcsctp_core.specs.View.{View, endpoint_of, view_of, call_start, Moves
 use Rattle.dcsctp_core.specs.Drawing.{first_word, second_word}
 use Rattle.dcsctp_core.specs.Handling.{OnlyDrew, HandlesTurn, HandlesWholeTurn, HandlesPossibleTurn}
 use Rattle.dcsctp_core.proofs.Moving.{moves_one}
+use Rattle.dcsctp_core.proofs.spec_lemmas.OneAnswerLemmas.{init_by}
 use Rattle.dcsctp_core_handshake.specs.Handshake.{init_turn, connect_turn}
 use Rattle.dcsctp_core.specs.types.Schedule.{connect_call}
 use Rattle.dcsctp_socket_calls.specs.Parts.{ChunkMoves, ChunkCut, TurnsOf, CallMoved, HandlesChunk}
@@ -69,13 +70,14 @@ init_worked stream old new tag theirs moves =
     record {
       outcome = init_turn stream theirs old;
       turn = (word, next, refl);
-      following = init_follows old.endpoint theirs old.endpoint.core word next;
+      following = init_by (λ (o : Outcome). o.following ≡ next_chunk) old.endpoint theirs word next refl
+          (init_follows old.endpoint theirs old.endpoint.core word next);
       moves = moves;
     }
 
 pub init_cut : {R : Type 0} (old new : View R) (tag : ℕ) (theirs : Introduction) → OnlyDrew old new → ChunkCut tag (init theirs) old new.events
 init_cut {R = R} old new tag theirs same =
-    cut_before old tag (init theirs) (init_outcome old.endpoint theirs old.endpoint.core 0 0) new.events (0, 0, refl) (ap (λ (v : View R). v.events) same)
+    cut_before old tag (init theirs) (init_answered (may_answer old.endpoint) old.endpoint theirs 0 0) new.events (0, 0, refl) (ap (λ (v : View R). v.events) same)
 
 pub works_one : {R E : Type 0} (stream : R → Stream) (tag : ℕ) (content : Content) (Took : View R → Outcome → Type 0) (old : Context R) (result : Result Following E) (new : Context R)
     → ((o : Outcome) → Took (view_of old) o → ContentTurn (endpoint_of old) tag content o) → HandlesPossibleTurn stream Took old result new → HandlesChunk stream tag content old result new

@@ -15,7 +15,7 @@ use Rattle.dcsctp_core.specs.wire.Content.{ParameterContent}
 use Rattle.dcsctp_core.specs.spec.endpoint.HeartbeatOutcomes.{heartbeat_outcome, heartbeat_ack_outcome, answered}
 use Rattle.dcsctp_core_heartbeat.specs.Heartbeats.{heartbeat_turn, heartbeat_ack_turn}
 use Rattle.dcsctp_core.specs.spec.endpoint.Endpoint.{Endpoint, Core, closed, cookie_wait, cookie_echoed, open_in, OpenPhase, established, shutdown_pending, shutdown_sent, shutdown_received, shutdown_ack_sent}
-use Rattle.dcsctp_core.specs.spec.endpoint.Outcome.{Outcome, still, quiet, sends, fits, to_peer}
+use Rattle.dcsctp_core.specs.spec.endpoint.Outcome.{Outcome, still, quiet, sends, fits, answers_with, to_peer}
 use Rattle.dcsctp_core.specs.spec.endpoint.Following.{next_chunk, packet_end, dropped_rest}
 use Rattle.dcsctp_core.specs.spec.endpoint.Turn.{ContentTurn}
 use Rattle.dcsctp_core.specs.spec.endpoint.CallTurns.{Transition, ChunkTurns}
@@ -30,6 +30,7 @@ use Rattle.dcsctp_core.specs.declared.following.Following.{Following}
 use Rattle.dcsctp_core.specs.View.{View, core_of, endpoint_of, view_of, Moves, MovesAll, CutTurn}
 use Rattle.dcsctp_core.specs.Handling.{TakesPossibleTurn, CutIn, IsHandledTurn, HandlesTurn}
 use Rattle.dcsctp_core.proofs.Moving.{moves_one}
+use Rattle.dcsctp_core.proofs.spec_lemmas.OneAnswerLemmas.{answered_by}
 use Rattle.dcsctp_spec_laws.proofs.TurnLemmas.{and_further}
 use Rattle.dcsctp_core_ends.specs.Ends.{violation_in, aborting_turn, error_turn}
 use Rattle.dcsctp_core_ends.specs.Shutdown.{is_open_core, reflected_turn}
@@ -172,11 +173,14 @@ sent_follows : (b : Bool) (e : Endpoint) (emission : Emission) → (cond b (send
 sent_follows true e emission = refl
 sent_follows false e emission = refl
 
+answer_follows : (e : Endpoint) (emission : Emission) → (answers_with e emission).following ≡ next_chunk
+answer_follows e emission = answered_by (λ (o : Outcome). o.following ≡ next_chunk) e emission refl (sent_follows (fits e emission) e emission)
+
 pub heartbeat_follows : (e : Endpoint) (core : Core) (parameters : List ParameterContent) → (heartbeat_outcome e core parameters).following ≡ next_chunk
 heartbeat_follows e closed parameters = refl
 heartbeat_follows e (cookie_wait my) parameters = refl
-heartbeat_follows e (cookie_echoed my held cookie) parameters = sent_follows (fits e (to_peer held (plain (heartbeat_ack parameters)))) e (to_peer held (plain (heartbeat_ack parameters)))
-heartbeat_follows e (open_in phase my held) parameters = sent_follows (fits e (to_peer held (plain (heartbeat_ack parameters)))) e (to_peer held (plain (heartbeat_ack parameters)))
+heartbeat_follows e (cookie_echoed my held cookie) parameters = answer_follows e (to_peer held (plain (heartbeat_ack parameters)))
+heartbeat_follows e (open_in phase my held) parameters = answer_follows e (to_peer held (plain (heartbeat_ack parameters)))
 
 counted_follows : (b : Bool) (e : Endpoint) → (cond b (still (answered e)) (still e)).following ≡ next_chunk
 counted_follows true e = refl

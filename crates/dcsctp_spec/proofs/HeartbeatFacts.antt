@@ -1,11 +1,15 @@
 -- Outside examples of heartbeats and of the count of errors, computed by the definitions.
-use Rattle.std.proofs.Common.{◌≡◌, ◌^◌, ◌-◌, true, false, None, Some, [], ◌∷◌, refl}
+use Rattle.std.proofs.Common.{◌≡◌, ◌^◌, ◌-◌, Bool, true, false, None, Some, [], ◌∷◌, refl}
 use Rattle.dcsctp_types.specs.wire.Content.{heartbeat_info, state_cookie}
+use Rattle.dcsctp_types.specs.wire.Spelling.{parameter_bytes, parameter_chunk_bytes}
 use Rattle.dcsctp_types.specs.declared.association.Pair.{Pair}
-use Rattle.dcsctp_spec.specs.endpoint.Endpoint.{Endpoint, closed, cookie_wait}
+use Rattle.dcsctp_spec.specs.endpoint.Endpoint.{Endpoint, closed, cookie_wait, open_in, established}
+use Rattle.dcsctp_spec.specs.endpoint.Event.{Event, sent}
+use Rattle.dcsctp_spec.specs.Packet.{Emission, heartbeat_ack, plain}
 use Rattle.dcsctp_spec.specs.endpoint.Outcome.{still, reports}
 use Rattle.dcsctp_types.specs.declared.kinds.ErrorKind.TheVariants.{ParseFailed}
 use Rattle.dcsctp_spec.specs.endpoint.HeartbeatOutcomes.{error_counted, is_exhausted, heartbeat_outcome, info_in, counter_of, invalid_info_text, heartbeat_ack_outcome}
+use Rattle.dcsctp_spec.proofs.HandshakeTurnFacts.{mine, held}
 
 -- ---- errors
 
@@ -39,6 +43,29 @@ unheld e = refl
 
 unheld_while_waiting : (e : Endpoint) (my : Pair) → heartbeat_outcome e (cookie_wait my) (heartbeat_info (1 ∷ []) ∷ []) ≡ still e
 unheld_while_waiting e my = refl
+
+-- of a peer with the tag 9, where another chunk of the packet was answered, or none
+abbrev held_after : Bool → Bool → Endpoint → Endpoint
+held_after follows has_answered e =
+    record e { options = record e.options { follow_rfc = follows; mtu = 1191 }; core = open_in established mine held; has_answered = has_answered }
+
+abbrev answer : Event Emission
+answer = sent (record { with_checksum = false; packet = record { tag = 9; contents = plain (heartbeat_ack (heartbeat_info (1 ∷ []) ∷ [])) ∷ [] } })
+
+first_heartbeat : (e : Endpoint) → (heartbeat_outcome (held_after true false e) (open_in established mine held) (heartbeat_info (1 ∷ []) ∷ [])).events ≡ answer ∷ []
+unfolding parameter_chunk_bytes parameter_bytes
+first_heartbeat e = refl
+
+first_is_counted : (e : Endpoint) → (heartbeat_outcome (held_after true false e) (open_in established mine held) (heartbeat_info (1 ∷ []) ∷ [])).after.has_answered ≡ true
+first_is_counted e = refl
+
+-- By the RFC's rules a second one isn't answered.
+second_heartbeat : (e : Endpoint) → heartbeat_outcome (held_after true true e) (open_in established mine held) (heartbeat_info (1 ∷ []) ∷ []) ≡ still (held_after true true e)
+second_heartbeat e = refl
+
+second_by_port : (e : Endpoint) → (heartbeat_outcome (held_after false true e) (open_in established mine held) (heartbeat_info (1 ∷ []) ∷ [])).events ≡ answer ∷ []
+unfolding parameter_chunk_bytes parameter_bytes
+second_by_port e = refl
 
 -- The first info counts, whatever its length.
 first_info : counter_of (info_in (state_cookie [] ∷ heartbeat_info (0 ∷ 0 ∷ 1 ∷ 2 ∷ []) ∷ heartbeat_info [] ∷ [])) ≡ Some 258

@@ -3,17 +3,18 @@ use Rattle.std.proofs.Common.{◌≡◌, ◌^◌, ◌-◌, ℕ, Bool, true, fals
 use Rattle.dcsctp_types.specs.wire.declared.reconfiguration.ReconfigurationResponseResult.TheVariants.{SuccessNothingToDo, SuccessPerformed, Denied, ErrorBadSequenceNumber, InProgress}
 use Rattle.dcsctp_types.specs.wire.Content.{outgoing_ssn_reset_request, forward_tsn_supported, re_config_chunk}
 use Rattle.dcsctp_types.specs.wire.Content as wire
+use Rattle.dcsctp_types.specs.wire.Spelling.{parameter_bytes, parameter_chunk_bytes}
 use Rattle.dcsctp_types.specs.declared.association.Pair.{Pair}
 use Rattle.dcsctp_types.specs.declared.association.Held.{Held}
 use Rattle.dcsctp_types.specs.declared.capabilities.Capabilities.{Capabilities}
-use Rattle.dcsctp_spec.specs.endpoint.Event.{incoming_stream_reset, streams_reset_failed, streams_reset_performed}
+use Rattle.dcsctp_spec.specs.endpoint.Event.{incoming_stream_reset, streams_reset_failed, streams_reset_performed, sent}
 use Rattle.dcsctp_spec.specs.Packet.{re_config, content_in}
 use Rattle.dcsctp_spec.specs.Reconfiguration.{early, due, renewed, ResetParameter, outgoing_reset_request, incoming_reset_request, reconfiguration_response, other_reset_parameter, reset_streams_in}
 use Rattle.dcsctp_spec.specs.endpoint.Endpoint.{Endpoint, closed, cookie_wait}
-use Rattle.dcsctp_spec.specs.endpoint.Outcome.{still}
+use Rattle.dcsctp_spec.specs.endpoint.Outcome.{still, to_peer}
 use Rattle.dcsctp_spec.specs.association.Effect.{accepts, performs, renews}
 use Rattle.dcsctp_spec.specs.association.ResetChanges.{HandledParameters, work_chunk}
-use Rattle.dcsctp_spec.specs.endpoint.ResetOutcomes.{requested_in, is_renewal, request_state, renewable_after, unanswered, retried, was_performed, has_failed, answered_in, own_moved, reset_events, their_streams, ResetTurn}
+use Rattle.dcsctp_spec.specs.endpoint.ResetOutcomes.{requested_in, is_renewal, request_state, renewable_after, unanswered, retried, was_performed, has_failed, answered_in, own_moved, reset_events, their_streams, ResetTurn, responses_outcome}
 use Rattle.dcsctp_spec.specs.queues.Numbers.{is_tsn_beyond}
 
 -- ---- what is read
@@ -237,6 +238,27 @@ of_another_number c = refl
 
 none_is_asked : (c : Capabilities) → answered_in (held c 9) (work_chunk own due (held c 9) (reconfiguration_response 3 SuccessPerformed ∷ [])) (reconfiguration_response 3 SuccessPerformed ∷ []) ≡ unanswered
 none_is_asked c = refl
+
+-- ---- a second RE-CONFIG of a packet
+
+abbrev has_answered : Bool → Endpoint → Endpoint
+has_answered follows e = record e { options = record e.options { follow_rfc = follows; mtu = 1191 }; has_answered = true }
+
+-- By the RFC's rules its requests are handled, and nothing is sent for them.
+second_request : (e : Endpoint) (c : Capabilities) → responses_outcome (has_answered true e) (held c 9) (first_time c).answers ≡ still (has_answered true e)
+second_request e c = refl
+
+second_request_by_port : (e : Endpoint) (c : Capabilities) → (responses_outcome (has_answered false e) (held c 9) (first_time c).answers).events
+    ≡ sent (to_peer (held c 9) (re_config (reconfiguration_response 10 InProgress ∷ []))) ∷ []
+unfolding parameter_chunk_bytes parameter_bytes
+second_request_by_port e c = refl
+
+-- The first is counted; one without a request isn't.
+first_request : (e : Endpoint) (c : Capabilities) → (responses_outcome (record (has_answered true e) { has_answered = false }) (held c 9) (first_time c).answers).after.has_answered ≡ true
+first_request e c = refl
+
+no_request : (e : Endpoint) (c : Capabilities) → (responses_outcome (record (has_answered true e) { has_answered = false }) (held c 9) []).after.has_answered ≡ false
+no_request e c = refl
 
 -- ---- without a peer
 

@@ -12,7 +12,7 @@ use Rattle.dcsctp_spec.specs.queues.Items.{Item}
 use Rattle.dcsctp_spec.specs.queues.Transfer.{Transfer}
 use Rattle.dcsctp_spec.specs.queues.SendQueue.{waits_at}
 use Rattle.dcsctp_types.specs.queues.SendStreams.{Waiting, Stream}
-use Rattle.dcsctp_types.specs.declared.sending.Pause.TheVariants.{Pausing}
+use Rattle.dcsctp_types.specs.declared.sending.Pause.TheVariants.{Pausing, HandedOut}
 use Rattle.dcsctp_spec.specs.endpoint.Endpoint.{Endpoint, Core, closed, cookie_wait, cookie_echoed, open_in, OpenPhase, established, shutdown_pending, shutdown_sent, shutdown_received, shutdown_ack_sent}
 use Rattle.dcsctp_spec.specs.endpoint.Timers.{RunningTimer}
 use Rattle.dcsctp_spec.specs.endpoint.Following.{next_chunk, packet_end, dropped_rest}
@@ -68,6 +68,10 @@ by_rfc e burst = record e { options = record e.options { follow_rfc = true; max_
 -- a stream that is to be reset
 abbrev pausing : Stream → Stream
 pausing stream = record stream { pause = Pausing }
+
+-- one whose reset was requested
+abbrev requested : Stream → Stream
+requested stream = record stream { pause = HandedOut }
 
 -- a stream whose messages have a lifetime until this moment
 abbrev lives_until : ℕ → Waiting → Waiting
@@ -156,7 +160,37 @@ abandoned_by_port e transfer = refl
 passed_goes_on : (e : Endpoint) (transfer : Transfer) → may_go_on (by_rfc (at e (in_phase shutdown_pending) transfer 0) 0) ≡ true
 passed_goes_on e transfer = refl
 
--- What waits on a stream that is paused, or past its lifetime, isn't waited for.
+-- What waits for a reset is waited for, too,
+abbrev awaiting_reset : Endpoint → Transfer → ℕ → ℕ → (Stream → Stream) → Endpoint
+awaiting_reset e transfer burst mtu of_stream =
+    let by : Endpoint = by_rfc (at e (in_phase shutdown_pending) transfer 0) burst in
+    record by { options = record by.options { mtu = mtu }; queues = record by.queues { queue = record queue { streams = map of_stream queue.streams; under_way = None } } }
+
+reset_waits : (e : Endpoint) (transfer : Transfer) → may_go_on (awaiting_reset e transfer 4 1191 pausing) ≡ false
+reset_waits e transfer = refl
+
+requested_reset_waits : (e : Endpoint) (transfer : Transfer) → may_go_on (awaiting_reset e transfer 4 1191 requested) ≡ false
+requested_reset_waits e transfer = refl
+
+-- but for messages with a lifetime,
+lifetime_goes_on : (e : Endpoint) (transfer : Transfer) → may_go_on (awaiting_reset e transfer 4 1191 (λ stream. pausing (expired_at_9 stream))) ≡ true
+lifetime_goes_on e transfer = refl
+
+-- and unless no request can be sent.
+no_packet_goes_on : (e : Endpoint) (transfer : Transfer) → may_go_on (awaiting_reset e transfer 0 1191 pausing) ≡ true
+no_packet_goes_on e transfer = refl
+
+request_of_36_waits : (e : Endpoint) (transfer : Transfer) → may_go_on (awaiting_reset e transfer 4 36 pausing) ≡ false
+request_of_36_waits e transfer = refl
+
+request_of_35_goes_on : (e : Endpoint) (transfer : Transfer) → may_go_on (awaiting_reset e transfer 4 35 pausing) ≡ true
+request_of_35_goes_on e transfer = refl
+
+-- By the port's rules nothing that is queued is.
+reset_by_port : (e : Endpoint) (transfer : Transfer) → may_go_on (record (at e (in_phase shutdown_pending) transfer 0) { queues = (awaiting_reset e transfer 4 1191 pausing).queues }) ≡ true
+reset_by_port e transfer = refl
+
+-- On a paused stream nothing can be sent, nor can what is past its lifetime.
 nothing_waits_by_rfc : waits_at 10 (record queue { streams = map pausing queue.streams; under_way = None }) ≡ false
 nothing_waits_by_rfc = refl
 

@@ -1,6 +1,6 @@
 -- Outside examples of what a socket does with an INIT, computed by the definitions: a wrong rule in specs/
 -- would not check here.
-use Rattle.std.proofs.Common.{◌≡◌, ℕ, true, false, Some, Err, List, [], ◌∷◌, ◌++◌, refl, arith}
+use Rattle.std.proofs.Common.{◌≡◌, ℕ, Bool, true, false, Some, Err, List, [], ◌∷◌, ◌++◌, refl, arith}
 use Rattle.std.specs.Prelude.{codes, replicate}
 use Rattle.dcsctp_types.specs.wire.Spelling.{parameter_bytes, parameters_len, init_fields, parameter_chunk_bytes, other_bytes, header_bytes, checksum_field, packet_bytes_of}
 use Rattle.dcsctp_types.specs.declared.association.Pair.{Pair}
@@ -19,13 +19,13 @@ use Rattle.dcsctp_spec.specs.queues.SendQueue.{empty_queue}
 use Rattle.dcsctp_spec.specs.queues.Transfer.{new_transfer}
 use Rattle.dcsctp_spec.specs.queues.Retransmission.{new_retransmission}
 use Rattle.dcsctp_spec.specs.Admission.{refused, single_init_text, admits}
-use Rattle.dcsctp_spec.specs.endpoint.Endpoint.{Endpoint, closed, cookie_wait, cookie_echoed, open_in, established, shutdown_pending, shutdown_sent, shutdown_received, shutdown_ack_sent, association_of, own_tag}
-use Rattle.dcsctp_spec.specs.endpoint.Outcome.{Outcome}
+use Rattle.dcsctp_spec.specs.endpoint.Endpoint.{Endpoint, closed, cookie_wait, cookie_echoed, open_in, established, shutdown_pending, shutdown_sent, shutdown_received, shutdown_ack_sent, association_of, own_tag, may_answer}
+use Rattle.dcsctp_spec.specs.endpoint.Outcome.{Outcome, still}
 use Rattle.dcsctp_spec.specs.endpoint.Following.{next_chunk}
 use Rattle.dcsctp_spec.specs.endpoint.Turn.{arrival, arrival_outcome, refusal_outcome, unreadable_text}
 use Rattle.dcsctp_spec.specs.association.Effect.{draws}
 use Rattle.dcsctp_spec.specs.endpoint.CallTurns.{Transition, words_of, events_of}
-use Rattle.dcsctp_spec.specs.endpoint.HandshakeOutcomes.{init_outcome}
+use Rattle.dcsctp_spec.specs.endpoint.HandshakeOutcomes.{init_outcome, init_answered}
 
 -- ---- options
 
@@ -208,10 +208,32 @@ init_in_shutdown_ack_sent : (e : Endpoint) (held : Held) → init_outcome (socke
 unfolding configured socket other_bytes
 init_in_shutdown_ack_sent e held = refl
 
+-- ---- a second INIT of a packet
+
+-- a socket that has answered one, by whose rules
+abbrev has_answered : Bool → Endpoint → Endpoint
+has_answered follows e = record e { options = record e.options { follow_rfc = follows }; has_answered = true }
+
+-- By the RFC's rules nothing comes of it,
+second_init : (e : Endpoint) → init_answered (may_answer (has_answered true e)) (has_answered true e) theirs 5 9 ≡ still (has_answered true e)
+second_init e = refl
+
+-- by those of the port an answer.
+second_init_by_port : (e : Endpoint) → may_answer (has_answered false e) ≡ true
+second_init_by_port e = refl
+
+-- The next packet has an answer again.
+next_packet : (e : Endpoint) → may_answer (arrival_outcome (has_answered true e)).after ≡ true
+next_packet e = refl
+
+-- The first is counted.
+first_init : (e : Endpoint) → (init_answered true e theirs 5 9).after.has_answered ≡ true
+first_init e = refl
+
 -- ---- the other turns
 
 packet_is_counted : (e : Endpoint) → (arrival_outcome (record e { counts = record { packets_received = 3; packets_sent = 4; messages_queued = 5 } })).after
-    ≡ record e { counts = record { packets_received = 4; packets_sent = 4; messages_queued = 5 } }
+    ≡ record e { has_answered = false; counts = record { packets_received = 4; packets_sent = 4; messages_queued = 5 } }
 packet_is_counted e = refl
 
 bytes_are_reported : (e : Endpoint) → refusal_outcome e unreadable_text ≡ record { words = []; effects = []; after = e; events = error ParseFailed (codes "Failed to parse SCTP packet") ∷ []; following = next_chunk }

@@ -10,7 +10,7 @@ use Rattle.dcsctp_spec_lemmas.specs.types.declared.word.Word.TheVariants.{U32}
 use Rattle.dcsctp_spec_lemmas.specs.spec.Cookie.{cookie_bytes}
 use Rattle.dcsctp_spec_lemmas.specs.spec.Packet.{Introduction, Content, init, init_ack, cookie_echo, cookie_ack, re_config, abort, shutdown, shutdown_ack, shutdown_complete, plain}
 use Rattle.dcsctp_spec_lemmas.specs.spec.endpoint.Endpoint.{Endpoint, Core, closed, cookie_wait, cookie_echoed, open_in, established, shutdown_pending, shutdown_sent, shutdown_received, shutdown_ack_sent}
-use Rattle.dcsctp_spec_lemmas.specs.spec.endpoint.Outcome.{Outcome, still, count_up, fits, to_peer, emits, drawing}
+use Rattle.dcsctp_spec_lemmas.specs.spec.endpoint.Outcome.{Outcome, still, count_up, fits, to_peer, emits, answering, drawing}
 use Rattle.dcsctp_spec_lemmas.specs.spec.endpoint.Following.{next_chunk}
 use Rattle.dcsctp_spec_lemmas.specs.spec.endpoint.Event.{sent}
 use Rattle.dcsctp_spec_lemmas.specs.types.declared.options.Options.{Options}
@@ -33,6 +33,7 @@ use Rattle.dcsctp_spec_laws.proofs.HeardShutdownLemmas.{shutdown_controlled}
 use Rattle.dcsctp_spec_laws.proofs.ShutdownLemmas.{step_controlled, shut_down_controlled, shutdown_ack_controlled, shutdown_complete_controlled, t2_again_controlled, repeated_controlled}
 use Rattle.dcsctp_spec_laws.proofs.TimerLemmas.{t1_again_controlled, t1_gives_up_controlled}
 use Rattle.dcsctp_spec_lemmas.proofs.ControlEcho.{cookie_echo_controlled}
+use Rattle.dcsctp_spec_lemmas.proofs.OneAnswerLemmas.{init_by, answering_controlled}
 
 -- ---- an INIT
 
@@ -133,11 +134,20 @@ init_controlled e tag theirs (open_in shutdown_received my held) word next is ow
 init_controlled e tag theirs (open_in shutdown_ack_sent my held) word next is own h =
     (_, (renewing e theirs word, is_cookie e theirs (renewed_pair e word) e.tie h (renewed_fits e word), refl), ack_controlled e held (open_in shutdown_ack_sent my held) is h.options)
 
+-- One that isn't answered leaves all as it is.
+ignored_controlled : (e : Endpoint) (tag : ℕ) (theirs : Introduction) (o : Outcome) → ControlledAt e e.core tag (init theirs) o → ControlledAt e e.core tag (init theirs) (still e)
+ignored_controlled e tag theirs o at = (unchanged e.core, (record at.1.0 { may_answer = false }, at.1.1, refl), still_controlled e e.core refl)
+
+counted_controlled : (e : Endpoint) (tag : ℕ) (theirs : Introduction) (o : Outcome) → ControlledAt e e.core tag (init theirs) o → ControlledAt e e.core tag (init theirs) (answering o)
+counted_controlled e tag theirs o at = (at.0, at.1, answering_controlled e o at.0 at.2)
+
 -- ---- every chunk
 
 pub chunks_are_controlled : ChunksAreControlled
 chunks_are_controlled e tag (init theirs) o turn fitting =
-    subst (ControlledChunk e tag (init theirs)) (sym turn.2) (init_controlled e tag theirs e.core turn.0 turn.1 refl fitting.own fitting)
+    let at = init_controlled e tag theirs e.core turn.0 turn.1 refl fitting.own fitting in
+    subst (ControlledChunk e tag (init theirs)) (sym turn.2)
+    (init_by (ControlledChunk e tag (init theirs)) e theirs turn.0 turn.1 (ignored_controlled e tag theirs _ at) (counted_controlled e tag theirs _ at))
 chunks_are_controlled e tag (init_ack theirs cookie) o turn fitting = init_ack_controlled e tag theirs cookie o turn
 chunks_are_controlled e tag (cookie_echo cookie) o turn fitting = cookie_echo_controlled e tag cookie o turn
 chunks_are_controlled e tag cookie_ack o turn fitting = cookie_ack_controlled e tag o turn

@@ -1,10 +1,11 @@
 -- An INIT leaves the association as it is.
-use Rattle.std.proofs.Common.{◌≡◌, ℕ, List, rules, ap, ◌∙◌, arith}
+use Rattle.std.proofs.Common.{◌≡◌, ℕ, List, refl, rules, ap, ◌∙◌, arith}
 use Rattle.dcsctp_spec_lemmas.specs.types.declared.word.Word.{Word}
 use Rattle.dcsctp_spec_lemmas.specs.spec.Packet.{Introduction, Emission}
 use Rattle.dcsctp_spec_lemmas.specs.spec.endpoint.Endpoint.{Endpoint, Core, closed, cookie_wait, cookie_echoed, open_in, established, shutdown_pending, shutdown_sent, shutdown_received, shutdown_ack_sent}
 use Rattle.dcsctp_spec_lemmas.specs.spec.endpoint.Outcome.{Outcome, emits}
 use Rattle.dcsctp_spec_lemmas.specs.spec.endpoint.HandshakeOutcomes.{init_outcome}
+use Rattle.dcsctp_spec_lemmas.proofs.OneAnswerLemmas.{init_by}
 use Rattle.dcsctp_spec_laws.specs.TurnLaws.{InitLeavesAssociation}
 
 emits_keeps_core : (e : Endpoint) (words : List Word) (emission : Emission) → (emits e words emission).after.core ≡ e.core
@@ -21,4 +22,6 @@ init_keeps_core e theirs (open_in shutdown_received mine held) word next = searc
 init_keeps_core e theirs (open_in shutdown_ack_sent mine held) word next = search (rules, emits_keeps_core)
 
 pub init_leaves_association : InitLeavesAssociation
-init_leaves_association e theirs o turn = ap (λ (x : Outcome). x.after.core) turn.2 ∙ init_keeps_core e theirs e.core turn.0 turn.1
+init_leaves_association e theirs o turn =
+    ap (λ (x : Outcome). x.after.core) turn.2
+    ∙ init_by (λ (x : Outcome). x.after.core ≡ e.core) e theirs turn.0 turn.1 refl (init_keeps_core e theirs e.core turn.0 turn.1)

@@ -24,7 +24,8 @@ use Rattle.dcsctp_spec_lemmas.specs.spec.endpoint.CookieEchoOutcomes.{establishe
 use Rattle.dcsctp_spec_lemmas.specs.spec.endpoint.ResetOutcomes.{requested_in, renewable_left, has_reset, answers_in_progress, ResetsInQueues, OwnAnswer, unanswered, retried, was_performed, has_failed, parameters_handled_in, answered_in, reset_events_of, resets_handled, responses_outcome, responses_by, ResponseAnswers, WorksResets, ResetTurn}
 use Rattle.dcsctp_spec_lemmas.specs.spec.endpoint.ShutdownOutcomes.{shutdown_ack_outcome, shutdown_complete_outcome}
 use Rattle.dcsctp_spec_lemmas.proofs.AbortLemmas.{by_abort_outcome}
-use Rattle.dcsctp_spec_laws.proofs.LeftLemmas.{is_there, Stays, Ends, StaysIn, LeavesIn, unmoved, stays_then, begins_then, emits_stays, flush_stays}
+use Rattle.dcsctp_spec_laws.proofs.LeftLemmas.{is_there, Stays, Ends, StaysIn, LeavesIn, unmoved, stays_then, begins_then, emits_stays, flush_stays, answer_stays}
+use Rattle.dcsctp_spec_lemmas.proofs.OneAnswerLemmas.{init_by}
 
 -- ---- INIT
 
@@ -39,7 +40,10 @@ init_stays e theirs (open_in shutdown_received mine held) word next = emits_stay
 init_stays e theirs (open_in shutdown_ack_sent mine held) word next = emits_stays e [] (to_peer held shutdown_ack)
 
 pub init_leaves : (e : Endpoint) (theirs : Introduction) (o : Outcome) → InitTurn e theirs o → LeavesIn e o
-init_leaves e theirs o turn = subst (LeavesIn e) (sym turn.2) (inl (init_stays e theirs e.core turn.0 turn.1))
+init_leaves e theirs o turn =
+    let at : StaysIn e (init_outcome e theirs e.core turn.0 turn.1) = init_stays e theirs e.core turn.0 turn.1 in
+    subst (LeavesIn e) (sym turn.2)
+    (inl (init_by (StaysIn e) e theirs turn.0 turn.1 (unmoved e) (record { left = at.left; there = at.there; last = at.last })))
 
 -- ---- INIT ACK
 
@@ -150,7 +154,7 @@ worked_stays e has_failed held left renewable same = record { left = refl; there
 
 response_stays : (e : Endpoint) (held : Held) (responses : List ResetParameter) → StaysIn e (responses_outcome e held responses)
 response_stays e held [] = unmoved e
-response_stays e held (response ∷ responses) = emits_stays e [] (to_peer held (re_config (response ∷ responses)))
+response_stays e held (response ∷ responses) = answer_stays e (to_peer held (re_config (response ∷ responses)))
 
 responses_stay : (refused : Bool) (e : Endpoint) (told : List (Event Emission)) (held : Held) (parameters responses : List ResetParameter) (answers : List Answer)
     → ResponseAnswers refused e held responses answers → StaysIn e (responses_by refused e told held parameters responses answers)

@@ -9,10 +9,11 @@ use Rattle.dcsctp_spec_lemmas.specs.spec.endpoint.BegunResets.{BegunReset, after
 use Rattle.dcsctp_spec_lemmas.specs.spec.endpoint.EndOutcomes.{left_by, ended_tag}
 use Rattle.dcsctp_spec_lemmas.specs.spec.endpoint.Endpoint.{Endpoint}
 use Rattle.dcsctp_spec_lemmas.specs.spec.endpoint.Event.{Event}
-use Rattle.dcsctp_spec_lemmas.specs.spec.endpoint.Outcome.{Outcome, quiet, sends, emits, fits}
+use Rattle.dcsctp_spec_lemmas.specs.spec.endpoint.Outcome.{Outcome, quiet, sends, emits, answers_with, fits}
 use Rattle.dcsctp_spec_lemmas.specs.spec.endpoint.FlushOutcomes.{filling_event, Answer, answer_contents, filled, goes_out, asked, draft_to, next_draft, flush_of, Ask, first_ask, later_ask, GivesWhere, IsAnswerOfQueues, IsFlushAnswer, AreFlushAnswers, at_limit, at_empty, after_packet, FlushAnswers, packets_allowed}
 use Rattle.dcsctp_spec_lemmas.specs.spec.endpoint.DataOutcomes.{flush_by, AnswersTo}
 use Rattle.dcsctp_spec_lemmas.specs.spec.endpoint.Turn.{Input}
+use Rattle.dcsctp_spec_lemmas.proofs.OneAnswerLemmas.{answered_by}
 use Rattle.dcsctp_spec_laws.specs.LeftLaws.{left_once, LeftWhere}
 
 -- ---- what a turn may do with them
@@ -99,6 +100,11 @@ emits_where false e words emission = record { left = refl; there = refl; last = 
 
 pub emits_stays : (e : Endpoint) (words : List Word) (emission : Emission) → Stays e (emits e words emission).after
 emits_stays e words emission = emits_where (fits e emission) e words emission
+
+pub answer_stays : (e : Endpoint) (emission : Emission) → Stays e (answers_with e emission).after
+answer_stays e emission =
+    let at : Stays e (emits e [] emission).after = emits_stays e [] emission in
+    answered_by (λ (o : Outcome). Stays e o.after) e emission (unmoved e) (record { left = at.left; there = at.there; last = at.last })
 
 pub goes_out_stays : (e : Endpoint) (told : List (Event Emission)) (with_checksum : Bool) (tag : ℕ) (contents : List Content) → Stays e (goes_out e told with_checksum tag contents).after
 goes_out_stays e told with_checksum tag [] = record { left = refl; there = refl; last = refl }

@@ -18,7 +18,7 @@ use Rattle.dcsctp_spec_lemmas.specs.spec.queues.Arrivals.{data_arrival, i_data_a
 use Rattle.dcsctp_spec_laws.specs.LeftLaws.{IsOwnInput, MessagesLeftStay}
 use Rattle.dcsctp_spec_lemmas.specs.spec.endpoint.TransferMoves.{timed_by}
 use Rattle.dcsctp_spec_lemmas.specs.spec.queues.Transfer.{Transfer}
-use Rattle.dcsctp_spec_laws.proofs.LeftLemmas.{is_there, StaysIn, LeavesIn, unmoved, emits_stays, left_where}
+use Rattle.dcsctp_spec_laws.proofs.LeftLemmas.{is_there, StaysIn, LeavesIn, unmoved, answer_stays, left_where}
 use Rattle.dcsctp_spec_laws.proofs.LeftActs.{aborting_leaves, act_leaves, timer_stays}
 use Rattle.dcsctp_spec_laws.proofs.LeftChunks.{init_leaves, init_ack_leaves, cookie_echo_leaves, cookie_ack_leaves, reset_leaves, abort_leaves, shutdown_ack_leaves, shutdown_complete_leaves}
 use Rattle.dcsctp_spec_laws.proofs.LeftData.{data_stays, forward_stays, sack_stays, shutdown_stays, end_stays, send_stays, own_resets_stay, take_leaves}
@@ -39,8 +39,8 @@ unknown_where false e core type chunk = unmoved e
 heartbeat_stays : (e : Endpoint) (core : Core) (parameters : List ParameterContent) → StaysIn e (heartbeat_outcome e core parameters)
 heartbeat_stays e closed parameters = unmoved e
 heartbeat_stays e (cookie_wait my) parameters = unmoved e
-heartbeat_stays e (cookie_echoed my held cookie) parameters = emits_stays e [] (to_peer held (plain (heartbeat_ack parameters)))
-heartbeat_stays e (open_in phase my held) parameters = emits_stays e [] (to_peer held (plain (heartbeat_ack parameters)))
+heartbeat_stays e (cookie_echoed my held cookie) parameters = answer_stays e (to_peer held (plain (heartbeat_ack parameters)))
+heartbeat_stays e (open_in phase my held) parameters = answer_stays e (to_peer held (plain (heartbeat_ack parameters)))
 
 timed_there : (change : Transfer → Transfer) (transfer : Option Transfer) → is_there (option_map change transfer) ≡ is_there transfer
 timed_there change None = refl

@@ -9,7 +9,7 @@ use Rattle.dcsctp_spec_lemmas.specs.spec.endpoint.Cause.{Cause, causes_of}
 use Rattle.dcsctp_spec_lemmas.specs.spec.endpoint.Event.{Event, error}
 use Rattle.dcsctp_spec_lemmas.specs.spec.Packet.{Plain, plain, unknown, heartbeat, heartbeat_ack, unworked, Emission}
 use Rattle.dcsctp_spec_lemmas.specs.spec.endpoint.Endpoint.{Endpoint, Core, closed, cookie_wait, cookie_echoed, open_in, OpenPhase, established, shutdown_pending, shutdown_sent, shutdown_received, shutdown_ack_sent}
-use Rattle.dcsctp_spec_lemmas.specs.spec.endpoint.Outcome.{Outcome, still, reports, quiet, sends, fits, to_peer}
+use Rattle.dcsctp_spec_lemmas.specs.spec.endpoint.Outcome.{Outcome, still, reports, quiet, sends, fits, answering as counted, answers_with as answered_once, to_peer}
 use Rattle.dcsctp_spec_lemmas.specs.spec.endpoint.EndOutcomes.{abort_to, aborting_outcome}
 use Rattle.dcsctp_spec_lemmas.specs.spec.endpoint.PlainOutcomes.{PlainTurn, PlainTurnBy, violation_at, is_reported, after_unknown, unknown_text, unknown_bytes, unknown_error, unknown_report, unknown_chunk_outcome, error_outcome}
 use Rattle.dcsctp_spec_lemmas.specs.spec.association.Effect.{Change, unchanged}
@@ -26,6 +26,7 @@ use Rattle.dcsctp_spec_laws.proofs.SackLemmas.{stepped_chunk, sack_at}
 use Rattle.dcsctp_spec_lemmas.specs.spec.association.Controlled.{observations_of_events, IsControlled, ControlledChunk}
 use Rattle.dcsctp_spec_lemmas.proofs.ControlHandshake.{no_choices, filling_where, still_controlled, ControlledAt}
 use Rattle.dcsctp_spec_laws.proofs.ControlEnds.{aborts_where}
+use Rattle.dcsctp_spec_lemmas.proofs.OneAnswerLemmas.{answered_by}
 
 -- what a chunk chooses where nothing waits and nothing is sent
 abbrev nothing_chosen : Endpoint → Choices
@@ -126,17 +127,27 @@ answered_open e shutdown_ack_sent my held parameters = refl
 
 answer_where : (b : Bool) (e : Endpoint) (core : Core) (held : Held) (tag : ℕ) (parameters : List ParameterContent) → e.core ≡ core
     → answers_with core held parameters ≡ plain_change core false (answering e parameters)
-    → ControlledAt e core tag (plain (heartbeat parameters)) (cond b (sends e [] [] (answer_to held parameters)) (quiet e [] []))
+    → ControlledAt e core tag (plain (heartbeat parameters)) (counted (cond b (sends e [] [] (answer_to held parameters)) (quiet e [] [])))
 answer_where true e core held tag parameters is change =
     (answers_with core held parameters, (answering e parameters, tt, change), record { core = is; options = refl; observations = refl; effects = refl; following = refl })
 answer_where false e core held tag parameters is change =
-    quietly e core tag (heartbeat parameters) (quiet e [] []) (record { core = is; options = refl; observations = refl; effects = refl; following = refl })
+    quietly e core tag (heartbeat parameters) (counted (quiet e [] [])) (record { core = is; options = refl; observations = refl; effects = refl; following = refl })
+
+answer_at : (e : Endpoint) (core : Core) (held : Held) (tag : ℕ) (parameters : List ParameterContent) → e.core ≡ core
+    → answers_with core held parameters ≡ plain_change core false (answering e parameters)
+    → ControlledAt e core tag (plain (heartbeat parameters)) (answered_once e (answer_to held parameters))
+answer_at e core held tag parameters is change =
+    answered_by (ControlledAt e core tag (plain (heartbeat parameters))) e (answer_to held parameters)
+    (quietly e core tag (heartbeat parameters) (still e) (still_controlled e core is))
+    (answer_where (fits e (answer_to held parameters)) e core held tag parameters is change)
 
 heartbeat_at : (e : Endpoint) (core : Core) (tag : ℕ) (parameters : List ParameterContent) → e.core ≡ core → ControlledAt e core tag (plain (heartbeat parameters)) (heartbeat_outcome e core parameters)
 heartbeat_at e closed tag parameters is = rests_at e closed tag (heartbeat parameters) is
 heartbeat_at e (cookie_wait my) tag parameters is = rests_at e (cookie_wait my) tag (heartbeat parameters) is
-heartbeat_at e (cookie_echoed my held cookie) tag parameters is = answer_where (fits e (answer_to held parameters)) e (cookie_echoed my held cookie) held tag parameters is refl
-heartbeat_at e (open_in phase my held) tag parameters is = answer_where (fits e (answer_to held parameters)) e (open_in phase my held) held tag parameters is (answered_open e phase my held parameters)
+heartbeat_at e (cookie_echoed my held cookie) tag parameters is =
+    answer_at e (cookie_echoed my held cookie) held tag parameters is refl
+heartbeat_at e (open_in phase my held) tag parameters is =
+    answer_at e (open_in phase my held) held tag parameters is (answered_open e phase my held parameters)
 
 counted_at : (b : Bool) (e : Endpoint) (core : Core) (tag : ℕ) (chunk : Plain) → e.core ≡ core → ControlledAt e core tag (plain chunk) (cond b (still (answered e)) (still e))
 counted_at true e core tag chunk is = quietly e core tag chunk (still (answered e)) (record { core = is; options = refl; observations = refl; effects = refl; following = refl })

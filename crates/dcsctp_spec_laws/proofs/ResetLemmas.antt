@@ -1,5 +1,5 @@
 -- The turn of RE-CONFIG is a turn of the association.
-use Rattle.std.proofs.Common.{◌≡◌, ◌⊎◌, inl, inr, ℕ, Bool, true, false, cond, Option, None, List, [], ◌∷◌, ◌++◌, refl, sym, subst, ap, ◌∙◌, append_assoc}
+use Rattle.std.proofs.Common.{◌≡◌, ◌&&◌, ◌⊎◌, inl, inr, ℕ, Bool, true, false, cond, Option, None, List, [], ◌∷◌, ◌++◌, refl, sym, subst, ap, ◌∙◌, append_assoc}
 use Rattle.std.proofs.lemmas.List.{append-nil}
 use Rattle.dcsctp_spec_lemmas.specs.wire.declared.reconfiguration.ReconfigurationResponseResult.{ReconfigurationResponseResult}
 use Rattle.dcsctp_spec_lemmas.specs.wire.declared.reconfiguration.ReconfigurationResponseResult.TheVariants.{SuccessNothingToDo, SuccessPerformed, Denied, ErrorWrongSSN, ErrorRequestAlreadyInProgress, ErrorBadSequenceNumber, InProgress}
@@ -11,8 +11,8 @@ use Rattle.dcsctp_spec_lemmas.specs.spec.endpoint.Event.{Event, sent, error}
 use Rattle.dcsctp_spec_lemmas.specs.spec.Packet.{re_config, Packet, Emission}
 use Rattle.dcsctp_spec_lemmas.specs.spec.Reconfiguration.{NumberedReset, RequestState, early, due, renewed, ResetParameter, outgoing_reset_request, incoming_reset_request, reconfiguration_response, other_reset_parameter}
 use Rattle.dcsctp_spec_lemmas.specs.spec.queues.Transfer.{Transfer}
-use Rattle.dcsctp_spec_lemmas.specs.spec.endpoint.Endpoint.{Endpoint, Core, closed, cookie_wait, cookie_echoed, open_in}
-use Rattle.dcsctp_spec_lemmas.specs.spec.endpoint.Outcome.{Outcome, quiet, packet_counted, behind, noting, to_peer, fits as fits_mtu, sends as sends_out}
+use Rattle.dcsctp_spec_lemmas.specs.spec.endpoint.Endpoint.{Endpoint, Core, closed, cookie_wait, cookie_echoed, open_in, may_answer}
+use Rattle.dcsctp_spec_lemmas.specs.spec.endpoint.Outcome.{Outcome, quiet, answering as counted, answered_where, packet_counted, behind, noting, to_peer, fits as fits_mtu, sends as sends_out}
 use Rattle.dcsctp_spec_lemmas.specs.spec.endpoint.Following.{next_chunk}
 use Rattle.dcsctp_spec_lemmas.specs.spec.association.Effect.{Effect, accepts, performs, renews, completes, fails, sends, noted, unchanged}
 use Rattle.dcsctp_spec_lemmas.specs.spec.association.Choices.{Choices}
@@ -251,19 +251,31 @@ refusing e base core es told text is same are shown =
 abbrev choosing : Endpoint → RequestState → Bool → List Answer → Choices
 choosing e state fits answers = record (no_choices e fits) { state = state; filling = filling_of answers }
 
--- where the answers fit or not
+-- where the packet may be answered, and the answers fit or not
 fitting : (b : Bool) (e base : Endpoint) (state : RequestState) (rebuilt : Held → Core) (held : Held) (es : List Effect) (told : List (Event Emission)) (response : ResetParameter) (responses : List ResetParameter) (answers : List Answer)
     → Rebuilds rebuilt held → base.core ≡ rebuilt held → SameOptions e.options base.options → IsPeerTag (rebuilt held) held.peer.tag → AreResets es → observations_of_events told ≡ observations_of_effects es
-    → let o : Outcome = cond b (sends_out base [] [] (to_peer held (re_config (response ∷ responses)))) (quiet base [] []) in
+    → let o : Outcome = counted (cond b (sends_out base [] [] (to_peer held (re_config (response ∷ responses)))) (quiet base [] [])) in
     FlushAnswers o.after (draft_to held) answers
     → MovesTo e rebuilt es (noting es (behind [] (told ++ o.events) (flush_of o.after (draft_to held) answers))) (reset_sent false held (response ∷ responses) (choosing e state b answers))
 fitting true e base state rebuilt held es told response responses answers builds is same peer are shown h =
-    answering e (packet_counted base) rebuilt held es told (to_peer held (re_config (response ∷ responses))) answers builds is same peer h are shown
-fitting false e base state rebuilt held es told response responses answers builds is same peer are shown h = silently e base rebuilt held es told answers builds is same peer h are shown
+    answering e (record (packet_counted base) { has_answered = true }) rebuilt held es told (to_peer held (re_config (response ∷ responses))) answers builds is same peer h are shown
+fitting false e base state rebuilt held es told response responses answers builds is same peer are shown h =
+    silently e (record base { has_answered = true }) rebuilt held es told answers builds is same peer h are shown
 
--- do the answers fit?
+-- where it may be answered or not
+responding : (may : Bool) (e base : Endpoint) (state : RequestState) (rebuilt : Held → Core) (held : Held) (es : List Effect) (told : List (Event Emission)) (response : ResetParameter) (responses : List ResetParameter) (answers : List Answer)
+    → Rebuilds rebuilt held → base.core ≡ rebuilt held → SameOptions e.options base.options → IsPeerTag (rebuilt held) held.peer.tag → AreResets es → observations_of_events told ≡ observations_of_effects es
+    → let emission : Emission = to_peer held (re_config (response ∷ responses)) in
+    let o : Outcome = answered_where may base emission in
+    FlushAnswers o.after (draft_to held) answers
+    → MovesTo e rebuilt es (noting es (behind [] (told ++ o.events) (flush_of o.after (draft_to held) answers))) (reset_sent false held (response ∷ responses) (choosing e state (may && fits_mtu base emission) answers))
+responding true e base state rebuilt held es told response responses answers builds is same peer are shown h =
+    fitting (fits_mtu base (to_peer held (re_config (response ∷ responses)))) e base state rebuilt held es told response responses answers builds is same peer are shown h
+responding false e base state rebuilt held es told response responses answers builds is same peer are shown h = silently e base rebuilt held es told answers builds is same peer h are shown
+
+-- are the answers sent, if there are some?
 abbrev responses_fit : Endpoint → Held → List ResetParameter → Bool
-responses_fit base held responses = fits_mtu base (to_peer held (re_config responses))
+responses_fit base held responses = may_answer base && fits_mtu base (to_peer held (re_config responses))
 
 sent_at : (refused : Bool) (e base : Endpoint) (state : RequestState) (rebuilt : Held → Core) (held : Held) (es : List Effect) (told : List (Event Emission)) (parameters responses : List ResetParameter) (answers : List Answer)
     → Rebuilds rebuilt held → base.core ≡ rebuilt held → SameOptions e.options base.options → IsPeerTag (rebuilt held) held.peer.tag → AreResets es → observations_of_events told ≡ observations_of_effects es
@@ -273,7 +285,7 @@ sent_at true e base state rebuilt held es told parameters responses answers buil
     refusing e base (rebuilt held) es told (reset_refusal_text parameters) is same are shown
 sent_at false e base state rebuilt held es told parameters [] answers builds is same peer are shown h = silently e base rebuilt held es told answers builds is same peer h are shown
 sent_at false e base state rebuilt held es told parameters (response ∷ responses) answers builds is same peer are shown h =
-    fitting (responses_fit base held (response ∷ responses)) e base state rebuilt held es told response responses answers builds is same peer are shown h
+    responding (may_answer base) e base state rebuilt held es told response responses answers builds is same peer are shown h
 
 -- ---- the turn
 

@@ -4,12 +4,13 @@ use Rattle.dcsctp_spec_lemmas.specs.types.declared.association.Held.{Held}
 use Rattle.dcsctp_spec_lemmas.specs.types.declared.options.Options.{Options}
 use Rattle.dcsctp_spec_lemmas.specs.spec.Cookie.{cookie_at}
 use Rattle.dcsctp_spec_lemmas.specs.spec.endpoint.Endpoint.{Core, closed, cookie_wait, cookie_echoed, open_in}
-use Rattle.dcsctp_spec_lemmas.specs.spec.Packet.{Content, init, init_ack, cookie_echo, cookie_ack, re_config, abort, shutdown, shutdown_ack, shutdown_complete, plain}
+use Rattle.dcsctp_spec_lemmas.specs.spec.Packet.{Introduction, Content, init, init_ack, cookie_echo, cookie_ack, re_config, abort, shutdown, shutdown_ack, shutdown_complete, plain}
 use Rattle.dcsctp_spec_lemmas.specs.spec.Reconfiguration.{RequestedReset}
 use Rattle.dcsctp_spec_lemmas.specs.spec.Soundness.{IsSoundHeld, IsSoundCore}
 use Rattle.dcsctp_spec_lemmas.specs.spec.association.Acts.{Act, connect, t1_expires, shut_down, step_of_shutdown, shutdown_repeats, abort_with, hands_over, flushes, request_again, request_renewed, act_change, chunk_change, flush_change, request_again_change, renewed_by, request_renewed_change, violation_change, plain_change}
 use Rattle.dcsctp_spec_lemmas.specs.spec.association.Choices.{Choices}
 use Rattle.dcsctp_spec_lemmas.specs.spec.association.Effect.{Change}
+use Rattle.dcsctp_spec_lemmas.specs.spec.association.HandshakeChanges.{answered_init_change}
 use Rattle.dcsctp_spec_lemmas.specs.spec.association.ShutdownChanges.{shutdown_step_change, shutdown_change}
 use Rattle.dcsctp_spec_laws.proofs.SoundHandshakes.{flush_sound, init_sound, init_ack_sound, cookie_ack_sound, t1_again_sound, gives_up_sound, read_echo_sound}
 use Rattle.dcsctp_spec_laws.proofs.SoundResets.{re_config_sound}
@@ -80,8 +81,12 @@ module _ (p : Options) where
   act_sound core (request_again reset) choices other h = request_again_sound core reset choices.fits h
   act_sound core (request_renewed reset) choices other h = request_renewed_sound core reset choices.fits h
 
+  answered_init_sound : (may : Bool) (core : Core) (theirs : Introduction) (choices : Choices) → IsSoundCore p core → IsSoundCore p (answered_init_change may p core theirs choices).core
+  answered_init_sound false core theirs choices h = h
+  answered_init_sound true core theirs choices h = init_sound p core theirs choices h
+
   pub chunk_sound : (core : Core) (header : ℕ) (content : Content) (choices : Choices) → SaysTag content → IsSoundCore p core → IsSoundCore p (chunk_change p core header content choices).core
-  chunk_sound core header (init theirs) choices said h = init_sound p core theirs choices h
+  chunk_sound core header (init theirs) choices said h = answered_init_sound choices.may_answer core theirs choices h
   chunk_sound core header (init_ack theirs cookie) choices said h = init_ack_sound p core theirs cookie choices said h
   chunk_sound core header (cookie_echo cookie) choices said h = read_echo_sound p core header cookie (cookie_at cookie) choices refl h
   chunk_sound core header cookie_ack choices said h = cookie_ack_sound p core choices h

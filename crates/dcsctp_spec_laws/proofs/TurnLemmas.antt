@@ -12,6 +12,7 @@ use Rattle.dcsctp_spec_lemmas.specs.spec.association.Controlled.{ControlledChunk
 use Rattle.dcsctp_spec_lemmas.specs.spec.endpoint.Turn.{Input, chunk_input, ContentTurn}
 use Rattle.dcsctp_spec_lemmas.specs.spec.endpoint.CallTurns.{Transition, IsTurn, Turns, AfterChunk, ChunkTurns, after_all}
 use Rattle.dcsctp_spec_lemmas.specs.spec.endpoint.HandshakeOutcomes.{init_outcome}
+use Rattle.dcsctp_spec_lemmas.proofs.OneAnswerLemmas.{init_by}
 use Rattle.dcsctp_spec_laws.proofs.PlainLemmas.{plain_controlled}
 use Rattle.dcsctp_spec_lemmas.proofs.ControlHandshake.{init_ack_controlled, cookie_ack_controlled, abort_controlled}
 use Rattle.dcsctp_spec_laws.proofs.HeardShutdownLemmas.{shutdown_controlled}
@@ -49,7 +50,9 @@ controlled_keeps e tag content o turn = turn.2.options
 -- The options stay for good, but for the longest message.
 pub content_keeps_options : (e : Endpoint) (tag : ℕ) (content : Content) (o : Outcome) → ContentTurn e tag content o → SameOptions e.options o.after.options
 content_keeps_options e tag (init theirs) o turn =
-    same_of_equal e.options o.after.options (ap (λ (x : Outcome). x.after.options) turn.2 ∙ init_keeps_options e theirs e.core turn.0 turn.1)
+    same_of_equal e.options o.after.options
+    (ap (λ (x : Outcome). x.after.options) turn.2
+    ∙ init_by (λ (x : Outcome). x.after.options ≡ e.options) e theirs turn.0 turn.1 refl (init_keeps_options e theirs e.core turn.0 turn.1))
 content_keeps_options e tag (init_ack theirs cookie) o turn = controlled_keeps e tag (init_ack theirs cookie) o (init_ack_controlled e tag theirs cookie o turn)
 content_keeps_options e tag (cookie_echo cookie) o turn = controlled_keeps e tag (cookie_echo cookie) o (cookie_echo_controlled e tag cookie o turn)
 content_keeps_options e tag cookie_ack o turn = controlled_keeps e tag cookie_ack o (cookie_ack_controlled e tag o turn)

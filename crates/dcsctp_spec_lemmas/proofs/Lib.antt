@@ -19,6 +19,7 @@ pub mod IncomingLemmas
 pub mod ItemMessageLemmas
 pub mod LostOutcomes
 pub mod MarkedItemLemmas
+pub mod OneAnswerLemmas
 pub mod PackedLemmas
 pub mod PacketLengths
 pub mod PackingLemmas

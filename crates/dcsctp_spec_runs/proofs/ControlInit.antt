@@ -1,5 +1,5 @@
 -- An INIT's turn moves the association as an INIT does, whatever numbers the INIT bears.
-use Rattle.std.proofs.Common.{◌≡◌, ℕ, ◌∷◌, [], refl, sym, subst}
+use Rattle.std.proofs.Common.{◌≡◌, ℕ, false, ◌∷◌, [], refl, sym, subst}
 use Rattle.dcsctp_spec_lemmas.specs.types.Settings.{IsValid}
 use Rattle.dcsctp_spec_lemmas.specs.types.declared.association.Pair.{Pair}
 use Rattle.dcsctp_spec_lemmas.specs.types.declared.word.Word.TheVariants.{U32}
@@ -11,7 +11,8 @@ use Rattle.dcsctp_spec_lemmas.specs.spec.endpoint.HandshakeOutcomes.{InitTurn, p
 use Rattle.dcsctp_spec_lemmas.specs.spec.association.Choices.{Choices}
 use Rattle.dcsctp_spec_lemmas.specs.spec.association.Acts.{chunk_change}
 use Rattle.dcsctp_spec_lemmas.specs.spec.association.Controlled.{IsControlled}
-use Rattle.dcsctp_spec_lemmas.proofs.ControlHandshake.{choices_of}
+use Rattle.dcsctp_spec_lemmas.proofs.ControlHandshake.{choices_of, still_controlled}
+use Rattle.dcsctp_spec_lemmas.proofs.OneAnswerLemmas.{init_by, answering_controlled}
 use Rattle.dcsctp_spec_laws.proofs.ControlLemmas.{drawing_controlled, answered, ack_controlled}
 
 -- a chunk's turn is what these choices make of it; nothing is asked of a cookie
@@ -57,8 +58,13 @@ init_moves_at e tag theirs (open_in shutdown_received my held) word next is vali
 init_moves_at e tag theirs (open_in shutdown_ack_sent my held) word next is valid =
     (renewing e theirs word, ack_controlled e held (open_in shutdown_ack_sent my held) is valid)
 
+abbrev InitMoves : Endpoint → ℕ → Introduction → Outcome → Type 0
+InitMoves e tag theirs o = (choices : Choices) × MovedBy e tag (init theirs) o e.core choices
+
 pub init_moves : (e : Endpoint) (tag : ℕ) (theirs : Introduction) (o : Outcome) → InitTurn e theirs o → IsValid e.options
     → (choices : Choices) × MovedBy e tag (init theirs) o e.core choices
 init_moves e tag theirs o turn valid =
     let here = init_moves_at e tag theirs e.core turn.0 turn.1 refl valid in
-    (here.0, subst (λ (x : Outcome). MovedBy e tag (init theirs) x e.core here.0) (sym turn.2) here.1)
+    subst (InitMoves e tag theirs) (sym turn.2)
+    (init_by (InitMoves e tag theirs) e theirs turn.0 turn.1 (record here.0 { may_answer = false }, still_controlled e e.core refl)
+    (here.0, answering_controlled e _ _ here.1))

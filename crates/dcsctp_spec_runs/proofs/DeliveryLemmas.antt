@@ -1,5 +1,5 @@
 -- The turns of a packet are a delivery to the association.
-use Rattle.std.proofs.Common.{◌≡◌, ℕ, Option, None, Some, Result, Ok, Err, List, [], ◌∷◌, ◌++◌, refl, sym, subst, ap, ◌∙◌}
+use Rattle.std.proofs.Common.{◌≡◌, ℕ, Bool, true, false, Option, None, Some, Result, Ok, Err, List, [], ◌∷◌, ◌++◌, refl, sym, subst, ap, ◌∙◌}
 use Rattle.dcsctp_spec_lemmas.specs.spec.Packet.{Introduction, Content, init, init_ack, cookie_echo, cookie_ack, re_config, abort, shutdown, shutdown_ack, shutdown_complete, plain, Packet}
 use Rattle.dcsctp_spec_lemmas.specs.types.Settings.{SameOptions}
 use Rattle.dcsctp_spec_lemmas.specs.spec.Cookie.{Cookie, cookie_at}
@@ -7,7 +7,7 @@ use Rattle.dcsctp_spec_lemmas.specs.spec.endpoint.Endpoint.{Endpoint, Core, clos
 use Rattle.dcsctp_spec_lemmas.specs.spec.endpoint.Following.{Following, next_chunk, packet_end, dropped_rest}
 use Rattle.dcsctp_spec_lemmas.specs.spec.association.Effect.{Change}
 use Rattle.dcsctp_spec_lemmas.specs.spec.association.Choices.{Choices}
-use Rattle.dcsctp_spec_lemmas.specs.spec.association.HandshakeChanges.{connect_change, init_change, init_ack_change}
+use Rattle.dcsctp_spec_lemmas.specs.spec.association.HandshakeChanges.{connect_change, init_change, answered_init_change, init_ack_change}
 use Rattle.dcsctp_spec_lemmas.specs.spec.association.CookieEchoChanges.{Resolution, establish_new, restart, simultaneous_init, discard, maintain_existing, invalid_tag, stale, aged, resolve, resolved_change, read_echo_change}
 use Rattle.dcsctp_spec_lemmas.specs.spec.association.Acts.{chunk_change}
 use Rattle.dcsctp_spec_lemmas.specs.spec.association.Controlled.{IsControlled, ControlledChunk}
@@ -71,9 +71,14 @@ longest_connects p n (cookie_wait my) choices = refl
 longest_connects p n (cookie_echoed my held cookie) choices = refl
 longest_connects p n (open_in phase my held) choices = refl
 
+answered_init_same : (may : Bool) (p : Options) (n : ℕ) (core : Core) (theirs : Introduction) (choices : Choices)
+    → answered_init_change may (longest p n) core theirs choices ≡ answered_init_change may p core theirs choices
+answered_init_same false p n core theirs choices = refl
+answered_init_same true p n core theirs choices = init_same p n core theirs choices
+
 pub chunk_same : (p : Options) (n : ℕ) (core : Core) (header : ℕ) (content : Content) (choices : Choices)
     → chunk_change (longest p n) core header content choices ≡ chunk_change p core header content choices
-chunk_same p n core header (init theirs) choices = init_same p n core theirs choices
+chunk_same p n core header (init theirs) choices = answered_init_same choices.may_answer p n core theirs choices
 chunk_same p n core header (init_ack theirs cookie) choices = init_ack_same p n core theirs cookie choices
 chunk_same p n core header (cookie_echo cookie) choices = echo_same p n core header (cookie_at cookie) choices
 chunk_same p n core header cookie_ack choices = refl

@@ -17,6 +17,7 @@ use Rattle.dcsctp_spec_lemmas.specs.spec.endpoint.FlushOutcomes.{own_sack, first
 use Rattle.dcsctp_spec_lemmas.specs.spec.endpoint.DataOutcomes.{endpoint_with_tracker, acknowledging, EndWhere, EndsBy}
 use Rattle.dcsctp_spec_runs.specs.Laws.{CountsSentOnly, is_earlier_acknowledgement_due, StaysAs, unchanged_core, asking_core, InitPacketLeavesAssociation}
 use Rattle.dcsctp_spec_lemmas.proofs.FlushKeeps.{begun_by, flush_keeps}
+use Rattle.dcsctp_spec_lemmas.proofs.OneAnswerLemmas.{init_by}
 use Rattle.dcsctp_spec_runs.proofs.LawLemmas.{init_brings_one_packet}
 use Rattle.dcsctp_spec_laws.proofs.TurnLemmas.{init_goes_on, further}
 
@@ -86,7 +87,9 @@ chunk_stays : (e : Endpoint) (tag : ℕ) (theirs : Introduction) (ts : List Tran
 chunk_stays e tag theirs [] turns = absurd turns
 chunk_stays e tag theirs (t ∷ ts) turns =
     let turn = turns.0.comes in
-    let goes_on : t.outcome.following ≡ next_chunk = ap (λ (x : Outcome). x.following) turn.2 ∙ init_goes_on e theirs e.core turn.0 turn.1 in
+    let goes_on : t.outcome.following ≡ next_chunk =
+    ap (λ (x : Outcome). x.following) turn.2
+    ∙ init_by (λ (x : Outcome). x.following ≡ next_chunk) e theirs turn.0 turn.1 refl (init_goes_on e theirs e.core turn.0 turn.1) in
     let counts : CountsSentOnly e t.outcome.after = (init_brings_one_packet e theirs t.outcome turn).0 in
     same_stays e t.outcome.after ts (ap (λ (x : Endpoint). x.core) counts) (ap (λ (x : Endpoint). is_earlier_acknowledgement_due x.queues.transfer) counts)
     (ended_stays t.outcome.after ts (further e tag (init theirs) [] (packet_ends ∷ []) t ts goes_on turns))

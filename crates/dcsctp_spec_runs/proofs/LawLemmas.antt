@@ -10,6 +10,7 @@ use Rattle.dcsctp_spec_lemmas.specs.spec.endpoint.Following.{next_chunk}
 use Rattle.dcsctp_spec_lemmas.specs.spec.endpoint.Event.{sent}
 use Rattle.dcsctp_spec_lemmas.specs.types.declared.word.Word.TheVariants.{U32}
 use Rattle.dcsctp_spec_lemmas.specs.spec.endpoint.HandshakeOutcomes.{init_outcome, init_ack_emission, pair_from, renewed_pair}
+use Rattle.dcsctp_spec_lemmas.proofs.OneAnswerLemmas.{init_by}
 use Rattle.dcsctp_spec_runs.specs.Laws.{NegotiationIsMutual, AnswerKeepsAgreement, CountsSentOnly, AtMostOnePacket, no_packet, one_packet, InitBringsOnePacket}
 
 and_comm : (a b : Bool) → a && b ≡ b && a
@@ -68,4 +69,7 @@ init_small e theirs (open_in shutdown_received mine held) word next = emits_smal
 init_small e theirs (open_in shutdown_ack_sent mine held) word next = emits_small e [] (to_peer held shutdown_ack)
 
 pub init_brings_one_packet : InitBringsOnePacket
-init_brings_one_packet e theirs o turn = subst (IsSmall e) (sym turn.2) (init_small e theirs e.core turn.0 turn.1)
+init_brings_one_packet e theirs o turn =
+    let small : IsSmall e (init_outcome e theirs e.core turn.0 turn.1) = init_small e theirs e.core turn.0 turn.1 in
+    subst (IsSmall e) (sym turn.2)
+    (init_by (IsSmall e) e theirs turn.0 turn.1 (refl, no_packet) (ap (λ (x : Endpoint). record x { has_answered = true }) small.0, small.1))

@@ -46,17 +46,17 @@ NegotiationIsMutual = (a b : Offer) → IsMirrored (negotiated a b) (negotiated 
 abbrev pub AnswerKeepsAgreement : Type 0
 AnswerKeepsAgreement = (mine theirs : Offer) → negotiated mine (answering_offer mine theirs) ≡ negotiated mine theirs
 
--- Nothing but the count of packets sent differs.
+-- Nothing but the count of packets sent differs, and whether a chunk of the packet was answered.
 abbrev pub CountsSentOnly : Endpoint → Endpoint → Type 0
-CountsSentOnly old new = new ≡ record old { counts = record old.counts { packets_sent = new.counts.packets_sent } }
+CountsSentOnly old new = new ≡ record old { counts = record old.counts { packets_sent = new.counts.packets_sent }; has_answered = new.has_answered }
 
 -- no event, or a packet
 pub data AtMostOnePacket : List (Event Emission) → Type 0 where
   no_packet : AtMostOnePacket []
   one_packet : (emission : Emission) → AtMostOnePacket (sent emission ∷ [])
 
--- An INIT brings at most one event, a packet, and changes nothing but the count of packets sent, in every phase (RFC 9260,
--- sections 5.1 and 5.2).
+-- An INIT brings at most one event, a packet, and changes nothing but the count of packets sent and that it was answered, in every
+-- phase (RFC 9260, sections 5.1 and 5.2).
 abbrev pub InitBringsOnePacket : Type 0
 InitBringsOnePacket = (e : Endpoint) (theirs : Introduction) (o : Outcome) → InitTurn e theirs o → CountsSentOnly e o.after × AtMostOnePacket o.events
 
@@ -89,10 +89,10 @@ OfferReadsBack = (options : Options) (method : ℕ) (cookie : Option (List ℕ))
 abbrev pub CapabilitiesHoldOffer : Type 0
 CapabilitiesHoldOffer = (offer : Offer) → offer_in (capabilities_offered offer) ≡ offer
 
--- A packet that can't be read, or that admission refuses, is counted, adds one error, and changes
--- nothing else (RFC 9260, section 8.5).
+-- A packet that can't be read, or that admission refuses, is counted, adds one error, and changes nothing else (RFC 9260, section
+-- 8.5). That a chunk of the packet before was answered counts no longer.
 pub record IsPacketRefused (e : Endpoint) (text : List ℕ) (turns : List Transition) : Type 0 where
-  pub endpoint : after_all e turns ≡ record e { counts = record e.counts { packets_received = count_up e.counts.packets_received } }
+  pub endpoint : after_all e turns ≡ record e { has_answered = false; counts = record e.counts { packets_received = count_up e.counts.packets_received } }
   pub events : events_of turns ≡ error ParseFailed text ∷ []
   pub words : words_of turns ≡ []
   pub effects : effects_of turns ≡ []

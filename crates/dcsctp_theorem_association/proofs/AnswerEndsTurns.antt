@@ -20,6 +20,7 @@ use Rattle.dcsctp_spec_lemmas.specs.spec.association.ShutdownChanges.{shutdown_s
 use Rattle.dcsctp_spec_lemmas.specs.spec.association.Acts.{Act, connect, t1_expires, shut_down, step_of_shutdown, shutdown_repeats, abort_with, hands_over, flushes, request_again, request_renewed, sent_then_flushed, flush_change, hand_over_change, request_sent, request_again_change, renewed_by, request_renewed_change, act_change, violation_change, plain_change, chunk_change}
 use Rattle.dcsctp_theorem_association.specs.OneSide.{parameters_in, AnswersEndRequests}
 use Rattle.dcsctp_spec_lemmas.proofs.AbortLemmas.{by_abort}
+use Rattle.dcsctp_spec_lemmas.proofs.OneAnswerLemmas.{change_by}
 use Rattle.dcsctp_theorem_association.proofs.AnswerEnds.{AllAnswer, answer_of, all_answer-append, alone_answers, end_answers-alone, further_answer, flush_answers, reset_answers}
 
 -- Without responses no request of ours ends.
@@ -207,7 +208,7 @@ other_ends core false choices =
 
 chunk_answers : (options : Options) (core : Core) (header : ℕ) (content : Content) (choices : Choices)
     → AllAnswer (parameters_in content) (chunk_change options core header content choices).effects
-chunk_answers options core header (init theirs) choices = init_ends options core theirs choices
+chunk_answers options core header (init theirs) choices = change_by (λ change. EndsNone change.effects) options core theirs choices tt (init_ends options core theirs choices)
 chunk_answers options core header (init_ack theirs cookie) choices = init_ack_ends options core theirs cookie choices
 chunk_answers options core header (cookie_echo cookie) choices = echo_ends options core header (cookie_at cookie) choices
 chunk_answers options core header cookie_ack choices = cookie_ack_ends core choices

@@ -19,6 +19,7 @@ use Rattle.dcsctp_spec_lemmas.specs.spec.association.CookieEchoChanges.{Resoluti
 use Rattle.dcsctp_spec_lemmas.specs.spec.association.ResetChanges.{re_config_change, peer_part_handled}
 use Rattle.dcsctp_spec_lemmas.specs.spec.association.ShutdownChanges.{shutdown_step_change, shutdown_change}
 use Rattle.dcsctp_spec_lemmas.specs.spec.association.Acts.{Act, connect, t1_expires, shut_down, step_of_shutdown, shutdown_repeats, abort_with, hands_over, flushes, request_again, request_renewed, sent_then_flushed, flush_change, request_sent, request_again_change, renewed_by, request_renewed_change, act_change, violation_change, plain_change, chunk_change, shutdown_chunk_change}
+use Rattle.dcsctp_spec_lemmas.proofs.OneAnswerLemmas.{change_by}
 use Rattle.dcsctp_spec_runs.specs.World.{acted, worked, resumed}
 use Rattle.dcsctp_theorem_association.specs.OneSide.{Means, EffectsMean}
 use Rattle.dcsctp_theorem_association.proofs.Meaning.{AllSay, all_say-append, Meant, means_by, resume_means, same_meant, drawn_meant, ended_meant, alone_says, end_says-alone, flush_link, flush_says, sent_says, renewed_link, renewed_says, connects_says}
@@ -204,7 +205,7 @@ heard_meant core choices =
     (all_say-append after.core stepped.effects after.effects (shutdown_says after.core core choices.tsn choices.is_acknowledged) (flush_change_says stepped.core choices))
 
 chunk_meant : (options : Options) (core : Core) (header : ℕ) (content : Content) (choices : Choices) → Meant core (chunk_change options core header content choices)
-chunk_meant options core header (init theirs) choices = init_meant options core theirs choices
+chunk_meant options core header (init theirs) choices = change_by (Meant core) options core theirs choices (same_meant refl tt) (init_meant options core theirs choices)
 chunk_meant options core header (init_ack theirs cookie) choices = init_ack_meant options core theirs cookie choices
 chunk_meant options core header (cookie_echo cookie) choices = echo_meant options core header (cookie_at cookie) choices
 chunk_meant options core header cookie_ack choices = cookie_ack_meant core choices

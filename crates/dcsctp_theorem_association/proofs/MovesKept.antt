@@ -17,6 +17,7 @@ use Rattle.dcsctp_theorem_association.proofs.Facts.{TrueFront, Behind, AllBehind
 use Rattle.dcsctp_theorem_association.proofs.Growth.{after_within, past_after, past_grows, true_of}
 use Rattle.dcsctp_theorem_association.proofs.Echoes.{core_grows}
 use Rattle.dcsctp_theorem_association.proofs.Flushes.{requests_true}
+use Rattle.dcsctp_spec_lemmas.proofs.OneAnswerLemmas.{change_by}
 use Rattle.dcsctp_theorem_association.proofs.Turns.{Kept, SameTag, fresh_before, same_tag, then_kept, unchanged_kept}
 use Rattle.dcsctp_theorem_association.proofs.HandshakeKept.{init_kept, init_ack_kept}
 use Rattle.dcsctp_theorem_association.proofs.CookieEchoKept.{cookie_echo_kept}
@@ -104,7 +105,8 @@ front_kept : AnswerKeepsAgreement → (options : Options) (their_offer : Offer) 
     → OwnTagged core header content → MakesCookie core content choices
     → Kept (offer_of options) their_offer mine theirs (chunk_change options core header content choices)
 front_kept law options their_offer mine theirs core header (init introduction) behind choices my_tags their_tags h delivered is own makes =
-    init_kept law options their_offer mine theirs core introduction choices h is.0 is.1 makes
+    change_by (Kept (offer_of options) their_offer mine theirs) options core introduction choices (unchanged_kept (offer_of options) their_offer mine theirs core h)
+    (init_kept law options their_offer mine theirs core introduction choices h is.0 is.1 makes)
 front_kept law options their_offer mine theirs core header (init_ack introduction cookie) behind choices my_tags their_tags h delivered is own makes =
     init_ack_kept options their_offer mine theirs core introduction cookie choices header h my_tags is own
 front_kept law options their_offer mine theirs core header (cookie_echo bytes) behind choices my_tags their_tags h delivered is own makes =

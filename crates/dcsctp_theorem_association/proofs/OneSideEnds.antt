@@ -20,6 +20,7 @@ use Rattle.dcsctp_spec_lemmas.specs.spec.association.Acts.{Act, connect, t1_expi
 use Rattle.dcsctp_spec_runs.specs.World.{acted, worked, resumed}
 use Rattle.dcsctp_theorem_association.specs.OneSide.{ends_in, OneEnd, it_ends, it_stays, EndsOnce}
 use Rattle.dcsctp_spec_lemmas.proofs.AbortLemmas.{by_abort}
+use Rattle.dcsctp_spec_lemmas.proofs.OneAnswerLemmas.{change_by}
 use Rattle.dcsctp_theorem_association.proofs.OneSideNoEnds.{no_ends-alone, one_end-alone, no_ends-flush, no_ends-sent, no_ends-reset}
 
 -- ---- how a turn may go
@@ -241,7 +242,7 @@ heard_ends_once (open_in phase my held) choices = stays_open (no_ends-sent held 
 heard_ends_once core choices = stays refl
 
 chunk_ends_once : (options : Options) (core : Core) (header : ℕ) (content : Content) (choices : Choices) → OneEnd core (chunk_change options core header content choices)
-chunk_ends_once options core header (init theirs) choices = init_ends_once options core theirs choices
+chunk_ends_once options core header (init theirs) choices = change_by (OneEnd core) options core theirs choices (stays refl) (init_ends_once options core theirs choices)
 chunk_ends_once options core header (init_ack theirs cookie) choices = init_ack_ends_once options core theirs cookie choices
 chunk_ends_once options core header (cookie_echo cookie) choices = echo_ends_once options core header (cookie_at cookie) choices
 chunk_ends_once options core header cookie_ack choices = cookie_ack_ends_once core choices

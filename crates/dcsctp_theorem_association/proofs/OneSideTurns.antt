@@ -21,6 +21,7 @@ use Rattle.dcsctp_spec_lemmas.specs.spec.association.ResumeChanges.{resumed_held
 use Rattle.dcsctp_spec_runs.specs.World.{SideState, after_effects, after_change, after_changes, ControlTurn, acted, worked, resumed, ControlTurns, SideRun, side_after}
 use Rattle.dcsctp_theorem_association.specs.OneSide.{EffectsInPlace, LeavesCore, PastIsState}
 use Rattle.dcsctp_spec_lemmas.proofs.AbortLemmas.{by_abort}
+use Rattle.dcsctp_spec_lemmas.proofs.OneAnswerLemmas.{change_by}
 use Rattle.dcsctp_theorem_association.proofs.OneSideLemmas.{Stands, after_effects-append, stands-connects, stands-resumed, sent_leads, renewed_leads}
 use Rattle.dcsctp_theorem_association.proofs.OneSideResets.{reset_leads}
 use Rattle.dcsctp_theorem_association.proofs.OneSideHandshake.{Good, Keeps, good_in_place, good-sends, good-emitted, good-emitted_alone, good-ends, good-ended_alone, stands_open, stands_echoed, connect_keeps, init_keeps, init_ack_keeps, cookie_ack_keeps, t1_again_keeps, t1_gives_up_keeps, echo_keeps}
@@ -138,7 +139,7 @@ other_keeps core false choices past good =
     then_keeps core stepped (flush_change stepped.core choices) choices.following (step_keeps core choices.tsn choices.is_acknowledged) (flush_keeps stepped.core choices) past good
 
 chunk_keeps : (options : Options) (core : Core) (header : ℕ) (content : Content) (choices : Choices) → Keeps core (chunk_change options core header content choices)
-chunk_keeps options core header (init theirs) choices past good = init_keeps options core theirs choices past good
+chunk_keeps options core header (init theirs) choices past good = change_by (Keeps core) options core theirs choices (λ before h. h) (init_keeps options core theirs choices) past good
 chunk_keeps options core header (init_ack theirs cookie) choices past good = init_ack_keeps options core theirs cookie choices past good
 chunk_keeps options core header (cookie_echo cookie) choices past good = echo_keeps options core header (cookie_at cookie) choices past good
 chunk_keeps options core header cookie_ack choices past good = cookie_ack_keeps core choices past good

@@ -16,6 +16,7 @@ use Rattle.dcsctp_spec_lemmas.specs.spec.association.CookieEchoChanges.{Resoluti
 use Rattle.dcsctp_spec_lemmas.specs.spec.association.ShutdownChanges.{shutdown_step_change_in, shutdown_step_change, shutdown_call_change, abort_call_change, shutdown_again_change, abort_change, shutdown_change, shutdown_ack_change, shutdown_complete_change}
 use Rattle.dcsctp_spec_lemmas.specs.spec.association.Acts.{Act, connect, t1_expires, shut_down, step_of_shutdown, shutdown_repeats, abort_with, hands_over, flushes, request_again, request_renewed, flush_change, hand_over_change, act_change, violation_change, plain_change, shutdown_chunk_change, chunk_change}
 use Rattle.dcsctp_spec_lemmas.proofs.AbortLemmas.{by_abort}
+use Rattle.dcsctp_spec_lemmas.proofs.OneAnswerLemmas.{change_by}
 use Rattle.dcsctp_theorem_cookies.proofs.CookieRules.{Rules, EffectsKeep, CoreKeeps, ChangeKeeps, TakenKeeps, AnswerKeeps, unchanged_keeps, effects_append, alone_keeps, flush_keeps, sent_keeps}
 use Rattle.dcsctp_theorem_cookies.proofs.ResetsKeep.{re_config_keeps, request_again_keeps, request_renewed_keeps}
 
@@ -193,7 +194,8 @@ module _ (rules : Rules) where
 
   pub chunk_keeps : (options : Options) (core : Core) (header : ℕ) (content : Content) (choices : Choices) → CoreKeeps rules core → TakenKeeps rules content
       → AnswerKeeps rules content choices → ChangeKeeps rules (chunk_change options core header content choices)
-  chunk_keeps options core header (init theirs) choices h k made = init_keeps options core theirs choices h made
+  chunk_keeps options core header (init theirs) choices h k made =
+      change_by (ChangeKeeps rules) options core theirs choices (unchanged_keeps rules core h) (init_keeps options core theirs choices h made)
   chunk_keeps options core header (init_ack theirs cookie) choices h k made = init_ack_keeps options core theirs cookie choices h k
   chunk_keeps options core header (cookie_echo bytes) choices h k made = cookie_echo_keeps options core header (cookie_at bytes) choices h
   chunk_keeps options core header cookie_ack choices h k made = cookie_ack_keeps core choices h

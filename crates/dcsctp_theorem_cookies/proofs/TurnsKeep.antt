@@ -16,6 +16,7 @@ use Rattle.dcsctp_spec_lemmas.specs.spec.association.Choices.{Choices}
 use Rattle.dcsctp_spec_lemmas.specs.spec.association.Acts.{Act, act_change, shutdown_repeats, flushes}
 use Rattle.dcsctp_spec_lemmas.specs.spec.association.Controlled.{IsControlled, ControlledChunk, ControlledAct}
 use Rattle.dcsctp_spec_lemmas.specs.spec.endpoint.CallTurns.{Transition, IsTurn, AlongTurns, after_all, events_of}
+use Rattle.dcsctp_spec_lemmas.proofs.OneAnswerLemmas.{init_by}
 use Rattle.dcsctp_spec_laws.specs.TurnLaws.{ChunksAreControlled, ActsAreControlled}
 use Rattle.dcsctp_spec_runs.specs.Past.{HasEffect}
 use Rattle.dcsctp_spec_runs.specs.Fitting.{AllSent}
@@ -104,7 +105,9 @@ module _ (rules : Rules) where
   chunk_turn_keeps : ChunksAreControlled → (e : Endpoint) → MakesGood rules e → (tag : ℕ) (content : Content) (t : Transition) → IsTurn e (chunk_input tag content) t
       → CoreKeeps rules e.core → TakenKeeps rules content → OutcomeKeeps rules t.outcome
   chunk_turn_keeps law e made tag (init theirs) t turn h k =
-      same_as t.outcome (init_outcome e theirs e.core turn.comes.0 turn.comes.1) turn.comes.2 (init_keeps e theirs e.core turn.comes.0 turn.comes.1 h made)
+      let at : OutcomeKeeps rules (init_outcome e theirs e.core turn.comes.0 turn.comes.1) = init_keeps e theirs e.core turn.comes.0 turn.comes.1 h made in
+      same_as t.outcome _ turn.comes.2
+      (init_by (OutcomeKeeps rules) e theirs turn.comes.0 turn.comes.1 (record { sent = tt; core = h }) (record { sent = at.sent; core = at.core }))
   chunk_turn_keeps law e made tag content t turn h k = by_chunk e tag content t.outcome (law e tag content t.outcome turn.comes tt) h k (λ choices. tt)
 
   pub input_keeps : ChunksAreControlled → ActsAreControlled → (e : Endpoint) → MakesGood rules e → (input : Input) (t : Transition) → IsTurn e input t

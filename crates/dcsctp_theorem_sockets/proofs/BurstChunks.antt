@@ -13,7 +13,7 @@ use Rattle.dcsctp_spec_lemmas.specs.spec.Packet.{Plain, plain, unknown, heartbea
 use Rattle.dcsctp_spec_lemmas.specs.spec.Reconfiguration.{RequestedReset, ResetParameter}
 use Rattle.dcsctp_spec_lemmas.specs.spec.queues.Arrivals.{data_arrival, i_data_arrival, skipped_in, messages_skipped_in}
 use Rattle.dcsctp_spec_lemmas.specs.spec.endpoint.Endpoint.{Endpoint, Core, closed, cookie_wait, cookie_echoed, open_in, OutstandingRequest, held_in}
-use Rattle.dcsctp_spec_lemmas.specs.spec.endpoint.Outcome.{Outcome, still, fits, to_peer}
+use Rattle.dcsctp_spec_lemmas.specs.spec.endpoint.Outcome.{Outcome, still, fits, answers_with, to_peer}
 use Rattle.dcsctp_spec_lemmas.specs.spec.association.Effect.{Effect}
 use Rattle.dcsctp_spec_lemmas.specs.spec.association.FlushChanges.{reset_request}
 use Rattle.dcsctp_spec_lemmas.specs.spec.association.ResetChanges.{HandledParameters}
@@ -24,6 +24,7 @@ use Rattle.dcsctp_spec_lemmas.specs.spec.endpoint.PlainOutcomes.{PlainTurn, Plai
 use Rattle.dcsctp_spec_lemmas.specs.spec.endpoint.ReconfigurationOutcomes.{reset_again, request_emitted, renewed_request_where, request_renewed, request_unless, is_renewed, request_errors, request_expired, reconfiguration_outcome}
 use Rattle.dcsctp_spec_lemmas.specs.spec.endpoint.ResetOutcomes.{request_state, renewable_left, parameters_handled_in, OwnAnswer, answered_in, reset_events, reset_events_of, reset_refusal_text, resets_handled, responses_outcome, core_with, responses_by, ResponseAnswers, WorksResets, ResetTurn, requested_in, is_request_reached}
 use Rattle.dcsctp_spec_laws.proofs.ResetLemmas.{AreResets, nothing, acceptance, performance, renewal, completion, failure, chunk_brings}
+use Rattle.dcsctp_spec_lemmas.proofs.OneAnswerLemmas.{answered_by}
 use Rattle.dcsctp_theorem_sockets.specs.Bursts.{packets_of_plain, packets_of_timer}
 use Rattle.dcsctp_theorem_sockets.proofs.Bursts.{count, append_few, none_in_front, Few, none, one, emits_core, emits_few, HasPeer, allowed_after, flush_is_burst}
 use Rattle.dcsctp_theorem_sockets.proofs.BurstData.{IsBehind, data_few, forward_few, sack_behind, delay_few, loss_few}
@@ -47,11 +48,14 @@ error_few e (open_in phase my held) causes = none 0
 
 -- ---- heartbeats
 
+answer_few : (e : Endpoint) (emission : Emission) → Few 1 (answers_with e emission)
+answer_few e emission = answered_by (Few 1) e emission (none 1) (emits_few e [] emission)
+
 heartbeat_few : (e : Endpoint) (core : Core) (parameters : List ParameterContent) → Few 1 (heartbeat_outcome e core parameters)
 heartbeat_few e closed parameters = none 1
 heartbeat_few e (cookie_wait my) parameters = none 1
-heartbeat_few e (cookie_echoed my held cookie) parameters = emits_few e [] (to_peer held (plain (heartbeat_ack parameters)))
-heartbeat_few e (open_in phase my held) parameters = emits_few e [] (to_peer held (plain (heartbeat_ack parameters)))
+heartbeat_few e (cookie_echoed my held cookie) parameters = answer_few e (to_peer held (plain (heartbeat_ack parameters)))
+heartbeat_few e (open_in phase my held) parameters = answer_few e (to_peer held (plain (heartbeat_ack parameters)))
 
 counted_few : (b : Bool) (e : Endpoint) → Few 0 (cond b (still (answered e)) (still e))
 counted_few true e = none 0
@@ -117,11 +121,13 @@ told_few theirs own _ (failure number es are) = told_few theirs own es are
 
 response_few : (e : Endpoint) (held : Held) (responses : List ResetParameter) → Few 1 (responses_outcome e held responses)
 response_few e held [] = none 1
-response_few e held (response ∷ responses) = emits_few e [] (to_peer held (re_config (response ∷ responses)))
+response_few e held (response ∷ responses) = answer_few e (to_peer held (re_config (response ∷ responses)))
 
 response_core : (e : Endpoint) (held : Held) (responses : List ResetParameter) → (responses_outcome e held responses).after.core ≡ e.core
 response_core e held [] = refl
-response_core e held (response ∷ responses) = emits_core e [] (to_peer held (re_config (response ∷ responses)))
+response_core e held (response ∷ responses) =
+    let emission : Emission = to_peer held (re_config (response ∷ responses)) in
+    answered_by (λ (o : Outcome). o.after.core ≡ e.core) e emission refl (emits_core e [] emission)
 
 sent_behind : (refused : Bool) (e : Endpoint) (told : List (Event Emission)) (held : Held) (parameters responses : List ResetParameter) (answers : List Answer)
     → HasPeer e.core → ResponseAnswers refused e held responses answers → count told ≤ 0 → IsBehind 1 (responses_by refused e told held parameters responses answers)

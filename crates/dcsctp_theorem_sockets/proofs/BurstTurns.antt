@@ -16,6 +16,7 @@ use Rattle.dcsctp_spec_lemmas.specs.spec.endpoint.CallTurns.{Transition, IsTurn}
 use Rattle.dcsctp_spec_lemmas.specs.spec.endpoint.Turn.{Input, arrival, refusal, packet_begins, chunk_input, packet_ends, act_input, user_sets, user_sends, user_resets, user_takes, timer_expires, time_passes, restores, has_data_chunk, ContentTurn, ActTurn}
 use Rattle.dcsctp_spec_lemmas.specs.spec.association.Acts.{Act, connect, t1_expires, shut_down, step_of_shutdown, shutdown_repeats, abort_with, hands_over, flushes, request_again, request_renewed, request_sent, request_again_change, renewed_by, request_renewed_change}
 use Rattle.dcsctp_spec_lemmas.specs.spec.endpoint.TimerOutcomes.{t1_goes_on}
+use Rattle.dcsctp_spec_lemmas.proofs.OneAnswerLemmas.{init_by}
 use Rattle.dcsctp_spec_runs.proofs.RunsAlong.{run_along}
 use Rattle.dcsctp_spec_laws.proofs.ControlLemmas.{acts_are_controlled}
 use Rattle.dcsctp_spec_laws.proofs.DataLemmas.{flushed_act, end_at, send_at, resets_at}
@@ -35,7 +36,8 @@ use Rattle.dcsctp_theorem_sockets.proofs.RestoreTurns.{restore_few}
 
 -- with what is allowed by the options that the turn leaves
 chunk_counts : (e : Endpoint) (tag : ℕ) (content : Content) (o : Outcome) → ContentTurn e tag content o → count o.events ≤ packets_of_chunk e.options content (allowed_after o)
-chunk_counts e tag (init theirs) o turn = subst (Few 1) (sym turn.2) (init_few e theirs e.core turn.0 turn.1)
+chunk_counts e tag (init theirs) o turn =
+    subst (Few 1) (sym turn.2) (init_by (Few 1) e theirs turn.0 turn.1 (none 1) (init_few e theirs e.core turn.0 turn.1))
 chunk_counts e tag (init_ack theirs cookie) o turn =
     subst (λ (x : Outcome). count x.events ≤ packets_of_chunk e.options (init_ack theirs cookie) (allowed_after x)) (sym turn.3) (init_ack_counts e theirs cookie e.core turn.0 turn.1 turn.2)
 chunk_counts e tag (cookie_echo bytes) o turn =

@@ -13,7 +13,7 @@ use Rattle.dcsctp_spec_lemmas.specs.spec.queues.Transfer.{Transfer, advertised_w
 use Rattle.dcsctp_spec_lemmas.specs.spec.queues.Tracker.{TrackerState}
 use Rattle.dcsctp_spec_runs.proofs.TrackerLemmas.{sack_fits}
 use Rattle.dcsctp_spec_lemmas.specs.spec.endpoint.Endpoint.{Endpoint, Core, closed, cookie_wait, cookie_echoed, open_in, held_in}
-use Rattle.dcsctp_spec_lemmas.specs.spec.endpoint.Outcome.{Outcome, still, behind}
+use Rattle.dcsctp_spec_lemmas.specs.spec.endpoint.Outcome.{Outcome, still, answering, behind}
 use Rattle.dcsctp_spec_runs.specs.Deadlines.{T1Runs}
 use Rattle.dcsctp_spec_lemmas.specs.spec.association.Choices.{plain_contents}
 use Rattle.dcsctp_spec_lemmas.specs.spec.endpoint.FlushOutcomes.{may_forward, own_sack, FillingEvent, amount_is_low, total_amount_is_low, message_is_sent, message_may_have_expired, message_has_expired, message_ends, filling_event, Answer, answer_contents, filled, goes_out, asked, draft_to, next_draft, flush_of, Ask, first_ask, later_ask, where_fits, wants_sack, room_in, Acknowledges, FitsPlain, nothing_waits, Gives, GivesWhere, IsAnswerOfQueues, IsFlushAnswer, AreFlushAnswers, at_limit, at_empty, after_packet, packets_allowed, FlushAnswers, flush_answered}
@@ -38,6 +38,9 @@ kept_fits begun e o keeps h =
 
 pub still_fits : (e : Endpoint) → FitsEndpoint e → TurnFits (still e)
 still_fits e h = record { after = h; sends = tt }
+
+pub answering_fits : (o : Outcome) → TurnFits o → TurnFits (answering o)
+answering_fits o h = record { after = record { valid = h.after.valid; options = h.after.options; core = h.after.core; t1 = h.after.t1 }; sends = h.sends }
 
 -- ---- the chunks of an answer
 

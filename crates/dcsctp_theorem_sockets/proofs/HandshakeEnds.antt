@@ -38,7 +38,7 @@ use Rattle.dcsctp_theorem_sockets.proofs.TurnsFit.{drawn_fits}
 
 -- the socket that answered, once its INIT ACK went out, and once the COOKIE ECHO was counted
 abbrev pub answered : Options → Endpoint
-answered b = packet_counted (asked b)
+answered b = record (packet_counted (asked b)) { has_answered = true }
 
 abbrev pub echoed : Options → Endpoint
 echoed b = counted_at (answered b)

@@ -12,13 +12,13 @@ use Rattle.dcsctp_spec_lemmas.specs.types.Settings.{IsValid, FitsOptions, ports_
 use Rattle.dcsctp_spec_lemmas.specs.types.Offer.{offer_of, agreed_method}
 use Rattle.dcsctp_spec_lemmas.specs.spec.Cookie.{Cookie, cookie_bytes, is_stale}
 use Rattle.dcsctp_spec_lemmas.specs.spec.Packet.{Introduction, Content, init, init_ack, Packet, Emission, emission_bytes}
-use Rattle.dcsctp_spec_lemmas.specs.spec.endpoint.Endpoint.{Endpoint, Core, closed, cookie_wait, fresh_endpoint, own_tag}
-use Rattle.dcsctp_spec_lemmas.specs.spec.endpoint.Outcome.{Outcome, noting, quiet, sends, packet_counted, drawing}
+use Rattle.dcsctp_spec_lemmas.specs.spec.endpoint.Endpoint.{Endpoint, Core, closed, cookie_wait, fresh_endpoint, own_tag, may_answer}
+use Rattle.dcsctp_spec_lemmas.specs.spec.endpoint.Outcome.{Outcome, noting, quiet, sends, packet_counted, answering as counted, drawing}
 use Rattle.dcsctp_spec_lemmas.specs.spec.endpoint.Turn.{act_input}
 use Rattle.dcsctp_spec_lemmas.specs.spec.endpoint.FlushOutcomes.{allows_packet}
 use Rattle.dcsctp_spec_lemmas.specs.spec.association.CookieEchoChanges.{establish_new, aged, case_without_peer}
 use Rattle.dcsctp_spec_lemmas.specs.spec.endpoint.CookieEchoOutcomes.{is_last_tag, resolved_now}
-use Rattle.dcsctp_spec_lemmas.specs.spec.endpoint.HandshakeOutcomes.{pair_from, init_emission, awaits_init_ack, init_ack_emission, cookie_for, awaits_cookie_ack, echo_emission, init_outcome, init_ack_outcome, connect_outcome}
+use Rattle.dcsctp_spec_lemmas.specs.spec.endpoint.HandshakeOutcomes.{pair_from, init_emission, awaits_init_ack, init_ack_emission, cookie_for, awaits_cookie_ack, echo_emission, init_outcome, init_answered, init_ack_outcome, connect_outcome}
 use Rattle.dcsctp_spec_lemmas.specs.spec.association.HandshakeChanges.{introduction_of, answering_introduction, held_by_init_ack}
 use Rattle.dcsctp_spec_lemmas.specs.spec.association.Acts.{connect}
 use Rattle.dcsctp_spec_lemmas.specs.spec.endpoint.Following.{next_chunk}
@@ -104,8 +104,8 @@ asked b = counted_at (fresh_endpoint b)
 
 abbrev pub answering : Options → Options → Pair → ℕ → ℕ → Outcome
 answering a b p word next =
-    drawing (pair_from word next)
-    (sends (asked b) (U32 word ∷ U32 next ∷ []) [] (init_ack_emission (asked b) (introduction_of a p) (pair_from word next) 0))
+    counted (drawing (pair_from word next)
+    (sends (asked b) (U32 word ∷ U32 next ∷ []) [] (init_ack_emission (asked b) (introduction_of a p) (pair_from word next) 0)))
 
 -- The socket answers the INIT of this pair with a pair of its own.
 pub record Answers (a b : Options) (p : Pair) (turns : List Transition) : Type 0 where
@@ -113,11 +113,18 @@ pub record Answers (a b : Options) (p : Pair) (turns : List Transition) : Type 0
   pub next : ℕ
   pub only : turns ≡ delivered (fresh_endpoint b) 0 (init (introduction_of a p)) (answering a b p word next)
 
-pub answer_sends : (a b : Options) (p : Pair) (word next : ℕ) → 112 ≤ b.mtu → init_outcome (asked b) (introduction_of a p) closed word next ≡ answering a b p word next
+-- The first INIT of a packet is answered.
+answers_first : (follows : Bool) (e : Endpoint) (theirs : Introduction) (word next : ℕ) → init_answered (not (follows && false)) e theirs word next ≡ counted (init_outcome e theirs e.core word next)
+answers_first true e theirs word next = refl
+answers_first false e theirs word next = refl
+
+pub answer_sends : (a b : Options) (p : Pair) (word next : ℕ) → 112 ≤ b.mtu
+    → init_answered (may_answer (asked b)) (asked b) (introduction_of a p) word next ≡ answering a b p word next
 answer_sends a b p word next large =
     let emission : Emission = init_ack_emission (asked b) (introduction_of a p) (pair_from word next) 0 in
     let words : List Word = U32 word ∷ U32 next ∷ [] in
-    ap (λ (x : Bool). drawing (pair_from word next) (cond x (sends (asked b) words [] emission) (quiet (asked b) words []))) (init_ack_fits (asked b) (introduction_of a p) (pair_from word next) 0 large)
+    answers_first b.follow_rfc (asked b) (introduction_of a p) word next
+    ∙ ap (λ (x : Bool). counted (drawing (pair_from word next) (cond x (sends (asked b) words [] emission) (quiet (asked b) words [])))) (init_ack_fits (asked b) (introduction_of a p) (pair_from word next) 0 large)
 
 -- where the chunk's outcome is known
 pub taken_as : (e : Endpoint) (tag : ℕ) (content : Content) (turns : List Transition) (h : Taken e tag content turns) (o : Outcome) → h.outcome ≡ o → o.following ≡ next_chunk

@@ -17,6 +17,7 @@ use Rattle.dcsctp_spec_lemmas.specs.spec.association.Acts.{chunk_change}
 use Rattle.dcsctp_spec_runs.specs.Past.{HasEffect}
 use Rattle.dcsctp_spec_runs.specs.World.{ControlTurn, acted, worked, resumed}
 use Rattle.dcsctp_spec_lemmas.proofs.AbortLemmas.{by_abort}
+use Rattle.dcsctp_spec_lemmas.proofs.OneAnswerLemmas.{change_by}
 use Rattle.dcsctp_theorem_sockets.proofs.NoHolding.{IsNoHolding, HoldsNone, none-alone, none-flush, none-sent, none-reset}
 use Rattle.dcsctp_theorem_sockets.proofs.NoHoldingTurns.{ended_none, again_echo_none, init_none, heard_none, shutdown_ack_none, complete_none, plain_none, closed_plain_none, waiting_plain_none, echoed_plain_none, act_none}
 
@@ -135,7 +136,8 @@ echo_anew options core header (Ok cookie) choices =
 
 echoed_chunk_anew : (options : Options) (my : Pair) (held : Held) (echoed : List ℕ) (header : ℕ) (content : Content) (choices : Choices)
     → New (cookie_echoed my held echoed) (chunk_change options (cookie_echoed my held echoed) header content choices).effects
-echoed_chunk_anew options my held echoed header (init theirs) choices = none_anew (cookie_echoed my held echoed) _ (none-alone choices.fits _ _)
+echoed_chunk_anew options my held echoed header (init theirs) choices =
+    change_by (λ change. New (cookie_echoed my held echoed) change.effects) options (cookie_echoed my held echoed) theirs choices (none_anew (cookie_echoed my held echoed) [] tt) (none_anew (cookie_echoed my held echoed) _ (none-alone choices.fits _ _))
 echoed_chunk_anew options my held echoed header (init_ack theirs cookie) choices = none_anew (cookie_echoed my held echoed) [] tt
 echoed_chunk_anew options my held echoed header (cookie_echo cookie) choices = echo_anew options (cookie_echoed my held echoed) header (cookie_at cookie) choices
 echoed_chunk_anew options my held echoed header cookie_ack choices = none_anew (cookie_echoed my held echoed) (cookie_ack_change (cookie_echoed my held echoed) choices).effects (tt, none-flush held.peer.tag held [] choices.filling)
@@ -148,7 +150,8 @@ echoed_chunk_anew options my held echoed header (plain chunk) choices = none_ane
 
 open_chunk_anew : (options : Options) (phase : OpenPhase) (my : Pair) (held : Held) (header : ℕ) (content : Content) (choices : Choices)
     → New (open_in phase my held) (chunk_change options (open_in phase my held) header content choices).effects
-open_chunk_anew options phase my held header (init theirs) choices = none_anew (open_in phase my held) _ (init_none options (open_in phase my held) theirs phase held choices)
+open_chunk_anew options phase my held header (init theirs) choices =
+    change_by (λ change. New (open_in phase my held) change.effects) options (open_in phase my held) theirs choices (none_anew (open_in phase my held) [] tt) (none_anew (open_in phase my held) _ (init_none options (open_in phase my held) theirs phase held choices))
 open_chunk_anew options phase my held header (init_ack theirs cookie) choices = none_anew (open_in phase my held) [] tt
 open_chunk_anew options phase my held header (cookie_echo cookie) choices = echo_anew options (open_in phase my held) header (cookie_at cookie) choices
 open_chunk_anew options phase my held header cookie_ack choices = none_anew (open_in phase my held) [] tt
@@ -160,7 +163,8 @@ open_chunk_anew options phase my held header (shutdown_complete reflected) choic
 open_chunk_anew options phase my held header (plain chunk) choices = none_anew (open_in phase my held) _ (plain_none phase my held choices.is_violation choices)
 
 closed_chunk_anew : (options : Options) (header : ℕ) (content : Content) (choices : Choices) → New closed (chunk_change options closed header content choices).effects
-closed_chunk_anew options header (init theirs) choices = none_anew closed (init_change options closed theirs choices).effects (tt, none-alone choices.fits _ _)
+closed_chunk_anew options header (init theirs) choices =
+    change_by (λ change. New (closed) change.effects) options (closed) theirs choices (none_anew (closed) [] tt) (none_anew closed (init_change options closed theirs choices).effects (tt, none-alone choices.fits _ _))
 closed_chunk_anew options header (init_ack theirs cookie) choices = none_anew closed [] tt
 closed_chunk_anew options header (cookie_echo cookie) choices = echo_anew options closed header (cookie_at cookie) choices
 closed_chunk_anew options header cookie_ack choices = none_anew closed [] tt
@@ -180,7 +184,8 @@ init_ack_anew options my theirs (Some cookie) choices =
 
 waiting_chunk_anew : (options : Options) (my : Pair) (header : ℕ) (content : Content) (choices : Choices)
     → New (cookie_wait my) (chunk_change options (cookie_wait my) header content choices).effects
-waiting_chunk_anew options my header (init theirs) choices = none_anew (cookie_wait my) _ (none-alone choices.fits _ _)
+waiting_chunk_anew options my header (init theirs) choices =
+    change_by (λ change. New (cookie_wait my) change.effects) options (cookie_wait my) theirs choices (none_anew (cookie_wait my) [] tt) (none_anew (cookie_wait my) _ (none-alone choices.fits _ _))
 waiting_chunk_anew options my header (init_ack theirs cookie) choices = init_ack_anew options my theirs cookie choices
 waiting_chunk_anew options my header (cookie_echo cookie) choices = echo_anew options (cookie_wait my) header (cookie_at cookie) choices
 waiting_chunk_anew options my header cookie_ack choices = none_anew (cookie_wait my) [] tt

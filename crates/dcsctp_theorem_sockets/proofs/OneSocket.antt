@@ -31,6 +31,7 @@ use Rattle.dcsctp_theorem_association.specs.OneSide.{AnswersEndRequests}
 use Rattle.dcsctp_spec_lemmas.specs.types.Snapshot.{Snapshot}
 use Rattle.dcsctp_spec_lemmas.specs.spec.queues.Transfer.{Transfer}
 use Rattle.dcsctp_spec_lemmas.specs.spec.endpoint.RestoreOutcomes.{restored_outcome}
+use Rattle.dcsctp_spec_lemmas.proofs.OneAnswerLemmas.{init_by}
 use Rattle.dcsctp_spec_laws.proofs.ControlRestores.{restore_stands}
 use Rattle.dcsctp_theorem_sockets.specs.OneSocket.{EndsByAnswer, SocketRequestsEndByAnswers}
 
@@ -128,7 +129,9 @@ init_ends_none e theirs (open_in shutdown_received my held) word next = renewing
 init_ends_none e theirs (open_in shutdown_ack_sent my held) word next = emits_end_none e [] (to_peer held shutdown_ack)
 
 chunk_ends : AnswersEndRequests → (e : Endpoint) (tag : ℕ) (content : Content) (t : Transition) → IsTurn e (chunk_input tag content) t → EndsByAnswer t
-chunk_ends law e tag (init theirs) t h = same_ends t (init_outcome e theirs e.core h.comes.0 h.comes.1) h.comes.2 (init_ends_none e theirs e.core h.comes.0 h.comes.1)
+chunk_ends law e tag (init theirs) t h =
+    same_ends t _ h.comes.2
+    (init_by (λ (o : Outcome). EndsNone o.effects) e theirs h.comes.0 h.comes.1 nothing_ended (init_ends_none e theirs e.core h.comes.0 h.comes.1))
 chunk_ends law e tag (init_ack theirs cookie) t h = by_chunk law e tag (init_ack theirs cookie) t h.is (init_ack_controlled e tag theirs cookie t.outcome h.comes)
 chunk_ends law e tag (cookie_echo cookie) t h = by_chunk law e tag (cookie_echo cookie) t h.is (cookie_echo_controlled e tag cookie t.outcome h.comes)
 chunk_ends law e tag cookie_ack t h = by_chunk law e tag cookie_ack t h.is (cookie_ack_controlled e tag t.outcome h.comes)

@@ -16,7 +16,7 @@ use Rattle.dcsctp_spec_lemmas.specs.spec.endpoint.Cause.{Cause}
 use Rattle.dcsctp_spec_lemmas.specs.spec.endpoint.Event.{error}
 use Rattle.dcsctp_spec_lemmas.specs.spec.Packet.{Plain, plain, unknown, heartbeat, heartbeat_ack, unworked, Emission}
 use Rattle.dcsctp_spec_lemmas.specs.spec.endpoint.Endpoint.{Endpoint, Core, closed, cookie_wait, cookie_echoed, open_in}
-use Rattle.dcsctp_spec_lemmas.specs.spec.endpoint.Outcome.{Outcome, still, quiet, sends, to_peer}
+use Rattle.dcsctp_spec_lemmas.specs.spec.endpoint.Outcome.{Outcome, still, quiet, sends, emits, answers_with, to_peer}
 use Rattle.dcsctp_spec_lemmas.specs.spec.endpoint.Outcome.{fits as fits_mtu}
 use Rattle.dcsctp_spec_lemmas.specs.wire.Content.{ParameterContent, data_chunk, sack_chunk, error_chunk, i_data_chunk, forward_tsn_chunk, i_forward_tsn_chunk}
 use Rattle.dcsctp_spec_lemmas.specs.spec.endpoint.HeartbeatOutcomes.{heartbeat_outcome, info_in, counter_of, answered, heartbeat_ack_outcome}
@@ -25,8 +25,9 @@ use Rattle.dcsctp_spec_runs.specs.Fitting.{FitsHeld, FitsCore, FitsEndpoint, Sen
 use Rattle.dcsctp_theorem_sockets.proofs.Aborting.{aborting_fits}
 use Rattle.dcsctp_theorem_sockets.proofs.Bytes.{both, in_two}
 use Rattle.dcsctp_spec_lemmas.specs.spec.queues.Arrivals.{data_arrival, i_data_arrival, skipped_in, messages_skipped_in}
+use Rattle.dcsctp_spec_lemmas.proofs.OneAnswerLemmas.{answered_by}
 use Rattle.dcsctp_theorem_sockets.proofs.DataFits.{data_fits, sack_fits, forward_fits}
-use Rattle.dcsctp_theorem_sockets.proofs.FlushFits.{still_fits}
+use Rattle.dcsctp_theorem_sockets.proofs.FlushFits.{still_fits, answering_fits}
 
 -- ---- the report of a chunk of a type that isn't known
 
@@ -89,11 +90,17 @@ answer_fits true e held parameters h fits good =
     }
 answer_fits false e held parameters h fits good = record { after = h; sends = tt }
 
+answered_fits : (e : Endpoint) (held : Held) (parameters : List ParameterContent) → FitsEndpoint e → FitsHeld held → Sendable (plain (heartbeat parameters))
+    → TurnFits (answers_with e (answer_to held parameters))
+answered_fits e held parameters h fits good =
+    answered_by TurnFits e (answer_to held parameters) (still_fits e h)
+    (answering_fits (emits e [] (answer_to held parameters)) (answer_fits (fits_mtu e (answer_to held parameters)) e held parameters h fits good))
+
 heartbeat_fits : (e : Endpoint) (core : Core) (parameters : List ParameterContent) → FitsEndpoint e → FitsCore core → Sendable (plain (heartbeat parameters)) → TurnFits (heartbeat_outcome e core parameters)
 heartbeat_fits e closed parameters h own good = record { after = h; sends = tt }
 heartbeat_fits e (cookie_wait my) parameters h own good = record { after = h; sends = tt }
-heartbeat_fits e (cookie_echoed my held cookie) parameters h own good = answer_fits (fits_mtu e (answer_to held parameters)) e held parameters h own.1 good
-heartbeat_fits e (open_in phase my held) parameters h own good = answer_fits (fits_mtu e (answer_to held parameters)) e held parameters h own.1 good
+heartbeat_fits e (cookie_echoed my held cookie) parameters h own good = answered_fits e held parameters h own.1 good
+heartbeat_fits e (open_in phase my held) parameters h own good = answered_fits e held parameters h own.1 good
 
 counted_fits : (b : Bool) (e : Endpoint) → FitsEndpoint e → TurnFits (cond b (still (answered e)) (still e))
 counted_fits true e h = record { after = record { valid = h.valid; options = h.options; core = h.core; t1 = h.t1 }; sends = tt }

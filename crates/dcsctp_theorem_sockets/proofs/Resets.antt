@@ -20,16 +20,17 @@ use Rattle.dcsctp_spec_lemmas.specs.spec.queues.Transfer.{Transfer}
 use Rattle.dcsctp_spec_runs.specs.Deadlines.{T1Runs}
 use Rattle.dcsctp_spec_lemmas.specs.spec.endpoint.Endpoint.{Endpoint, Core, closed, cookie_wait, cookie_echoed, open_in}
 use Rattle.dcsctp_spec_lemmas.specs.spec.endpoint.Timers.{RunningTimer}
-use Rattle.dcsctp_spec_lemmas.specs.spec.endpoint.Outcome.{Outcome, quiet, sends, to_peer}
+use Rattle.dcsctp_spec_lemmas.specs.spec.endpoint.Outcome.{Outcome, quiet, sends, emits, to_peer}
 use Rattle.dcsctp_spec_lemmas.specs.spec.endpoint.Outcome.{fits as fits_mtu}
 use Rattle.dcsctp_spec_lemmas.specs.spec.association.Effect.{Effect}
 use Rattle.dcsctp_spec_lemmas.specs.spec.association.ResetChanges.{RequestPlace, again, next, astray, request_place, repeated, is_due, outgoing_by, incoming_by, informed_by, is_outstanding, informed_where, HandledParameters, work_parameters, work_chunk}
 use Rattle.dcsctp_spec_lemmas.specs.spec.endpoint.FlushOutcomes.{Answer, draft_to, flush_of}
 use Rattle.dcsctp_spec_lemmas.specs.spec.endpoint.ResetOutcomes.{request_state, renewable_left, parameters_handled_in, OwnAnswer, answered_in, reset_events, reset_events_of, core_with, resets_handled, responses_outcome, responses_by, ResponseAnswers, WorksResets, ResetTurn}
 use Rattle.dcsctp_spec_lemmas.specs.spec.CookieFits.{FitsPair}
+use Rattle.dcsctp_spec_lemmas.proofs.OneAnswerLemmas.{answered_by}
 use Rattle.dcsctp_spec_runs.specs.Fitting.{AllSent, FitsNumber, FitsHeld, FitsCore, FitsEndpoint, IsSendable, Sendable, TurnFits}
 use Rattle.dcsctp_spec_laws.proofs.ResetLemmas.{AreResets, nothing, acceptance, performance, renewal, completion, failure, KeepsPeer, chunk_brings, worked_keeps}
-use Rattle.dcsctp_theorem_sockets.proofs.FlushFits.{still_fits, draft_sendable, flush_fits, behind_fits}
+use Rattle.dcsctp_theorem_sockets.proofs.FlushFits.{still_fits, draft_sendable, flush_fits, behind_fits, answering_fits}
 use Rattle.dcsctp_theorem_sockets.proofs.Sent.{all_sent_append}
 use Rattle.dcsctp_theorem_sockets.proofs.T1Turns.{Up, UpAfter, flush_up}
 
@@ -54,7 +55,8 @@ emitted_up false e emission h = h
 responses_up : (e : Endpoint) (held : Held) (responses : List ResetParameter) → Up e → UpAfter (responses_outcome e held responses)
 responses_up e held [] h = h
 responses_up e held (response ∷ responses) h =
-    emitted_up (fits_mtu e (to_peer held (re_config (response ∷ responses)))) e (to_peer held (re_config (response ∷ responses))) h
+    let emission : Emission = to_peer held (re_config (response ∷ responses)) in
+    answered_by UpAfter e emission h (emitted_up (fits_mtu e emission) e emission h)
 
 sent_up : (refused : Bool) (e : Endpoint) (told : List (Event Emission)) (held : Held) (parameters responses : List ResetParameter) (answers : List Answer)
     → ResponseAnswers refused e held responses answers → Up e → UpAfter (responses_by refused e told held parameters responses answers)
@@ -209,7 +211,10 @@ emitted_fits false e held responses is h fits each = record { after = h; sends =
 
 response_fits : (e : Endpoint) (held : Held) (responses : List ResetParameter) → FitsEndpoint e → FitsHeld held → AllByRecursion FitsResponse responses → TurnFits (responses_outcome e held responses)
 response_fits e held [] h fits each = still_fits e h
-response_fits e held (response ∷ responses) h fits each = emitted_fits (fits_mtu e (to_peer held (re_config (response ∷ responses)))) e held (response ∷ responses) refl h fits each
+response_fits e held (response ∷ responses) h fits each =
+    let emission : Emission = to_peer held (re_config (response ∷ responses)) in
+    answered_by TurnFits e emission (still_fits e h)
+    (answering_fits (emits e [] emission) (emitted_fits (fits_mtu e emission) e held (response ∷ responses) refl h fits each))
 
 -- ---- the turn
 

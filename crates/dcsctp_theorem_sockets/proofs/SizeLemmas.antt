@@ -14,6 +14,7 @@ use Rattle.dcsctp_spec_lemmas.specs.spec.endpoint.Turn.{Input, arrival, refusal,
 use Rattle.dcsctp_spec_lemmas.specs.spec.endpoint.TimerOutcomes.{t1_goes_on}
 use Rattle.dcsctp_spec_lemmas.specs.spec.association.Acts.{Act, connect, t1_expires, shut_down, step_of_shutdown, shutdown_repeats, abort_with, hands_over, flushes, request_again, request_renewed}
 use Rattle.dcsctp_spec_lemmas.specs.spec.endpoint.CallTurns.{Transition, IsTurn, AlongTurns, events_of}
+use Rattle.dcsctp_spec_lemmas.proofs.OneAnswerLemmas.{init_by}
 use Rattle.dcsctp_spec_runs.specs.Sockets.{of_side, turns_after}
 use Rattle.dcsctp_spec_runs.proofs.RunsAlong.{run_along_where}
 use Rattle.dcsctp_theorem_sockets.proofs.RestoreTurns.{restore_sizes}
@@ -30,7 +31,8 @@ use Rattle.dcsctp_theorem_sockets.proofs.T1Lemmas.{IsMade, MayBe, these_may_come
 -- ---- each turn
 
 chunk_sizes : (limit : ℕ) (e : Endpoint) (tag : ℕ) (content : Content) (o : Outcome) → ContentTurn e tag content o → AtLimit limit e → TurnSizes limit o
-chunk_sizes limit e tag (init theirs) o turn h = subst (TurnSizes limit) (sym turn.2) (init_sizes limit e theirs e.core turn.0 turn.1 h)
+chunk_sizes limit e tag (init theirs) o turn h =
+    subst (TurnSizes limit) (sym turn.2) (init_by (TurnSizes limit) e theirs turn.0 turn.1 (h, tt) (init_sizes limit e theirs e.core turn.0 turn.1 h))
 chunk_sizes limit e tag (init_ack theirs cookie) o turn h = subst (TurnSizes limit) (sym turn.3) (init_ack_sizes limit e theirs cookie e.core turn.0 turn.1 turn.2 h)
 chunk_sizes limit e tag (cookie_echo bytes) o turn h = subst (TurnSizes limit) (sym turn.3) (echo_sizes limit e e.core tag (cookie_at bytes) turn.0 turn.1 turn.2 h)
 chunk_sizes limit e tag cookie_ack o turn h = subst (TurnSizes limit) (sym turn.2) (cookie_ack_sizes limit e e.core turn.0 turn.1 h)

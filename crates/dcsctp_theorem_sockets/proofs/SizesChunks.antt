@@ -16,7 +16,7 @@ use Rattle.dcsctp_spec_lemmas.specs.spec.Packet.{Plain, plain, unknown, heartbea
 use Rattle.dcsctp_spec_lemmas.specs.spec.Reconfiguration.{RequestedReset, ResetParameter}
 use Rattle.dcsctp_spec_lemmas.specs.spec.queues.Arrivals.{data_arrival, i_data_arrival, skipped_in, messages_skipped_in}
 use Rattle.dcsctp_spec_lemmas.specs.spec.endpoint.Endpoint.{Endpoint, Core, closed, cookie_wait, cookie_echoed, open_in, OutstandingRequest, held_in}
-use Rattle.dcsctp_spec_lemmas.specs.spec.endpoint.Outcome.{Outcome, contents_len, still, fits, to_peer}
+use Rattle.dcsctp_spec_lemmas.specs.spec.endpoint.Outcome.{Outcome, contents_len, still, fits, answers_with, to_peer}
 use Rattle.dcsctp_spec_lemmas.specs.spec.association.Effect.{Effect}
 use Rattle.dcsctp_spec_lemmas.specs.spec.association.FlushChanges.{reset_request}
 use Rattle.dcsctp_spec_lemmas.specs.spec.association.ResetChanges.{HandledParameters}
@@ -27,6 +27,7 @@ use Rattle.dcsctp_spec_lemmas.specs.spec.endpoint.PlainOutcomes.{PlainTurn, Plai
 use Rattle.dcsctp_spec_lemmas.specs.spec.endpoint.ReconfigurationOutcomes.{reset_again, request_emitted, renewed_request_where, request_renewed, request_unless, is_renewed, request_errors, request_expired, reconfiguration_outcome}
 use Rattle.dcsctp_spec_lemmas.specs.spec.endpoint.ResetOutcomes.{request_state, renewable_left, parameters_handled_in, OwnAnswer, answered_in, reset_events, reset_events_of, resets_handled, responses_outcome, responses_by, ResponseAnswers, WorksResets, ResetTurn, requested_in, is_request_reached}
 use Rattle.dcsctp_spec_laws.proofs.ResetLemmas.{AreResets, nothing, acceptance, performance, renewal, completion, failure, chunk_brings, worked_keeps}
+use Rattle.dcsctp_spec_lemmas.proofs.OneAnswerLemmas.{answered_by}
 use Rattle.dcsctp_theorem_sockets.proofs.Sizes.{AtLimit, AllShort, TurnSizes, short_append, packet_sizes, emits_sizes, flush_sizes}
 use Rattle.dcsctp_theorem_sockets.proofs.SizesData.{data_sizes, forward_sizes, sack_sizes, delay_sizes, loss_sizes}
 use Rattle.dcsctp_theorem_sockets.proofs.SizesTurns.{aborting_sizes}
@@ -70,11 +71,14 @@ error_sizes limit e (open_in phase my held) causes h = (h, tt)
 
 -- ---- heartbeats
 
+answer_sizes : (limit : ℕ) (e : Endpoint) (emission : Emission) → AtLimit limit e → TurnSizes limit (answers_with e emission)
+answer_sizes limit e emission h = answered_by (TurnSizes limit) e emission (h, tt) (emits_sizes limit e [] emission h)
+
 heartbeat_sizes : (limit : ℕ) (e : Endpoint) (core : Core) (parameters : List ParameterContent) → AtLimit limit e → TurnSizes limit (heartbeat_outcome e core parameters)
 heartbeat_sizes limit e closed parameters h = (h, tt)
 heartbeat_sizes limit e (cookie_wait my) parameters h = (h, tt)
-heartbeat_sizes limit e (cookie_echoed my held cookie) parameters h = emits_sizes limit e [] (to_peer held (plain (heartbeat_ack parameters))) h
-heartbeat_sizes limit e (open_in phase my held) parameters h = emits_sizes limit e [] (to_peer held (plain (heartbeat_ack parameters))) h
+heartbeat_sizes limit e (cookie_echoed my held cookie) parameters h = answer_sizes limit e (to_peer held (plain (heartbeat_ack parameters))) h
+heartbeat_sizes limit e (open_in phase my held) parameters h = answer_sizes limit e (to_peer held (plain (heartbeat_ack parameters))) h
 
 counted_sizes : (b : Bool) (limit : ℕ) (e : Endpoint) → AtLimit limit e → TurnSizes limit (cond b (still (answered e)) (still e))
 counted_sizes true limit e h = (h, tt)
@@ -142,7 +146,7 @@ told_short limit theirs own _ (failure number es are) = told_short limit theirs 
 
 response_sizes : (limit : ℕ) (e : Endpoint) (held : Held) (responses : List ResetParameter) → AtLimit limit e → TurnSizes limit (responses_outcome e held responses)
 response_sizes limit e held [] h = (h, tt)
-response_sizes limit e held (response ∷ responses) h = emits_sizes limit e [] (to_peer held (re_config (response ∷ responses))) h
+response_sizes limit e held (response ∷ responses) h = answer_sizes limit e (to_peer held (re_config (response ∷ responses))) h
 
 sent_sizes : (refused : Bool) (limit : ℕ) (e : Endpoint) (told : List (Event Emission)) (held : Held) (parameters responses : List ResetParameter) (answers : List Answer)
     → ResponseAnswers refused e held responses answers → AtLimit limit e → AllShort limit told → TurnSizes limit (responses_by refused e told held parameters responses answers)

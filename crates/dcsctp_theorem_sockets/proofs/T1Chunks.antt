@@ -4,7 +4,7 @@ use Rattle.dcsctp_spec_lemmas.specs.types.declared.ends.Violation.{Violation}
 use Rattle.dcsctp_spec_lemmas.specs.types.declared.ends.AbortReason.TheVariants as reasons
 use Rattle.dcsctp_spec_lemmas.specs.spec.Packet.{Plain, plain, unknown, heartbeat, heartbeat_ack, unworked, Content, Emission}
 use Rattle.dcsctp_spec_lemmas.specs.spec.endpoint.Endpoint.{Endpoint, Core, closed, cookie_wait, cookie_echoed, open_in, OutstandingRequest, held_in}
-use Rattle.dcsctp_spec_lemmas.specs.spec.endpoint.Outcome.{Outcome, still, quiet, sends, fits, to_peer}
+use Rattle.dcsctp_spec_lemmas.specs.spec.endpoint.Outcome.{Outcome, still, quiet, sends, fits, answers_with, to_peer}
 use Rattle.dcsctp_spec_lemmas.specs.types.declared.association.Held.{Held}
 use Rattle.dcsctp_spec_lemmas.specs.spec.endpoint.Cause.{Cause}
 use Rattle.dcsctp_spec_lemmas.specs.wire.Content.{ParameterContent, data_chunk, sack_chunk, error_chunk, i_data_chunk, forward_tsn_chunk, i_forward_tsn_chunk}
@@ -15,6 +15,7 @@ use Rattle.dcsctp_spec_lemmas.specs.spec.Reconfiguration.{RequestedReset}
 use Rattle.dcsctp_spec_lemmas.specs.spec.association.FlushChanges.{reset_request}
 use Rattle.dcsctp_spec_lemmas.specs.spec.endpoint.PlainOutcomes.{PlainTurn, PlainTurnBy, violation_at, is_reported, after_unknown, unknown_bytes, unknown_chunk_outcome, error_outcome}
 use Rattle.dcsctp_spec_lemmas.specs.spec.queues.Arrivals.{data_arrival, i_data_arrival, skipped_in, messages_skipped_in}
+use Rattle.dcsctp_spec_lemmas.proofs.OneAnswerLemmas.{answered_by}
 use Rattle.dcsctp_theorem_sockets.proofs.BegunSends.{asking_runs}
 use Rattle.dcsctp_theorem_sockets.proofs.T1Data.{data_up, forward_up, sack_up, delay_up, loss_up}
 use Rattle.dcsctp_theorem_sockets.proofs.T1Turns.{Up, UpAfter, aborting_up}
@@ -41,11 +42,14 @@ sent_up : (b : Bool) (e : Endpoint) (emission : Emission) → Up e → UpAfter (
 sent_up true e emission h = h
 sent_up false e emission h = h
 
+answer_up : (e : Endpoint) (emission : Emission) → Up e → UpAfter (answers_with e emission)
+answer_up e emission h = answered_by UpAfter e emission h (sent_up (fits e emission) e emission h)
+
 heartbeat_up : (e : Endpoint) (core : Core) (parameters : List ParameterContent) → Up e → UpAfter (heartbeat_outcome e core parameters)
 heartbeat_up e closed parameters h = h
 heartbeat_up e (cookie_wait my) parameters h = h
-heartbeat_up e (cookie_echoed my held cookie) parameters h = sent_up (fits e (to_peer held (plain (heartbeat_ack parameters)))) e (to_peer held (plain (heartbeat_ack parameters))) h
-heartbeat_up e (open_in phase my held) parameters h = sent_up (fits e (to_peer held (plain (heartbeat_ack parameters)))) e (to_peer held (plain (heartbeat_ack parameters))) h
+heartbeat_up e (cookie_echoed my held cookie) parameters h = answer_up e (to_peer held (plain (heartbeat_ack parameters))) h
+heartbeat_up e (open_in phase my held) parameters h = answer_up e (to_peer held (plain (heartbeat_ack parameters))) h
 
 counted_up : (b : Bool) (e : Endpoint) → Up e → UpAfter (cond b (still (answered e)) (still e))
 counted_up true e h = h

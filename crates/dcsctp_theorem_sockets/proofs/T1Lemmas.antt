@@ -9,6 +9,7 @@ use Rattle.dcsctp_spec_lemmas.specs.spec.endpoint.Turn.{Input, arrival, refusal,
 use Rattle.dcsctp_spec_lemmas.specs.spec.endpoint.TimerOutcomes.{t1_goes_on}
 use Rattle.dcsctp_spec_lemmas.specs.spec.association.Acts.{Act, connect, t1_expires, shut_down, step_of_shutdown, shutdown_repeats, abort_with, hands_over, flushes, request_again, request_renewed}
 use Rattle.dcsctp_spec_lemmas.specs.spec.endpoint.CallTurns.{Transition, IsTurn, AlongTurns, after_all}
+use Rattle.dcsctp_spec_lemmas.proofs.OneAnswerLemmas.{init_by}
 use Rattle.dcsctp_spec_runs.specs.Sockets.{of_side, turns_after}
 use Rattle.dcsctp_spec_laws.proofs.AlongLemmas.{MayCome}
 use Rattle.dcsctp_spec_runs.proofs.RunsAlong.{run_along_where}
@@ -64,7 +65,7 @@ abbrev KeepsUp : Endpoint → Transition → Type 0
 KeepsUp e t = Up e → UpAfter t.outcome
 
 chunk_up : (e : Endpoint) (tag : ℕ) (content : Content) (o : Outcome) → ContentTurn e tag content o → Up e → UpAfter o
-chunk_up e tag (init theirs) o turn h = subst UpAfter (sym turn.2) (init_up e theirs e.core turn.0 turn.1 h)
+chunk_up e tag (init theirs) o turn h = subst UpAfter (sym turn.2) (init_by UpAfter e theirs turn.0 turn.1 h (init_up e theirs e.core turn.0 turn.1 h))
 chunk_up e tag (init_ack theirs cookie) o turn h = subst UpAfter (sym turn.3) (init_ack_up e theirs cookie e.core turn.0 turn.1 turn.2 h)
 chunk_up e tag (cookie_echo bytes) o turn h = subst UpAfter (sym turn.3) (echo_up e e.core tag (cookie_at bytes) turn.0 turn.1 turn.2 h)
 chunk_up e tag cookie_ack o turn h = subst UpAfter (sym turn.2) (cookie_ack_up e e.core turn.0 turn.1 h)

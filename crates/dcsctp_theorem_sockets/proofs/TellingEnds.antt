@@ -23,6 +23,7 @@ use Rattle.dcsctp_spec_lemmas.proofs.ControlHandshake.{init_ack_controlled, cook
 use Rattle.dcsctp_spec_laws.proofs.HeardShutdownLemmas.{shutdown_controlled}
 use Rattle.dcsctp_spec_laws.proofs.ShutdownLemmas.{shutdown_ack_controlled, shutdown_complete_controlled}
 use Rattle.dcsctp_spec_lemmas.proofs.ControlEcho.{cookie_echo_controlled}
+use Rattle.dcsctp_spec_lemmas.proofs.OneAnswerLemmas.{init_by}
 use Rattle.dcsctp_spec_laws.proofs.ControlLemmas.{begin_stands}
 use Rattle.dcsctp_spec_laws.proofs.PlainLemmas.{plain_controlled}
 use Rattle.dcsctp_spec_laws.proofs.ResetLemmas.{reset_controlled}
@@ -132,7 +133,9 @@ init_rests e theirs (open_in shutdown_received my held) word next = with_effects
 init_rests e theirs (open_in shutdown_ack_sent my held) word next = emits_rest e [] (to_peer held shutdown_ack)
 
 chunk_tells : EndsOnce → (e : Endpoint) (tag : ℕ) (content : Content) (t : Transition) → IsTurn e (chunk_input tag content) t → TellsEnd e t
-chunk_tells law e tag (init theirs) t h = rests e t (init_outcome e theirs e.core h.comes.0 h.comes.1) h.comes.2 (init_rests e theirs e.core h.comes.0 h.comes.1)
+chunk_tells law e tag (init theirs) t h =
+    let at : Rests e (init_outcome e theirs e.core h.comes.0 h.comes.1) = init_rests e theirs e.core h.comes.0 h.comes.1 in
+    rests e t _ h.comes.2 (init_by (Rests e) e theirs h.comes.0 h.comes.1 (record { core = refl; none = refl }) (record { core = at.core; none = at.none }))
 chunk_tells law e tag (init_ack theirs cookie) t h = by_chunk law e tag (init_ack theirs cookie) t (init_ack_controlled e tag theirs cookie t.outcome h.comes)
 chunk_tells law e tag (cookie_echo cookie) t h = by_chunk law e tag (cookie_echo cookie) t (cookie_echo_controlled e tag cookie t.outcome h.comes)
 chunk_tells law e tag cookie_ack t h = by_chunk law e tag cookie_ack t (cookie_ack_controlled e tag t.outcome h.comes)

@@ -27,8 +27,9 @@ use Rattle.dcsctp_spec_lemmas.specs.types.declared.capabilities.Capabilities.{Ca
 use Rattle.dcsctp_spec_lemmas.specs.types.Offer.{offer_of, negotiated}
 use Rattle.dcsctp_spec_runs.specs.Fitting.{AllSent, FitsHeld, FitsCore, FitsEndpoint, IsSendable, Sendable, TurnFits}
 use Rattle.dcsctp_spec_lemmas.proofs.AbortLemmas.{by_abort_outcome}
+use Rattle.dcsctp_spec_lemmas.proofs.OneAnswerLemmas.{init_by}
 use Rattle.dcsctp_theorem_sockets.proofs.Bytes.{ReadPairs, read_pairs_fit}
-use Rattle.dcsctp_theorem_sockets.proofs.FlushFits.{still_fits, draft_sendable, flushed_fits}
+use Rattle.dcsctp_theorem_sockets.proofs.FlushFits.{still_fits, answering_fits, draft_sendable, flushed_fits}
 use Rattle.dcsctp_theorem_sockets.proofs.PlainFits.{plain_fits}
 use Rattle.dcsctp_theorem_sockets.proofs.Resets.{reset_fits}
 use Rattle.dcsctp_theorem_sockets.proofs.Sendable.{init_sendable, init_ack_sendable, echo_sendable, ack_sendable, abort_sendable}
@@ -222,7 +223,9 @@ abort_fits e causes core h =
 -- ---- each chunk that is read of what a socket sent
 
 pub turn_fits : OfferReadsBack → (e : Endpoint) (tag : ℕ) (content : Content) (o : Outcome) → ContentTurn e tag content o → FitsEndpoint e → tag < 2 ^ 32 → Sendable content → TurnFits o
-turn_fits law e tag (init theirs) o turn h tagged good = subst TurnFits (sym turn.2) (init_fits law e theirs e.core turn.0 turn.1 h h.core good.said.0)
+turn_fits law e tag (init theirs) o turn h tagged good =
+    let at : TurnFits (init_outcome e theirs e.core turn.0 turn.1) = init_fits law e theirs e.core turn.0 turn.1 h h.core good.said.0 in
+    subst TurnFits (sym turn.2) (init_by TurnFits e theirs turn.0 turn.1 (still_fits e h) (answering_fits (init_outcome e theirs e.core turn.0 turn.1) at))
 turn_fits law e tag (init_ack theirs cookie) o turn h tagged good = subst TurnFits (sym turn.3) (init_ack_fits e theirs cookie e.core turn.0 turn.1 turn.2 h h.core good)
 turn_fits law e tag (cookie_echo bytes) o turn h tagged good = subst TurnFits (sym turn.3) (echo_fits e e.core tag bytes (cookie_at bytes) turn.0 turn.1 turn.2 refl h h.core good.fits)
 turn_fits law e tag cookie_ack o turn h tagged good = subst TurnFits (sym turn.2) (cookie_ack_fits e e.core turn.0 turn.1 h h.core)

@@ -3,13 +3,14 @@
 ghost use Rattle.std.specs.Prelude.{◌≡◌, true};
 ghost use Rattle.std.specs.Duration.{as_nanos};
 ghost use Rattle.dcsctp_core.specs.spec.endpoint.Timers.{started};
-ghost use Rattle.dcsctp_core.specs.spec.endpoint.ShutdownOutcomes.{t2_settings, waits_for_abandoned, waits_for_queue};
+ghost use Rattle.dcsctp_core.specs.spec.endpoint.ShutdownOutcomes.{awaits_reset, t2_settings, waits_for_abandoned, waits_for_queue};
 ghost use Rattle.dcsctp_core.specs.Handling.{Tries};
 ghost use Rattle.dcsctp_core.specs.View.{core_of, endpoint_of};
 ghost use Rattle.dcsctp_core_ends.specs.Shutdown.{ack_sent_turn, is_open_core, shutdown_sent_turn, step_turn};
 
 use crate::shutdown::sending::{send_shutdown, send_shutdown_ack};
 use dcsctp_core::send_timer::{BackoffAlgorithm, Timer, longest_wait};
+use dcsctp_core::transfer::packet_size_limit;
 use dcsctp_core::types::{Options, SocketTime};
 use dcsctp_core::{Context, OpenPhase, ShutdownState, State};
 use rand_core::Rng;
@@ -59,14 +60,26 @@ pub(crate) fn enter_shutdown_ack_sent<R: Rng>(context: &mut Context<R>) -> Resul
     Ok(())
 }
 
+// The size of a packet that requests the reset of one stream (RFC 6525, section 4.1).
+const LEAST_REQUEST_PACKET: usize = 36;
+
+// Does a message wait for a reset that can be requested? One with a lifetime doesn't count: once that is over,
+// nothing may come that continues the shutdown.
+fn awaits_reset<R: Rng>(context: &Context<R>) -> bool
+    ensures { result ≡ awaits_reset (endpoint_of context.now) }
+{
+    LEAST_REQUEST_PACKET <= packet_size_limit(&context.options)
+        && context.send_queue.waits_for_reset()
+}
+
 // Does a shutdown wait for what is queued? Only with `Options::follow_rfc`, while packets may be sent and a
-// message waits that can be (RFC 9260, section 9.2).
+// message waits that can be, or could be after a reset (RFC 9260, section 9.2).
 fn waits_for_queue<R: Rng>(context: &Context<R>) -> bool
     ensures { result ≡ waits_for_queue (endpoint_of context.now) }
 {
     context.options.follow_rfc
         && 0 < context.options.max_burst
-        && context.send_queue.waits_at(context.moment)
+        && (context.send_queue.waits_at(context.moment) || awaits_reset(context))
 }
 
 // Does a shutdown wait for what was abandoned? Only with `Options::follow_rfc`, until the peer has
@@ -80,8 +93,8 @@ fn waits_for_abandoned<R: Rng>(context: &Context<R>) -> bool
 
 /// Continues a shutdown that is under way, if all that was sent is acknowledged or abandoned. SHUTDOWN is
 /// sent if the user asked for it, SHUTDOWN ACK if the peer did. With `Options::follow_rfc` queued messages
-/// that can be sent go first, and the peer must have acknowledged what was abandoned; else neither counts
-/// (docs/design/decisions.md, Shutdown).
+/// that can be sent go first, also after the reset of their stream, and the peer must have acknowledged what was
+/// abandoned; else none of them counts (docs/design/decisions.md, Shutdown).
 ///
 /// `Err`: an allocation failed; nothing has changed.
 pub fn step_shutdown<R: Rng>(context: &mut Context<R>) -> Result<(), AllocError>

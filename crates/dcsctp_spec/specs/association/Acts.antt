@@ -12,7 +12,7 @@ use Rattle.dcsctp_spec.specs.endpoint.Following.{Following, next_chunk}
 use Rattle.dcsctp_spec.specs.association.Effect.{Effect, begins, gives_up, Change, unchanged, ended, emitted, emitted_alone}
 use Rattle.dcsctp_spec.specs.association.Choices.{Choices}
 use Rattle.dcsctp_spec.specs.association.FlushChanges.{Flushed, further_packets, flush, held_asking, reset_request}
-use Rattle.dcsctp_spec.specs.association.HandshakeChanges.{IsCookieOf, answering_pair, connect_change, init_change, init_ack_change, cookie_ack_change, t1_again_change, t1_gives_up_change}
+use Rattle.dcsctp_spec.specs.association.HandshakeChanges.{IsCookieOf, answering_pair, connect_change, answered_init_change, init_ack_change, cookie_ack_change, t1_again_change, t1_gives_up_change}
 use Rattle.dcsctp_spec.specs.association.CookieEchoChanges.{cookie_echo_change}
 use Rattle.dcsctp_spec.specs.association.ResetChanges.{re_config_change}
 use Rattle.dcsctp_spec.specs.association.ShutdownChanges.{shutdown_step_change, shutdown_call_change, abort_call_change, shutdown_again_change, abort_change, shutdown_change, shutdown_ack_change, shutdown_complete_change}
@@ -140,7 +140,7 @@ shutdown_chunk_change core choices =
 
 -- a chunk of a packet with this header tag
 abbrev pub chunk_change : Options → Core → ℕ → Content → Choices → Change
-chunk_change options core header (init theirs) choices = init_change options core theirs choices
+chunk_change options core header (init theirs) choices = answered_init_change choices.may_answer options core theirs choices
 chunk_change options core header (init_ack theirs cookie) choices = init_ack_change options core theirs cookie choices
 chunk_change options core header (cookie_echo cookie) choices = cookie_echo_change options core header cookie choices
 chunk_change options core header cookie_ack choices = cookie_ack_change core choices

@@ -30,6 +30,8 @@ pub record Choices : Type 0 where
   pub cookie : List ℕ
   -- the association's tie tag (RFC 9260, section 5.2.2)
   pub tie : ℕ
+  -- May an INIT be answered?
+  pub may_answer : Bool
   -- Is the cookie of a COOKIE ECHO older than its lifetime?
   pub is_stale : Bool
   -- Does the packet of one chunk fit?
@@ -60,6 +62,7 @@ idle_choices drawn =
       drawn = drawn;
       cookie = [];
       tie = 0;
+      may_answer = true;
       is_stale = false;
       fits = true;
       is_acknowledged = true;

@@ -88,6 +88,11 @@ init_change options (cookie_echoed my held cookie) theirs choices =
     record { core = cookie_echoed my held cookie; effects = sends_init_ack options theirs my choices; following = next_chunk }
 init_change options (open_in phase my held) theirs choices = init_change_where_open options (open_in phase my held) theirs phase held choices
 
+-- by whether it is answered
+abbrev pub answered_init_change : Bool → Options → Core → Introduction → Choices → Change
+answered_init_change false options core theirs choices = unchanged core
+answered_init_change true options core theirs choices = init_change options core theirs choices
+
 -- ---- INIT ACK
 
 -- COOKIE ECHO is sent under the peer's tag; if it doesn't fit, nothing is sent.

@@ -1,5 +1,5 @@
 -- What a socket is between two turns (RFC 9260, sections 4 and 5).
-use Rattle.std.specs.Prelude.{◌==◌, ℕ, Bool, if◌then◌else◌, Option, None, Some, List, []}
+use Rattle.std.specs.Prelude.{◌==◌, ℕ, Bool, false, not, ◌&&◌, if◌then◌else◌, Option, None, Some, List, []}
 use Rattle.std.specs.Duration.{as_nanos}
 use Rattle.dcsctp_spec.specs.endpoint.Timers.{TimerSettings, RunningTimer, started}
 use Rattle.dcsctp_spec.specs.queues.Transfer.{EndpointQueues, empty_queues}
@@ -112,6 +112,8 @@ pub record Endpoint : Type 0 where
   pub heartbeat_counter : ℕ
   -- when the last HEARTBEAT was sent, until it is answered or its association ends
   pub heartbeat_sent : Option ℕ
+  -- Was a HEARTBEAT, an INIT or a RE-CONFIG of the present packet answered?
+  pub has_answered : Bool
   pub timers : Timers
   -- No FORWARD-TSN is sent before.
   pub no_forward_tsn_before : ℕ
@@ -120,6 +122,11 @@ pub record Endpoint : Type 0 where
   pub queues : EndpointQueues
   -- the messages that were ready when the last association ended, and aren't taken yet
   pub left : List MessageContent
+
+-- May a HEARTBEAT, an INIT or a RE-CONFIG be answered? With the option one of a packet may, since a packet that brings many is
+-- an attacker's amplifier.
+abbrev pub may_answer : Endpoint → Bool
+may_answer e = not (e.options.follow_rfc && e.has_answered)
 
 -- The errors that count as an association begins: by the RFC none (RFC 9260, section 8.1).
 abbrev pub errors_begun : Endpoint → ℕ
@@ -145,6 +152,7 @@ fresh_endpoint options =
       error_count = 0;
       heartbeat_counter = 0;
       heartbeat_sent = None;
+      has_answered = false;
       timers = stopped_timers;
       no_forward_tsn_before = 0;
       counts = record { packets_received = 0; packets_sent = 0; messages_queued = 0 };

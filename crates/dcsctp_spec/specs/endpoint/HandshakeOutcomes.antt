@@ -17,9 +17,9 @@ use Rattle.dcsctp_spec.specs.endpoint.Event.{aborted, connected}
 use Rattle.dcsctp_spec.specs.Packet.{Introduction, Content, init, init_ack, cookie_echo, abort, shutdown_ack, Emission}
 use Rattle.dcsctp_spec.specs.queues.SendQueue.{SendQueueState, queue_restarted, numbered_for}
 use Rattle.dcsctp_spec.specs.queues.Transfer.{new_transfer, next_tsn_of}
-use Rattle.dcsctp_spec.specs.endpoint.Endpoint.{Endpoint, Core, closed, cookie_wait, cookie_echoed, open_in, OpenPhase, established, shutdown_ack_sent, heartbeats_begun, t1_settings, errors_begun}
+use Rattle.dcsctp_spec.specs.endpoint.Endpoint.{Endpoint, Core, closed, cookie_wait, cookie_echoed, open_in, OpenPhase, established, shutdown_ack_sent, heartbeats_begun, t1_settings, errors_begun, may_answer}
 use Rattle.dcsctp_spec.specs.endpoint.Timers.{started}
-use Rattle.dcsctp_spec.specs.endpoint.Outcome.{Outcome, still, quiet, fits, to_peer, emits, noting, drawing}
+use Rattle.dcsctp_spec.specs.endpoint.Outcome.{Outcome, still, quiet, fits, to_peer, emits, answering, noting, drawing}
 use Rattle.dcsctp_spec.specs.association.Effect.{holds, connects, identity_of}
 use Rattle.dcsctp_spec.specs.association.HandshakeChanges.{introduction_of, held_by_init_ack}
 use Rattle.dcsctp_spec.specs.endpoint.FlushOutcomes.{Answer, FlushAnswers, FlushKind, draft_to, flush_answered, flush_outcome}
@@ -90,9 +90,14 @@ init_outcome e theirs (cookie_wait mine) word next = answer_outcome e theirs [] 
 init_outcome e theirs (cookie_echoed mine held cookie) word next = answer_outcome e theirs [] mine 0
 init_outcome e theirs (open_in phase mine held) word next = init_outcome_where_open e theirs phase held word
 
--- an INIT is handled
+-- by whether it may be answered; else no word is drawn
+abbrev pub init_answered : Bool → Endpoint → Introduction → ℕ → ℕ → Outcome
+init_answered false e theirs word next = still e
+init_answered true e theirs word next = answering (init_outcome e theirs e.core word next)
+
+-- An INIT is handled. With the option one of a packet is.
 abbrev pub InitTurn : Endpoint → Introduction → Outcome → Type 0
-InitTurn e theirs o = (word next : ℕ) × (o ≡ init_outcome e theirs e.core word next)
+InitTurn e theirs o = (word next : ℕ) × (o ≡ init_answered (may_answer e) e theirs word next)
 
 -- ---- connect
 

@@ -15,7 +15,7 @@ use Rattle.dcsctp_spec.specs.Packet.{heartbeat, heartbeat_ack, plain, Emission}
 use Rattle.dcsctp_spec.specs.endpoint.Endpoint.{Endpoint, Core, cookie_echoed, open_in}
 use Rattle.dcsctp_spec.specs.endpoint.Timers.{RunningTimer, TimerSettings, started, expired}
 use Rattle.dcsctp_spec.specs.endpoint.TransferMoves.{timed_by}
-use Rattle.dcsctp_spec.specs.endpoint.Outcome.{Outcome, still, reports, emits, to_peer}
+use Rattle.dcsctp_spec.specs.endpoint.Outcome.{Outcome, still, reports, emits, answers_with, to_peer}
 
 -- ---- the count of errors (RFC 9260, section 8.1)
 
@@ -31,10 +31,10 @@ is_exhausted (Some limit) count = nat_lt limit count
 
 -- ---- chunks
 
--- A HEARTBEAT of a known peer is answered with its parameters, if they fit.
+-- A HEARTBEAT of a known peer is answered with its parameters, if they fit. With the option one of a packet is.
 abbrev pub heartbeat_outcome : Endpoint → Core → List ParameterContent → Outcome
-heartbeat_outcome e (cookie_echoed my held cookie) parameters = emits e [] (to_peer held (plain (heartbeat_ack parameters)))
-heartbeat_outcome e (open_in phase my held) parameters = emits e [] (to_peer held (plain (heartbeat_ack parameters)))
+heartbeat_outcome e (cookie_echoed my held cookie) parameters = answers_with e (to_peer held (plain (heartbeat_ack parameters)))
+heartbeat_outcome e (open_in phase my held) parameters = answers_with e (to_peer held (plain (heartbeat_ack parameters)))
 heartbeat_outcome e core parameters = still e
 
 -- The first Heartbeat Info counts,

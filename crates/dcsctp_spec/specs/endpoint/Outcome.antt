@@ -1,6 +1,6 @@
 -- What one turn leaves: the words that it drew, what happened to the association, the endpoint after it, and its events
 -- in order.
-use Rattle.std.specs.Prelude.{◌==◌, ℕ, Bool, ◌+◌, ◌-◌, ◌^◌, min, List, [], ◌∷◌, ◌++◌, length, nat_le, if◌then◌else◌}
+use Rattle.std.specs.Prelude.{◌==◌, ℕ, Bool, true, false, ◌+◌, ◌-◌, ◌^◌, min, List, [], ◌∷◌, ◌++◌, length, nat_le, if◌then◌else◌}
 use Rattle.std.specs.List.{flat_map}
 use Rattle.dcsctp_types.specs.declared.association.Pair.{Pair}
 use Rattle.dcsctp_types.specs.declared.association.Held.{Held}
@@ -10,7 +10,7 @@ use Rattle.dcsctp_types.specs.Settings.{packet_size_limit}
 use Rattle.dcsctp_types.specs.Sizes.{common_header_size}
 use Rattle.dcsctp_spec.specs.endpoint.Event.{Event, sent, error}
 use Rattle.dcsctp_spec.specs.Packet.{Content, Emission, chunk_out}
-use Rattle.dcsctp_spec.specs.endpoint.Endpoint.{Endpoint}
+use Rattle.dcsctp_spec.specs.endpoint.Endpoint.{Endpoint, may_answer}
 use Rattle.dcsctp_spec.specs.endpoint.Following.{Following, next_chunk}
 use Rattle.dcsctp_spec.specs.association.Effect.{Effect, draws}
 use Rattle.dcsctp_types.specs.wire.Spelling.{chunk_bytes}
@@ -67,6 +67,18 @@ sends e words events emission = record { words = words; effects = []; after = pa
 -- The words that were drawn, and then a packet, if it fits: one that doesn't is neither emitted nor counted.
 abbrev pub emits : Endpoint → List Word → Emission → Outcome
 emits e words emission = if fits e emission then sends e words [] emission else quiet e words []
+
+-- this outcome, which answers what the packet asked
+abbrev pub answering : Outcome → Outcome
+answering o = record o { after = record o.after { has_answered = true } }
+
+abbrev pub answered_where : Bool → Endpoint → Emission → Outcome
+answered_where false e emission = still e
+answered_where true e emission = answering (emits e [] emission)
+
+-- A chunk is answered by this packet, if it fits, unless another one of its packet was.
+abbrev pub answers_with : Endpoint → Emission → Outcome
+answers_with e emission = answered_where (may_answer e) e emission
 
 -- this outcome, after these words and events
 abbrev pub behind : List Word → List (Event Emission) → Outcome → Outcome

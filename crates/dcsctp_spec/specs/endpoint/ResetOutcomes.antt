@@ -17,7 +17,7 @@ use Rattle.dcsctp_spec.specs.queues.SendQueue.{SendQueueState}
 use Rattle.dcsctp_spec.specs.queues.Transfer.{Transfer}
 use Rattle.dcsctp_spec.specs.endpoint.Endpoint.{Endpoint, Core, cookie_echoed, open_in, OutstandingRequest}
 use Rattle.dcsctp_spec.specs.endpoint.Timers.{started}
-use Rattle.dcsctp_spec.specs.endpoint.Outcome.{Outcome, still, quiet, emits, behind, noting, to_peer}
+use Rattle.dcsctp_spec.specs.endpoint.Outcome.{Outcome, still, quiet, emits, behind, noting, to_peer, answers_with}
 use Rattle.dcsctp_spec.specs.association.Effect.{Effect, completes, fails, performs, renews}
 use Rattle.dcsctp_spec.specs.association.FlushChanges.{next_number}
 use Rattle.dcsctp_spec.specs.association.ResetChanges.{HandledParameters, work_chunk}
@@ -242,10 +242,11 @@ abbrev pub reset_refusal_text : List ResetParameter → List ℕ
 reset_refusal_text [] = codes "RE-CONFIG chunk must have at least one parameter"
 reset_refusal_text (parameter ∷ parameters) = codes "RE-CONFIG chunk must not have multiple Outgoing SSN Reset Request parameters"
 
--- The answers are sent in a packet of one RE-CONFIG, if there are some and they fit.
+-- The answers are sent in a packet of one RE-CONFIG, if there are some and they fit. With the option one RE-CONFIG of a packet is
+-- answered.
 abbrev pub responses_outcome : Endpoint → Held → List ResetParameter → Outcome
 responses_outcome e held [] = still e
-responses_outcome e held (response ∷ responses) = emits e [] (to_peer held (re_config (response ∷ responses)))
+responses_outcome e held (response ∷ responses) = answers_with e (to_peer held (re_config (response ∷ responses)))
 
 -- After the events come the answers, and then a flush; if the chunk is an error, neither does.
 abbrev pub responses_by : Bool → Endpoint → List (Event Emission) → Held → List ResetParameter → List ResetParameter → List Answer → Outcome

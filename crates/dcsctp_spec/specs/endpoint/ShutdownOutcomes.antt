@@ -1,21 +1,24 @@
 -- How an association is shut down, from either end (RFC 9260, section 9.2).
-use Rattle.std.specs.Prelude.{◌==◌, ℕ, Bool, true, false, not, ◌&&◌, Option, None, Some, []}
+use Rattle.std.specs.Prelude.{◌==◌, ℕ, Bool, ◌+◌, true, false, not, ◌&&◌, ◌||◌, nat_le, Option, None, Some, []}
 use Rattle.std.specs.Option.{option_map}
 use Rattle.dcsctp_types.specs.declared.association.Pair.{Pair}
 use Rattle.dcsctp_types.specs.declared.association.Held.{Held}
 use Rattle.dcsctp_types.specs.declared.kinds.BackoffAlgorithm.TheVariants.{Exponential}
 use Rattle.dcsctp_types.specs.declared.options.Options.{Options}
+use Rattle.dcsctp_types.specs.Settings.{packet_size_limit}
+use Rattle.dcsctp_types.specs.Sizes.{common_header_size, word_size}
 use Rattle.dcsctp_spec.specs.endpoint.Event as events
 use Rattle.dcsctp_spec.specs.Packet.{shutdown, shutdown_ack, shutdown_complete}
 use Rattle.dcsctp_spec.specs.queues.Tracker.{cumulative_tsn}
 use Rattle.dcsctp_spec.specs.queues.Transfer.{Transfer}
 use Rattle.dcsctp_spec.specs.queues.Items.{unacknowledged_items}
 use Rattle.dcsctp_spec.specs.queues.Retransmission.{outstanding_count}
+use Rattle.dcsctp_spec.specs.queues.OwnResets.{waits_for_reset}
 use Rattle.dcsctp_spec.specs.queues.SendQueue.{waits_at}
 use Rattle.dcsctp_spec.specs.endpoint.Endpoint.{Endpoint, Core, closed, cookie_wait, cookie_echoed, open_in, OpenPhase, established, shutdown_pending, shutdown_sent, shutdown_received, shutdown_ack_sent}
 use Rattle.dcsctp_spec.specs.endpoint.Timers.{BackoffTerms, TimerSettings, started, going_on, longest_wait}
 use Rattle.dcsctp_spec.specs.endpoint.Outcome.{Outcome, still, quiet, sends, to_peer}
-use Rattle.dcsctp_spec.specs.endpoint.BegunResets.{rto_of}
+use Rattle.dcsctp_spec.specs.endpoint.BegunResets.{request_size, rto_of}
 use Rattle.dcsctp_spec.specs.endpoint.FlushOutcomes.{allows_packet}
 use Rattle.dcsctp_spec.specs.endpoint.EndOutcomes.{ended_outcome, reflected_outcome}
 
@@ -74,10 +77,19 @@ abbrev pub is_all_acknowledged : Option Transfer → Bool
 is_all_acknowledged None = true
 is_all_acknowledged (Some transfer) = unacknowledged_items transfer.retransmission.outstanding.items == 0
 
+-- the size of a packet that requests the reset of one stream
+abbrev pub least_request_packet : ℕ
+least_request_packet = common_header_size + (request_size + word_size)
+
+-- Does a message wait for a reset that can be requested? One with a lifetime doesn't count, since nothing may come once that is over.
+abbrev pub awaits_reset : Endpoint → Bool
+awaits_reset e = nat_le least_request_packet (packet_size_limit e.options) && waits_for_reset e.queues.queue
+
 -- By the RFC a shutdown waits for what is queued, too (RFC 9260, section 9.2): while packets may be sent, and a message waits that
--- can be.
+-- can be, or could be after a reset.
 abbrev pub waits_for_queue : Endpoint → Bool
-waits_for_queue e = e.options.follow_rfc && (allows_packet e.options.max_burst && waits_at e.moment e.queues.queue)
+waits_for_queue e =
+    e.options.follow_rfc && (allows_packet e.options.max_burst && (waits_at e.moment e.queues.queue || awaits_reset e))
 
 -- Has the peer's cumulative TSN ack passed all that was sent, abandoned or not?
 abbrev pub is_all_passed : Option Transfer → Bool

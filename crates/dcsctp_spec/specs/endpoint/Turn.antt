@@ -57,7 +57,7 @@ abbrev pub unreadable_text : List ℕ
 unreadable_text = codes "Failed to parse SCTP packet"
 
 abbrev pub arrival_outcome : Endpoint → Outcome
-arrival_outcome e = still (record e { counts = record e.counts { packets_received = count_up e.counts.packets_received } })
+arrival_outcome e = still (record e { has_answered = false; counts = record e.counts { packets_received = count_up e.counts.packets_received } })
 
 abbrev pub refusal_outcome : Endpoint → List ℕ → Outcome
 refusal_outcome e text = reports e ParseFailed text

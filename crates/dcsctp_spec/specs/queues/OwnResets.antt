@@ -1,6 +1,7 @@
 -- Own streams that are to be reset: what leaves the send queue, which are ready, and what becomes of them (RFC 6525, section
 -- 5.1.2).
-use Rattle.std.specs.Prelude.{ℕ, ◌-◌, ◌^◌, ◌==◌, min, Bool, true, false, Option, None, Some, List, [], ◌∷◌, ◌++◌, take, drop, map, filter, if◌then◌else◌}
+use Rattle.std.specs.Prelude.{ℕ, ◌-◌, ◌^◌, ◌==◌, min, Bool, true, false, not, ◌&&◌, Option, None, Some, is_some, List, [], ◌∷◌, ◌++◌, take, drop, map, filter, if◌then◌else◌}
+use Rattle.std.specs.List.{list_any}
 use Rattle.dcsctp_spec.specs.endpoint.Event.{Event}
 use Rattle.dcsctp_types.specs.declared.sending.UnderWay.{UnderWay}
 use Rattle.dcsctp_types.specs.declared.sending.Pause.{Pause}
@@ -82,6 +83,14 @@ is_ready under_way stream = if is_pausing stream.pause then (if is_under_way str
 -- the streams that can be handed out, ascending
 abbrev pub ready_streams : SendQueueState → List ℕ
 ready_streams queue = map (λ stream. stream.id) (filter (is_ready queue.under_way) queue.streams)
+
+-- does a message wait without a limit of time?
+abbrev pub is_lasting : Waiting → Bool
+is_lasting message = not (is_some message.expires_at)
+
+-- Does such a message wait for the reset of its stream?
+abbrev pub waits_for_reset : SendQueueState → Bool
+waits_for_reset queue = list_any (λ stream. not (is_open_pause stream.pause) && list_any is_lasting stream.messages) queue.streams
 
 -- each of these streams is handed out
 abbrev pub handing_out : List ℕ → List Stream → List Stream

@@ -6,5 +6,5 @@ use Rattle.dcsctp_core_heartbeat.proofs.request.handle_heartbeat_request.Goals a
 
 pub returns : goal.returns
 returns g c =
-    answer_moves g.R.Rng.stream (view_of c.args.context.now) (view_of c.emit_to_peer.new.self)
+    answer_moves g.R.Rng.stream (view_of c.args.context.now) (view_of c.answer_peer.new.self)
     (map parameter_content c.args.chunk.now.parameters.items) (search rules)

@@ -5,7 +5,7 @@ use Rattle.dcsctp_core.specs.spec.endpoint.Endpoint.{open_in}
 use Rattle.dcsctp_core.specs.declared.state.OpenPhase.{OpenPhase}
 use Rattle.dcsctp_core.specs.View.{core_of, view_of, held_of, phase_in}
 use Rattle.dcsctp_core_handshake.proofs.InitSteps.{repeats_ack}
-use Rattle.dcsctp_core_handshake.proofs.init.handle_init.Goals as goal
+use Rattle.dcsctp_core_handshake.proofs.init.answer_init.Goals as goal
 
 pub returns-in_ok-send_shutdown_ack-in-ShutdownAckSent :
     goal.returns-in_ok-send_shutdown_ack-in-ShutdownAckSent
