@@ -389,8 +389,9 @@ typedef struct dcsctp_socket {
  *   a HEARTBEAT's first answer measures one. Data that a full window had no room for is sent again
  *   once it opens. Errors are counted for each association. A shutdown also waits until the peer
  *   knows what was abandoned. A SACK lists as many gaps as fit. An ABORT ends an attempt to
- *   connect. A late COOKIE ECHO of the last association begins none. Parts of messages count 256
- *   bytes more in the receive window. A packet brings one answer to its HEARTBEATs, INITs and
+ *   connect. A late COOKIE ECHO of the last association begins none, and a stale cookie is answered
+ *   by an ERROR. What is in flight where both ends connect is sent again. Parts of messages count
+ *   256 bytes more in the receive window. A packet brings one answer to its HEARTBEATs, INITs and
  *   RE-CONFIGs. A shutdown also waits for a message behind a reset of its stream, if it has no
  *   lifetime. At 0, and with upstream's limits (above), the socket behaves as upstream, but for a
  *   few differences: docs/design/differences.md has a row for each, and for each rule. */

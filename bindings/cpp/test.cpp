@@ -405,7 +405,7 @@ void any_order() {
         messages += world.messages;
         errors += world.errors;
     }
-    EXPECT(connected > 20 && messages > 50 && errors > 50);
+    EXPECT(connected > 15 && messages > 50 && errors > 50);
 }
 
 } // namespace

@@ -137,14 +137,19 @@ outstanding_of state = request_of (own_request (tcb_of state))
 abbrev pub reconfiguration_of : State → Option RunningTimer
 reconfiguration_of state = timer_of (own_request (tcb_of state))
 
--- An association that was just made, with this peer and this tie tag.
-pub record IsNew (options : Options) (own : Pair) (peer : Peer) (tie : ℕ) (tcb : TransmissionControlBlock) : Type 0 where
+-- An association that was just made, with this peer, this tie tag, and this below it.
+pub record IsMade (own : Pair) (peer : Peer) (tie : ℕ) (below : Transfer) (tcb : TransmissionControlBlock) : Type 0 where
   pub my : tcb.my ≡ own
   pub held : held_of tcb ≡ new_held own peer.pair peer.capabilities
   pub outstanding : request_of tcb.reset_request ≡ None
   pub reconfiguration : timer_of tcb.reset_request ≡ None
   pub tie_tag : tcb.tie_tag ≡ tie
-  pub transfer : tcb.transfer ≡ new_transfer options peer.capabilities own.first_tsn peer.pair.first_tsn peer.a_rwnd
+  pub transfer : tcb.transfer ≡ below
+
+-- The same, with nothing sent and nothing received.
+abbrev pub IsNew : Options → Pair → Peer → ℕ → TransmissionControlBlock → Type 0
+IsNew options own peer tie tcb =
+    IsMade own peer tie (new_transfer options peer.capabilities own.first_tsn peer.pair.first_tsn peer.a_rwnd) tcb
 
 abbrev pub transfer_in : Option TransmissionControlBlock → Option Transfer
 transfer_in None = None

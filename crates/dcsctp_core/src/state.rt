@@ -2,6 +2,7 @@
 
 use crate::expiry::{Expiry, expire};
 use crate::transmission_control_block::TransmissionControlBlock;
+use dcsctp_transfer::Transfer;
 use dcsctp_transfer::api::{Association, Message, Options, Pair, Phase, SocketState, SocketTime};
 use dcsctp_transfer::send_timer::Timer;
 use std::collections::VecDeque;
@@ -163,7 +164,7 @@ impl State {
     ghost use Rattle.std.specs.Option.{option_map};
     ghost use Rattle.dcsctp_transfer.specs.spec.endpoint.Timers.{running_deadline};
     ghost use Rattle.std.specs.Borrow.{sem};
-    ghost use Rattle.dcsctp_core.specs.View.{core_of, tcb_of, t1_of, established_from};
+    ghost use Rattle.dcsctp_core.specs.View.{core_of, tcb_of, t1_of, transfer_of, established_from};
     ghost use Rattle.dcsctp_core.specs.Lending.{LendsTcb};
     ghost use Rattle.dcsctp_core.specs.Timing.{expiry_of, t1_told};
 
@@ -214,6 +215,23 @@ impl State {
                 Some(echoed.tcb.transfer.take_ready_messages(options))
             }
             State::Open(mut opened) => Some(opened.tcb.transfer.take_ready_messages(options)),
+        }
+    }
+
+    /// What is in flight and what was received, once the peer is known. All else is dropped. Allocates nothing.
+    pub fn into_transfer(self) -> Option<Transfer>
+        ensures { result ≡ transfer_of self }
+    {
+        match self {
+            State::Closed | State::CookieWait(_) => None,
+            State::CookieEchoed(echoed) => {
+                let tcb = echoed.tcb;
+                Some(tcb.transfer)
+            }
+            State::Open(opened) => {
+                let tcb = opened.tcb;
+                Some(tcb.transfer)
+            }
         }
     }
 

@@ -8,7 +8,7 @@ ghost use Rattle.dcsctp_transfer.specs.spec.queues.Chunks.{chunk_said};
 ghost use Rattle.dcsctp_transfer.specs.spec.queues.Outstanding.{header_of};
 ghost use Rattle.dcsctp_transfer.specs.spec.queues.Readiness.{transfer_readiness};
 ghost use Rattle.dcsctp_transfer.specs.wire.Content.{chunk_content};
-ghost use Rattle.dcsctp_core.specs.View.{held_of, request_number, IsNew};
+ghost use Rattle.dcsctp_core.specs.View.{held_of, request_number, IsMade, IsNew};
 ghost use Rattle.dcsctp_core.specs.Flushing.{empty_packet};
 
 use dcsctp_transfer::api::{
@@ -108,19 +108,32 @@ impl TransmissionControlBlock {
     ) -> TransmissionControlBlock
         ensures { IsNew options.now my peer.now tie_tag result }
     {
+        let transfer = Transfer::new(
+            alloc,
+            options,
+            my.first_tsn,
+            peer.pair.first_tsn,
+            peer.a_rwnd,
+            &peer.capabilities,
+        );
+        TransmissionControlBlock::with_transfer(my, peer, tie_tag, transfer)
+    }
+
+    /// An association with this peer that goes on with what was sent. Allocates nothing.
+    pub fn with_transfer(
+        my: Pair,
+        peer: &Peer,
+        tie_tag: u64,
+        transfer: Transfer,
+    ) -> TransmissionControlBlock
+        ensures { IsMade my peer.now tie_tag transfer result }
+    {
         TransmissionControlBlock {
             my,
             peer: peer.pair,
             capabilities: peer.capabilities,
             tie_tag,
-            transfer: Transfer::new(
-                alloc,
-                options,
-                my.first_tsn,
-                peer.pair.first_tsn,
-                peer.a_rwnd,
-                &peer.capabilities,
-            ),
+            transfer,
             next_outgoing_reset_req_seq_nbr: my.first_tsn,
             reset_request: None,
             last_processed_req_seq_nbr: peer.pair.first_tsn.wrapping_sub(1),

@@ -8,13 +8,14 @@ use Rattle.dcsctp_core.specs.types.Settings.{ports_of}
 use Rattle.dcsctp_core.specs.spec.Cookie.{Cookie}
 use Rattle.dcsctp_core.specs.spec.endpoint.Event.{Event, connected, connection_restarted}
 use Rattle.dcsctp_core.specs.spec.Packet.{Emission, cookie_ack}
-use Rattle.dcsctp_core.specs.spec.queues.SendQueue.{SendQueueState, queue_restarted}
+use Rattle.dcsctp_core.specs.spec.queues.SendQueue.{queue_restarted}
+use Rattle.dcsctp_core.specs.spec.queues.Transfer.{EndpointQueues}
 use Rattle.dcsctp_core.specs.spec.endpoint.Endpoint.{Endpoint, held_in}
 use Rattle.dcsctp_core.specs.spec.endpoint.Outcome.{Outcome}
 use Rattle.dcsctp_core.specs.spec.association.Effect.{Effect, holds, connects, identity_of}
 use Rattle.dcsctp_core.specs.spec.association.CookieEchoChanges.{held_by_cookie}
 use Rattle.dcsctp_core.specs.spec.endpoint.FlushOutcomes.{Answer, first_ask, flush_answered, packets_allowed}
-use Rattle.dcsctp_core.specs.spec.endpoint.CookieEchoOutcomes.{established_by, cookie_ack_emission, establish_by, queue_where, queue_begun, EstablishAnswers}
+use Rattle.dcsctp_core.specs.spec.endpoint.CookieEchoOutcomes.{established_by, cookie_ack_emission, establish_by, queue_where, queues_with, queues_begun, EstablishAnswers}
 use Rattle.dcsctp_core.proofs.spec_lemmas.AnswerLemmas.{any_answers}
 use Rattle.dcsctp_core.specs.api.Calls.{user_event}
 use Rattle.dcsctp_core.specs.api.declared.events.SocketEvent.{SocketEvent}
@@ -24,7 +25,7 @@ use Rattle.dcsctp_core.specs.View.{View, Moves, CutTurn, view_of, endpoint_of}
 use Rattle.dcsctp_core.specs.Drawing.{long_word, DrawsNext}
 use Rattle.dcsctp_core.specs.Handling.{TakesPossibleTurn, CutIn}
 use Rattle.dcsctp_core.proofs.Composing.{behind, Draws, moves_behind, cut_behind, moves_noting, cut_noting, cut_first, added_one}
-use Rattle.dcsctp_core_handshake.specs.Echoes.{acknowledges_by, peer_acknowledged, AcknowledgedAnswers, AcknowledgementAt, AssociationAt, EstablishAt, ReplaceAt, RestartAt, established_with}
+use Rattle.dcsctp_core_handshake.specs.Echoes.{acknowledges_by, peer_acknowledged, AcknowledgedAnswers, AcknowledgementAt, AssociationAt, EstablishAt, OutlastAt, ReplaceAt, RestartAt, queues_over}
 
 -- ---- a flush at the endpoint that a cookie makes
 
@@ -47,95 +48,136 @@ abbrev effects_of : Endpoint → Cookie → List Effect
 effects_of e cookie = holds (identity_of cookie.maker (held_by_cookie e.options cookie)) ∷ connects (identity_of cookie.maker (held_by_cookie e.options cookie)) ∷ []
 
 -- after these events and this word
-pub associates : {R : Type 0} (stream : R → Stream) (old mid new : View R) (cookie : Cookie) (queue : SendQueueState) (tie : ℕ) (events : List (Event Emission))
-    → tie ≡ long_word (stream old.generator) → mid.endpoint ≡ established_by old.endpoint cookie queue tie
+pub associates : {R : Type 0} (stream : R → Stream) (old mid new : View R) (cookie : Cookie) (queues : EndpointQueues) (tie : ℕ) (events : List (Event Emission))
+    → tie ≡ long_word (stream old.generator) → mid.endpoint ≡ established_by old.endpoint cookie queues tie
     → mid.events ≡ old.events ++ map (user_event (ports_of old.endpoint.options)) events → Draws stream old (U64 tie ∷ []) mid
-    → TakesPossibleTurn stream AcknowledgementAt mid new → TakesPossibleTurn stream (AssociationAt stream cookie queue events) old new
-associates {R = R} stream old mid new cookie queue tie events drawn here added draws t =
-    let e : Endpoint = established_by old.endpoint cookie queue tie in
+    → TakesPossibleTurn stream AcknowledgementAt mid new → TakesPossibleTurn stream (AssociationAt stream cookie queues events) old new
+associates {R = R} stream old mid new cookie queues tie events drawn here added draws t =
+    let e : Endpoint = established_by old.endpoint cookie queues tie in
     let held : Held = held_by_cookie old.endpoint.options cookie in
     let answers : List Answer = t.turn.0 in
     let a : AcknowledgedThere e answers held t.outcome = there mid e held t.outcome t.turn here refl in
     let m : Moves stream mid (acknowledges_by (flush_answered answers) e held []) new = subst (λ (o : Outcome). Moves stream mid o new) a.is t.moves in
-    let all : Moves stream old (establish_by (flush_answered answers) old.endpoint cookie queue tie events) new =
+    let all : Moves stream old (establish_by (flush_answered answers) old.endpoint cookie queues tie events) new =
     moves_noting stream old new (effects_of old.endpoint cookie) (flush_answered answers e (U64 tie ∷ []) events (cookie_ack_emission held cookie).with_checksum cookie.addressee.tag (cookie_ack ∷ [])) refl
     (moves_behind stream old mid new (U64 tie ∷ []) events (acknowledges_by (flush_answered answers) e held [])
     (record { ports = ap (λ (x : Endpoint). ports_of x.options) here; events = added }) draws m) in
-    subst (λ (word : ℕ). (answered : List Answer) × EstablishAnswers old.endpoint cookie queue word answered × Moves stream old (establish_by (flush_answered answered) old.endpoint cookie queue word events) new → TakesPossibleTurn stream (AssociationAt stream cookie queue events) old new)
-    (sym drawn) (λ h. record { outcome = establish_by (flush_answered h.0) old.endpoint cookie queue (long_word (stream old.generator)) events; turn = (h.0, h.1, refl); moves = h.2 })
+    subst (λ (word : ℕ). (answered : List Answer) × EstablishAnswers old.endpoint cookie queues word answered × Moves stream old (establish_by (flush_answered answered) old.endpoint cookie queues word events) new → TakesPossibleTurn stream (AssociationAt stream cookie queues events) old new)
+    (sym drawn) (λ h. record { outcome = establish_by (flush_answered h.0) old.endpoint cookie queues (long_word (stream old.generator)) events; turn = (h.0, h.1, refl); moves = h.2 })
     (answers, a.allowed, all)
 
 -- the same, cut
-pub associates_cut : {R : Type 0} (stream : R → Stream) (old mid : View R) (es : List (Event (List ℕ))) (cookie : Cookie) (queue : SendQueueState) (tie : ℕ) (events : List (Event Emission))
-    → tie ≡ long_word (stream old.generator) → mid.endpoint ≡ established_by old.endpoint cookie queue tie
+pub associates_cut : {R : Type 0} (stream : R → Stream) (old mid : View R) (es : List (Event (List ℕ))) (cookie : Cookie) (queues : EndpointQueues) (tie : ℕ) (events : List (Event Emission))
+    → tie ≡ long_word (stream old.generator) → mid.endpoint ≡ established_by old.endpoint cookie queues tie
     → mid.events ≡ old.events ++ map (user_event (ports_of old.endpoint.options)) events
-    → CutIn AcknowledgementAt mid es → CutIn (AssociationAt stream cookie queue events) old es
-associates_cut {R = R} stream old mid es cookie queue tie events drawn here added t =
-    let e : Endpoint = established_by old.endpoint cookie queue tie in
+    → CutIn AcknowledgementAt mid es → CutIn (AssociationAt stream cookie queues events) old es
+associates_cut {R = R} stream old mid es cookie queues tie events drawn here added t =
+    let e : Endpoint = established_by old.endpoint cookie queues tie in
     let held : Held = held_by_cookie old.endpoint.options cookie in
     let answers : List Answer = t.turn.0 in
     let a : AcknowledgedThere e answers held t.outcome = there mid e held t.outcome t.turn here refl in
     let m : CutTurn mid (acknowledges_by (flush_answered answers) e held []) es = subst (λ (o : Outcome). CutTurn mid o es) a.is t.cut in
-    let all : CutTurn old (establish_by (flush_answered answers) old.endpoint cookie queue tie events) es =
+    let all : CutTurn old (establish_by (flush_answered answers) old.endpoint cookie queues tie events) es =
     cut_noting old (effects_of old.endpoint cookie) (flush_answered answers e (U64 tie ∷ []) events (cookie_ack_emission held cookie).with_checksum cookie.addressee.tag (cookie_ack ∷ [])) es
     (cut_behind old mid (U64 tie ∷ []) events (acknowledges_by (flush_answered answers) e held []) es
     (record { ports = ap (λ (x : Endpoint). ports_of x.options) here; events = added }) m) in
-    subst (λ (word : ℕ). (answered : List Answer) × EstablishAnswers old.endpoint cookie queue word answered × CutTurn old (establish_by (flush_answered answered) old.endpoint cookie queue word events) es → CutIn (AssociationAt stream cookie queue events) old es)
-    (sym drawn) (λ h. record { outcome = establish_by (flush_answered h.0) old.endpoint cookie queue (long_word (stream old.generator)) events; turn = (h.0, h.1, refl); cut = h.2 })
+    subst (λ (word : ℕ). (answered : List Answer) × EstablishAnswers old.endpoint cookie queues word answered × CutTurn old (establish_by (flush_answered answered) old.endpoint cookie queues word events) es → CutIn (AssociationAt stream cookie queues events) old es)
+    (sym drawn) (λ h. record { outcome = establish_by (flush_answered h.0) old.endpoint cookie queues (long_word (stream old.generator)) events; turn = (h.0, h.1, refl); cut = h.2 })
     (answers, a.allowed, all)
 
 -- before its first event
-pub association_unmade : {R : Type 0} (stream : R → Stream) (old : View R) (es : List (Event (List ℕ))) (cookie : Cookie) (queue : SendQueueState) (events : List (Event Emission))
-    → es ≡ old.events → CutIn (AssociationAt stream cookie queue events) old es
-association_unmade stream old es cookie queue events same =
+pub association_unmade : {R : Type 0} (stream : R → Stream) (old : View R) (es : List (Event (List ℕ))) (cookie : Cookie) (queues : EndpointQueues) (events : List (Event Emission))
+    → es ≡ old.events → CutIn (AssociationAt stream cookie queues events) old es
+association_unmade stream old es cookie queues events same =
     let tie : ℕ = long_word (stream old.generator) in
-    let e : Endpoint = established_by old.endpoint cookie queue tie in
+    let e : Endpoint = established_by old.endpoint cookie queues tie in
     let some = any_answers first_ask (packets_allowed e.options.max_burst e.core) e (cookie_ack_emission (held_by_cookie old.endpoint.options cookie) cookie) in
-    let o : Outcome = establish_by (flush_answered some.0) old.endpoint cookie queue tie events in
+    let o : Outcome = establish_by (flush_answered some.0) old.endpoint cookie queues tie events in
     record { outcome = o; turn = (some.0, some.1, refl); cut = cut_first old o es same }
 
--- ---- without a peer
+-- ---- with queues of this kind
 
 -- what holds once it is made: a word was drawn, and OnConnected was added
-abbrev Made : {R : Type 0} → Context R → List SocketEvent → Cookie → ℕ → View R → Type 0
-Made drawn added cookie tie mid = mid ≡ record (view_of (record drawn { events = added })) { endpoint = established_with (endpoint_of (record drawn { events = added })) cookie tie }
+abbrev Made : {R : Type 0} → (Endpoint → Cookie → EndpointQueues) → Context R → List SocketEvent → Cookie → ℕ → View R → Type 0
+Made queues drawn added cookie tie mid =
+    let e : Endpoint = endpoint_of (record drawn { events = added }) in
+    mid ≡ record (view_of (record drawn { events = added })) { endpoint = established_by e cookie (queues e cookie) tie }
 
-made_endpoint : {R : Type 0} (stream : R → Stream) (old drawn : Context R) (added : List SocketEvent) (cookie : Cookie) (tie : ℕ) (mid : View R)
-    → DrawsNext stream next_u64 U64 old tie drawn → Made drawn added cookie tie mid → mid.endpoint ≡ established_with (endpoint_of old) cookie tie
-made_endpoint {R = R} stream old drawn added cookie tie mid d made =
-    ap (λ (v : View R). v.endpoint) made ∙ ap (λ (x : Context R). established_with (endpoint_of (record x { events = added })) cookie tie) d.only
+made_endpoint : {R : Type 0} (stream : R → Stream) (queues : Endpoint → Cookie → EndpointQueues) (old drawn : Context R) (added : List SocketEvent) (cookie : Cookie) (tie : ℕ) (mid : View R)
+    → DrawsNext stream next_u64 U64 old tie drawn → Made queues drawn added cookie tie mid → mid.endpoint ≡ established_by (endpoint_of old) cookie (queues (endpoint_of old) cookie) tie
+made_endpoint {R = R} stream queues old drawn added cookie tie mid d made =
+    ap (λ (v : View R). v.endpoint) made
+    ∙ ap (λ (x : Context R). established_by (endpoint_of (record x { events = added })) cookie (queues (endpoint_of (record x { events = added })) cookie) tie) d.only
 
-made_events : {R : Type 0} (stream : R → Stream) (old drawn : Context R) (added : List SocketEvent) (cookie : Cookie) (tie : ℕ) (mid : View R)
-    → DrawsNext stream next_u64 U64 old tie drawn → added ≡ drawn.events ++ OnConnected ∷ [] → Made drawn added cookie tie mid → mid.events ≡ (view_of old).events ++ connected ∷ []
-made_events {R = R} stream old drawn added cookie tie mid d one made =
+made_events : {R : Type 0} (stream : R → Stream) (queues : Endpoint → Cookie → EndpointQueues) (old drawn : Context R) (added : List SocketEvent) (cookie : Cookie) (tie : ℕ) (mid : View R)
+    → DrawsNext stream next_u64 U64 old tie drawn → added ≡ drawn.events ++ OnConnected ∷ [] → Made queues drawn added cookie tie mid → mid.events ≡ (view_of old).events ++ connected ∷ []
+made_events {R = R} stream queues old drawn added cookie tie mid d one made =
     ap (λ (v : View R). v.events) made ∙ added_one old.events added OnConnected (one ∙ ap (λ (x : Context R). x.events ++ OnConnected ∷ []) d.only)
 
-pub establishes : {R : Type 0} (stream : R → Stream) (old drawn : Context R) (added : List SocketEvent) (cookie : Cookie) (tie : ℕ) (mid new : View R)
-    → DrawsNext stream next_u64 U64 old tie drawn → added ≡ drawn.events ++ OnConnected ∷ [] → Made drawn added cookie tie mid
-    → TakesPossibleTurn stream AcknowledgementAt mid new → TakesPossibleTurn stream (EstablishAt stream cookie) (view_of old) new
-establishes {R = R} stream old drawn added cookie tie mid new d one made t =
+associated : {R : Type 0} (stream : R → Stream) (queues : Endpoint → Cookie → EndpointQueues) (old drawn : Context R) (added : List SocketEvent) (cookie : Cookie) (tie : ℕ) (mid new : View R)
+    → DrawsNext stream next_u64 U64 old tie drawn → added ≡ drawn.events ++ OnConnected ∷ [] → Made queues drawn added cookie tie mid
+    → TakesPossibleTurn stream AcknowledgementAt mid new → TakesPossibleTurn stream (AssociationAt stream cookie (queues (endpoint_of old) cookie) (connected ∷ [])) (view_of old) new
+associated {R = R} stream queues old drawn added cookie tie mid new d one made t =
     let same : drawn.pairs ≡ old.pairs = d.pairs in
     let same_pairs : (view_of drawn).pairs ≡ (view_of old).pairs = cc in
-    let all = associates stream (view_of old) mid new cookie (queue_where false (endpoint_of old) cookie) tie (connected ∷ []) d.from_stream
-    (made_endpoint stream old drawn added cookie tie mid d made) (made_events stream old drawn added cookie tie mid d one made)
+    associates stream (view_of old) mid new cookie (queues (endpoint_of old) cookie) tie (connected ∷ []) d.from_stream
+    (made_endpoint stream queues old drawn added cookie tie mid d made) (made_events stream queues old drawn added cookie tie mid d one made)
     (record {
       words = ap (λ (v : View R). v.words) made ∙ d.kept;
       pairs = ap (λ (v : View R). v.pairs) made ∙ same_pairs;
       drawn = (d.from_stream, ap (λ (v : View R). stream v.generator) made ∙ d.left);
-    }) t in
+    }) t
+
+associated_cut : {R : Type 0} (stream : R → Stream) (queues : Endpoint → Cookie → EndpointQueues) (old drawn : Context R) (added : List SocketEvent) (cookie : Cookie) (tie : ℕ) (mid : View R) (es : List (Event (List ℕ)))
+    → DrawsNext stream next_u64 U64 old tie drawn → added ≡ drawn.events ++ OnConnected ∷ [] → Made queues drawn added cookie tie mid
+    → CutIn AcknowledgementAt mid es → CutIn (AssociationAt stream cookie (queues (endpoint_of old) cookie) (connected ∷ [])) (view_of old) es
+associated_cut stream queues old drawn added cookie tie mid es d one made t =
+    associates_cut stream (view_of old) mid es cookie (queues (endpoint_of old) cookie) tie (connected ∷ []) d.from_stream
+    (made_endpoint stream queues old drawn added cookie tie mid d made) (made_events stream queues old drawn added cookie tie mid d one made) t
+
+-- ---- without a peer
+
+abbrev queues_waiting : Endpoint → Cookie → EndpointQueues
+queues_waiting e cookie = queues_with e cookie (queue_where false e cookie)
+
+pub establishes : {R : Type 0} (stream : R → Stream) (old drawn : Context R) (added : List SocketEvent) (cookie : Cookie) (tie : ℕ) (mid new : View R)
+    → DrawsNext stream next_u64 U64 old tie drawn → added ≡ drawn.events ++ OnConnected ∷ [] → Made queues_waiting drawn added cookie tie mid
+    → TakesPossibleTurn stream AcknowledgementAt mid new → TakesPossibleTurn stream (EstablishAt stream cookie) (view_of old) new
+establishes stream old drawn added cookie tie mid new d one made t =
+    let all = associated stream queues_waiting old drawn added cookie tie mid new d one made t in
     record { outcome = all.outcome; turn = all.turn; moves = all.moves }
 
 pub establishes_cut : {R : Type 0} (stream : R → Stream) (old drawn : Context R) (added : List SocketEvent) (cookie : Cookie) (tie : ℕ) (mid : View R) (es : List (Event (List ℕ)))
-    → DrawsNext stream next_u64 U64 old tie drawn → added ≡ drawn.events ++ OnConnected ∷ [] → Made drawn added cookie tie mid
+    → DrawsNext stream next_u64 U64 old tie drawn → added ≡ drawn.events ++ OnConnected ∷ [] → Made queues_waiting drawn added cookie tie mid
     → CutIn AcknowledgementAt mid es → CutIn (EstablishAt stream cookie) (view_of old) es
 establishes_cut stream old drawn added cookie tie mid es d one made t =
-    let all = associates_cut stream (view_of old) mid es cookie (queue_where false (endpoint_of old) cookie) tie (connected ∷ []) d.from_stream
-    (made_endpoint stream old drawn added cookie tie mid d made) (made_events stream old drawn added cookie tie mid d one made) t in
+    let all = associated_cut stream queues_waiting old drawn added cookie tie mid es d one made t in
     record { outcome = all.outcome; turn = all.turn; cut = all.cut }
 
 pub establish_unmade : {R : Type 0} (stream : R → Stream) (old : View R) (es : List (Event (List ℕ))) (cookie : Cookie) → es ≡ old.events → CutIn (EstablishAt stream cookie) old es
 establish_unmade stream old es cookie same =
-    let all = association_unmade stream old es cookie (queue_where false old.endpoint cookie) (connected ∷ []) same in
+    let all = association_unmade stream old es cookie (queues_waiting old.endpoint cookie) (connected ∷ []) same in
+    record { outcome = all.outcome; turn = all.turn; cut = all.cut }
+
+-- ---- of what was sent in another
+
+pub outlasting : {R : Type 0} (stream : R → Stream) (old drawn : Context R) (added : List SocketEvent) (cookie : Cookie) (tie : ℕ) (mid new : View R)
+    → DrawsNext stream next_u64 U64 old tie drawn → added ≡ drawn.events ++ OnConnected ∷ [] → Made queues_over drawn added cookie tie mid
+    → TakesPossibleTurn stream AcknowledgementAt mid new → TakesPossibleTurn stream (OutlastAt stream cookie) (view_of old) new
+outlasting stream old drawn added cookie tie mid new d one made t =
+    let all = associated stream queues_over old drawn added cookie tie mid new d one made t in
+    record { outcome = all.outcome; turn = all.turn; moves = all.moves }
+
+pub outlasting_cut : {R : Type 0} (stream : R → Stream) (old drawn : Context R) (added : List SocketEvent) (cookie : Cookie) (tie : ℕ) (mid : View R) (es : List (Event (List ℕ)))
+    → DrawsNext stream next_u64 U64 old tie drawn → added ≡ drawn.events ++ OnConnected ∷ [] → Made queues_over drawn added cookie tie mid
+    → CutIn AcknowledgementAt mid es → CutIn (OutlastAt stream cookie) (view_of old) es
+outlasting_cut stream old drawn added cookie tie mid es d one made t =
+    let all = associated_cut stream queues_over old drawn added cookie tie mid es d one made t in
+    record { outcome = all.outcome; turn = all.turn; cut = all.cut }
+
+pub outlast_unmade : {R : Type 0} (stream : R → Stream) (old : View R) (es : List (Event (List ℕ))) (cookie : Cookie) → es ≡ old.events → CutIn (OutlastAt stream cookie) old es
+outlast_unmade stream old es cookie same =
+    let all = association_unmade stream old es cookie (queues_over old.endpoint cookie) (connected ∷ []) same in
     record { outcome = all.outcome; turn = all.turn; cut = all.cut }
 
 -- ---- in place of another
@@ -195,5 +237,5 @@ restarts_cut {R = R} stream old mid es cookie is t =
 
 pub restart_unmade : {R : Type 0} (stream : R → Stream) (old : View R) (es : List (Event (List ℕ))) (cookie : Cookie) → es ≡ old.events → CutIn (RestartAt stream cookie) old es
 restart_unmade stream old es cookie same =
-    let all = association_unmade stream old es cookie (queue_begun old.endpoint cookie) (connection_restarted ∷ connected ∷ []) same in
+    let all = association_unmade stream old es cookie (queues_begun old.endpoint cookie) (connection_restarted ∷ connected ∷ []) same in
     record { outcome = all.outcome; turn = all.turn; cut = all.cut }

@@ -15,18 +15,18 @@ use Rattle.dcsctp_core.specs.spec.association.Effect.{connects, identity_of}
 use Rattle.dcsctp_core.specs.spec.association.CookieEchoChanges.{Resolution, establish_new, restart, simultaneous_init, discard, maintain_existing, invalid_tag, stale, case_by, case_with_peer, resolve}
 use Rattle.dcsctp_core.specs.spec.endpoint.FlushOutcomes.{Answer, FlushAnswers, flush_answered}
 use Rattle.dcsctp_core.specs.spec.endpoint.HandshakeOutcomes.{connected_after}
-use Rattle.dcsctp_core.specs.spec.endpoint.CookieEchoOutcomes.{is_spent, maintain_by, resolved_by, cookie_echo_by, discard_outcome, refused_echo_outcome, MaintainAnswers, ResolvedAnswers, EchoedAnswers, resolved_now, CookieEchoTurn}
+use Rattle.dcsctp_core.specs.spec.endpoint.CookieEchoOutcomes.{is_spent, maintain_by, resolved_by, cookie_echo_by, discard_outcome, refused_echo_outcome, stale_outcome, MaintainAnswers, ResolvedAnswers, EchoedAnswers, resolved_now, CookieEchoTurn}
 use Rattle.dcsctp_core.proofs.spec_lemmas.ControlEcho.{kept_by_age}
 use Rattle.dcsctp_core.specs.declared.context.Context.{Context}
 use Rattle.dcsctp_core.specs.declared.following.Following.{Following}
 use Rattle.dcsctp_core.specs.declared.following.Following.TheVariants.{NextChunk, DroppedRest}
 use Rattle.dcsctp_core.specs.View.{View, view_of, endpoint_of}
 use Rattle.dcsctp_core.specs.Drawing.{long_word}
-use Rattle.dcsctp_core.specs.Handling.{TakesPossibleTurn, CutIn, HandlesIn, HandlesPossibleTurn}
+use Rattle.dcsctp_core.specs.Handling.{TakesPossibleTurn, CutIn, HandlesTurn, HandlesIn, HandlesPossibleTurn}
 use Rattle.dcsctp_core.proofs.Composing.{cut_first}
 use Rattle.dcsctp_core.proofs.Moving.{moves_still}
 use Rattle.dcsctp_core_handshake.specs.Handshake.{CookieEchoAt}
-use Rattle.dcsctp_core_handshake.specs.Echoes.{EstablishNewAt, ReplaceAt, RestartWhereAt, MaintainAt, maintained_by, MaintainedAnswers}
+use Rattle.dcsctp_core_handshake.specs.Echoes.{EstablishNewAt, CollideAt, RestartWhereAt, MaintainAt, maintained_by, MaintainedAnswers, stale_turn}
 use Rattle.dcsctp_core_handshake.proofs.FlushSteps.{flush_following}
 
 -- ---- which case it is
@@ -73,9 +73,9 @@ works_new_cut stream old es header bytes cookie c t =
       cut = t.cut;
     }
 
-pub works_replacing : {R : Type 0} (stream : R → Stream) (old new : View R) (header : ℕ) (bytes : List ℕ) (cookie : Cookie) → IsCase old.endpoint header bytes cookie simultaneous_init
-    → TakesPossibleTurn stream (ReplaceAt stream cookie) old new → HandlesIn stream (CookieEchoAt header bytes) old NextChunk new
-works_replacing stream old new header bytes cookie c t =
+pub works_colliding : {R : Type 0} (stream : R → Stream) (old new : View R) (header : ℕ) (bytes : List ℕ) (cookie : Cookie) → IsCase old.endpoint header bytes cookie simultaneous_init
+    → TakesPossibleTurn stream (CollideAt stream cookie) old new → HandlesIn stream (CookieEchoAt header bytes) old NextChunk new
+works_colliding stream old new header bytes cookie c t =
     record {
       outcome = t.outcome;
       turn = turn_of old.endpoint header bytes cookie (long_word (stream old.generator)) simultaneous_init t.turn.0 t.outcome c t.turn.1 t.turn.2;
@@ -83,9 +83,9 @@ works_replacing stream old new header bytes cookie c t =
       following = ap (λ (o : Outcome). o.following) t.turn.2 ∙ flush_following _ _ t.turn.0;
     }
 
-pub works_replacing_cut : {R : Type 0} (stream : R → Stream) (old : View R) (es : List (Event (List ℕ))) (header : ℕ) (bytes : List ℕ) (cookie : Cookie) → IsCase old.endpoint header bytes cookie simultaneous_init
-    → CutIn (ReplaceAt stream cookie) old es → CutIn (CookieEchoAt header bytes) old es
-works_replacing_cut stream old es header bytes cookie c t =
+pub works_colliding_cut : {R : Type 0} (stream : R → Stream) (old : View R) (es : List (Event (List ℕ))) (header : ℕ) (bytes : List ℕ) (cookie : Cookie) → IsCase old.endpoint header bytes cookie simultaneous_init
+    → CutIn (CollideAt stream cookie) old es → CutIn (CookieEchoAt header bytes) old es
+works_colliding_cut stream old es header bytes cookie c t =
     record {
       outcome = t.outcome;
       turn = turn_of old.endpoint header bytes cookie (long_word (stream old.generator)) simultaneous_init t.turn.0 t.outcome c t.turn.1 t.turn.2;
@@ -210,6 +210,17 @@ pub untagged_turn : {R : Type 0} (old : View R) (header : ℕ) (bytes : List ℕ
 untagged_turn old header bytes cookie c = resolved old.endpoint header bytes cookie 0 invalid_tag [] c refl
 
 -- since it would make an association, and its cookie is stale
-pub stale_turn : {R : Type 0} (old : View R) (header : ℕ) (bytes : List ℕ) (cookie : Cookie) → IsCase old.endpoint header bytes cookie stale
-    → CookieEchoAt header bytes old (resolved_by (flush_answered []) old.endpoint cookie old.endpoint.core 0 stale)
-stale_turn old header bytes cookie c = resolved old.endpoint header bytes cookie 0 stale [] c refl
+stale_is : (old : Endpoint) (header : ℕ) (bytes : List ℕ) (cookie : Cookie) → IsCase old header bytes cookie stale → CookieEchoTurn old header bytes (stale_outcome old cookie)
+stale_is old header bytes cookie c = resolved old header bytes cookie 0 stale [] c refl
+
+pub works_stale : {R E : Type 0} (stream : R → Stream) (old : Context R) (result : Result Following E) (new : Context R) (header : ℕ) (bytes : List ℕ) (cookie : Cookie)
+    → IsCase (endpoint_of old) header bytes cookie stale → HandlesTurn stream (stale_turn cookie.addressee.tag) old result new → HandlesPossibleTurn stream (CookieEchoAt header bytes) old result new
+works_stale stream old (Ok next) new header bytes cookie c t =
+    record {
+      outcome = stale_outcome (endpoint_of old) cookie;
+      turn = stale_is (endpoint_of old) header bytes cookie c;
+      moves = t.moves;
+      following = t.following;
+    }
+works_stale stream old (Err error) new header bytes cookie c t =
+    record { outcome = stale_outcome (endpoint_of old) cookie; turn = stale_is (endpoint_of old) header bytes cookie c; cut = t }

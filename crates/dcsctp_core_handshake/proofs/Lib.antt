@@ -6,4 +6,5 @@ mod InitAckSteps
 mod InitSteps
 mod MaintainSteps
 mod RestartSteps
+mod StaleSteps
 mod T1Steps

@@ -15,7 +15,7 @@ use Rattle.dcsctp_core.specs.spec.Packet.{emission_bytes}
 use Rattle.dcsctp_core.specs.spec.endpoint.Endpoint.{Endpoint, Core, closed, cookie_wait, cookie_echoed, open_in, established, shutdown_pending, shutdown_sent, shutdown_received, shutdown_ack_sent, held_in}
 use Rattle.dcsctp_core.specs.spec.endpoint.Outcome.{Outcome, packet_counted, reports}
 use Rattle.dcsctp_core.specs.spec.endpoint.FlushOutcomes.{Answer, FlushKind, flush_answered, is_none}
-use Rattle.dcsctp_core.specs.spec.endpoint.CookieEchoOutcomes.{shutting_down_text, shutting_down_emission, refused_restart_outcome, restart_by, restart_by_where, queue_begun, EstablishAnswers, RestartAnswers}
+use Rattle.dcsctp_core.specs.spec.endpoint.CookieEchoOutcomes.{shutting_down_text, shutting_down_emission, refused_restart_outcome, restart_by, restart_by_where, queues_begun, EstablishAnswers, RestartAnswers}
 use Rattle.dcsctp_core.specs.declared.context.Context.{Context}
 use Rattle.dcsctp_core.specs.declared.following.Following.TheVariants.{NextChunk, DroppedRest}
 use Rattle.dcsctp_core.specs.declared.transmission_control_block.TransmissionControlBlock.{TransmissionControlBlock}
@@ -142,7 +142,7 @@ refused_where flush e cookie tie (open_in shutdown_received mine held) waits = a
 refused_where flush e cookie tie (open_in shutdown_ack_sent mine held) waits = (refl, refl)
 
 -- None does: the association is restarted.
-anew_where : (flush : FlushKind) (e : Endpoint) (cookie : Cookie) (tie : ℕ) (core : Core) (answers : List Answer) → awaits_complete core ≡ false → EstablishAnswers e cookie (queue_begun e cookie) tie answers
+anew_where : (flush : FlushKind) (e : Endpoint) (cookie : Cookie) (tie : ℕ) (core : Core) (answers : List Answer) → awaits_complete core ≡ false → EstablishAnswers e cookie (queues_begun e cookie) tie answers
     → RestartAnswers e cookie tie core answers × (restart_by flush e cookie tie ≡ restart_by_where flush e cookie tie core)
 anew_where flush e cookie tie closed answers waits h = (h, refl)
 anew_where flush e cookie tie (cookie_wait mine) answers waits h = (h, refl)

@@ -1,18 +1,22 @@
 -- What a COOKIE ECHO brings, as turns of a socket's view.
-use Rattle.std.specs.Prelude.{◌≡◌, ◌==◌, ℕ, Bool, true, false, Option, None, Some, List, [], ◌∷◌}
+use Rattle.std.specs.Prelude.{◌≡◌, ◌==◌, ℕ, Bool, true, false, if◌then◌else◌, Option, None, Some, List, [], ◌∷◌}
 use Rattle.rand_core.specs.Stream.{Stream}
 use Rattle.dcsctp_core.specs.types.declared.association.Held.{Held}
+use Rattle.dcsctp_core.specs.types.declared.kinds.ErrorKind.TheVariants.{ParseFailed}
 use Rattle.dcsctp_core.specs.spec.Cookie.{Cookie}
-use Rattle.dcsctp_core.specs.spec.endpoint.Event.{Event, connected, connection_restarted}
+use Rattle.dcsctp_core.specs.spec.endpoint.Event.{Event, connected, connection_restarted, error}
 use Rattle.dcsctp_core.specs.spec.Packet.{Emission, cookie_ack}
-use Rattle.dcsctp_core.specs.spec.queues.SendQueue.{SendQueueState}
-use Rattle.dcsctp_core.specs.spec.endpoint.Endpoint.{Endpoint, Core, closed, cookie_wait, cookie_echoed, open_in, shutdown_ack_sent, held_in}
-use Rattle.dcsctp_core.specs.spec.endpoint.Outcome.{Outcome, still, noting}
+use Rattle.dcsctp_core.specs.spec.queues.Transfer.{Transfer, EndpointQueues, new_transfer, transfer_kept}
+use Rattle.dcsctp_core.specs.declared.transmission_control_block.TransmissionControlBlock.{TransmissionControlBlock}
+use Rattle.dcsctp_core.specs.spec.endpoint.Endpoint.{Endpoint, Core, closed, cookie_wait, cookie_echoed, open_in, established, shutdown_ack_sent, held_in, stopped_timers, heartbeats_begun, errors_begun}
+use Rattle.dcsctp_core.specs.spec.endpoint.Outcome.{Outcome, still, noting, behind, emits}
 use Rattle.dcsctp_core.specs.spec.association.Effect.{connects, identity_of}
 use Rattle.dcsctp_core.specs.spec.endpoint.FlushOutcomes.{Answer, FlushAnswers, FlushKind, flush_answered}
 use Rattle.dcsctp_core.specs.spec.endpoint.HandshakeOutcomes.{connected_after}
-use Rattle.dcsctp_core.specs.spec.endpoint.CookieEchoOutcomes.{refused_echo_outcome, refused_restart_outcome, restart_by_where, RestartAnswers, established_by, queue_kept, queue_where, queue_begun, establish_by, EstablishAnswers}
-use Rattle.dcsctp_core.specs.View.{View}
+use Rattle.dcsctp_core.specs.spec.endpoint.CookieEchoOutcomes.{refused_echo_outcome, stale_text, refused_restart_outcome, restart_by_where, RestartAnswers, established_by, window_by_cookie, queues_with, queues_kept, queue_where, queues_begun, queues_collided, establish_by, EstablishAnswers}
+use Rattle.dcsctp_core.specs.spec.association.CookieEchoChanges.{held_by_cookie, stale_error}
+use Rattle.dcsctp_core.specs.spec.endpoint.Following.{dropped_rest}
+use Rattle.dcsctp_core.specs.View.{View, held_of, request_of, timer_of}
 use Rattle.dcsctp_core.specs.Drawing.{long_word}
 
 -- ---- COOKIE ACK
@@ -42,32 +46,86 @@ AcknowledgementAt view o =
 
 -- ---- a cookie that makes an association
 
--- the endpoint that holds its association; what waits to be sent stays
-abbrev pub established_with : Endpoint → Cookie → ℕ → Endpoint
-established_with e cookie tie = established_by e cookie (queue_where false e cookie) tie
+-- the endpoint that holds this association
+abbrev pub holding : Endpoint → TransmissionControlBlock → Endpoint
+holding e tcb =
+    record e {
+      core = open_in established tcb.my (held_of tcb);
+      tie = tcb.tie_tag;
+      outstanding = request_of tcb.reset_request;
+      error_count = errors_begun e;
+      heartbeat_sent = None;
+      renewable = None;
+      timers = heartbeats_begun e (record stopped_timers {
+        reconfiguration = timer_of tcb.reset_request;
+        heartbeat_interval = e.timers.heartbeat_interval;
+        heartbeat_timeout = e.timers.heartbeat_timeout;
+      });
+      queues = record e.queues { transfer = Some tcb.transfer };
+      left = [];
+    }
 
--- An association is made of a cookie, with this queue and after these events. The tie tag is the word that the generator gives next.
-abbrev pub AssociationAt : {R : Type 0} → (R → Stream) → Cookie → SendQueueState → List (Event Emission) → View R → Outcome → Type 0
-AssociationAt stream cookie queue events view o =
+-- the endpoint without its association
+abbrev pub unheld : Endpoint → Endpoint
+unheld e =
+    record e {
+      core = closed;
+      tie = 0;
+      outstanding = None;
+      timers = record stopped_timers { heartbeat_interval = e.timers.heartbeat_interval; heartbeat_timeout = e.timers.heartbeat_timeout };
+      queues = record e.queues { transfer = None };
+    }
+
+-- the endpoint that holds a cookie's association; what waits to be sent stays
+abbrev pub established_with : Endpoint → Cookie → ℕ → Endpoint
+established_with e cookie tie = established_by e cookie (queues_with e cookie (queue_where false e cookie)) tie
+
+-- what was sent, once it goes to a cookie's addressee; nothing if there was no peer
+abbrev pub transfer_over : Endpoint → Cookie → Option Transfer → Transfer
+transfer_over e cookie None =
+    new_transfer e.options (held_by_cookie e.options cookie).capabilities cookie.maker.first_tsn cookie.addressee.first_tsn (window_by_cookie e.options cookie)
+transfer_over e cookie (Some transfer) = transfer_kept e.moment e.options cookie.addressee.first_tsn (window_by_cookie e.options cookie) transfer
+
+abbrev pub queues_over : Endpoint → Cookie → EndpointQueues
+queues_over e cookie = record e.queues { transfer = Some (transfer_over e cookie e.queues.transfer) }
+
+-- The same, made of the existing association.
+abbrev pub taken_over : Endpoint → Cookie → ℕ → Endpoint
+taken_over e cookie tie = established_by e cookie (queues_over e cookie) tie
+
+-- An association is made of a cookie, with these queues and after these events. The tie tag is the word that the generator gives
+-- next.
+abbrev pub AssociationAt : {R : Type 0} → (R → Stream) → Cookie → EndpointQueues → List (Event Emission) → View R → Outcome → Type 0
+AssociationAt stream cookie queues events view o =
     let tie : ℕ = long_word (stream view.generator) in
-    (answers : List Answer) × EstablishAnswers view.endpoint cookie queue tie answers
-    × (o ≡ establish_by (flush_answered answers) view.endpoint cookie queue tie events)
+    (answers : List Answer) × EstablishAnswers view.endpoint cookie queues tie answers
+    × (o ≡ establish_by (flush_answered answers) view.endpoint cookie queues tie events)
 
 -- What waits to be sent is kept.
 abbrev pub EstablishAt : {R : Type 0} → (R → Stream) → Cookie → View R → Outcome → Type 0
-EstablishAt stream cookie view o = AssociationAt stream cookie (queue_where false view.endpoint cookie) (connected ∷ []) view o
+EstablishAt stream cookie view o =
+    AssociationAt stream cookie (queues_with view.endpoint cookie (queue_where false view.endpoint cookie)) (connected ∷ []) view o
 
 -- That is so where there was no association, unless its numbers start again by the RFC.
 abbrev pub EstablishNewAt : {R : Type 0} → (R → Stream) → Cookie → View R → Outcome → Type 0
-EstablishNewAt stream cookie view o = AssociationAt stream cookie (queue_kept view.endpoint cookie) (connected ∷ []) view o
+EstablishNewAt stream cookie view o = AssociationAt stream cookie (queues_kept view.endpoint cookie) (connected ∷ []) view o
 
 -- instead of the existing one
 abbrev pub ReplaceAt : {R : Type 0} → (R → Stream) → Cookie → View R → Outcome → Type 0
-ReplaceAt stream cookie view o = AssociationAt stream cookie (queue_begun view.endpoint cookie) (connected ∷ []) view o
+ReplaceAt stream cookie view o = AssociationAt stream cookie (queues_begun view.endpoint cookie) (connected ∷ []) view o
+
+-- What was sent goes to its peer.
+abbrev pub OutlastAt : {R : Type 0} → (R → Stream) → Cookie → View R → Outcome → Type 0
+OutlastAt stream cookie view o = AssociationAt stream cookie (queues_over view.endpoint cookie) (connected ∷ []) view o
+
+-- since both sides began at the same time
+abbrev pub CollideAt : {R : Type 0} → (R → Stream) → Cookie → View R → Outcome → Type 0
+CollideAt stream cookie view o =
+    AssociationAt stream cookie (queues_collided view.endpoint view.endpoint.core cookie) (connected ∷ []) view o
 
 -- since the peer has restarted
 abbrev pub RestartAt : {R : Type 0} → (R → Stream) → Cookie → View R → Outcome → Type 0
-RestartAt stream cookie view o = AssociationAt stream cookie (queue_begun view.endpoint cookie) (connection_restarted ∷ connected ∷ []) view o
+RestartAt stream cookie view o = AssociationAt stream cookie (queues_begun view.endpoint cookie) (connection_restarted ∷ connected ∷ []) view o
 
 -- ---- the others
 
@@ -112,3 +170,21 @@ refused_restart_turn view = refused_restart_to view.endpoint (held_in view.endpo
 -- A COOKIE ECHO is refused with this text.
 abbrev pub refuse_turn : {R : Type 0} → List ℕ → View R → Outcome
 refuse_turn text view = refused_echo_outcome view.endpoint text
+
+-- ERROR with the cause Stale Cookie, under this tag
+abbrev pub stale_to : ℕ → Emission
+stale_to tag = record { with_checksum = true; packet = record { tag = tag; contents = stale_error ∷ [] } }
+
+-- It is sent, if it fits.
+abbrev pub stale_sent_turn : {R : Type 0} → ℕ → View R → Outcome
+stale_sent_turn tag view = emits view.endpoint [] (stale_to tag)
+
+-- A stale cookie of a peer with this tag is reported to the user; by the RFC to the peer, too.
+abbrev pub stale_told : Endpoint → ℕ → Outcome
+stale_told e tag =
+    if e.options.follow_rfc
+    then record (behind [] (error ParseFailed stale_text ∷ []) (emits e [] (stale_to tag))) { following = dropped_rest }
+    else refused_echo_outcome e stale_text
+
+abbrev pub stale_turn : {R : Type 0} → ℕ → View R → Outcome
+stale_turn tag view = stale_told view.endpoint tag

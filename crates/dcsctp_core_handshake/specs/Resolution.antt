@@ -1,9 +1,13 @@
--- What the case of a COOKIE ECHO is to the machine, and the peer that its cookie shows.
+-- What the case of a COOKIE ECHO is to the machine, the peer that its cookie shows, and whether what was sent goes to it.
+use Rattle.std.specs.Prelude.{Bool, false, Option, None, Some}
+use Rattle.dcsctp_core.specs.types.declared.association.Pair.{Pair}
 use Rattle.dcsctp_core.specs.types.declared.options.Options.{Options}
 use Rattle.dcsctp_core.specs.types.Offer.{offer_of, negotiated}
 use Rattle.dcsctp_core.specs.spec.Cookie.{Cookie}
 use Rattle.dcsctp_core.specs.spec.association.CookieEchoChanges.{Resolution, establish_new, restart, simultaneous_init, discard, maintain_existing, invalid_tag, stale}
-use Rattle.dcsctp_core.specs.spec.endpoint.CookieEchoOutcomes.{window_by_cookie}
+use Rattle.dcsctp_core.specs.spec.endpoint.CookieEchoOutcomes.{window_by_cookie, outlasts}
+use Rattle.dcsctp_core.specs.spec.endpoint.Endpoint.{Endpoint, Core, cookie_echoed}
+use Rattle.dcsctp_core.specs.spec.queues.Transfer.{Transfer}
 use Rattle.dcsctp_core.specs.declared.transmission_control_block.Peer.{Peer}
 use Rattle.dcsctp_core_handshake.specs.declared.cookie_resolution.CookieResolution.{CookieResolution}
 use Rattle.dcsctp_core_handshake.specs.declared.cookie_resolution.CookieResolution.TheVariants.{EstablishNew, RestartDetected, SimultaneousInit, Discard, MaintainExisting, InvalidTag, Stale}
@@ -22,3 +26,13 @@ resolution_of Stale = stale
 abbrev pub peer_by_cookie : Options → Cookie → Peer
 peer_by_cookie options cookie =
     record { pair = cookie.addressee; a_rwnd = window_by_cookie options cookie; capabilities = negotiated (offer_of options) cookie.offer }
+
+-- Does what was sent outlast the peer, by this cookie?
+abbrev pub outlasts_in : Endpoint → Pair → Cookie → Option Transfer → Bool
+outlasts_in e mine cookie None = false
+outlasts_in e mine cookie (Some transfer) = outlasts e mine cookie transfer
+
+-- It does only while a COOKIE ACK is awaited.
+abbrev pub outlasts_at : Endpoint → Core → Cookie → Bool
+outlasts_at e (cookie_echoed mine held echoed) cookie = outlasts_in e mine cookie e.queues.transfer
+outlasts_at e core cookie = false

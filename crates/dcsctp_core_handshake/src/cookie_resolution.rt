@@ -6,7 +6,7 @@ ghost use Rattle.dcsctp_core.specs.spec.association.CookieEchoChanges.{resolve};
 ghost use Rattle.dcsctp_core.specs.spec.endpoint.CookieEchoOutcomes.{resolved_now};
 ghost use Rattle.dcsctp_core.specs.api.Cookie.{cookie_of};
 ghost use Rattle.dcsctp_core.specs.View.{core_of, tie_of, endpoint_of};
-ghost use Rattle.dcsctp_core_handshake.specs.Resolution.{resolution_of, peer_by_cookie};
+ghost use Rattle.dcsctp_core_handshake.specs.Resolution.{resolution_of, peer_by_cookie, outlasts_at};
 
 use dcsctp_core::api::{Options, Pair, StateCookie};
 use dcsctp_core::{Context, Peer, State};
@@ -97,6 +97,40 @@ pub fn resolve(state: &State, header_tag: u32, cookie: &StateCookie) -> CookieRe
         (false, true) => CookieResolution::InvalidTag,
         (false, false) if cookie.tie_tag == tcb.tie_tag => CookieResolution::RestartDetected,
         (false, false) => CookieResolution::InvalidTag,
+    }
+}
+
+/// Does what was sent while a COOKIE ACK is awaited go on in the association that a cookie makes? With
+/// `Options::follow_rfc` it does if the cookie's peer has read none of it: nothing was acknowledged, and our own pair
+/// is the same (RFC 9260, section 5.2.4, action B). A request to reset streams would be an old one. Allocates nothing.
+pub fn outlasts<R: Rng>(context: &Context<R>, cookie: &StateCookie) -> bool
+    ensures { result ≡ outlasts_at (endpoint_of context.now) (core_of context.now.state)
+        (cookie_of cookie.now) }
+{
+    let State::CookieEchoed(echoed) = &context.state else {
+        return false;
+    };
+    let tcb = &echoed.tcb;
+    if !context.options.follow_rfc || tcb.my.tag != cookie.my_tag {
+        return false;
+    }
+    match &tcb.reset_request {
+        Some(_) => false,
+        None => {
+            let peer = peer_by_cookie(&context.options, cookie);
+            tcb.transfer
+                .outlasts_peer(cookie.my_initial_tsn, &peer.capabilities)
+        }
+    }
+}
+
+/// The pair that is our own by a cookie.
+pub fn own_by_cookie(cookie: &StateCookie) -> Pair
+    ensures { result ≡ (cookie_of cookie.now).maker }
+{
+    Pair {
+        tag: cookie.my_tag,
+        first_tsn: cookie.my_initial_tsn,
     }
 }
 

@@ -26,8 +26,8 @@ use Rattle.dcsctp_delivery_directions.specs.Requests.{IsOfBegun}
 use Rattle.dcsctp_delivery_directions.proofs.Requests.{requests_were_begun}
 use Rattle.dcsctp_delivery_turns.specs.Actions.{IsOpening, came_by, Begun, IsCall, IsCalm}
 use Rattle.dcsctp_delivery_turns.specs.Asking.{AreNumbered}
-use Rattle.dcsctp_delivery_turns.specs.PeerRequests.{KnowsPeerIn, IsPlainRequest, IsDue, WaitsFor, PeerTurns, asks_nothing, performs_it, defers_it, begins_anew}
-use Rattle.dcsctp_delivery_turns.specs.Runs.{IsNewest, PerformsNewest, performed_where, PerformedBy}
+use Rattle.dcsctp_delivery_turns.specs.PeerRequests.{KnowsPeerIn, IsPlainRequest, IsDue, WaitsFor, PeerTurns, asks_nothing, performs_it, defers_it, begins_anew, collides_anew}
+use Rattle.dcsctp_delivery_turns.specs.Runs.{HasNewTag, IsNewest, PerformsNewest, performed_where, PerformedBy}
 use Rattle.dcsctp_delivery_turns.specs.Sides.{WasSent}
 use Rattle.dcsctp_delivery_turns.proofs.Holding.{holds_mean, ends_mean}
 use Rattle.dcsctp_delivery_turns.proofs.PeersTurns.{peers_turn}
@@ -115,6 +115,13 @@ module _ (ends : Ends) (e : Endpoint) (past : List Effect) (d : Endpoint) (their
       let there : WasJoined their_past link.my.tag link.peer = (w.answers.theirs_held link (sym same ∙ holds_mean d input o link may turn has)).0 in
       new_tags link there.link has there.held there.tag_is
 
+  -- No association begins under the own tag of the one before.
+  pub has_new_tag : HasNewTag d input o
+  has_new_tag collision =
+      let there = (w.answers.theirs_held collision.old collision.was).0 in
+      new_tags collision.opened.link there.link (subst (HasEffect (holds collision.opened.link)) (sym collision.opened.noted) (inl refl)) there.held
+      (there.tag_is ∙ sym collision.tag)
+
   no_holds_none : identity_in o.after.core ≡ None → (link : AssociationIdentity) → HasEffect (holds link) o.effects → ⊥
   no_holds_none none link has = (let clash : ◌≡◌ {A = Option AssociationIdentity} None (Some link) = sym none ∙ holds_mean d input o link may turn has in absurd (cc))
 
@@ -168,6 +175,7 @@ module _ (ends : Ends) (e : Endpoint) (past : List Effect) (d : Endpoint) (their
           by_peers : PeerTurns link their_past d input o transfer.reassembly.deferral left.reassembly.deferral → IsNewest direction transfer reset
           by_peers (asks_nothing none same) = (let clash : true ≡ false = sym done ∙ reset_none o.effects none in absurd (cc))
           by_peers (defers_it number other came' due none accept perform kept is waits) = (let found = some_reset o.effects done in absurd (none found.0 found.1 found.2))
+          by_peers (collides_anew collision none empty) = absurd (has_new_tag collision)
           by_peers (begins_anew begun opening linked' none empty) = (let clash : true ≡ false = sym done ∙ reset_none o.effects none in absurd (cc))
           by_peers (performs_it number other came' due only has accept perform empty) =
               let found = handled number other came' in
@@ -189,6 +197,7 @@ module _ (ends : Ends) (e : Endpoint) (past : List Effect) (d : Endpoint) (their
           by_peers : PeerTurns link their_past d input o transfer.reassembly.deferral left.reassembly.deferral → ⊥
           by_peers (asks_nothing unasked same) = (let clash : true ≡ false = sym done ∙ reset_none o.effects unasked in absurd (cc))
           by_peers (defers_it number other came due unreset accept perform kept is waits) = (let found = some_reset o.effects done in unreset found.0 found.1 found.2)
+          by_peers (collides_anew collision unasked empty) = absurd (has_new_tag collision)
           by_peers (begins_anew begun opening linked' unasked empty) = (let clash : true ≡ false = sym done ∙ reset_none o.effects unasked in absurd (cc))
           by_peers (performs_it number other came due only has accept perform empty) = (let found = handled number other came in subst (λ (a : Asking). places.HasEntry found.0 a.requests) none found.1)
 
@@ -221,6 +230,7 @@ module _ (ends : Ends) (e : Endpoint) (past : List Effect) (d : Endpoint) (their
           by_peers : PeerTurns link their_past d input o transfer.reassembly.deferral left.reassembly.deferral → Standing true ⊎ Standing false
           by_peers (asks_nothing none same) = inl (step, λ number has. absurd (none_performed o.effects none link.peer number has))
           by_peers (defers_it number reset came due none accept perform kept is waits) = inl (step, λ other has. absurd (none link.peer other has))
+          by_peers (collides_anew collision none empty) = absurd (has_new_tag collision)
           by_peers (begins_anew begun opening linked' none empty) = inl (step, λ number has. absurd (none_performed o.effects none link.peer number has))
           by_peers (performs_it number reset came due only has accept perform empty) = by_requests number only (ends.sends link.my.tag).asking.requests refl
 
@@ -346,6 +356,7 @@ module _ (ends : Ends) (e : Endpoint) (past : List Effect) (d : Endpoint) (their
                 numbers.0 numbers.1 waits)
             by_peers (performs_it number reset came due only has accept perform empty) = by_performing is_known refl stands number reset came due only has accept perform empty
             by_peers (defers_it number reset came due none accept perform kept is waits) = by_deferring is_known stands number reset came due none accept perform kept is waits
+            by_peers (collides_anew collision none empty) = absurd (has_new_tag collision)
             by_peers (begins_anew begun opening there' none empty) = absurd (new_same begun opening there' (one_link there' linked_after))
               where
                 one_link : {found : Option AssociationIdentity} {one two : AssociationIdentity} → found ≡ Some one → found ≡ Some two → one ≡ two

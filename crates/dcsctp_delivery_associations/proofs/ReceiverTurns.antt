@@ -25,7 +25,7 @@ use Rattle.dcsctp_delivery_associations.specs.Answered.{IsInStep, StandsSo, in_s
 use Rattle.dcsctp_delivery_associations.specs.Laws.{AsksLittle}
 use Rattle.dcsctp_delivery_associations.proofs.UnaskedPasts.{reset_none}
 use Rattle.dcsctp_delivery_associations.proofs.AnsweringRests.{none_performed}
-use Rattle.dcsctp_delivery_associations.proofs.ReceiverAnswers.{asked_ends, Standing, performs_newest, newest_or_not, nothing_performed, goes_answered}
+use Rattle.dcsctp_delivery_associations.proofs.ReceiverAnswers.{has_new_tag, asked_ends, Standing, performs_newest, newest_or_not, nothing_performed, goes_answered}
 use Rattle.dcsctp_spec_lemmas.specs.spec.Packet.{re_config}
 use Rattle.dcsctp_spec_runs.specs.Past.{HasEffect}
 use Rattle.dcsctp_spec_lemmas.specs.spec.Reconfiguration.{RequestedReset, ResetParameter}
@@ -207,7 +207,7 @@ module _ (options : Options) (ends : Ends) (e : Endpoint) (queued : List Message
           → ReceiverTurns is_known options (ends.firsts c.link.my.tag) options.max_receiver_window_buffer_size (joined (ends.sends c.link.my.tag) (ends.gets c.link.my.tag)) transfer d input o
       goes_known is_known newest =
           receivers_go_on is_known options (ends.firsts c.link.my.tag) options.max_receiver_window_buffer_size (joined (ends.sends c.link.my.tag) (ends.gets c.link.my.tag)) transfer d input o now there sent newest h.receiver.fits
-          (λ begun opening linked. (new begun opening linked).own_small) may turn
+          (λ begun opening linked. (new begun opening linked).own_small) (has_new_tag ends e past d their_past w input o may turn new_tags) may turn
 
       -- If the receiver is in step, what is performed wants what the newest wants.
       newest_so : IsInStep (requests_of ends w.pairs c.link.my.tag) their_past transfer.reassembly.deferral → PerformsNewest (joined (ends.sends c.link.my.tag) (ends.gets c.link.my.tag)) transfer (came_by input) o.effects

@@ -2,6 +2,7 @@
 use Rattle.std.proofs.Common.{Bool, true, false, None, Some, ◌≡◌, ◌≢◌, ◌<◌, ◌-◌, ◌^◌, ℕ, Option, List, [], ◌∷◌, ◌++◌, length, refl, sym, ◌∙◌, ap, arith, subst, inl, Bool, false}
 use Rattle.std.proofs.lemmas.List.{length-append}
 use Rattle.dcsctp_spec_lemmas.specs.types.declared.options.Options.{Options}
+use Rattle.dcsctp_spec_lemmas.specs.types.declared.association.Pair.{Pair}
 use Rattle.dcsctp_spec_lemmas.specs.spec.endpoint.Endpoint.{Endpoint, Core, OutstandingRequest}
 use Rattle.dcsctp_spec_lemmas.specs.spec.endpoint.Event.{packets_in}
 use Rattle.dcsctp_spec_lemmas.specs.spec.endpoint.Outcome.{Outcome}
@@ -18,7 +19,7 @@ use Rattle.dcsctp_delivery_directions.proofs.RequestCounts.{requests_more, reque
 use Rattle.dcsctp_delivery_turns.specs.Actions.{IsOpening, came_by, peer_tag, queued_after, Begun, IsCall}
 use Rattle.dcsctp_delivery_turns.specs.Addressed.{AreAddressed}
 use Rattle.dcsctp_delivery_turns.specs.Asking.{own_in, own_of, AsksFit, AskingGrows}
-use Rattle.dcsctp_delivery_turns.specs.Runs.{sender_at, IsBetween, EndsPerformed, RefusesNone, SenderTurns, run_goes_on, run_ends, run_begins, MayDrop}
+use Rattle.dcsctp_delivery_turns.specs.Runs.{sender_at, IsBetween, EndsPerformed, RefusesNone, HasNewTag, SenderTurns, run_goes_on, run_ends, run_begins, MayDrop}
 use Rattle.dcsctp_delivery_turns.proofs.Completing.{completes_own}
 use Rattle.dcsctp_delivery_turns.proofs.Runs.{senders_go_on}
 use Rattle.dcsctp_delivery_turns.specs.Unbegun.{UnbegunTurns, stays_unbegun, begins_first}
@@ -26,7 +27,7 @@ use Rattle.dcsctp_delivery_turns.proofs.Unbegun.{stays_at_zero}
 use Rattle.dcsctp_spec_runs.specs.Past.{HasEffect}
 use Rattle.dcsctp_delivery_associations.specs.Ends.{SendingEnd, joined, Ends, IsUnbegun, NeverHeld, NewPeer, Between}
 use Rattle.dcsctp_delivery_associations.specs.Answered.{AnswersRequests, requests_of, waiting_deferral, AreAnswered}
-use Rattle.dcsctp_delivery_associations.specs.Laws.{CompletesPerformed, AsksLittle, AreEnds, ResetsAs}
+use Rattle.dcsctp_delivery_associations.specs.Laws.{CompletesPerformed, NewOwnTags, AsksLittle, AreEnds, ResetsAs}
 use Rattle.dcsctp_delivery_associations.specs.Reads.{Reading}
 use Rattle.dcsctp_delivery_associations.proofs.AskedOn as asked
 use Rattle.dcsctp_delivery_associations.proofs.AskedOn.{MayBegin}
@@ -50,7 +51,14 @@ queues_none more queued same = no_message more (let long = length-append more qu
 
 module _ (options : Options) (ends : Ends) (e : Endpoint) (queued : List Message) (past : List Effect) (packets : List Emission) (d : Endpoint) (their_past : List Effect) (reading : Reading)
     (h : Between options ends e queued past packets d their_past reading) (input : Input) (o : Outcome) (new : (begun : Begun e o) → IsOpening (came_by input) → identity_in o.after.core ≡ Some (identity_of begun.my begun.held) → NewPeer past their_past (identity_of begun.my begun.held))
-    (w : AreAnswered ends e past d their_past) (little : AsksLittle (packets ++ packets_in o.events)) where
+    (w : AreAnswered ends e past d their_past) (little : AsksLittle (packets ++ packets_in o.events)) (own_new : NewOwnTags past o) where
+  -- No association begins under the own tag of the one before.
+  has_new_tag : HasNewTag e input o
+  has_new_tag collision =
+      let had = (w.answers.mine_held collision.old collision.was).0 in
+      own_new collision.opened.link had.link (subst (HasEffect (holds collision.opened.link)) (sym collision.opened.noted) (inl refl)) had.held
+      (ap (λ (p : Pair). p.tag) had.my_is ∙ sym collision.tag)
+
   abbrev key : ℕ
   key = peer_tag e.core
 
@@ -233,7 +241,7 @@ module _ (options : Options) (ends : Ends) (e : Endpoint) (queued : List Message
   sender_turns few refuses resets completes_so follows may turn =
       by_turn follows resets may turn refuses completes_so
       (senders_go_on options (ends.firsts key) options.max_receiver_window_buffer_size now e input o (h.runs key) (h.small key) h.sender.queues_are h.asks
-      (performed_by (identity_in e.core) refl may turn completes_so) refuses (may_drop resets) (λ begun opening linked. (new begun opening linked).small)
+      (performed_by (identity_in e.core) refl may turn completes_so) refuses (may_drop resets) (λ begun opening linked. (new begun opening linked).small) has_new_tag
       (let long = ap (λ (l : List Message). length l) (input_adds e input (ends.sends key).queued) ∙ length-append (queued_after e input []) (ends.sends key).queued in
       let same = ap (λ (l : List Message). length l) (input_adds e input queued) ∙ length-append (queued_after e input []) queued in
       let size = h.sender.long in

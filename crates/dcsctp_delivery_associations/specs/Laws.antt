@@ -49,13 +49,17 @@ pub record AreEnds (never_resets : Bool) (options : Options) (e : Endpoint) (que
 abbrev pub EndsBegin : Type 0
 EndsBegin = (never_resets : Bool) (mine options : Options) → AreEnds never_resets options (fresh_endpoint mine) [] [] [] (fresh_endpoint options) [] nothing_read
 
+-- Each association that is recorded has another own tag than those before.
+abbrev pub NewOwnTags : List Effect → Outcome → Type 0
+NewOwnTags past o = (link old : AssociationIdentity) → HasEffect (holds link) o.effects → HasEffect (holds old) past → old.my.tag ≢ link.my.tag
+
 -- A turn of the sender leaves them, with `follow_rfc` as it is, if an association that begins is of a new tag and of the matching one at the receiver, few
 -- requests to reset streams went to each tag, with interleaving none fails, and one that ends as performed was performed by the
 -- receiver.
 abbrev pub SendersTurn : Type 0
 SendersTurn =
     (options : Options) (ends : Ends) (e : Endpoint) (queued : List Message) (past : List Effect) (packets : List Emission) (other : Endpoint) (their_past : List Effect) (reading : Reading) (input : Input) (o : Outcome)
-    → Between options ends e queued past packets other their_past reading → AreAnswered ends e past other their_past → ((begun : Begun e o) → IsOpening (came_by input) → identity_in o.after.core ≡ Some (identity_of begun.my begun.held) → NewPeer past their_past (identity_of begun.my begun.held)) → length (queued_after e input queued) < 2 ^ 64 → AsksLittle (packets ++ packets_in o.events)
+    → Between options ends e queued past packets other their_past reading → AreAnswered ends e past other their_past → ((begun : Begun e o) → IsOpening (came_by input) → identity_in o.after.core ≡ Some (identity_of begun.my begun.held) → NewPeer past their_past (identity_of begun.my begun.held)) → NewOwnTags past o → length (queued_after e input queued) < 2 ^ 64 → AsksLittle (packets ++ packets_in o.events)
     → RefusesNone e o → ResetsAs ends.never_resets input → CompletesPerformed their_past o → o.after.options.follow_rfc ≡ e.options.follow_rfc → IsCall input → Turn e input o → AreEnds ends.never_resets options o.after (queued_after e input queued) (after_effects o.effects past) (packets ++ packets_in o.events) other their_past reading
 
 -- So does one of the receiver, if what is handled in its association was sent in it, each association that is recorded has a new
@@ -64,7 +68,7 @@ abbrev pub ReceiversTurn : Type 0
 ReceiversTurn =
     (options : Options) (ends : Ends) (e : Endpoint) (queued : List Message) (past : List Effect) (packets : List Emission) (other : Endpoint) (their_past : List Effect) (reading : Reading) (input : Input) (o : Outcome)
     → Between options ends e queued past packets other their_past reading → AreAnswered ends e past other their_past → length queued < 2 ^ 64 → AsksLittle packets → SameOptions options other.options → KnowsPeerIn their_past other.core
-    → ((link old : AssociationIdentity) → HasEffect (holds link) o.effects → HasEffect (holds old) their_past → old.my.tag ≢ link.my.tag) → ((begun : Begun other o) → IsOpening (came_by input) → identity_in o.after.core ≡ Some (identity_of begun.my begun.held) → NewTag their_past past (identity_of begun.my begun.held))
+    → NewOwnTags their_past o → ((begun : Begun other o) → IsOpening (came_by input) → identity_in o.after.core ≡ Some (identity_of begun.my begun.held) → NewTag their_past past (identity_of begun.my begun.held))
     → ((transfer : Transfer) (link : AssociationIdentity) → other.queues.transfer ≡ Some transfer → identity_in other.core ≡ Some link → WasSent (ends.sends link.my.tag).sent (came_by input)) → IsCall input → Turn other input o
     → AreEnds ends.never_resets options e queued past packets o.after (after_effects o.effects their_past) (reading_after other input o.after reading)
 

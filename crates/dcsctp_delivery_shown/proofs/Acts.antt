@@ -23,7 +23,7 @@ use Rattle.dcsctp_spec_lemmas.specs.spec.association.Effect.{AssociationIdentity
 use Rattle.dcsctp_spec_laws.proofs.TurnLemmas.{same_after}
 use Rattle.dcsctp_theorem_sockets.proofs.NewAssociations.{FirstAlone}
 use Rattle.dcsctp_theorem_sockets.proofs.NoHolding.{HoldsNone, none-append}
-use Rattle.dcsctp_delivery_turns.specs.Actions.{came_by, IsOpening, Begun}
+use Rattle.dcsctp_delivery_turns.specs.Actions.{came_by, IsOpening, Opened}
 use Rattle.dcsctp_delivery_sockets.specs.Echoes.{MayFollow, AllMayFollow}
 use Rattle.dcsctp_delivery_sockets.proofs.Calls.{of_turns, MayCall, MaySend, of_call}
 use Rattle.dcsctp_delivery_sockets.proofs.NewLinks.{OpensFitting, AllOpenFitting}
@@ -110,17 +110,17 @@ module _ (law : ChunksAreControlled) (kinds : Capabilities) where
   call_acts e call turns taken known h = calm_act e turns (of_call IsCalm calls_calm e call turns (sends_calm call) taken) known h
 
   -- The association that the first chunk begins is the only one, and stays.
-  begun_first : (e : Endpoint) (t : Transition) (rest : List Transition) → GoodTurn e t → (begun : Begun e t.outcome) → identity_in t.outcome.after.core ≡ Some (identity_of begun.my begun.held) → HoldsNone (effects_of rest)
+  begun_first : (e : Endpoint) (t : Transition) (rest : List Transition) → GoodTurn e t → (came : Option Content) (opened : Opened came t.outcome) → HoldsNone (effects_of rest)
       → identity_in (after_all t.outcome.after rest).core ≡ identity_in t.outcome.after.core → Notes e (t ∷ rest)
-  begun_first e t rest good begun linked none stays =
-      let link : AssociationIdentity = identity_of begun.my begun.held in
-      let later : HoldsNone begun.later = subst FirstAlone begun.noted good.first in
-      notes_one link [] (begun.later ++ effects_of rest) (ap (λ (es : List Effect). es ++ effects_of rest) begun.noted) tt (none-append begun.later (effects_of rest) later none)
-      (good.anew link (subst (HasEffect (holds link)) (sym begun.noted) (inl refl))) (stays ∙ linked)
+  begun_first e t rest good came opened none stays =
+      let link : AssociationIdentity = opened.link in
+      let later : HoldsNone opened.later = subst FirstAlone opened.noted good.first in
+      notes_one link [] (opened.later ++ effects_of rest) (ap (λ (es : List Effect). es ++ effects_of rest) opened.noted) tt (none-append opened.later (effects_of rest) later none)
+      (good.anew link (subst (HasEffect (holds link)) (sym opened.noted) (inl refl))) (stays ∙ opened.linked)
 
   front_notes : (came : Option Content) (e : Endpoint) (t : Transition) (rest : List Transition) → GoodTurn e t → MovesLink came e t.outcome → HoldsNone (effects_of rest)
       → identity_in (after_all t.outcome.after rest).core ≡ identity_in t.outcome.after.core → Notes e (t ∷ rest)
-  front_notes came e t rest good (link_begins begun opening linked) none stays = begun_first e t rest good begun linked none stays
+  front_notes came e t rest good (link_begins opened) none stays = begun_first e t rest good came opened none stays
   front_notes came e t rest good (link_stays is) none stays =
       notes_none (none-append t.outcome.effects (effects_of rest) (none_among t.outcome.effects (λ link has. good.anew link has (sym is ∙ good.held link has))) none)
   front_notes came e t rest good (link_ends is) none stays =

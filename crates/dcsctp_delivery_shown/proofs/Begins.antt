@@ -1,6 +1,6 @@
 -- An association that begins by a packet of the other socket is of the kinds that both negotiate
 -- (RFC 9260, section 5.1).
-use Rattle.std.proofs.Common.{◌≡◌, ℕ, Bool, true, false, Option, None, Some, Result, Ok, Err, List, [], ◌∷◌, refl, sym, ap, ◌∙◌, subst, inl, inr}
+use Rattle.std.proofs.Common.{◌≡◌, ◌&&◌, ℕ, Bool, true, false, Option, None, Some, Result, Ok, Err, List, [], ◌∷◌, refl, sym, ap, ◌∙◌, subst, inl, inr}
 use Rattle.dcsctp_spec_lemmas.specs.types.declared.association.Held.{Held}
 use Rattle.dcsctp_spec_lemmas.specs.types.declared.association.Pair.{Pair}
 use Rattle.dcsctp_spec_lemmas.specs.types.declared.capabilities.Capabilities.{Capabilities}
@@ -17,15 +17,15 @@ use Rattle.dcsctp_spec_runs.specs.Past.{HasEffect}
 use Rattle.dcsctp_spec_lemmas.specs.spec.endpoint.Turn.{ContentTurn}
 use Rattle.dcsctp_spec_lemmas.specs.spec.association.Acts.{chunk_change}
 use Rattle.dcsctp_spec_lemmas.specs.spec.association.Choices.{Filling, Choices}
-use Rattle.dcsctp_spec_lemmas.specs.spec.association.CookieEchoChanges.{Resolution, establish_new, restart, simultaneous_init, discard, maintain_existing, invalid_tag, stale, aged, resolve, held_by_cookie, new_association_change, restart_change, maintain_change, resolved_change, read_echo_change}
-use Rattle.dcsctp_spec_lemmas.specs.spec.association.Effect.{AssociationIdentity, Effect, holds, ends, Change, identity_of}
+use Rattle.dcsctp_spec_lemmas.specs.spec.association.CookieEchoChanges.{stale_error, Resolution, establish_new, restart, simultaneous_init, discard, maintain_existing, invalid_tag, stale, aged, resolve, held_by_cookie, new_association_change, restart_change, maintain_change, resolved_change, read_echo_change}
+use Rattle.dcsctp_spec_lemmas.specs.spec.association.Effect.{AssociationIdentity, Effect, holds, ends, Change, emitted_alone, identity_of}
 use Rattle.dcsctp_spec_lemmas.specs.spec.association.FlushChanges.{flush}
 use Rattle.dcsctp_spec_lemmas.specs.spec.association.HandshakeChanges.{echo_change, held_by_init_ack, init_ack_change}
 use Rattle.dcsctp_theorem_association.proofs.Facts.{TrueFront}
 use Rattle.dcsctp_theorem_sockets.proofs.NewAssociations.{maintain_none}
 use Rattle.dcsctp_theorem_sockets.proofs.NoHolding.{IsNoHolding, HoldsNone, none-append, none-alone, none-flush}
 use Rattle.dcsctp_theorem_sockets.proofs.OneSocket.{noted_happened}
-use Rattle.dcsctp_delivery_turns.specs.Actions.{IsOpening, Begun}
+use Rattle.dcsctp_delivery_turns.specs.Actions.{IsOpening, Opened}
 use Rattle.dcsctp_delivery_sockets.proofs.NewLinks.{link_fits}
 use Rattle.dcsctp_delivery_shown.proofs.Turns.{SameKinds, BeginsSo}
 
@@ -76,7 +76,9 @@ module _ (options : Options) (cookie : Cookie) (choices : Choices) (link : Assoc
   resolved_says core discard has = absurd has
   resolved_says core maintain_existing has = absurd (not_among link (maintain_change core cookie choices).effects (maintain_none core cookie choices) has)
   resolved_says core invalid_tag has = absurd has
-  resolved_says core stale has = absurd has
+  resolved_says core stale has =
+      let tells : Bool = options.follow_rfc && choices.fits in
+      absurd (not_among link (emitted_alone tells cookie.addressee.tag stale_error) (none-alone tells cookie.addressee.tag stale_error) has)
 
 -- The cookie reads back as one with this offer.
 record SaysOffer (options : Options) (read : Result Cookie (List ℕ)) (link : AssociationIdentity) : Type 0 where
@@ -109,25 +111,25 @@ module _ (kinds : Capabilities) where
       so_of (negotiated mine cookie.offer) (negotiated mine sender) (ap (λ (c : Cookie). negotiated mine c.offer) one ∙ ap (negotiated mine) is.offer) same
   front_kinds sender mine theirs own tag content same is = tt
 
-  noted_in_change : (e : Endpoint) (tag : ℕ) (content : Content) (o : Outcome) (controlled : ControlledChunk e tag content o) (begun : Begun e o)
-      → HasEffect (holds (identity_of begun.my begun.held)) (chunk_change e.options e.core tag content controlled.1.0).effects
-  noted_in_change e tag content o controlled begun =
-      let noted : HasEffect (holds (identity_of begun.my begun.held)) o.effects = subst (HasEffect (holds (identity_of begun.my begun.held))) (sym begun.noted) (inl refl) in
-      subst (λ (c : Change). HasEffect (holds (identity_of begun.my begun.held)) c.effects) controlled.1.2
-      (noted_happened (holds (identity_of begun.my begun.held)) controlled.0.effects (subst (HasEffect (holds (identity_of begun.my begun.held))) controlled.2.effects noted))
+  noted_in_change : (e : Endpoint) (tag : ℕ) (content : Content) (o : Outcome) (controlled : ControlledChunk e tag content o) (opened : Opened (Some content) o)
+      → HasEffect (holds opened.link) (chunk_change e.options e.core tag content controlled.1.0).effects
+  noted_in_change e tag content o controlled opened =
+      let noted : HasEffect (holds opened.link) o.effects = subst (HasEffect (holds opened.link)) (sym opened.noted) (inl refl) in
+      subst (λ (c : Change). HasEffect (holds opened.link) c.effects) controlled.1.2
+      (noted_happened (holds opened.link) controlled.0.effects (subst (HasEffect (holds opened.link)) controlled.2.effects noted))
 
   -- This holds for one that a chunk begins; its first TSN fits its field, as all that the turn leaves does.
   pub begins_so : ChunksAreControlled → (e : Endpoint) (tag : ℕ) (content : Content) (o : Outcome) → FrontKinds (offer_of e.options) content → (IsOpening (Some content) → FitsCore o.after.core) → ContentTurn e tag content o → BeginsSo kinds e (Some content) o
-  begins_so law e tag (init_ack theirs cookie) o front fits turn = λ begun opening linked.
+  begins_so law e tag (init_ack theirs cookie) o front fits turn = λ opened.
       let controlled : ControlledChunk e tag (init_ack theirs cookie) o = law e tag (init_ack theirs cookie) o turn tt in (
-        so_of begun.held.capabilities (negotiated (offer_of e.options) theirs.offer)
-            (init_ack_says e.options e.core theirs cookie controlled.1.0 (identity_of begun.my begun.held) (noted_in_change e tag (init_ack theirs cookie) o controlled begun)) front,
-        (link_fits o.after.core (identity_of begun.my begun.held) (fits opening) linked).my.first_tsn,
+        so_of opened.link.capabilities (negotiated (offer_of e.options) theirs.offer)
+            (init_ack_says e.options e.core theirs cookie controlled.1.0 opened.link (noted_in_change e tag (init_ack theirs cookie) o controlled opened)) front,
+        (link_fits o.after.core opened.link (fits opened.opening) opened.linked).my.first_tsn,
       )
-  begins_so law e tag (cookie_echo bytes) o front fits turn = λ begun opening linked.
+  begins_so law e tag (cookie_echo bytes) o front fits turn = λ opened.
       let controlled : ControlledChunk e tag (cookie_echo bytes) o = law e tag (cookie_echo bytes) o turn tt in
-      let said = echo_says e.options e.core tag (cookie_at bytes) controlled.1.0 (identity_of begun.my begun.held) (noted_in_change e tag (cookie_echo bytes) o controlled begun) in (
-        so_of begun.held.capabilities (negotiated (offer_of e.options) said.cookie.offer) said.says (front said.cookie said.reads),
-        (link_fits o.after.core (identity_of begun.my begun.held) (fits opening) linked).my.first_tsn,
+      let said = echo_says e.options e.core tag (cookie_at bytes) controlled.1.0 opened.link (noted_in_change e tag (cookie_echo bytes) o controlled opened) in (
+        so_of opened.link.capabilities (negotiated (offer_of e.options) said.cookie.offer) said.says (front said.cookie said.reads),
+        (link_fits o.after.core opened.link (fits opened.opening) opened.linked).my.first_tsn,
       )
-  begins_so law e tag content o front fits turn = λ begun opening linked. absurd opening
+  begins_so law e tag content o front fits turn = λ opened. absurd opened.opening

@@ -100,7 +100,7 @@ none_among (effect ∷ effects) without = (tt, none_among effects (λ link has. 
 pub none_noted : (came : Option Content) (e : Endpoint) (t : Transition) → GoodTurn e t → (IsOpening came → ⊥) → MovesLink came e t.outcome → HoldsNone t.outcome.effects
 none_noted came e t good unopened (link_stays is) = none_among t.outcome.effects (λ link has. good.anew link has (sym is ∙ good.held link has))
 none_noted came e t good unopened (link_ends none) = none_among t.outcome.effects (λ link has. (let both : None ≡ Some link = sym none ∙ good.held link has in absurd (cc)))
-none_noted came e t good unopened (link_begins begun opening linked) = absurd (unopened opening)
+none_noted came e t good unopened (link_begins opened) = absurd (unopened opened.opening)
 
 module _ (kinds : Capabilities) where
   -- The turns record no association; their kinds are kept.
@@ -113,7 +113,7 @@ module _ (kinds : Capabilities) where
   calm_turns [] e calm known h = record { none = tt; is = h; says = tt }
   calm_turns (t ∷ turns) e calm known h =
       let so : TurnIs kinds e (came_by t.input) t.outcome =
-      turn_is kinds e t.input t.outcome h (calm_step t.input calm.0) (λ begun opening linked. absurd (calm_opens t.input calm.0 opening)) known.0.0 in
+      turn_is kinds e t.input t.outcome h (calm_step t.input calm.0) (λ opened. absurd (calm_opens t.input calm.0 opened.opening)) known.0.0 in
       let rest : Calm t.outcome.after turns = calm_turns turns t.outcome.after calm.1 known.1 so.after in
       record {
         none = none-append t.outcome.effects (effects_of turns) (none_noted (came_by t.input) e t known.0.1 (calm_opens t.input calm.0) so.moves) rest.none;
@@ -148,7 +148,7 @@ pub one_then : (kinds : Capabilities) (e : Endpoint) (t : Transition) (turns : L
     → (EndpointIs kinds t.outcome.after → ActIs kinds t.outcome.after turns) → ActIs kinds e (t ∷ turns)
 one_then kinds e t turns calm known h same rest =
     let so : TurnIs kinds e (came_by t.input) t.outcome =
-    turn_is kinds e t.input t.outcome h (calm_step t.input calm.0) (λ begun opening linked. absurd (calm_opens t.input calm.0 opening)) known.0 in
+    turn_is kinds e t.input t.outcome h (calm_step t.input calm.0) (λ opened. absurd (calm_opens t.input calm.0 opened.opening)) known.0 in
     let others : ActIs kinds t.outcome.after turns = rest so.after in
     record {
       notes = front_notes e t turns (none_noted (came_by t.input) e t known.1 (calm_opens t.input calm.0) so.moves) same others.notes;

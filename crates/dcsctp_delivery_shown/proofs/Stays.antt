@@ -53,7 +53,7 @@ none_before (open_in phase my held) after keeps none = absurd (held_some after (
 link_kept : (came : Option Content) (e : Endpoint) (o : Outcome) → (IsOpening came → ⊥) → (IsHeldIn e.core → IsHeldIn o.after.core) → MovesLink came e o → identity_in o.after.core ≡ identity_in e.core
 link_kept came e o unopened keeps (link_stays is) = is
 link_kept came e o unopened keeps (link_ends none) = none ∙ sym (none_before e.core o.after.core keeps none)
-link_kept came e o unopened keeps (link_begins begun opening linked) = absurd (unopened opening)
+link_kept came e o unopened keeps (link_begins opened) = absurd (unopened opened.opening)
 
 -- ---- flushes, and a step of a shutdown
 
@@ -182,12 +182,12 @@ module _ (kinds : Capabilities) where
 
     follows_left : (e : Endpoint) (tag : ℕ) (content : Content) (t : Transition) → MayFollow content → Allowed kinds content → EndpointIs kinds e → IsTurn e (chunk_input tag content) t → Left e t
     follows_left e tag content t may allowed h turn =
-        let so : TurnIs kinds e (Some content) t.outcome = turn_is kinds e (chunk_input tag content) t.outcome h tt (λ begun opening linked. absurd (follows_calm content may opening)) turn.comes in
+        let so : TurnIs kinds e (Some content) t.outcome = turn_is kinds e (chunk_input tag content) t.outcome h tt (λ opened. absurd (follows_calm content may opened.opening)) turn.comes in
         record { linked = link_kept (Some content) e t.outcome (follows_calm content may) (follows_held e tag content t.outcome may allowed h turn.comes) so.moves; is = so.after }
 
     end_left : (e : Endpoint) (t : Transition) → EndpointIs kinds e → IsTurn e packet_ends t → Left e t
     end_left e t h turn =
-        let so : TurnIs kinds e None t.outcome = turn_is kinds e packet_ends t.outcome h tt (λ begun opening linked. absurd opening) turn.comes in
+        let so : TurnIs kinds e None t.outcome = turn_is kinds e packet_ends t.outcome h tt (λ opened. absurd opened.opening) turn.comes in
         record { linked = link_kept None e t.outcome (λ opening. opening) (flushed_at e t.outcome (end_at e e.queues.transfer t.outcome turn.comes)) so.moves; is = so.after }
 
     end_link : (e : Endpoint) (turns : List Transition) → EndpointIs kinds e → Turns e (packet_ends ∷ []) turns → identity_in (after_all e turns).core ≡ identity_in e.core

@@ -9,14 +9,14 @@ use Rattle.dcsctp_spec_lemmas.specs.spec.endpoint.Turn.{Input, chunk_input, act_
 use Rattle.dcsctp_spec_lemmas.specs.spec.association.Acts.{flushes, request_again, request_renewed}
 use Rattle.dcsctp_spec_lemmas.specs.spec.association.Effect.{Effect, AssociationIdentity, identity_of, identity_in}
 use Rattle.dcsctp_spec_lemmas.specs.types.queues.Messages.{MessageContent}
-use Rattle.dcsctp_spec_lemmas.specs.spec.queues.Transfer.{EndpointQueues}
+use Rattle.dcsctp_spec_lemmas.specs.spec.queues.Transfer.{Transfer, EndpointQueues}
 use Rattle.dcsctp_spec_lemmas.specs.spec.endpoint.FlushOutcomes.{Answer}
 use Rattle.dcsctp_spec_lemmas.specs.spec.endpoint.MessageOutcomes.{MessageRefusal, Sending, sending_refusal, lifecycle_name, queue_by, queue_one, queue_all, takes_any, SendAnswers, send_by, SendTurn}
 use Rattle.dcsctp_theorem_sockets.proofs.Bursts.{packets_in-append}
 use Rattle.dcsctp_delivery_sending.specs.Log.{Message}
 use Rattle.dcsctp_delivery_directions.specs.Directions.{nothing_asked}
 use Rattle.dcsctp_delivery_turns.specs.Asking.{own_of, SomeFit}
-use Rattle.dcsctp_delivery_turns.specs.Actions.{ledger_of, came_by, Begun, opening_queues, IsOpening, Inside, inside, Made, MakesAlso, OwnEnds, unended, committed, rolled_back, PeerResets, unreset, absent, deferred, reset_now, Becomes, goes_on, pauses, prepared_inside, works_resets, renews, ends, begins, IsCall, peer_tag, queued_after, read_after}
+use Rattle.dcsctp_delivery_turns.specs.Actions.{ledger_of, came_by, Opened, opening_queues, kept_inside, IsOpening, Inside, inside, Made, MakesAlso, OwnEnds, unended, committed, rolled_back, PeerResets, unreset, absent, deferred, reset_now, Becomes, goes_on, pauses, prepared_inside, works_resets, renews, ends, begins, collides, IsCall, peer_tag, queued_after, read_after}
 use Rattle.dcsctp_delivery_turns.proofs.Fixed.{queue_all_core, refusal_none, prepared_none}
 use Rattle.dcsctp_delivery_turns.proofs.Fronts.{renewed_fit, own_ends_fit}
 use Rattle.dcsctp_delivery_turns.proofs.Beginnings.{nothing_fits, unlinked_fits}
@@ -80,7 +80,7 @@ calm_opens input calm opening = opening
 pub data MovesLink (came : Option Content) (e : Endpoint) (o : Outcome) : Type 0 where
   link_stays : identity_in o.after.core ≡ identity_in e.core → MovesLink came e o
   link_ends : identity_in o.after.core ≡ None → MovesLink came e o
-  link_begins : (begun : Begun e o) → IsOpening came → identity_in o.after.core ≡ Some (identity_of begun.my begun.held) → MovesLink came e o
+  link_begins : Opened came o → MovesLink came e o
 
 -- Streams and messages that a user names are of no concern here: they may be of any size.
 abbrev pub NamesNothing : Input → Type 0
@@ -158,7 +158,7 @@ module _ (kinds : Capabilities) where
   -- the association that a turn begins, if it begins one, is of these kinds, and its first TSN fits its field
   abbrev pub BeginsSo : Endpoint → Option Content → Outcome → Type 0
   BeginsSo e came o =
-      (begun : Begun e o) → IsOpening came → identity_in o.after.core ≡ Some (identity_of begun.my begun.held) → SameKinds begun.held.capabilities kinds × (begun.my.first_tsn < 2 ^ 32)
+      (opened : Opened came o) → SameKinds opened.link.capabilities kinds × (opened.link.my.first_tsn < 2 ^ 32)
 
   stays_is : (came : Option Content) (e : Endpoint) (o : Outcome) → EndpointIs kinds e → identity_in o.after.core ≡ identity_in e.core → MadeIs (inside o.after) (packets_in o.events) → TurnIs e came o
   stays_is came e o h linked made =
@@ -194,13 +194,29 @@ module _ (kinds : Capabilities) where
         says = made.says;
       }
   becomes_is came to adds taken e o h so (begins begun opening linked unqueued unread again makes) =
-      let start : SameKinds begun.held.capabilities kinds × (begun.my.first_tsn < 2 ^ 32) = so begun opening linked in
+      let opened : Opened came o = record { opening = opening; link = identity_of begun.my begun.held; linked = linked; later = begun.later; noted = begun.noted } in
+      let start : SameKinds begun.held.capabilities kinds × (begun.my.first_tsn < 2 ^ 32) = so opened in
       let made : MadeIs (inside o.after) (packets_in o.events) =
       makes_is came begun.held.peer.tag (λ queued. queued) (λ read. read) (record { queues = opening_queues e o begun; own = Some (record { number = None; next = begun.my.first_tsn; again = again }) }) (inside o.after) (packets_in o.events)
       (record { left = start.0; asks = (record { first = begun.my.first_tsn; asking = nothing_asked; fits = nothing_fits begun.my.first_tsn again start.1 }) }) makes in
       record {
-        moves = link_begins begun opening linked;
+        moves = link_begins opened;
         after = record { linked = subst (LinkIs kinds) (sym linked) start.0; left = made.inside_is.left; asks = made.inside_is.asks };
+        says = made.says;
+      }
+  becomes_is came to adds taken e o h so (collides collision unqueued unread again makes) =
+      let opened : Opened came o = collision.opened in
+      let start : SameKinds opened.link.capabilities kinds × (opened.link.my.first_tsn < 2 ^ 32) = so opened in
+      let left : TransferIs kinds (Some collision.transfer) = subst (TransferIs kinds) collision.there h.left in
+      let made : MadeIs (inside o.after) (packets_in o.events) =
+      makes_is came opened.link.peer.tag (λ queued. queued) (λ read. read) (kept_inside collision again) (inside o.after) (packets_in o.events)
+      (record {
+        left = (let same = collision.kept_is.4 in subst (λ (t : Transfer). TransferIs kinds (Some t)) (sym same) left);
+        asks = record { first = opened.link.my.first_tsn; asking = nothing_asked; fits = nothing_fits opened.link.my.first_tsn again start.1 };
+      }) makes in
+      record {
+        moves = link_begins opened;
+        after = record { linked = subst (LinkIs kinds) (sym opened.linked) start.0; left = made.inside_is.left; asks = made.inside_is.asks };
         says = made.says;
       }
 
@@ -218,13 +234,13 @@ module _ (kinds : Capabilities) where
   sends_is : (b : Bool) (e : Endpoint) (answers : List Answer) → EndpointIs kinds e → SendAnswers b e answers → TurnIs e None (send_by b e answers)
   sends_is false e answers h allowed = record { moves = link_stays refl; after = h; says = tt }
   sends_is true e answers h allowed =
-      becomes_is None (peer_tag e.core) (queued_after e (act_input flushes)) (read_after e (act_input flushes)) e (send_by true e answers) h (λ begun opening linked. absurd opening)
+      becomes_is None (peer_tag e.core) (queued_after e (act_input flushes)) (read_after e (act_input flushes)) e (send_by true e answers) h (λ opened. absurd opened.opening)
       (turns_are_actions e (act_input flushes) (send_by true e answers) tt (answers, allowed, refl))
 
   later_moves : (e d : Endpoint) (o whole : Outcome) → identity_in d.core ≡ identity_in e.core → whole.after ≡ o.after → MovesLink None d o → MovesLink None e whole
   later_moves e d o whole same after (link_stays is) = link_stays (ap (λ (x : Endpoint). identity_in x.core) after ∙ is ∙ same)
   later_moves e d o whole same after (link_ends none) = link_ends (ap (λ (x : Endpoint). identity_in x.core) after ∙ none)
-  later_moves e d o whole same after (link_begins begun opening linked) = absurd opening
+  later_moves e d o whole same after (link_begins opened) = absurd opened.opening
 
   send_is : (e : Endpoint) (sendings : List Sending) (o : Outcome) → EndpointIs kinds e → SendTurn e sendings o → TurnIs e None o
   send_is e sendings o h turn =

@@ -62,8 +62,8 @@ module _ (never_resets : Bool) (options : Options) (d : Endpoint) (their_past : 
       let first : AreEnds never_resets options t.outcome.after (queued_after e t.input queued) (after_effects t.outcome.effects past) (packets ++ packets_in t.outcome.events) d their_past reading =
       (subst (λ (n : Bool). AreEnds n options t.outcome.after (queued_after e t.input queued) (after_effects t.outcome.effects past) (packets ++ packets_in t.outcome.events) d their_past reading) h.is
       (sender_turns options h.ends e queued past packets d their_past reading h.between t.input t.outcome new.1 h.answered
-      (asks_little (packets ++ packets_in t.outcome.events) (packets_in (events_of turns)) all) (omega (arith, few, grows)) new.2 (λ never. resets.0 (sym h.is ∙ never)) new.3 new.4 new.0 taken.0)) in
-      let rest = senders_act turns t.outcome.after (queued_after e t.input queued) (after_effects t.outcome.effects past) (packets ++ packets_in t.outcome.events) first taken.1 resets.1 new.5 few all in
+      (asks_little (packets ++ packets_in t.outcome.events) (packets_in (events_of turns)) all) new.5 (omega (arith, few, grows)) new.2 (λ never. resets.0 (sym h.is ∙ never)) new.3 new.4 new.0 taken.0)) in
+      let rest = senders_act turns t.outcome.after (queued_after e t.input queued) (after_effects t.outcome.effects past) (packets ++ packets_in t.outcome.events) first taken.1 resets.1 new.6 few all in
       subst (λ (l : List Effect). AreEnds never_resets options (after_all t.outcome.after turns) (queued_through t.outcome.after turns (queued_after e t.input queued)) l (packets ++ packets_in (t.outcome.events ++ events_of turns)) d their_past reading)
       (sym (after_effects-append t.outcome.effects (effects_of turns) past))
       (subst (λ (l : List Emission). AreEnds never_resets options (after_all t.outcome.after turns) (queued_through t.outcome.after turns (queued_after e t.input queued)) (after_effects (effects_of turns) (after_effects t.outcome.effects past)) l d their_past reading)

@@ -213,6 +213,7 @@ new_peers their_past (t ∷ turns) past e calls unrefused along opens each match
       unrefused.0,
       (λ my number has. later my number (after_within (effects_of turns) (after_effects t.outcome.effects past) (completes my number) (among_after (completes my number) t.outcome.effects past has))),
       same_rules e t.outcome along.0,
+      new_noted t.outcome.effects past (each_earlier IsOfNewTags (effects_of turns) (after_effects t.outcome.effects past) (subst (Each IsOfNewTags) split each)),
       new_peers their_past turns (after_effects t.outcome.effects past) t.outcome.after calls.1 unrefused.1 along.1 opens.1 (subst (Each IsOfNewTags) split each)
           (subst (λ (p : List Effect). MatchByTags p their_past) split matched) later,
     )

@@ -14,7 +14,7 @@ use Rattle.dcsctp_spec_lemmas.specs.spec.endpoint.HandshakeOutcomes.{echo_emissi
 use Rattle.dcsctp_spec_lemmas.specs.spec.endpoint.Turn.{Input, Turn}
 use Rattle.dcsctp_delivery_sending.specs.Places as places
 use Rattle.dcsctp_delivery_sending.specs.Flushes.{NoRequests, NoContent, NoData}
-use Rattle.dcsctp_delivery_turns.specs.Actions.{came_by, IsOpening, Becomes, goes_on, pauses, works_resets, renews, ends, begins, IsCall}
+use Rattle.dcsctp_delivery_turns.specs.Actions.{came_by, IsOpening, Becomes, goes_on, pauses, works_resets, renews, ends, begins, collides, IsCall}
 use Rattle.dcsctp_delivery_turns.specs.Sides.{WasIn, WasAsked, WasSent}
 use Rattle.dcsctp_delivery_associations.specs.Ends.{Ends, IsOfEnds, AreOfEnds}
 use Rattle.dcsctp_delivery_sockets.specs.Echoes.{MayFollow}
@@ -102,6 +102,7 @@ by_becomes tag e came o not is (works_resets linked between worked ended peer ma
 by_becomes tag e came o not is (renews calm linked alike unread own number emission kept out after packets goes contents) = λ link there. is link (sym linked ∙ there)
 by_becomes tag e came o not is (ends none unread last own makes below) = λ link there. (let clash : ◌≡◌ {A = Option AssociationIdentity} None (Some link) = sym none ∙ there in absurd (cc))
 by_becomes tag e came o not is (begins begun opening linked alike unread again makes) = absurd (not opening)
+by_becomes tag e came o not is (collides collision alike unread again makes) = absurd (not collision.opened.opening)
 
 -- A chunk that begins no association leaves its tag.
 pub tag_stays : (tag : ℕ) (e : Endpoint) (input : Input) (o : Outcome) → (IsOpening (came_by input) → ⊥) → IsCall input → TagIs tag e → Turn e input o → TagIs tag o.after

@@ -20,7 +20,7 @@ use Rattle.dcsctp_delivery_turns.specs.Actions.{came_by, queued_after, IsOpening
 use Rattle.dcsctp_delivery_associations.specs.Answered.{AreAnswered}
 use Rattle.dcsctp_delivery_associations.specs.Ends.{Ends, NewPeer, Between}
 use Rattle.dcsctp_delivery_turns.specs.Runs.{RefusesNone}
-use Rattle.dcsctp_delivery_associations.specs.Laws.{CompletesPerformed, AsksLittle, ResetsAs, AreEnds}
+use Rattle.dcsctp_delivery_associations.specs.Laws.{CompletesPerformed, NewOwnTags, AsksLittle, ResetsAs, AreEnds}
 use Rattle.dcsctp_delivery_associations.specs.Reads.{Reading}
 use Rattle.dcsctp_delivery_sockets.specs.Echoes.{GoesToMaker}
 use Rattle.dcsctp_delivery_sockets.specs.Packets.{reading_through, AreNewTags}
@@ -37,7 +37,7 @@ AreTurns e (turn ∷ turns) = Turn e turn.input turn.outcome × AreTurns turn.ou
 
 -- Each input is a call, a timer or a chunk; and an association that begins has a peer of a new tag, and the matching one at the other side.
 -- With interleaving no own request to reset streams fails. Each that ends as performed was performed at the other side, or it is the
--- 2^32nd of its association. `follow_rfc` stays.
+-- 2^32nd of its association. `follow_rfc` stays. Each association that is recorded has a new own tag.
 abbrev pub AreNewPeers : List Effect → List Effect → Endpoint → List Transition → Type 0
 AreNewPeers past their_past e [] = Unit {0}
 AreNewPeers past their_past e (turn ∷ turns) =
@@ -46,6 +46,7 @@ AreNewPeers past their_past e (turn ∷ turns) =
     × RefusesNone e turn.outcome
     × CompletesPerformed their_past turn.outcome
     × (turn.outcome.after.options.follow_rfc ≡ e.options.follow_rfc)
+    × NewOwnTags past turn.outcome
     × AreNewPeers (after_effects turn.outcome.effects past) their_past turn.outcome.after turns
 
 -- The user resets no stream by this turn, if it never does.

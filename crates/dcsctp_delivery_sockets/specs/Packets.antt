@@ -16,7 +16,7 @@ use Rattle.dcsctp_delivery_turns.specs.Actions.{came_by, IsOpening, Begun}
 use Rattle.dcsctp_delivery_turns.specs.PeerRequests.{KnowsPeerIn}
 use Rattle.dcsctp_delivery_associations.specs.Answered.{AreAnswered}
 use Rattle.dcsctp_delivery_associations.specs.Ends.{Ends, NewTag, Between}
-use Rattle.dcsctp_delivery_associations.specs.Laws.{AsksLittle, AreEnds}
+use Rattle.dcsctp_delivery_associations.specs.Laws.{NewOwnTags, AsksLittle, AreEnds}
 use Rattle.dcsctp_delivery_associations.specs.Reads.{Reading, reading_after}
 use Rattle.dcsctp_delivery_sockets.specs.Echoes.{GoesToMaker}
 
@@ -31,7 +31,7 @@ abbrev pub AreNewTags : Options → List Effect → List Effect → Endpoint →
 AreNewTags options their_past past e [] = Unit {0}
 AreNewTags options their_past past e (turn ∷ turns) =
     SameOptions options e.options × ((begun : Begun e turn.outcome) → IsOpening (came_by turn.input) → identity_in turn.outcome.after.core ≡ Some (identity_of begun.my begun.held) → NewTag their_past past (identity_of begun.my begun.held))
-    × KnowsPeerIn their_past e.core × ((link old : AssociationIdentity) → HasEffect (holds link) turn.outcome.effects → HasEffect (holds old) their_past → old.my.tag ≢ link.my.tag)
+    × KnowsPeerIn their_past e.core × NewOwnTags their_past turn.outcome
     × AreNewTags options (after_effects turn.outcome.effects their_past) past turn.outcome.after turns
 
 -- The chunks of a packet that the sender sent leave what is known of all associations.

@@ -1,8 +1,10 @@
 -- The turns of the handshake, and ends, as actions.
-use Rattle.std.proofs.Common.{subst, ap, sym, ◌≡◌, ◌⊎◌, ℕ, Bool, true, false, cond, Option, None, Some, Result, Ok, Err, List, [], ◌∷◌, refl, inl, inr, ◌==◌, ◌∙◌}
+use Rattle.std.proofs.Common.{subst, ap, sym, ◌≡◌, ◌⊎◌, ℕ, Bool, true, false, cond, Option, None, Some, Result, Ok, Err, List, [], ◌∷◌, refl, inl, inr, ◌==◌, ◌&&◌, ◌∙◌}
 use Rattle.dcsctp_spec_lemmas.proofs.AbortLemmas.{by_abort_outcome}
 use Rattle.dcsctp_spec_lemmas.proofs.ControlEcho.{kept_by_age}
+use Rattle.dcsctp_spec_lemmas.proofs.RefusalLemmas.{by_stale_outcome}
 use Rattle.dcsctp_spec_lemmas.specs.types.declared.association.Pair.{Pair}
+use Rattle.dcsctp_spec_lemmas.specs.types.declared.association.Held.{Held}
 use Rattle.dcsctp_spec_lemmas.specs.types.declared.word.Word.{Word}
 use Rattle.dcsctp_spec_lemmas.specs.types.declared.word.Word.TheVariants.{U32, U64}
 use Rattle.dcsctp_spec_lemmas.specs.types.declared.ends.AbortReason.{AbortReason}
@@ -18,15 +20,15 @@ use Rattle.dcsctp_spec_lemmas.specs.spec.endpoint.EndOutcomes.{abort_outcome, ab
 use Rattle.dcsctp_spec_lemmas.specs.spec.endpoint.HandoverOutcomes.{hand_over_outcome}
 use Rattle.dcsctp_spec_lemmas.specs.spec.endpoint.HandshakeOutcomes.{pair_from, renewed_pair, init_ack_emission, init_outcome, init_answered, init_emission, awaits_init_ack, connect_outcome, awaits_cookie_ack, echo_emission, EchoAnswers, InitAckAnswers, accepted_init_ack_by, init_ack_by, connected_after, CookieAckAnswers, cookie_ack_by, abort_emission, no_cookie_text}
 use Rattle.dcsctp_spec_lemmas.specs.spec.endpoint.TimerOutcomes.{AgainAnswers, again_by, t1_gives_up_outcome}
-use Rattle.dcsctp_spec_lemmas.specs.spec.endpoint.CookieEchoOutcomes.{is_spent, established_by, cookie_ack_emission, EstablishAnswers, establish_by, interleaves, queue_where, queue_kept, queue_begun, RestartAnswers, restart_by_where, MaintainAnswers, maintain_by, ResolvedAnswers, resolved_by, EchoedAnswers, cookie_echo_by, resolved_now, shutting_down_emission, window_by_cookie}
+use Rattle.dcsctp_spec_lemmas.specs.spec.endpoint.CookieEchoOutcomes.{is_spent, established_by, cookie_ack_emission, EstablishAnswers, establish_by, interleaves, queue_where, queues_kept, queues_begun, queues_by, queues_for_other, queues_collided, outlasts, collide_by, stale_emission, RestartAnswers, restart_by_where, MaintainAnswers, maintain_by, ResolvedAnswers, resolved_by, EchoedAnswers, cookie_echo_by, resolved_now, shutting_down_emission, window_by_cookie}
 use Rattle.dcsctp_spec_lemmas.specs.spec.association.CookieEchoChanges.{held_by_cookie, Resolution, establish_new, restart, simultaneous_init, discard, maintain_existing, invalid_tag, stale, aged, resolve, case_by}
 use Rattle.dcsctp_spec_lemmas.specs.spec.association.HandshakeChanges.{held_by_init_ack}
 use Rattle.std.proofs.lemmas.Bool.{eqb-true}
 use Rattle.dcsctp_delivery_turns.specs.Tags.{IsPeerTag}
-use Rattle.dcsctp_spec_lemmas.specs.spec.association.Effect.{identity_in}
-use Rattle.dcsctp_delivery_turns.specs.Actions.{IsOpening, IsCalm, Inside, inside, goes_on, ends, begins}
+use Rattle.dcsctp_spec_lemmas.specs.spec.association.Effect.{identity_of, identity_in}
+use Rattle.dcsctp_delivery_turns.specs.Actions.{IsOpening, IsCalm, Inside, inside, goes_on, ends, begins, collides}
 use Rattle.dcsctp_delivery_turns.specs.Asking.{Own, own_in, own_of}
-use Rattle.dcsctp_spec_lemmas.specs.spec.queues.Transfer.{EndpointQueues}
+use Rattle.dcsctp_spec_lemmas.specs.spec.queues.Transfer.{Transfer, EndpointQueues, transfer_kept}
 use Rattle.dcsctp_spec_lemmas.specs.spec.endpoint.ReconfigurationOutcomes.{reset_again}
 use Rattle.dcsctp_spec_lemmas.proofs.OneAnswerLemmas.{init_by}
 use Rattle.dcsctp_delivery_turns.proofs.Tags.{flush_link}
@@ -40,6 +42,11 @@ is_the_peer false true tie true e = absurd (cc)
 is_the_peer false true tie false e = absurd (cc)
 is_the_peer false false true zero e = absurd (cc)
 is_the_peer false false false zero e = absurd (cc)
+
+pub second_holds : (a b c : Bool) → ((a && b) && c) ≡ true → b ≡ true
+second_holds true true c is = refl
+second_holds true false c is = absurd (cc)
+second_holds false b c is = absurd (cc)
 
 -- What waits to be sent is kept, or starts again.
 pub kept_or_anew : (b : Bool) (e : Endpoint) (cookie : Cookie)
@@ -133,8 +140,8 @@ module _ (came : Option Content) (calm : IsCalm came) (to : ℕ) where
 
   -- ---- COOKIE ECHO
 
-  kept_goes : IsOpening came → (e : Endpoint) (cookie : Cookie) (tie : ℕ) (answers : List Answer) → EstablishAnswers e cookie (queue_kept e cookie) tie answers
-      → Goes came to e (establish_by (flush_answered answers) e cookie (queue_kept e cookie) tie (connected ∷ []))
+  kept_goes : IsOpening came → (e : Endpoint) (cookie : Cookie) (tie : ℕ) (answers : List Answer) → EstablishAnswers e cookie (queues_kept e cookie) tie answers
+      → Goes came to e (establish_by (flush_answered answers) e cookie (queues_kept e cookie) tie (connected ∷ []))
   kept_goes opening e cookie tie answers allowed =
       begins (record {
         my = cookie.maker;
@@ -142,12 +149,12 @@ module _ (came : Option Content) (calm : IsCalm came) (to : ℕ) where
         window = window_by_cookie e.options cookie;
         later = _;
         noted = refl;
-        queue = queue_kept e cookie;
+        queue = queue_where e.options.follow_rfc e cookie;
         keeps = kept_or_anew e.options.follow_rfc e cookie;
-      }) opening (flush_link (established_by e cookie (queue_kept e cookie) tie) (cookie_ack_emission (held_by_cookie e.options cookie) cookie) answers allowed) (λ queued. refl) (λ read. refl) (reset_again None) (flushed came cookie.addressee.tag (established_by e cookie (queue_kept e cookie) tie) (cookie_ack_emission (held_by_cookie e.options cookie) cookie) answers refl refl (tt, tt) tt allowed)
+      }) opening (flush_link (established_by e cookie (queues_kept e cookie) tie) (cookie_ack_emission (held_by_cookie e.options cookie) cookie) answers allowed) (λ queued. refl) (λ read. refl) (reset_again None) (flushed came cookie.addressee.tag (established_by e cookie (queues_kept e cookie) tie) (cookie_ack_emission (held_by_cookie e.options cookie) cookie) answers refl refl (tt, tt) tt allowed)
 
-  anew_goes : IsOpening came → (e : Endpoint) (cookie : Cookie) (tie : ℕ) (told : List (Event Emission)) (answers : List Answer) → packets_in told ≡ [] → EstablishAnswers e cookie (queue_begun e cookie) tie answers
-      → Goes came to e (establish_by (flush_answered answers) e cookie (queue_begun e cookie) tie told)
+  anew_goes : IsOpening came → (e : Endpoint) (cookie : Cookie) (tie : ℕ) (told : List (Event Emission)) (answers : List Answer) → packets_in told ≡ [] → EstablishAnswers e cookie (queues_begun e cookie) tie answers
+      → Goes came to e (establish_by (flush_answered answers) e cookie (queues_begun e cookie) tie told)
   anew_goes opening e cookie tie told answers none allowed =
       begins (record {
         my = cookie.maker;
@@ -155,10 +162,57 @@ module _ (came : Option Content) (calm : IsCalm came) (to : ℕ) where
         window = window_by_cookie e.options cookie;
         later = _;
         noted = refl;
-        queue = queue_begun e cookie;
+        queue = numbered_for (interleaves e cookie) (queue_restarted e.queues.queue);
         keeps = inr refl;
-      }) opening (flush_link (established_by e cookie (queue_begun e cookie) tie) (cookie_ack_emission (held_by_cookie e.options cookie) cookie) answers allowed) (λ queued. refl) (λ read. refl) (reset_again None) (makes_behind came cookie.addressee.tag (inside (established_by e cookie (queue_begun e cookie) tie)) (U64 tie ∷ []) told (flush_of (established_by e cookie (queue_begun e cookie) tie) (cookie_ack_emission (held_by_cookie e.options cookie) cookie) answers) none
-      (flushed came cookie.addressee.tag (established_by e cookie (queue_begun e cookie) tie) (cookie_ack_emission (held_by_cookie e.options cookie) cookie) answers refl refl (tt, tt) tt allowed))
+      }) opening (flush_link (established_by e cookie (queues_begun e cookie) tie) (cookie_ack_emission (held_by_cookie e.options cookie) cookie) answers allowed) (λ queued. refl) (λ read. refl) (reset_again None) (makes_behind came cookie.addressee.tag (inside (established_by e cookie (queues_begun e cookie) tie)) (U64 tie ∷ []) told (flush_of (established_by e cookie (queues_begun e cookie) tie) (cookie_ack_emission (held_by_cookie e.options cookie) cookie) answers) none
+      (flushed came cookie.addressee.tag (established_by e cookie (queues_begun e cookie) tie) (cookie_ack_emission (held_by_cookie e.options cookie) cookie) answers refl refl (tt, tt) tt allowed))
+
+  -- What was sent in the one association goes on in the other.
+  other_goes : IsOpening came → (e : Endpoint) (mine : Pair) (held : Held) (echoed : List ℕ) (cookie : Cookie) (tie : ℕ) (transfer : Transfer) (answers : List Answer) → e.core ≡ cookie_echoed mine held echoed → e.queues.transfer ≡ Some transfer
+      → mine.tag ≡ cookie.maker.tag → EstablishAnswers e cookie (queues_by true e cookie transfer) tie answers
+      → Goes came to e (establish_by (flush_answered answers) e cookie (queues_by true e cookie transfer) tie (connected ∷ []))
+  other_goes opening e mine held echoed cookie tie transfer answers same there tag allowed =
+      let queues : EndpointQueues = queues_by true e cookie transfer in
+      let after : Held = held_by_cookie e.options cookie in
+      let window : ℕ = window_by_cookie e.options cookie in
+      collides (record {
+        opened = record {
+          opening = opening;
+          link = identity_of cookie.maker after;
+          linked = flush_link (established_by e cookie queues tie) (cookie_ack_emission after cookie) answers allowed;
+          later = _;
+          noted = refl;
+        };
+        old = identity_of mine held;
+        was = ap identity_in same;
+        tag = sym tag;
+        transfer = transfer;
+        there = there;
+        kept = transfer_kept e.moment e.options cookie.addressee.first_tsn window transfer;
+        kept_is = (e.moment, e.options, cookie.addressee.first_tsn, window, refl);
+      }) (λ queued. refl) (λ read. refl) (reset_again None)
+      (flushed came cookie.addressee.tag (established_by e cookie queues tie) (cookie_ack_emission after cookie) answers refl refl (tt, tt) tt allowed)
+
+  by_goes : IsOpening came → (b : Bool) (e : Endpoint) (mine : Pair) (held : Held) (echoed : List ℕ) (cookie : Cookie) (tie : ℕ) (transfer : Transfer) (answers : List Answer) → e.core ≡ cookie_echoed mine held echoed → e.queues.transfer ≡ Some transfer
+      → outlasts e mine cookie transfer ≡ b → EstablishAnswers e cookie (queues_by b e cookie transfer) tie answers
+      → Goes came to e (establish_by (flush_answered answers) e cookie (queues_by b e cookie transfer) tie (connected ∷ []))
+  by_goes opening true e mine held echoed cookie tie transfer answers same there is allowed =
+      other_goes opening e mine held echoed cookie tie transfer answers same there (eqb-true mine.tag cookie.maker.tag (second_holds e.options.follow_rfc _ _ is)) allowed
+  by_goes opening false e mine held echoed cookie tie transfer answers same there is allowed = anew_goes opening e cookie tie (connected ∷ []) answers refl allowed
+
+  by_transfer_goes : IsOpening came → (e : Endpoint) (mine : Pair) (held : Held) (echoed : List ℕ) (cookie : Cookie) (tie : ℕ) (transfer : Option Transfer) (answers : List Answer) → e.core ≡ cookie_echoed mine held echoed → e.queues.transfer ≡ transfer
+      → EstablishAnswers e cookie (queues_for_other e mine cookie transfer) tie answers
+      → Goes came to e (establish_by (flush_answered answers) e cookie (queues_for_other e mine cookie transfer) tie (connected ∷ []))
+  by_transfer_goes opening e mine held echoed cookie tie None answers same there allowed = anew_goes opening e cookie tie (connected ∷ []) answers refl allowed
+  by_transfer_goes opening e mine held echoed cookie tie (Some transfer) answers same there allowed =
+      by_goes opening (outlasts e mine cookie transfer) e mine held echoed cookie tie transfer answers same there refl allowed
+
+  collided_goes : IsOpening came → (e : Endpoint) (core : Core) (cookie : Cookie) (tie : ℕ) (answers : List Answer) → e.core ≡ core → EstablishAnswers e cookie (queues_collided e core cookie) tie answers
+      → Goes came to e (collide_by (flush_answered answers) e core cookie tie)
+  collided_goes opening e closed cookie tie answers same allowed = anew_goes opening e cookie tie (connected ∷ []) answers refl allowed
+  collided_goes opening e (cookie_wait my) cookie tie answers same allowed = anew_goes opening e cookie tie (connected ∷ []) answers refl allowed
+  collided_goes opening e (cookie_echoed mine held echoed) cookie tie answers same allowed = by_transfer_goes opening e mine held echoed cookie tie e.queues.transfer answers same refl allowed
+  collided_goes opening e (open_in phase my held) cookie tie answers same allowed = anew_goes opening e cookie tie (connected ∷ []) answers refl allowed
 
   restarted_goes : IsOpening came → (e : Endpoint) (cookie : Cookie) (tie : ℕ) (core : Core) (answers : List Answer) → RestartAnswers e cookie tie core answers
       → Goes came to e (restart_by_where (flush_answered answers) e cookie tie core)
@@ -183,11 +237,12 @@ module _ (came : Option Content) (calm : IsCalm came) (to : ℕ) where
       → Goes came to e (resolved_by (flush_answered answers) e cookie core word resolution)
   resolved_goes opening e cookie header core word old establish_new answers same at is resolved allowed = kept_goes opening e cookie word answers allowed
   resolved_goes opening e cookie header core word old restart answers same at is resolved allowed = restarted_goes opening e cookie word core answers allowed
-  resolved_goes opening e cookie header core word old simultaneous_init answers same at is resolved allowed = anew_goes opening e cookie word (connected ∷ []) answers refl allowed
+  resolved_goes opening e cookie header core word old simultaneous_init answers same at is resolved allowed = collided_goes opening e core cookie word answers same allowed
   resolved_goes opening e cookie header core word old discard answers same at is resolved allowed = goes_on calm refl (rests came to (inside e))
   resolved_goes opening e cookie header core word old maintain_existing answers same at is resolved allowed = maintained_goes e cookie header core answers same at is (kept_by_age old (resolve core e.tie header cookie) resolved) allowed
   resolved_goes opening e cookie header core word old invalid_tag answers same at is resolved allowed = goes_on calm refl (rests came to (inside e))
-  resolved_goes opening e cookie header core word old stale answers same at is resolved allowed = goes_on calm refl (rests came to (inside e))
+  resolved_goes opening e cookie header core word old stale answers same at is resolved allowed =
+      by_stale_outcome (Goes came to e) e cookie (goes_on calm refl (spoken came to (inside e) (stale_emission cookie) (tt, tt))) (goes_on calm refl (rests came to (inside e)))
 
   pub echo_goes : IsOpening came → (e : Endpoint) (core : Core) (header : ℕ) (found : Result Cookie (List ℕ)) (word : ℕ) (answers : List Answer) → e.core ≡ core → IsPeerTag e.core to → IsPeerTag core to → EchoedAnswers e core header found word answers
       → Goes came to e (cookie_echo_by (flush_answered answers) e core header found word)

@@ -10,11 +10,11 @@ use Rattle.dcsctp_spec_lemmas.specs.spec.endpoint.Turn.{Input, arrival, refusal,
 use Rattle.dcsctp_spec_lemmas.specs.spec.association.Effect.{Effect, AssociationIdentity, identity_of, identity_in}
 use Rattle.dcsctp_spec_lemmas.specs.spec.queues.Transfer.{Transfer}
 use Rattle.dcsctp_spec_lemmas.specs.spec.endpoint.ResetOutcomes.{WorksResets, ResetTurn}
-use Rattle.dcsctp_delivery_turns.specs.Actions.{came_by, IsCalm, IsCall}
-use Rattle.dcsctp_delivery_turns.specs.PeerRequests.{NoneAsked, KnowsPeer, KnowsPeerIn, IsPlainRequest, PeerTurns, asks_nothing, begins_anew, PeersTurn, CalmAsksNothing, UnlinkedAsksNothing, EndsAskNothing}
+use Rattle.dcsctp_delivery_turns.specs.Actions.{Collides, came_by, IsCalm, IsCall}
+use Rattle.dcsctp_delivery_turns.specs.PeerRequests.{NoneAsked, KnowsPeer, KnowsPeerIn, IsPlainRequest, PeerTurns, asks_nothing, begins_anew, collides_anew, PeersTurn, CalmAsksNothing, UnlinkedAsksNothing, EndsAskNothing}
 use Rattle.dcsctp_delivery_turns.proofs.AskedResets.{request_turns}
 use Rattle.dcsctp_delivery_turns.proofs.PeerRequests.{answers_ask, none_ends}
-use Rattle.dcsctp_delivery_turns.proofs.UnaskedHandshake.{CalmTurns, goes_on, begins}
+use Rattle.dcsctp_delivery_turns.proofs.UnaskedHandshake.{CalmTurns, goes_on, begins, collides}
 use Rattle.dcsctp_delivery_turns.proofs.UnaskedTurns.{calm_turns}
 use Rattle.dcsctp_delivery_turns.proofs.Waiting.{WaitedIn, AsksNothing, as_this, rests}
 
@@ -57,16 +57,22 @@ input_handles (restores state) = calmly (λ parameters is. absurd (cc))
 calm_none : (came : Option Content) (e : Endpoint) (o : Outcome) → CalmTurns came e o → NoneAsked o.effects
 calm_none came e o (goes_on asks) = asks.none
 calm_none came e o (begins begun opening linked asks) = asks.none
+calm_none came e o (collides collision asks) = asks.none
 
 pub calm_asks_nothing : CalmAsksNothing
 calm_asks_nothing e input o calm may turn = calm_none (came_by input) e o (calm_turns e input o calm may turn)
 
 -- ---- in an association
 
+-- Where both ends began at the same time, nothing waits for a reset.
+kept_waits : {came : Option Content} {e : Endpoint} {o : Outcome} (collision : Collides came e o) (left : Transfer) → WaitedIn (Some collision.kept) left → left.reassembly.deferral ≡ None
+kept_waits collision left waits = (let same = collision.kept_is.4 in subst (λ (t : Transfer). WaitedIn (Some t) left) same waits)
+
 calm_peer : (link : AssociationIdentity) (past : List Effect) (e : Endpoint) (input : Input) (o : Outcome) (transfer left : Transfer) → e.queues.transfer ≡ Some transfer → o.after.queues.transfer ≡ Some left → CalmTurns (came_by input) e o
     → PeerTurns link past e input o transfer.reassembly.deferral left.reassembly.deferral
 calm_peer link past e input o transfer left known at (goes_on asks) = asks_nothing asks.none (subst (λ (t : Option Transfer). WaitedIn t left) known (asks.waits left at))
 calm_peer link past e input o transfer left known at (begins begun opening linked asks) = begins_anew begun opening linked asks.none (asks.waits left at)
+calm_peer link past e input o transfer left known at (collides collision asks) = collides_anew collision asks.none (kept_waits collision left (asks.waits left at))
 
 works_peer : (link : AssociationIdentity) (past : List Effect) (e : Endpoint) (tag : ℕ) (my : Pair) (held : Held) (parameters : List ResetParameter) (o : Outcome) (transfer left : Transfer) → KnowsPeer past held → link ≡ identity_of my held
     → IsPlainRequest (Some (re_config parameters)) → e.queues.transfer ≡ Some transfer → o.after.queues.transfer ≡ Some left → WorksResets e my held parameters o
@@ -111,6 +117,7 @@ waits_not e o asks = λ left none at. absurd (subst (λ (t : Option Transfer). W
 calm_unlinked : (came : Option Content) (e : Endpoint) (o : Outcome) → CalmTurns came e o → NoneAsked o.effects × WaitsNot e o
 calm_unlinked came e o (goes_on asks) = (asks.none, waits_not e o asks)
 calm_unlinked came e o (begins begun opening linked asks) = (asks.none, λ left none at. asks.waits left at)
+calm_unlinked came e o (collides collision asks) = (asks.none, λ left none at. kept_waits collision left (asks.waits left at))
 
 reset_unlinked : (e : Endpoint) (core : Core) (parameters : List ResetParameter) (o : Outcome) → identity_in core ≡ None → ResetTurn e core parameters o → AsksNothing e.queues.transfer o
 reset_unlinked e closed parameters o none turn = as_this e.queues.transfer o _ turn (rests e)

@@ -7,11 +7,11 @@ use Rattle.dcsctp_spec_lemmas.specs.spec.endpoint.Outcome.{Outcome}
 use Rattle.dcsctp_spec_lemmas.specs.spec.endpoint.Turn.{Input}
 use Rattle.dcsctp_spec_lemmas.specs.spec.queues.SendQueue.{empty_queue}
 use Rattle.dcsctp_spec_lemmas.specs.spec.queues.Transfer.{Transfer, EndpointQueues}
-use Rattle.dcsctp_delivery_turns.specs.Actions.{ledger_of, Inside, inside, Made, MakesPackets, MakesAlso, IsOpening, begun_transfer, came_by, queued_after, read_after, peer_tag, Begun, opening_queues, Becomes, resets_streams, goes_on, pauses, prepared_inside, works_resets, renews, ends, begins, IsCalm}
+use Rattle.dcsctp_delivery_turns.specs.Actions.{ledger_of, Inside, inside, Made, MakesPackets, MakesAlso, IsOpening, begun_transfer, came_by, queued_after, read_after, peer_tag, Begun, opening_queues, Becomes, resets_streams, goes_on, pauses, prepared_inside, works_resets, renews, ends, begins, collides, IsCalm}
 use Rattle.dcsctp_delivery_turns.specs.Sides.{WasAsked, WasSent, receiving, ReceivingSteps}
 use Rattle.dcsctp_spec_lemmas.specs.spec.association.Effect.{identity_of, identity_in}
 use Rattle.dcsctp_spec_lemmas.specs.types.queues.Messages.{MessageContent}
-use Rattle.dcsctp_delivery_turns.specs.Runs.{new_direction, OpensSmall, KnowsRequest, performed_where, ReceiverTurns, receiver_goes_on, receiver_ends, receiver_begins, OpensAssociation, IdleTurns, idle_stays, idle_begins}
+use Rattle.dcsctp_delivery_turns.specs.Runs.{new_direction, OpensSmall, HasNewTag, KnowsRequest, performed_where, ReceiverTurns, receiver_goes_on, receiver_ends, receiver_begins, OpensAssociation, IdleTurns, idle_stays, idle_begins}
 use Rattle.dcsctp_delivery_directions.specs.Directions.{Asking, nothing_asked, Direction, DirectionRun}
 use Rattle.dcsctp_delivery_turns.proofs.Sides.{steps_go_on, actions_receive}
 use Rattle.dcsctp_delivery_turns.proofs.Idle.{actions_none, read_none, opening_sent}
@@ -83,9 +83,10 @@ module _ (e : Endpoint) (input : Input) (o : Outcome) (small : OpensSmall e inpu
       idle_stays (inr linked) (ap (λ (i : Inside). i.queues.transfer) is ∙ none) (renewed_fit (own_of e) (own_of o.after) own number kept out (ap (λ (i : Inside). i.own) is) fits) (λ read. read_none e input read none)
   idle_becomes none fits (ends gone unread last kept makes is) = idle_stays (inl gone) (ap (λ (b : EndpointQueues). b.transfer) is) (unlinked_fits o.after.core o.after.outstanding gone) (λ read. read_none e input read none)
   idle_becomes none fits (begins begun opening linked alike unread again makes) = idle_begins (opens begun opening linked unread again makes)
+  idle_becomes none fits (collides collision alike unread again makes) = absurd (let both : Some collision.transfer ≡ None = sym collision.there ∙ none in cc)
 
 module _ (is_known : Bool) (options : Options) (first size : ℕ) (direction : Direction) (transfer : Transfer) (e : Endpoint) (input : Input) (o : Outcome) (run : DirectionRun options first size (receiving direction transfer direction.read))
-    (known : e.queues.transfer ≡ Some transfer) (was : WasSent direction.sent (came_by input)) (newest : KnowsRequest is_known direction transfer (came_by input) o.effects) (fits : SomeFit (own_of e)) (small : OpensSmall e input o) where
+    (known : e.queues.transfer ≡ Some transfer) (was : WasSent direction.sent (came_by input)) (newest : KnowsRequest is_known direction transfer (came_by input) o.effects) (fits : SomeFit (own_of e)) (small : OpensSmall e input o) (new : HasNewTag e input o) where
   -- the direction, once a request was performed in this turn or not
   abbrev worked_direction : Bool → Direction
   worked_direction is_reset = record direction { asking = performed_where is_known is_reset direction.asking }
@@ -135,3 +136,4 @@ module _ (is_known : Bool) (options : Options) (first size : ℕ) (direction : D
       (subst (λ (l : List MessageContent). DirectionRun options first size (record (receiving direction transfer l) { asking = asking })) (sym (unread direction.read)) stays)
   receiver_becomes (ends none unread last kept makes is) = receiver_ends none (ap (λ (b : EndpointQueues). b.transfer) is) unread
   receiver_becomes (begins begun opening linked alike unread again makes) = receiver_begins (opens e input o small begun opening linked unread again makes)
+  receiver_becomes (collides collision alike unread again makes) = absurd (new collision)

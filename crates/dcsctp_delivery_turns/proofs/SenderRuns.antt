@@ -10,12 +10,12 @@ use Rattle.dcsctp_spec_lemmas.specs.spec.Packet.{Emission}
 use Rattle.dcsctp_spec_lemmas.specs.spec.endpoint.Turn.{Input}
 use Rattle.dcsctp_spec_lemmas.specs.spec.queues.Transfer.{EndpointQueues}
 use Rattle.dcsctp_delivery_sending.specs.Log.{Fits, Message}
-use Rattle.dcsctp_delivery_turns.specs.Actions.{ledger_of, Inside, inside, Made, MakesAlso, came_by, queued_after, read_after, peer_tag, opening_queues, Becomes, resets_streams, goes_on, pauses, prepared_inside, works_resets, renews, ends, begins, NoEnd}
+use Rattle.dcsctp_delivery_turns.specs.Actions.{ledger_of, Inside, inside, Made, MakesAlso, came_by, queued_after, read_after, peer_tag, opening_queues, Becomes, resets_streams, goes_on, pauses, prepared_inside, works_resets, renews, ends, begins, collides, NoEnd}
 use Rattle.dcsctp_delivery_sending.specs.Queueing.{QueueWaits}
 use Rattle.dcsctp_delivery_turns.specs.Addressed.{AreAddressed}
 use Rattle.dcsctp_spec_lemmas.specs.spec.association.Effect.{identity_in}
 use Rattle.dcsctp_spec_lemmas.specs.types.queues.Messages.{MessageContent}
-use Rattle.dcsctp_delivery_turns.specs.Runs.{sender_at, IsBetween, as_it_was, once_renewed, OpensSmall, EndsPerformed, RefusesNone, MayDrop, SenderTurns, run_goes_on, run_ends, run_begins}
+use Rattle.dcsctp_delivery_turns.specs.Runs.{sender_at, IsBetween, as_it_was, once_renewed, OpensSmall, HasNewTag, EndsPerformed, RefusesNone, MayDrop, SenderTurns, run_goes_on, run_ends, run_begins}
 use Rattle.dcsctp_delivery_directions.specs.Directions.{Asking, nothing_asked, asking_renewed, Direction, Beginning, BeginsAs, DirectionRun, IsAwaited}
 use Rattle.dcsctp_delivery_turns.proofs.Sides.{one_step, steps_go_on, actions_send}
 use Rattle.dcsctp_spec_lemmas.specs.spec.Reconfiguration.{RequestedReset}
@@ -30,7 +30,7 @@ use Rattle.dcsctp_delivery_turns.proofs.Begun.{grows_not}
 use Rattle.dcsctp_delivery_turns.proofs.Beginnings.{input_more, nothing_fits, begun_queues, begun_kind}
 
 module _ (options : Options) (first size : ℕ) (direction : Direction) (e : Endpoint) (input : Input) (o : Outcome) (run : DirectionRun options first size direction) (small : first < 2 ^ 32) (same : direction.queues ≡ e.queues)
-    (fits : AsksFit first (own_of e) direction.asking) (performed : EndsPerformed e o direction.asking) (refuses : RefusesNone e o) (drops : MayDrop input direction.beginning) (opens : OpensSmall e input o) (few : length (queued_after e input direction.queued) < 2 ^ 64) where
+    (fits : AsksFit first (own_of e) direction.asking) (performed : EndsPerformed e o direction.asking) (refuses : RefusesNone e o) (drops : MayDrop input direction.beginning) (opens : OpensSmall e input o) (new : HasNewTag e input o) (few : length (queued_after e input direction.queued) < 2 ^ 64) where
   both : QueueWaits direction.queued direction.queues.queue × AllByRecursion Fits direction.queued
   both = direction_queues options first size direction run small (let more = input_more e input direction.queued in omega (arith, few, more))
 
@@ -95,6 +95,7 @@ module _ (options : Options) (first size : ℕ) (direction : Direction) (e : End
       let left = direction_queues options first size (after_turn last.queues after.0 made.asking) after.1 small few in
       run_ends none (addressed (peer_tag e.core) (inside e) direction.asking first last _ _ (makes direction.queued [] [] first direction.asking fits)) last.queues
       (actions_kind (came_by input) (peer_tag e.core) _ _ made.actions) after.0 made.asking made.grows (subst (λ (o : Option Own). AsksFit first o made.asking) kept made.fits) after.1 is left.0 left.1
+  sender_becomes (collides collision alike unread again makes) = absurd (new collision)
   sender_becomes (begins begun opening linked alike unread again makes) =
       let waits = subst (λ (b : EndpointQueues). QueueWaits direction.queued b.queue) same both.0 in
       run_begins begun opening linked

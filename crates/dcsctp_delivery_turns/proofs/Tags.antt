@@ -10,9 +10,10 @@ use Rattle.dcsctp_spec_lemmas.specs.spec.endpoint.Event.{Event, sent, connected,
 use Rattle.dcsctp_spec_lemmas.specs.spec.endpoint.Following.{next_chunk, dropped_rest}
 use Rattle.dcsctp_spec_lemmas.specs.spec.endpoint.Outcome.{Outcome}
 use Rattle.dcsctp_spec_lemmas.specs.spec.association.CookieEchoChanges.{Resolution, establish_new, restart, simultaneous_init, discard, maintain_existing, invalid_tag, stale, aged, case_by, case_without_peer, resolve, held_by_cookie}
-use Rattle.dcsctp_spec_lemmas.specs.spec.queues.SendQueue.{SendQueueState}
+use Rattle.dcsctp_spec_lemmas.proofs.RefusalLemmas.{by_stale_outcome}
+use Rattle.dcsctp_spec_lemmas.specs.spec.queues.Transfer.{EndpointQueues}
 use Rattle.dcsctp_spec_lemmas.specs.spec.endpoint.BegunResets.{BegunReset, core_asking, after_begun}
-use Rattle.dcsctp_spec_lemmas.specs.spec.endpoint.CookieEchoOutcomes.{is_spent, established_by, cookie_ack_emission, EstablishAnswers, establish_by, queue_kept, queue_begun, RestartAnswers, restart_by_where, MaintainAnswers, maintain_by, ResolvedAnswers, resolved_by, EchoedAnswers, cookie_echo_by, resolved_now, CookieEchoTurn}
+use Rattle.dcsctp_spec_lemmas.specs.spec.endpoint.CookieEchoOutcomes.{is_spent, established_by, cookie_ack_emission, EstablishAnswers, establish_by, queues_kept, queues_begun, queues_collided, stale_outcome, RestartAnswers, restart_by_where, MaintainAnswers, maintain_by, ResolvedAnswers, resolved_by, EchoedAnswers, cookie_echo_by, resolved_now, CookieEchoTurn}
 use Rattle.dcsctp_spec_lemmas.specs.spec.association.Effect.{identity_in}
 use Rattle.dcsctp_spec_lemmas.specs.spec.endpoint.FlushOutcomes.{FillingEvent, amount_is_low, total_amount_is_low, message_is_sent, message_may_have_expired, message_has_expired, message_ends, filling_event, Answer, answer_contents, filled, goes_out, asked, next_draft, Ask, IsFlushAnswer, first_ask, later_ask, AreFlushAnswers, at_limit, at_empty, after_packet, FlushAnswers, flush_of, flush_answered, packets_allowed}
 use Rattle.dcsctp_delivery_turns.specs.Tags.{IsPeerTag, AllTo}
@@ -75,22 +76,22 @@ flushed_tag : (e : Endpoint) (draft : Emission) (answers : List Answer) → Flus
 flushed_tag e draft answers allowed =
     ap own_tag (flush_keeps first_ask (packets_allowed e.options.max_burst e.core) e draft answers allowed).core ∙ begun_tag (begun_by answers) e
 
-established_tag : (e : Endpoint) (cookie : Cookie) (queue : SendQueueState) (tie : ℕ) (events : List (Event Emission)) (answers : List Answer) → EstablishAnswers e cookie queue tie answers
-    → own_tag (establish_by (flush_answered answers) e cookie queue tie events).after.core ≡ cookie.maker.tag
-established_tag e cookie queue tie events answers allowed = flushed_tag (established_by e cookie queue tie) (cookie_ack_emission (held_by_cookie e.options cookie) cookie) answers allowed
+established_tag : (e : Endpoint) (cookie : Cookie) (queues : EndpointQueues) (tie : ℕ) (events : List (Event Emission)) (answers : List Answer) → EstablishAnswers e cookie queues tie answers
+    → own_tag (establish_by (flush_answered answers) e cookie queues tie events).after.core ≡ cookie.maker.tag
+established_tag e cookie queues tie events answers allowed = flushed_tag (established_by e cookie queues tie) (cookie_ack_emission (held_by_cookie e.options cookie) cookie) answers allowed
 
 not_next : dropped_rest ≡ next_chunk → ⊥
 not_next e = absurd (cc)
 
 restarted_tag : (e : Endpoint) (cookie : Cookie) (tie : ℕ) (core : Core) (answers : List Answer) → RestartAnswers e cookie tie core answers → (restart_by_where (flush_answered answers) e cookie tie core).following ≡ next_chunk
     → own_tag (restart_by_where (flush_answered answers) e cookie tie core).after.core ≡ cookie.maker.tag
-restarted_tag e cookie tie closed answers allowed next = established_tag e cookie (queue_begun e cookie) tie (connection_restarted ∷ connected ∷ []) answers allowed
-restarted_tag e cookie tie (cookie_wait my) answers allowed next = established_tag e cookie (queue_begun e cookie) tie (connection_restarted ∷ connected ∷ []) answers allowed
-restarted_tag e cookie tie (cookie_echoed my held echoed) answers allowed next = established_tag e cookie (queue_begun e cookie) tie (connection_restarted ∷ connected ∷ []) answers allowed
-restarted_tag e cookie tie (open_in established my held) answers allowed next = established_tag e cookie (queue_begun e cookie) tie (connection_restarted ∷ connected ∷ []) answers allowed
-restarted_tag e cookie tie (open_in shutdown_pending my held) answers allowed next = established_tag e cookie (queue_begun e cookie) tie (connection_restarted ∷ connected ∷ []) answers allowed
-restarted_tag e cookie tie (open_in shutdown_sent my held) answers allowed next = established_tag e cookie (queue_begun e cookie) tie (connection_restarted ∷ connected ∷ []) answers allowed
-restarted_tag e cookie tie (open_in shutdown_received my held) answers allowed next = established_tag e cookie (queue_begun e cookie) tie (connection_restarted ∷ connected ∷ []) answers allowed
+restarted_tag e cookie tie closed answers allowed next = established_tag e cookie (queues_begun e cookie) tie (connection_restarted ∷ connected ∷ []) answers allowed
+restarted_tag e cookie tie (cookie_wait my) answers allowed next = established_tag e cookie (queues_begun e cookie) tie (connection_restarted ∷ connected ∷ []) answers allowed
+restarted_tag e cookie tie (cookie_echoed my held echoed) answers allowed next = established_tag e cookie (queues_begun e cookie) tie (connection_restarted ∷ connected ∷ []) answers allowed
+restarted_tag e cookie tie (open_in established my held) answers allowed next = established_tag e cookie (queues_begun e cookie) tie (connection_restarted ∷ connected ∷ []) answers allowed
+restarted_tag e cookie tie (open_in shutdown_pending my held) answers allowed next = established_tag e cookie (queues_begun e cookie) tie (connection_restarted ∷ connected ∷ []) answers allowed
+restarted_tag e cookie tie (open_in shutdown_sent my held) answers allowed next = established_tag e cookie (queues_begun e cookie) tie (connection_restarted ∷ connected ∷ []) answers allowed
+restarted_tag e cookie tie (open_in shutdown_received my held) answers allowed next = established_tag e cookie (queues_begun e cookie) tie (connection_restarted ∷ connected ∷ []) answers allowed
 restarted_tag e cookie tie (open_in shutdown_ack_sent my held) answers allowed next = absurd (not_next next)
 
 -- the existing association is under the header's tag
@@ -116,16 +117,20 @@ maintained_tag e cookie header (open_in phase my held) answers is resolved allow
     flushed_tag e (cookie_ack_emission held cookie) answers allowed ∙ ap own_tag is
     ∙ sym (eqb-true header my.tag (is_existing (header == my.tag) (cookie.addressee.tag == held.peer.tag) (cookie.tie == e.tie) (cookie.tie == 0) resolved))
 
+-- A stale one drops the rest of its packet.
+stale_drops : (e : Endpoint) (cookie : Cookie) → (stale_outcome e cookie).following ≡ next_chunk → ⊥
+stale_drops e cookie next = by_stale_outcome (λ o. o.following ≡ next_chunk → ⊥) e cookie not_next not_next next
+
 resolved_tag : (e : Endpoint) (cookie : Cookie) (header : ℕ) (core : Core) (word : ℕ) (old : Bool) (resolution : Resolution) (answers : List Answer) → e.core ≡ core → header ≡ cookie.maker.tag → aged old (resolve core e.tie header cookie) ≡ resolution
     → ResolvedAnswers e cookie core word resolution answers → (resolved_by (flush_answered answers) e cookie core word resolution).following ≡ next_chunk
     → own_tag (resolved_by (flush_answered answers) e cookie core word resolution).after.core ≡ header
-resolved_tag e cookie header core word old establish_new answers is bears resolved allowed next = established_tag e cookie (queue_kept e cookie) word (connected ∷ []) answers allowed ∙ sym bears
+resolved_tag e cookie header core word old establish_new answers is bears resolved allowed next = established_tag e cookie (queues_kept e cookie) word (connected ∷ []) answers allowed ∙ sym bears
 resolved_tag e cookie header core word old restart answers is bears resolved allowed next = restarted_tag e cookie word core answers allowed next ∙ sym bears
-resolved_tag e cookie header core word old simultaneous_init answers is bears resolved allowed next = established_tag e cookie (queue_begun e cookie) word (connected ∷ []) answers allowed ∙ sym bears
+resolved_tag e cookie header core word old simultaneous_init answers is bears resolved allowed next = established_tag e cookie (queues_collided e core cookie) word (connected ∷ []) answers allowed ∙ sym bears
 resolved_tag e cookie header core word old discard answers is bears resolved allowed next = absurd (not_next next)
 resolved_tag e cookie header core word old maintain_existing answers is bears resolved allowed next = maintained_tag e cookie header core answers is (kept_by_age old (resolve core e.tie header cookie) resolved) allowed
 resolved_tag e cookie header core word old invalid_tag answers is bears resolved allowed next = absurd (not_next next)
-resolved_tag e cookie header core word old stale answers is bears resolved allowed next = absurd (not_next next)
+resolved_tag e cookie header core word old stale answers is bears resolved allowed next = absurd (stale_drops e cookie next)
 
 pub echoes_own : (e : Endpoint) (header : ℕ) (bytes : List ℕ) (cookie : Cookie) (o : Outcome) → cookie_at bytes ≡ Ok cookie → header ≡ cookie.maker.tag → CookieEchoTurn e header bytes o
     → o.following ≡ next_chunk → own_tag o.after.core ≡ header

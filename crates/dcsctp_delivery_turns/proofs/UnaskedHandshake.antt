@@ -1,5 +1,5 @@
 -- The turns of the handshake: no request of the peer is accepted or performed.
-use Rattle.std.proofs.Common.{◌≡◌, ◌⊎◌, ℕ, Bool, true, false, cond, Option, None, Some, Result, Ok, Err, List, [], ◌∷◌, refl, inr}
+use Rattle.std.proofs.Common.{◌≡◌, ◌⊎◌, ℕ, Bool, true, false, cond, Option, None, Some, Result, Ok, Err, List, [], ◌∷◌, refl, sym, ap, inr}
 use Rattle.dcsctp_spec_lemmas.specs.spec.Cookie.{Cookie}
 use Rattle.dcsctp_spec_lemmas.specs.types.declared.association.Pair.{Pair}
 use Rattle.dcsctp_spec_lemmas.specs.types.declared.word.Word.{Word}
@@ -12,12 +12,16 @@ use Rattle.dcsctp_spec_lemmas.specs.spec.association.CookieEchoChanges.{held_by_
 use Rattle.dcsctp_spec_lemmas.specs.spec.association.Effect.{identity_of, identity_in}
 use Rattle.dcsctp_spec_lemmas.specs.spec.association.HandshakeChanges.{held_by_init_ack}
 use Rattle.dcsctp_spec_lemmas.specs.spec.queues.SendQueue.{SendQueueState, queue_restarted, numbered_for}
-use Rattle.dcsctp_spec_lemmas.specs.spec.endpoint.CookieEchoOutcomes.{cookie_ack_emission, EstablishAnswers, establish_by, established_by, interleaves, queue_kept, queue_begun, RestartAnswers, restart_by_where, MaintainAnswers, maintain_by, ResolvedAnswers, resolved_by, EchoedAnswers, cookie_echo_by, resolved_now, window_by_cookie}
+use Rattle.dcsctp_spec_lemmas.specs.spec.endpoint.CookieEchoOutcomes.{cookie_ack_emission, EstablishAnswers, establish_by, established_by, interleaves, queue_where, queues_with, queues_kept, queues_begun, queues_by, queues_for_other, queues_collided, outlasts, collide_by, RestartAnswers, restart_by_where, MaintainAnswers, maintain_by, ResolvedAnswers, resolved_by, EchoedAnswers, cookie_echo_by, resolved_now, window_by_cookie}
 use Rattle.dcsctp_spec_lemmas.specs.spec.endpoint.FlushOutcomes.{Answer, draft_to, flush_answered}
 use Rattle.dcsctp_spec_lemmas.specs.spec.endpoint.HandshakeOutcomes.{pair_from, renewed_pair, init_ack_emission, init_outcome, init_emission, awaits_init_ack, connect_outcome, awaits_cookie_ack, echo_emission, EchoAnswers, InitAckAnswers, accepted_init_ack_by, init_ack_by, connected_after, CookieAckAnswers, cookie_ack_by, abort_emission, no_cookie_text}
 use Rattle.dcsctp_spec_lemmas.specs.spec.endpoint.TimerOutcomes.{AgainAnswers, again_by}
-use Rattle.dcsctp_delivery_turns.specs.Actions.{Begun, begun_transfer, IsOpening}
-use Rattle.dcsctp_delivery_turns.proofs.Handshake.{kept_or_anew}
+use Rattle.dcsctp_delivery_turns.specs.Actions.{Begun, Collides, begun_transfer, IsOpening}
+use Rattle.dcsctp_delivery_turns.proofs.Handshake.{second_holds, kept_or_anew}
+use Rattle.dcsctp_spec_lemmas.proofs.RefusalLemmas.{by_stale_outcome}
+use Rattle.std.proofs.lemmas.Bool.{eqb-true}
+use Rattle.dcsctp_spec_lemmas.specs.types.declared.association.Held.{Held}
+use Rattle.dcsctp_spec_lemmas.specs.spec.queues.Transfer.{Transfer, transfer_kept}
 use Rattle.dcsctp_delivery_turns.proofs.Tags.{flush_link}
 use Rattle.dcsctp_delivery_turns.proofs.Waiting.{AsksNothing, rests, said, emitted, flushed, flushed_behind, ended}
 
@@ -25,6 +29,7 @@ use Rattle.dcsctp_delivery_turns.proofs.Waiting.{AsksNothing, rests, said, emitt
 pub data CalmTurns (came : Option Content) (e : Endpoint) (o : Outcome) : Type 0 where
   goes_on : AsksNothing e.queues.transfer o → CalmTurns came e o
   begins : (begun : Begun e o) → IsOpening came → identity_in o.after.core ≡ Some (identity_of begun.my begun.held) → AsksNothing (Some (begun_transfer e o begun)) o → CalmTurns came e o
+  collides : (collision : Collides came e o) → AsksNothing (Some collision.kept) o → CalmTurns came e o
 
 -- ---- the handshake
 
@@ -99,10 +104,10 @@ module _ (came : Option Content) (opening : IsOpening came) (e : Endpoint) where
   -- ---- COOKIE ECHO
 
   established_calm : (cookie : Cookie) (queue : SendQueueState) (tie : ℕ) (told : List (Event Emission)) (answers : List Answer)
-      → ((queue ≡ numbered_for (interleaves e cookie) e.queues.queue) × (e.options.follow_rfc ≡ false)) ⊎ (queue ≡ numbered_for (interleaves e cookie) (queue_restarted e.queues.queue)) → EstablishAnswers e cookie queue tie answers
-      → CalmTurns came e (establish_by (flush_answered answers) e cookie queue tie told)
+      → ((queue ≡ numbered_for (interleaves e cookie) e.queues.queue) × (e.options.follow_rfc ≡ false)) ⊎ (queue ≡ numbered_for (interleaves e cookie) (queue_restarted e.queues.queue)) → EstablishAnswers e cookie (queues_with e cookie queue) tie answers
+      → CalmTurns came e (establish_by (flush_answered answers) e cookie (queues_with e cookie queue) tie told)
   established_calm cookie queue tie told answers keeps allowed =
-      let base : Endpoint = established_by e cookie queue tie in
+      let base : Endpoint = established_by e cookie (queues_with e cookie queue) tie in
       let last = flushed base (cookie_ack_emission (held_by_cookie e.options cookie) cookie) answers allowed in
       begins (record {
         my = cookie.maker;
@@ -114,9 +119,51 @@ module _ (came : Option Content) (opening : IsOpening came) (e : Endpoint) where
         keeps = keeps;
       }) opening (flush_link base (cookie_ack_emission (held_by_cookie e.options cookie) cookie) answers allowed) (record { none = last.none; waits = last.waits })
 
-  anew_calm : (cookie : Cookie) (tie : ℕ) (told : List (Event Emission)) (answers : List Answer) → EstablishAnswers e cookie (queue_begun e cookie) tie answers
-      → CalmTurns came e (establish_by (flush_answered answers) e cookie (queue_begun e cookie) tie told)
-  anew_calm cookie tie told answers allowed = established_calm cookie (queue_begun e cookie) tie told answers (inr refl) allowed
+  anew_calm : (cookie : Cookie) (tie : ℕ) (told : List (Event Emission)) (answers : List Answer) → EstablishAnswers e cookie (queues_begun e cookie) tie answers
+      → CalmTurns came e (establish_by (flush_answered answers) e cookie (queues_begun e cookie) tie told)
+  anew_calm cookie tie told answers allowed = established_calm cookie (numbered_for (interleaves e cookie) (queue_restarted e.queues.queue)) tie told answers (inr refl) allowed
+
+  -- What was sent in the one association goes on in the other.
+  other_calm : (mine : Pair) (held : Held) (echoed : List ℕ) (cookie : Cookie) (tie : ℕ) (transfer : Transfer) (answers : List Answer) → e.core ≡ cookie_echoed mine held echoed → e.queues.transfer ≡ Some transfer → mine.tag ≡ cookie.maker.tag
+      → EstablishAnswers e cookie (queues_by true e cookie transfer) tie answers → CalmTurns came e (establish_by (flush_answered answers) e cookie (queues_by true e cookie transfer) tie (connected ∷ []))
+  other_calm mine held echoed cookie tie transfer answers same there tag allowed =
+      let base : Endpoint = established_by e cookie (queues_by true e cookie transfer) tie in
+      let last = flushed base (cookie_ack_emission (held_by_cookie e.options cookie) cookie) answers allowed in
+      collides (record {
+        opened = record {
+          opening = opening;
+          link = identity_of cookie.maker (held_by_cookie e.options cookie);
+          linked = flush_link base (cookie_ack_emission (held_by_cookie e.options cookie) cookie) answers allowed;
+          later = _;
+          noted = refl;
+        };
+        old = identity_of mine held;
+        was = ap identity_in same;
+        tag = sym tag;
+        transfer = transfer;
+        there = there;
+        kept = transfer_kept e.moment e.options cookie.addressee.first_tsn (window_by_cookie e.options cookie) transfer;
+        kept_is = (e.moment, e.options, cookie.addressee.first_tsn, window_by_cookie e.options cookie, refl);
+      }) (record { none = last.none; waits = last.waits })
+
+  by_calm : (b : Bool) (mine : Pair) (held : Held) (echoed : List ℕ) (cookie : Cookie) (tie : ℕ) (transfer : Transfer) (answers : List Answer) → e.core ≡ cookie_echoed mine held echoed → e.queues.transfer ≡ Some transfer → outlasts e mine cookie transfer ≡ b
+      → EstablishAnswers e cookie (queues_by b e cookie transfer) tie answers → CalmTurns came e (establish_by (flush_answered answers) e cookie (queues_by b e cookie transfer) tie (connected ∷ []))
+  by_calm true mine held echoed cookie tie transfer answers same there is allowed =
+      other_calm mine held echoed cookie tie transfer answers same there (eqb-true mine.tag cookie.maker.tag (second_holds e.options.follow_rfc _ _ is)) allowed
+  by_calm false mine held echoed cookie tie transfer answers same there is allowed = anew_calm cookie tie (connected ∷ []) answers allowed
+
+  by_transfer_calm : (mine : Pair) (held : Held) (echoed : List ℕ) (cookie : Cookie) (tie : ℕ) (transfer : Option Transfer) (answers : List Answer) → e.core ≡ cookie_echoed mine held echoed → e.queues.transfer ≡ transfer
+      → EstablishAnswers e cookie (queues_for_other e mine cookie transfer) tie answers → CalmTurns came e (establish_by (flush_answered answers) e cookie (queues_for_other e mine cookie transfer) tie (connected ∷ []))
+  by_transfer_calm mine held echoed cookie tie None answers same there allowed = anew_calm cookie tie (connected ∷ []) answers allowed
+  by_transfer_calm mine held echoed cookie tie (Some transfer) answers same there allowed =
+      by_calm (outlasts e mine cookie transfer) mine held echoed cookie tie transfer answers same there refl allowed
+
+  collided_calm : (core : Core) (cookie : Cookie) (tie : ℕ) (answers : List Answer) → e.core ≡ core → EstablishAnswers e cookie (queues_collided e core cookie) tie answers
+      → CalmTurns came e (collide_by (flush_answered answers) e core cookie tie)
+  collided_calm closed cookie tie answers same allowed = anew_calm cookie tie (connected ∷ []) answers allowed
+  collided_calm (cookie_wait my) cookie tie answers same allowed = anew_calm cookie tie (connected ∷ []) answers allowed
+  collided_calm (cookie_echoed mine held echoed) cookie tie answers same allowed = by_transfer_calm mine held echoed cookie tie e.queues.transfer answers same refl allowed
+  collided_calm (open_in phase my held) cookie tie answers same allowed = anew_calm cookie tie (connected ∷ []) answers allowed
 
   restarted_calm : (cookie : Cookie) (tie : ℕ) (core : Core) (answers : List Answer) → RestartAnswers e cookie tie core answers → CalmTurns came e (restart_by_where (flush_answered answers) e cookie tie core)
   restarted_calm cookie tie closed answers allowed = anew_calm cookie tie (connection_restarted ∷ connected ∷ []) answers allowed
@@ -135,17 +182,17 @@ module _ (came : Option Content) (opening : IsOpening came) (e : Endpoint) where
       (let last = flushed (connected_after e my held) (cookie_ack_emission held cookie) answers allowed in record { none = last.none; waits = last.waits })
   maintained_asks cookie (open_in phase my held) answers allowed = flushed_behind e [] [] (cookie_ack_emission held cookie) answers allowed
 
-  resolved_calm : (cookie : Cookie) (core : Core) (word : ℕ) (resolution : Resolution) (answers : List Answer) → ResolvedAnswers e cookie core word resolution answers
+  resolved_calm : (cookie : Cookie) (core : Core) (word : ℕ) (resolution : Resolution) (answers : List Answer) → e.core ≡ core → ResolvedAnswers e cookie core word resolution answers
       → CalmTurns came e (resolved_by (flush_answered answers) e cookie core word resolution)
-  resolved_calm cookie core word establish_new answers allowed = established_calm cookie (queue_kept e cookie) word (connected ∷ []) answers (kept_or_anew e.options.follow_rfc e cookie) allowed
-  resolved_calm cookie core word restart answers allowed = restarted_calm cookie word core answers allowed
-  resolved_calm cookie core word simultaneous_init answers allowed = anew_calm cookie word (connected ∷ []) answers allowed
-  resolved_calm cookie core word discard answers allowed = goes_on (said e _ tt refl)
-  resolved_calm cookie core word maintain_existing answers allowed = goes_on (maintained_asks cookie core answers allowed)
-  resolved_calm cookie core word invalid_tag answers allowed = goes_on (said e _ tt refl)
-  resolved_calm cookie core word stale answers allowed = goes_on (said e _ tt refl)
+  resolved_calm cookie core word establish_new answers same allowed = established_calm cookie (queue_where e.options.follow_rfc e cookie) word (connected ∷ []) answers (kept_or_anew e.options.follow_rfc e cookie) allowed
+  resolved_calm cookie core word restart answers same allowed = restarted_calm cookie word core answers allowed
+  resolved_calm cookie core word simultaneous_init answers same allowed = collided_calm core cookie word answers same allowed
+  resolved_calm cookie core word discard answers same allowed = goes_on (said e _ tt refl)
+  resolved_calm cookie core word maintain_existing answers same allowed = goes_on (maintained_asks cookie core answers allowed)
+  resolved_calm cookie core word invalid_tag answers same allowed = goes_on (said e _ tt refl)
+  resolved_calm cookie core word stale answers same allowed = by_stale_outcome (CalmTurns came e) e cookie (goes_on (said e _ tt refl)) (goes_on (said e _ tt refl))
 
-  pub echo_calm : (core : Core) (header : ℕ) (found : Result Cookie (List ℕ)) (word : ℕ) (answers : List Answer) → EchoedAnswers e core header found word answers
+  pub echo_calm : (core : Core) (header : ℕ) (found : Result Cookie (List ℕ)) (word : ℕ) (answers : List Answer) → e.core ≡ core → EchoedAnswers e core header found word answers
       → CalmTurns came e (cookie_echo_by (flush_answered answers) e core header found word)
-  echo_calm core header (Err text) word answers allowed = goes_on (said e _ tt refl)
-  echo_calm core header (Ok cookie) word answers allowed = resolved_calm cookie core word (resolved_now e core header cookie) answers allowed
+  echo_calm core header (Err text) word answers same allowed = goes_on (said e _ tt refl)
+  echo_calm core header (Ok cookie) word answers same allowed = resolved_calm cookie core word (resolved_now e core header cookie) answers same allowed

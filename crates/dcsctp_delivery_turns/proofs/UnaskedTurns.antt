@@ -137,7 +137,7 @@ content_calm e tag (init theirs) o calm turn =
     goes_on (as_this e.queues.transfer o _ turn.2
     (init_by (AsksNothing e.queues.transfer) e theirs turn.0 turn.1 (rests e) (counted_asks e.queues.transfer _ (init_asks e theirs e.core turn.0 turn.1))))
 content_calm e tag (init_ack theirs cookie) o calm turn = subst (CalmTurns (Some (init_ack theirs cookie)) e) (sym turn.3) (init_ack_calm (Some (init_ack theirs cookie)) tt e theirs cookie e.core turn.0 turn.1 turn.2)
-content_calm e tag (cookie_echo bytes) o calm turn = subst (CalmTurns (Some (cookie_echo bytes)) e) (sym turn.3) (echo_calm (Some (cookie_echo bytes)) tt e e.core tag (cookie_at bytes) turn.0 turn.1 turn.2)
+content_calm e tag (cookie_echo bytes) o calm turn = subst (CalmTurns (Some (cookie_echo bytes)) e) (sym turn.3) (echo_calm (Some (cookie_echo bytes)) tt e e.core tag (cookie_at bytes) turn.0 turn.1 refl turn.2)
 content_calm e tag cookie_ack o calm turn = goes_on (as_this e.queues.transfer o _ turn.2 (cookie_ack_asks e e.core turn.0 turn.1))
 content_calm e tag (re_config parameters) o calm turn = absurd (calm parameters refl)
 content_calm e tag (abort reflected causes) o calm turn = goes_on (as_this e.queues.transfer o _ turn (abort_asks e causes e.core))

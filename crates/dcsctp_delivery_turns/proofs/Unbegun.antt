@@ -24,7 +24,7 @@ use Rattle.dcsctp_delivery_sending.specs.Losing.{StillWaits}
 use Rattle.dcsctp_delivery_sending.proofs.OpenStreams.{open_mapped, queueing_open, setting_open}
 use Rattle.dcsctp_delivery_sending.proofs.StillWaiting.{waits_mapped, queued_waits, queueing_waits, setting_waits}
 use Rattle.dcsctp_delivery_turns.specs.Asking.{Own, own_in, own_of, AsksFit}
-use Rattle.dcsctp_delivery_turns.specs.Actions.{Ledger, Action, queues, sets, flushes, resends, resends_nothing, speaks, asks_again, acknowledges, loses, receives, receives_interleaved, forwards, forwards_interleaved, tracks, times, takes, Actions, nothing, further, came_by, peer_tag, queued_after, read_after, Inside, inside, MakesAlso, OwnEnds, unended, committed, rolled_back, PeerResets, unreset, absent, deferred, reset_now, Begun, Becomes, resets_streams, goes_on, pauses, prepared_inside, works_resets, renews, ends, begins}
+use Rattle.dcsctp_delivery_turns.specs.Actions.{Ledger, Action, queues, sets, flushes, resends, resends_nothing, speaks, asks_again, acknowledges, loses, receives, receives_interleaved, forwards, forwards_interleaved, tracks, times, takes, Actions, nothing, further, came_by, peer_tag, queued_after, read_after, Inside, inside, MakesAlso, OwnEnds, unended, committed, rolled_back, PeerResets, unreset, absent, deferred, reset_now, Begun, Becomes, resets_streams, goes_on, pauses, prepared_inside, works_resets, renews, ends, begins, collides}
 use Rattle.dcsctp_delivery_turns.specs.Unbegun.{IsAtZero, UnbegunTurns, stays_unbegun, begins_first, StaysAtZero, UnbegunBeginsAtZero, UnbegunBeginsWaiting, FreshIsAtZero}
 use Rattle.dcsctp_spec_lemmas.proofs.MarkedItemLemmas.{le_or_lt}
 use Rattle.dcsctp_delivery_turns.proofs.Beginnings.{unlinked_fits}
@@ -242,6 +242,7 @@ module _ (e : Endpoint) (input : Input) (o : Outcome) (unlinked : identity_in e.
       let left = makes_unbegun (inside e) last refl makes in
       stays_unbegun none' (ap (λ (b : EndpointQueues). b.transfer) is) (subst (λ (b : EndpointQueues). IsAtZero b.queue) (sym is) left.zero) (λ kept. subst (λ (b : EndpointQueues). AllWait b.queue) (sym is) (left.all kept))
   unbegun_becomes (begins begun opening linked alike unread again makes) = begins_first begun opening linked
+  unbegun_becomes (collides collision alike unread again makes) = absurd (let both : Some collision.old ≡ None = sym collision.was ∙ unlinked in cc)
 
 pub stays_at_zero : StaysAtZero
 stays_at_zero e input o unlinked none zero may turn =

@@ -5,6 +5,7 @@ use Rattle.std.specs.List.{AllByRecursion}
 use Rattle.dcsctp_spec_lemmas.specs.wire.Content.{DataContent, IDataContent, SackContent, data_chunk, i_data_chunk, forward_tsn_chunk, i_forward_tsn_chunk}
 use Rattle.dcsctp_spec_lemmas.specs.types.declared.association.Held.{Held}
 use Rattle.dcsctp_spec_lemmas.specs.types.declared.association.Pair.{Pair}
+use Rattle.dcsctp_spec_lemmas.specs.types.declared.options.Options.{Options}
 use Rattle.dcsctp_spec_lemmas.specs.spec.endpoint.Endpoint.{Endpoint, Core, closed, cookie_wait, cookie_echoed, open_in}
 use Rattle.dcsctp_spec_lemmas.specs.spec.endpoint.Event.{packets_in}
 use Rattle.dcsctp_spec_lemmas.specs.spec.endpoint.Outcome.{Outcome}
@@ -12,7 +13,7 @@ use Rattle.dcsctp_spec_lemmas.specs.spec.Packet.{Content, re_config, init, init_
 use Rattle.dcsctp_spec_lemmas.specs.spec.endpoint.Turn.{Input, chunk_input, act_input, user_sets, user_sends, user_resets, user_takes, restores, Turn}
 use Rattle.dcsctp_spec_lemmas.specs.spec.association.Acts.{request_again, request_renewed}
 use Rattle.dcsctp_spec_lemmas.specs.spec.association.Choices.{plain_contents}
-use Rattle.dcsctp_spec_lemmas.specs.spec.association.Effect.{Effect, holds, fails, identity_of, identity_in}
+use Rattle.dcsctp_spec_lemmas.specs.spec.association.Effect.{AssociationIdentity, Effect, holds, fails, identity_of, identity_in}
 use Rattle.dcsctp_spec_lemmas.specs.spec.queues.Acknowledging.{is_sack_valid}
 use Rattle.dcsctp_spec_lemmas.specs.spec.queues.Arrivals.{data_arrival, i_data_arrival, skipped_in, messages_skipped_in}
 use Rattle.dcsctp_spec_lemmas.specs.spec.queues.AtOnce.{SendsAtOnce}
@@ -23,7 +24,7 @@ use Rattle.dcsctp_spec_lemmas.specs.spec.queues.Reassembly.{ReassemblyState, wit
 use Rattle.dcsctp_spec_lemmas.specs.spec.queues.Retransmission.{RetransmissionState}
 use Rattle.dcsctp_spec_lemmas.specs.spec.queues.SendQueue.{SendQueueState, queue_restarted, numbered_for}
 use Rattle.dcsctp_spec_lemmas.specs.spec.queues.Tracker.{TrackerState}
-use Rattle.dcsctp_spec_lemmas.specs.spec.queues.Transfer.{Transfer, EndpointQueues, new_transfer}
+use Rattle.dcsctp_spec_lemmas.specs.spec.queues.Transfer.{Transfer, EndpointQueues, new_transfer, transfer_kept}
 use Rattle.dcsctp_spec_lemmas.specs.spec.endpoint.FlushOutcomes.{Answer, FlushAnswers, flush_of}
 use Rattle.dcsctp_spec_lemmas.specs.spec.endpoint.MessageOutcomes.{MessageRefusal, Sending, sending_queued, sending_refusal, queue_one}
 use Rattle.dcsctp_spec_lemmas.specs.spec.endpoint.ResetOutcomes.{has_completed, has_reset, requested_in}
@@ -240,10 +241,37 @@ resets_streams input = false
 abbrev pub prepared_inside : List ℕ → Inside → Inside
 prepared_inside ids inside = record inside { queues = record inside.queues { queue = prepared_all ids inside.queues.queue } }
 
+-- An association begins in a turn, and is what it records first.
+pub record Opened (came : Option Content) (o : Outcome) : Type 0 where
+  pub opening : IsOpening came
+  pub link : AssociationIdentity
+  pub linked : identity_in o.after.core ≡ Some link
+  pub later : List Effect
+  pub noted : o.effects ≡ holds link ∷ later
+
+-- Both ends began at the same time. Our own tag serves another association, and what was sent in the one goes on in the other.
+pub record Collides (came : Option Content) (e : Endpoint) (o : Outcome) : Type 0 where
+  pub opened : Opened came o
+  pub old : AssociationIdentity
+  pub was : identity_in e.core ≡ Some old
+  pub tag : opened.link.my.tag ≡ old.my.tag
+  pub transfer : Transfer
+  pub there : e.queues.transfer ≡ Some transfer
+  pub kept : Transfer
+  pub kept_is : (now : ℕ) × (options : Options) × (first : ℕ) × (window : ℕ) × (kept ≡ transfer_kept now options first window transfer)
+
+-- what goes on
+abbrev pub kept_inside : {came : Option Content} {e : Endpoint} {o : Outcome} → Collides came e o → RequestedReset → Inside
+kept_inside {e = e} collision again =
+    record {
+      queues = record e.queues { transfer = Some collision.kept };
+      own = Some (record { number = None; next = collision.opened.link.my.first_tsn; again = again });
+    }
+
 -- What becomes of a socket's association in a turn. It continues, or there is none and none begins. It also continues where the
 -- user resets streams: these are prepared first. Or our request continues under the next number, in a packet of its own, and
 -- nothing else happens. Or the association ends after its last packets, and no request of ours begins or ends before. Or another
--- one begins, and takes its place.
+-- one begins, and takes its place; or both ends began at the same time.
 pub data Becomes (resets : Bool) (came : Option Content) (to : ℕ) (adds : List Message → List Message) (taken : List MessageContent → List MessageContent) (e : Endpoint) (o : Outcome) : Type 0 where
   goes_on : IsCalm came → identity_in o.after.core ≡ identity_in e.core → MakesAlso came to adds taken (inside e) (packets_in o.events) (inside o.after) → Becomes resets came to adds taken e o
   pauses : resets ≡ true → IsCalm came → identity_in o.after.core ≡ identity_in e.core → (ids : List ℕ) → AllByRecursion (λ id. id < 2 ^ 16) ids
@@ -257,6 +285,9 @@ pub data Becomes (resets : Bool) (came : Option Content) (to : ℕ) (adds : List
       → o.after.queues ≡ record last.queues { transfer = None } → Becomes resets came to adds taken e o
   begins : (begun : Begun e o) → IsOpening came → identity_in o.after.core ≡ Some (identity_of begun.my begun.held) → ((queued : List Message) → adds queued ≡ queued) → ((read : List MessageContent) → taken read ≡ read)
       → (again : RequestedReset) → MakesPackets came begun.held.peer.tag (record { queues = opening_queues e o begun; own = Some (record { number = None; next = begun.my.first_tsn; again = again }) }) (packets_in o.events) (inside o.after)
+      → Becomes resets came to adds taken e o
+  collides : (collision : Collides came e o) → ((queued : List Message) → adds queued ≡ queued) → ((read : List MessageContent) → taken read ≡ read)
+      → (again : RequestedReset) → MakesPackets came collision.opened.link.peer.tag (kept_inside collision again) (packets_in o.events) (inside o.after)
       → Becomes resets came to adds taken e o
 
 -- The messages of a call and the streams that it names fit their fields, as those in memory do; no snapshot is restored; and a request to reset streams is

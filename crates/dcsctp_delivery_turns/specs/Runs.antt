@@ -14,7 +14,7 @@ use Rattle.dcsctp_spec_lemmas.specs.spec.queues.Tracker.{new_tracker}
 use Rattle.dcsctp_spec_lemmas.specs.spec.queues.Transfer.{Transfer, EndpointQueues, part_overhead}
 use Rattle.std.specs.List.{AllByRecursion}
 use Rattle.dcsctp_delivery_sending.specs.Log.{Fits, Message}
-use Rattle.dcsctp_delivery_turns.specs.Actions.{peer_tag, came_by, queued_after, read_after, Begun, begun_transfer, IsOpening, resets_streams, IsCall, IsCalm, has_refused}
+use Rattle.dcsctp_delivery_turns.specs.Actions.{peer_tag, came_by, queued_after, read_after, Begun, Collides, begun_transfer, IsOpening, resets_streams, IsCall, IsCalm, has_refused}
 use Rattle.dcsctp_spec_lemmas.specs.spec.Packet.{Content, re_config}
 use Rattle.dcsctp_spec_lemmas.specs.spec.Reconfiguration.{RequestedReset, ResetParameter}
 use Rattle.dcsctp_spec_lemmas.specs.spec.association.Effect.{Effect}
@@ -86,6 +86,10 @@ RefusesNone e o = e.queues.queue.is_interleaved ≡ true → has_refused o.effec
 abbrev pub MayDrop : Input → Beginning → Type 0
 MayDrop input beginning = resets_streams input ≡ true → beginning.keeps_all ≡ false
 
+-- No association begins in this turn under the own tag of the one before.
+abbrev pub HasNewTag : Endpoint → Input → Outcome → Type 0
+HasNewTag e input o = Collides (came_by input) e o → ⊥
+
 -- If an association begins in this turn, its own first TSN has 32 bits.
 abbrev pub OpensSmall : Endpoint → Input → Outcome → Type 0
 OpensSmall e input o = (begun : Begun e o) → IsOpening (came_by input) → identity_in o.after.core ≡ Some (identity_of begun.my begun.held) → begun.my.first_tsn < 2 ^ 32
@@ -94,7 +98,7 @@ OpensSmall e input o = (begun : Begun e o) → IsOpening (came_by input) → ide
 abbrev pub SendersGoOn : Type 0
 SendersGoOn =
     (options : Options) (first size : ℕ) (direction : Direction) (e : Endpoint) (input : Input) (o : Outcome) → DirectionRun options first size direction → first < 2 ^ 32 → direction.queues ≡ e.queues
-    → AsksFit first (own_of e) direction.asking → EndsPerformed e o direction.asking → RefusesNone e o → MayDrop input direction.beginning → OpensSmall e input o
+    → AsksFit first (own_of e) direction.asking → EndsPerformed e o direction.asking → RefusesNone e o → MayDrop input direction.beginning → OpensSmall e input o → HasNewTag e input o
     → length (queued_after e input direction.queued) < 2 ^ 64 → IsCall input → Turn e input o → SenderTurns options first size direction e input o
 
 -- A run begins where the socket was just made, with number 0 on each stream and nothing queued,
@@ -167,7 +171,7 @@ pub data ReceiverTurns (is_known : Bool) (options : Options) (first size : ℕ) 
 abbrev pub ReceiversGoOn : Type 0
 ReceiversGoOn =
     (is_known : Bool) (options : Options) (first size : ℕ) (direction : Direction) (transfer : Transfer) (e : Endpoint) (input : Input) (o : Outcome) → DirectionRun options first size (receiving direction transfer direction.read)
-    → e.queues.transfer ≡ Some transfer → WasSent direction.sent (came_by input) → KnowsRequest is_known direction transfer (came_by input) o.effects → SomeFit (own_of e) → OpensSmall e input o → IsCall input → Turn e input o → ReceiverTurns is_known options first size direction transfer e input o
+    → e.queues.transfer ≡ Some transfer → WasSent direction.sent (came_by input) → KnowsRequest is_known direction transfer (came_by input) o.effects → SomeFit (own_of e) → OpensSmall e input o → HasNewTag e input o → IsCall input → Turn e input o → ReceiverTurns is_known options first size direction transfer e input o
 
 -- Where there is no association, none is there after the turn, and nothing is read in one; or one begins.
 pub data IdleTurns (e : Endpoint) (input : Input) (o : Outcome) : Type 0 where

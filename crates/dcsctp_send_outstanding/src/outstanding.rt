@@ -67,7 +67,7 @@ impl Outstanding {
     ghost use Rattle.dcsctp_api.specs.types.queues.Progress.{is_marked};
     ghost use Rattle.dcsctp_api.specs.spec.queues.NextItem.{IsNextMarked, HasNone, IsMarkedAt};
     ghost use Rattle.dcsctp_send_outstanding.specs.Outstanding.{FindsPlaces, KeepsAbandoned, MayChange, TriesNext, NoneMarkedBetween};
-    ghost use Rattle.dcsctp_api.specs.spec.queues.Outstanding.{header, next_tsn, tsn_at, distance_to};
+    ghost use Rattle.dcsctp_api.specs.spec.queues.Outstanding.{header, next_tsn, tsn_at, distance_to, is_untouched};
     ghost use Rattle.dcsctp_send_outstanding.specs.Handing.{TriesItem};
     ghost use Rattle.dcsctp_send_outstanding.specs.NamedPlaces.{IsLeftBetween};
     ghost use Rattle.dcsctp_send_streams.specs.Telling.{contents};
@@ -113,6 +113,13 @@ impl Outstanding {
         ensures { result ≡ never_acknowledged_items self.now.items }
     {
         self.totals.never_acknowledged_items
+    }
+
+    /// Is this the first TSN, and was nothing acknowledged yet?
+    pub fn is_untouched(&self, first_tsn: u32) -> bool
+        ensures { result ≡ is_untouched first_tsn self.now }
+    {
+        self.first_tsn == first_tsn && self.never_acknowledged_items() == self.items.len()
     }
 
     /// How many items wait to be sent again.

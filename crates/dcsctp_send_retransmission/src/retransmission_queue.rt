@@ -76,12 +76,12 @@ impl RetransmissionQueue {
     ghost use Rattle.std.specs.List.{AllByRecursion};
     ghost use Rattle.std.specs.Duration.{as_nanos};
     ghost use Rattle.dcsctp_api.specs.spec.Soundness.{HasBytes};
-    ghost use Rattle.dcsctp_api.specs.spec.queues.Retransmission.{new_retransmission, outstanding_count, window_left, retransmission_deadline, can_send, timer_with, is_window_closed, with_duration, with_reset_begun, counted_again};
+    ghost use Rattle.dcsctp_api.specs.spec.queues.Retransmission.{new_retransmission, outstanding_count, window_left, retransmission_deadline, can_send, timer_with, is_window_closed, all_lost, with_duration, with_reset_begun, kept_for_peer, counted_again};
     ghost use Rattle.dcsctp_api.specs.spec.endpoint.Timers.{expires_at};
     ghost use Rattle.dcsctp_api.specs.spec.queues.Readiness.{retransmission_readiness};
     ghost use Rattle.dcsctp_api.specs.spec.queues.Items.{unacknowledged_items, marked_items};
     ghost use Rattle.dcsctp_send_outstanding.specs.Outstanding.{FindsPlaces};
-    ghost use Rattle.dcsctp_api.specs.spec.queues.Outstanding.{next_tsn, distance_to};
+    ghost use Rattle.dcsctp_api.specs.spec.queues.Outstanding.{next_tsn, distance_to, is_untouched};
     ghost use Rattle.dcsctp_send_retransmission.specs.Queue.{queue_at};
     ghost use Rattle.dcsctp_send_retransmission.specs.Sending.{HasFragment};
 
@@ -132,6 +132,20 @@ impl RetransmissionQueue {
         ensures { result ≡ self.now.outstanding.is_interleaved }
     {
         self.outstanding.is_interleaving()
+    }
+
+    /// May messages be abandoned (RFC 3758)?
+    pub fn is_partially_reliable(&self) -> bool
+        ensures { result ≡ self.now.partial_reliability }
+    {
+        self.partial_reliability
+    }
+
+    /// Is this the first TSN, and was nothing acknowledged yet?
+    pub fn is_untouched(&self, first_tsn: u32) -> bool
+        ensures { result ≡ is_untouched first_tsn self.now.outstanding }
+    {
+        self.outstanding.is_untouched(first_tsn)
     }
 
     /// The TSN that is sent next.
@@ -286,13 +300,33 @@ impl RetransmissionQueue {
         if !self.timer.expire(now) {
             return false;
         }
-        let len = self.outstanding.len();
-        self.outstanding.change_between(Change::Mark, 0, len);
+        self.lose_all();
         self.congestion.handle_timeout();
         if self.follows_rfc && !self.has_measured && !self.is_window_closed() {
             self.timer.back_off();
         }
         true
+    }
+
+    /// Keeps what was sent for another peer, whose receive window is `a_rwnd` bytes, as it announced. All of it is
+    /// marked to be sent again, and nothing is known of the path. Allocates nothing.
+    pub fn keep_for_peer(&mut self, now: SocketTime, options: &Options, a_rwnd: u32)
+        ensures { self.new ≡ kept_for_peer now options.now a_rwnd self.old }
+    {
+        self.timer.stop();
+        self.keep_timer(now);
+        self.lose_all();
+        self.congestion = CongestionControl::new(options, a_rwnd);
+        self.peer_window = a_rwnd as usize;
+        self.fast_retransmit_due = false;
+    }
+
+    // Marks all that is in flight as lost, to be sent again.
+    fn lose_all(&mut self)
+        ensures { self.new ≡ all_lost self.old }
+    {
+        let len = self.outstanding.len();
+        self.outstanding.change_between(Change::Mark, 0, len);
     }
 
     // Is the peer's window smaller than a packet? Then what is sent is a probe of it (RFC 9260, section 6.1, rule A).

@@ -1,8 +1,10 @@
 -- Outside examples of what a socket does with a COOKIE ECHO, worked out by hand and computed by the
 -- definitions: a wrong rule in specs/ would not check here.
-use Rattle.std.proofs.Common.{◌≡◌, ℕ, false, None, List, [], ◌∷◌, refl, Some}
+use Rattle.std.proofs.Common.{◌≡◌, ℕ, true, false, None, List, [], ◌∷◌, refl, Some}
 use Rattle.std.specs.Prelude.{pos, codes}
-use Rattle.dcsctp_types.specs.wire.Content.{cookie_received_while_shutting_down, error_chunk}
+use Rattle.std.specs.Option.{option_map}
+use Rattle.dcsctp_types.specs.wire.Content.{cookie_received_while_shutting_down, unknown_cause, error_chunk}
+use Rattle.dcsctp_types.specs.wire.Spelling.{parameter_chunk_bytes, parameter_bytes}
 use Rattle.dcsctp_types.specs.declared.association.Pair.{Pair}
 use Rattle.dcsctp_types.specs.declared.association.Held.{Held}
 use Rattle.dcsctp_types.specs.declared.kinds.ErrorKind.TheVariants.{ParseFailed, WrongSequence}
@@ -11,6 +13,8 @@ use Rattle.dcsctp_spec.specs.endpoint.Event.{connected, connection_restarted, er
 use Rattle.dcsctp_spec.specs.Cookie.{Cookie, cookie_at}
 use Rattle.dcsctp_spec.specs.Packet.{cookie_ack, shutdown_ack, plain, unworked}
 use Rattle.dcsctp_spec.specs.queues.SendQueue.{SendQueueState}
+use Rattle.dcsctp_spec.specs.queues.Retransmission.{RetransmissionState}
+use Rattle.dcsctp_spec.specs.queues.Transfer.{Transfer}
 use Rattle.dcsctp_spec.specs.endpoint.EndOutcomes.{closed_after}
 use Rattle.dcsctp_spec.specs.endpoint.Endpoint.{Endpoint, closed, cookie_wait, cookie_echoed, open_in, established, shutdown_received, shutdown_ack_sent, stopped_timers}
 use Rattle.dcsctp_spec.specs.endpoint.Following.{next_chunk, dropped_rest}
@@ -23,6 +27,12 @@ abbrev own_cookie : ℕ → List ℕ
 own_cookie tie =
     0x64 ∷ 0x63 ∷ 0x53 ∷ 0x43 ∷ 0x54 ∷ 0x50 ∷ 0x72 ∷ 0x30 ∷ 0 ∷ 0 ∷ 0 ∷ 9 ∷ 0 ∷ 0 ∷ 0 ∷ 7 ∷ 0 ∷ 0 ∷ 0 ∷ 200 ∷ 0 ∷ 0 ∷ 0 ∷ 100
     ∷ 0 ∷ 0 ∷ 5 ∷ 0xdc ∷ 0 ∷ 0 ∷ 0 ∷ 0 ∷ 0 ∷ 0 ∷ 0 ∷ tie ∷ 0 ∷ 1 ∷ 1 ∷ 0 ∷ 0 ∷ 0 ∷ 0 ∷ 1 ∷ 0 ∷ 40 ∷ 0 ∷ 30 ∷ 0 ∷ 0 ∷ 0 ∷ 1 ∷ 0x2a ∷ 0x05 ∷ 0xf2 ∷ 0 ∷ []
+
+-- with this as the first TSN that isn't acknowledged
+abbrev beginning_at : ℕ → Transfer → Transfer
+beginning_at first_tsn transfer =
+    let retransmission : RetransmissionState = transfer.retransmission in
+    record transfer { retransmission = record retransmission { outstanding = record retransmission.outstanding { first_tsn = first_tsn } } }
 
 -- established, with a heartbeat timeout that runs on; what waits to be sent is as given
 abbrev made : Endpoint → SendQueueState → ℕ → Endpoint
@@ -102,6 +112,22 @@ echo_of_both : (e : Endpoint) → cookie_echo_outcome (socket e 1191 (pos 4) (co
 unfolding cookie_at
 echo_of_both e = refl
 
+-- By the RFC's rules what was sent to the one peer goes to the other, if nothing of it was acknowledged: it isn't begun again.
+abbrev collides : Endpoint → ℕ → Endpoint
+collides e first_tsn =
+    record (by_rfc (socket e 1191 (pos 4) (cookie_echoed mine older_held []) 4)) {
+      outstanding = None;
+      queues = record { queue = queue_renumbered; transfer = option_map (beginning_at first_tsn) (transfer_begun 1191 11910 4764) };
+    }
+
+echo_of_both_by_rfc : (e : Endpoint) → (cookie_echo_outcome (collides e 100) (cookie_echoed mine older_held []) 7 (cookie_at (own_cookie 0)) 55).after.queues.queue ≡ queue_renumbered
+unfolding cookie_at
+echo_of_both_by_rfc e = refl
+
+acknowledged_where_both_began : (e : Endpoint) → (cookie_echo_outcome (collides e 101) (cookie_echoed mine older_held []) 7 (cookie_at (own_cookie 0)) 55).after.queues.queue ≡ queue_at_start
+unfolding cookie_at
+acknowledged_where_both_began e = refl
+
 -- Another own tag with the same peer tag, and a tie tag of 0: the cookie is of an attempt that is over.
 echo_that_is_late : (e : Endpoint) → cookie_echo_outcome (socket e 1191 (pos 4) (cookie_echoed older held []) 4) (cookie_echoed older held []) 7 (cookie_at (own_cookie 0)) 55
     ≡ record { words = []; effects = []; after = socket e 1191 (pos 4) (cookie_echoed older held []) 4; events = []; following = dropped_rest }
@@ -152,13 +178,19 @@ after_7 e = record (socket e 1191 (pos 4) closed 4) { last_tag = Some 7 }
 
 -- By the RFC's rules a cookie under it makes no other,
 echo_of_the_last : (e : Endpoint) → cookie_echo_outcome (by_rfc (after_7 e)) closed 7 (cookie_at (own_cookie 0)) 55
-    ≡ record { words = []; effects = []; after = by_rfc (after_7 e); events = error ParseFailed (codes "Stale state cookie") ∷ []; following = dropped_rest }
-unfolding cookie_at
+    ≡ record {
+      words = [];
+      effects = [];
+      after = by_rfc (record (socket e 1191 (pos 4) closed 5) { last_tag = Some 7 });
+      events = error ParseFailed (codes "Stale state cookie") ∷ packet_of true 9 (plain (unworked (error_chunk (unknown_cause 3 (0 ∷ 0 ∷ 0 ∷ 0 ∷ []) ∷ []))) ∷ []) ∷ [];
+      following = dropped_rest;
+    }
+unfolding cookie_at parameter_chunk_bytes parameter_bytes
 echo_of_the_last e = refl
 
 -- nor while an INIT ACK is awaited. By the port it does.
 echo_of_the_last_while_waiting : (e : Endpoint) → (cookie_echo_outcome (by_rfc (after_7 e)) (cookie_wait older) 7 (cookie_at (own_cookie 0)) 55).effects ≡ []
-unfolding cookie_at
+unfolding cookie_at parameter_chunk_bytes parameter_bytes
 echo_of_the_last_while_waiting e = refl
 
 echo_of_the_last_by_port : (e : Endpoint) → (cookie_echo_outcome (after_7 e) closed 7 (cookie_at (own_cookie 0)) 55).effects ≡ holds link ∷ connects link ∷ []

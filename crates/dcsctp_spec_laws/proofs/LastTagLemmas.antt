@@ -1,5 +1,5 @@
 -- Our verification tag in the last association: each turn leaves it, or ends an association; no COOKIE ECHO makes one under it.
-use Rattle.std.proofs.Common.{◌≡◌, ◌==◌, ◌&&◌, ◌||◌, inl, inr, ℕ, Bool, true, false, Option, None, Some, List, [], ◌∷◌, Result, Ok, Err, refl, sym, subst, ap, ◌∙◌, arith}
+use Rattle.std.proofs.Common.{◌≡◌, ◌⊎◌, ◌==◌, ◌&&◌, ◌||◌, inl, inr, ℕ, Bool, true, false, Option, None, Some, List, [], ◌∷◌, Result, Ok, Err, refl, sym, subst, ap, ◌∙◌, arith}
 use Rattle.std.proofs.lemmas.Bool.Decides.{nat_tests}
 use Rattle.dcsctp_spec_lemmas.specs.spec.Cookie.{Cookie, cookie_at}
 use Rattle.dcsctp_spec_lemmas.specs.spec.association.CookieEchoChanges.{aged, case_without_peer}
@@ -7,7 +7,8 @@ use Rattle.dcsctp_spec_lemmas.specs.spec.endpoint.CookieEchoOutcomes.{is_last_ta
 use Rattle.dcsctp_spec_lemmas.specs.spec.endpoint.DataOutcomes.{TakeWhere, TakeLeft, TakeTurn}
 use Rattle.dcsctp_spec_lemmas.specs.spec.endpoint.Endpoint.{Endpoint, Core, closed, cookie_wait, cookie_echoed, open_in, held_in}
 use Rattle.dcsctp_spec_lemmas.specs.spec.endpoint.FlushOutcomes.{FlushKind, flush_answered}
-use Rattle.dcsctp_spec_lemmas.specs.spec.endpoint.Outcome.{Outcome}
+use Rattle.dcsctp_spec_lemmas.specs.spec.endpoint.Outcome.{Outcome, packet_counted}
+use Rattle.dcsctp_spec_lemmas.proofs.RefusalLemmas.{by_stale_outcome}
 use Rattle.dcsctp_spec_lemmas.specs.spec.endpoint.Turn.{arrival, refusal, packet_begins, chunk_input, packet_ends, act_input, user_sets, user_sends, user_resets, user_takes, timer_expires, time_passes, restores}
 use Rattle.dcsctp_spec_lemmas.specs.spec.queues.Transfer.{Transfer}
 use Rattle.dcsctp_spec_lemmas.specs.types.queues.Messages.{MessageContent}
@@ -90,16 +91,20 @@ spent_at b e tag old follows last is =
     ∙ ap (λ (found : Option ℕ). is_last_tag found tag || old) last
     ∙ ap (λ (found : Bool). found || old) same
 
+-- Nothing has changed, but for a packet that may have gone out.
+abbrev IsRefused : Endpoint → Outcome → Type 0
+IsRefused e o = ((o.after ≡ e) ⊎ (o.after ≡ packet_counted e)) × (o.effects ≡ [])
+
 -- Without a peer a cookie that is spent makes nothing.
 spent_rests : (flush : FlushKind) (e : Endpoint) (core : Core) (word : ℕ) (cookie : Cookie) (same spent : Bool) → spent ≡ true
-    → let o : Outcome = resolved_by flush e cookie core word (aged spent (case_without_peer same)) in (o.after ≡ e) × (o.effects ≡ [])
-spent_rests flush e core word cookie true true is = (refl, refl)
-spent_rests flush e core word cookie false true is = (refl, refl)
+    → let o : Outcome = resolved_by flush e cookie core word (aged spent (case_without_peer same)) in IsRefused e o
+spent_rests flush e core word cookie true true is = by_stale_outcome (IsRefused e) e cookie (inr refl, refl) (inl refl, refl)
+spent_rests flush e core word cookie false true is = (inl refl, refl)
 spent_rests flush e core word cookie same false is = absurd (cc)
 
 echo_rests : (flush : FlushKind) (e : Endpoint) (core : Core) (tag word : ℕ) (read : Result Cookie (List ℕ)) → e.options.follow_rfc ≡ true → e.last_tag ≡ Some tag → held_in core ≡ None
-    → let o : Outcome = cookie_echo_by flush e core tag read word in (o.after ≡ e) × (o.effects ≡ [])
-echo_rests flush e core tag word (Err text) follows last none = (refl, refl)
+    → let o : Outcome = cookie_echo_by flush e core tag read word in IsRefused e o
+echo_rests flush e core tag word (Err text) follows last none = (inl refl, refl)
 echo_rests flush e closed tag word (Ok cookie) follows last none =
     spent_rests flush e closed word cookie (tag == cookie.maker.tag) (is_spent e closed tag cookie) (spent_at _ e tag _ follows last refl)
 echo_rests flush e (cookie_wait my) tag word (Ok cookie) follows last none =
@@ -109,4 +114,4 @@ echo_rests flush e (open_in phase my held) tag word (Ok cookie) follows last non
 
 pub last_tag_is_spent : LastTagIsSpent
 last_tag_is_spent e tag bytes o follows last none turn =
-    subst (λ (x : Outcome). (x.after ≡ e) × (x.effects ≡ [])) (sym turn.3) (echo_rests (flush_answered turn.1) e e.core tag turn.0 (cookie_at bytes) follows last none)
+    subst (IsRefused e) (sym turn.3) (echo_rests (flush_answered turn.1) e e.core tag turn.0 (cookie_at bytes) follows last none)

@@ -11,8 +11,7 @@ use Rattle.dcsctp_spec_lemmas.specs.spec.Packet.{Introduction, cookie_echo, shut
 use Rattle.dcsctp_spec_lemmas.specs.spec.Reconfiguration.{NumberedReset, RequestedReset, ResetParameter}
 use Rattle.dcsctp_spec_lemmas.specs.spec.association.CookieEchoChanges.{Resolution, establish_new, restart, simultaneous_init, discard, maintain_existing, invalid_tag, stale, held_by_cookie}
 use Rattle.dcsctp_spec_lemmas.specs.spec.association.ResetChanges.{HandledParameters}
-use Rattle.dcsctp_spec_lemmas.specs.spec.queues.SendQueue.{SendQueueState}
-use Rattle.dcsctp_spec_lemmas.specs.spec.queues.Transfer.{Transfer}
+use Rattle.dcsctp_spec_lemmas.specs.spec.queues.Transfer.{Transfer, EndpointQueues}
 use Rattle.dcsctp_spec_lemmas.specs.spec.endpoint.Cause.{Cause}
 use Rattle.dcsctp_spec_lemmas.specs.spec.endpoint.Endpoint.{Endpoint, Core, closed, cookie_wait, cookie_echoed, open_in, OpenPhase, established, shutdown_pending, shutdown_sent, shutdown_received, shutdown_ack_sent}
 use Rattle.dcsctp_spec_lemmas.specs.spec.endpoint.Event.{Event, aborted, connected, connection_restarted}
@@ -20,10 +19,11 @@ use Rattle.dcsctp_spec_lemmas.specs.spec.endpoint.Outcome.{Outcome, quiet, sends
 use Rattle.dcsctp_spec_lemmas.specs.spec.endpoint.FlushOutcomes.{Answer, draft_to, flush_of, flush_answered}
 use Rattle.dcsctp_spec_lemmas.specs.spec.endpoint.EndOutcomes.{ended_outcome, abort_outcome}
 use Rattle.dcsctp_spec_lemmas.specs.spec.endpoint.HandshakeOutcomes.{pair_from, renewed_pair, init_ack_emission, init_outcome, InitTurn, no_cookie_text, abort_emission, awaits_cookie_ack, echo_emission, EchoAnswers, init_ack_by, InitAckAnswers, InitAckTurn, connected_after, cookie_ack_by, CookieAckAnswers, CookieAckTurn}
-use Rattle.dcsctp_spec_lemmas.specs.spec.endpoint.CookieEchoOutcomes.{established_by, cookie_ack_emission, establish_by, queue_begun, queue_kept, restart_by_in, restart_by_where, maintain_by, resolved_by, resolved_now, cookie_echo_by, EstablishAnswers, RestartAnswersIn, RestartAnswers, MaintainAnswers, ResolvedAnswers, EchoedAnswers, CookieEchoTurn}
+use Rattle.dcsctp_spec_lemmas.specs.spec.endpoint.CookieEchoOutcomes.{established_by, cookie_ack_emission, establish_by, queues_begun, queues_kept, queues_collided, restart_by_in, restart_by_where, maintain_by, outlasts, queues_by, queues_for_other, resolved_by, resolved_now, cookie_echo_by, EstablishAnswers, RestartAnswersIn, RestartAnswers, MaintainAnswers, ResolvedAnswers, EchoedAnswers, CookieEchoTurn}
 use Rattle.dcsctp_spec_lemmas.specs.spec.endpoint.ResetOutcomes.{requested_in, renewable_left, has_reset, answers_in_progress, ResetsInQueues, OwnAnswer, unanswered, retried, was_performed, has_failed, parameters_handled_in, answered_in, reset_events_of, resets_handled, responses_outcome, responses_by, ResponseAnswers, WorksResets, ResetTurn}
 use Rattle.dcsctp_spec_lemmas.specs.spec.endpoint.ShutdownOutcomes.{shutdown_ack_outcome, shutdown_complete_outcome}
 use Rattle.dcsctp_spec_lemmas.proofs.AbortLemmas.{by_abort_outcome}
+use Rattle.dcsctp_spec_lemmas.proofs.RefusalLemmas.{by_stale_outcome}
 use Rattle.dcsctp_spec_laws.proofs.LeftLemmas.{is_there, Stays, Ends, StaysIn, LeavesIn, unmoved, stays_then, begins_then, emits_stays, flush_stays, answer_stays}
 use Rattle.dcsctp_spec_lemmas.proofs.OneAnswerLemmas.{init_by}
 
@@ -73,25 +73,25 @@ init_ack_leaves e theirs cookie o turn = subst (LeavesIn e) (sym turn.3) (init_a
 
 -- ---- COOKIE ECHO
 
-established_begins : (e : Endpoint) (cookie : Cookie) (queue : SendQueueState) (tie : ℕ) (events : List (Event Emission)) (answers : List Answer) → EstablishAnswers e cookie queue tie answers
-    → LeavesIn e (establish_by (flush_answered answers) e cookie queue tie events)
-established_begins e cookie queue tie events answers h =
-    let begun : Endpoint = established_by e cookie queue tie in
-    inr (inl (begins_then e begun _ (record { left = refl; there = refl; last = refl }) (flush_stays begun (cookie_ack_emission (held_by_cookie e.options cookie) cookie) answers h)))
+established_begins : (e : Endpoint) (cookie : Cookie) (queues : EndpointQueues) (tie : ℕ) (events : List (Event Emission)) (answers : List Answer) → is_there queues.transfer ≡ true → EstablishAnswers e cookie queues tie answers
+    → LeavesIn e (establish_by (flush_answered answers) e cookie queues tie events)
+established_begins e cookie queues tie events answers there h =
+    let begun : Endpoint = established_by e cookie queues tie in
+    inr (inl (begins_then e begun _ (record { left = refl; there = there; last = refl }) (flush_stays begun (cookie_ack_emission (held_by_cookie e.options cookie) cookie) answers h)))
 
 restart_in : (e : Endpoint) (cookie : Cookie) (tie : ℕ) (phase : OpenPhase) (held : Held) (answers : List Answer) → RestartAnswersIn e cookie tie phase answers
     → LeavesIn e (restart_by_in (flush_answered answers) e cookie tie phase held)
-restart_in e cookie tie established held answers h = established_begins e cookie (queue_begun e cookie) tie (connection_restarted ∷ connected ∷ []) answers h
-restart_in e cookie tie shutdown_pending held answers h = established_begins e cookie (queue_begun e cookie) tie (connection_restarted ∷ connected ∷ []) answers h
-restart_in e cookie tie shutdown_sent held answers h = established_begins e cookie (queue_begun e cookie) tie (connection_restarted ∷ connected ∷ []) answers h
-restart_in e cookie tie shutdown_received held answers h = established_begins e cookie (queue_begun e cookie) tie (connection_restarted ∷ connected ∷ []) answers h
+restart_in e cookie tie established held answers h = established_begins e cookie (queues_begun e cookie) tie (connection_restarted ∷ connected ∷ []) answers refl h
+restart_in e cookie tie shutdown_pending held answers h = established_begins e cookie (queues_begun e cookie) tie (connection_restarted ∷ connected ∷ []) answers refl h
+restart_in e cookie tie shutdown_sent held answers h = established_begins e cookie (queues_begun e cookie) tie (connection_restarted ∷ connected ∷ []) answers refl h
+restart_in e cookie tie shutdown_received held answers h = established_begins e cookie (queues_begun e cookie) tie (connection_restarted ∷ connected ∷ []) answers refl h
 restart_in e cookie tie shutdown_ack_sent held answers h = inl (record { left = refl; there = refl; last = refl })
 
 restart_at : (e : Endpoint) (cookie : Cookie) (tie : ℕ) (core : Core) (answers : List Answer) → RestartAnswers e cookie tie core answers
     → LeavesIn e (restart_by_where (flush_answered answers) e cookie tie core)
-restart_at e cookie tie closed answers h = established_begins e cookie (queue_begun e cookie) tie (connection_restarted ∷ connected ∷ []) answers h
-restart_at e cookie tie (cookie_wait mine) answers h = established_begins e cookie (queue_begun e cookie) tie (connection_restarted ∷ connected ∷ []) answers h
-restart_at e cookie tie (cookie_echoed mine held echoed) answers h = established_begins e cookie (queue_begun e cookie) tie (connection_restarted ∷ connected ∷ []) answers h
+restart_at e cookie tie closed answers h = established_begins e cookie (queues_begun e cookie) tie (connection_restarted ∷ connected ∷ []) answers refl h
+restart_at e cookie tie (cookie_wait mine) answers h = established_begins e cookie (queues_begun e cookie) tie (connection_restarted ∷ connected ∷ []) answers refl h
+restart_at e cookie tie (cookie_echoed mine held echoed) answers h = established_begins e cookie (queues_begun e cookie) tie (connection_restarted ∷ connected ∷ []) answers refl h
 restart_at e cookie tie (open_in phase mine held) answers h = restart_in e cookie tie phase held answers h
 
 connected_stays : (e : Endpoint) (mine : Pair) (held : Held) → Stays e (connected_after e mine held)
@@ -104,15 +104,29 @@ maintain_stays e cookie (cookie_echoed mine held echoed) answers h =
     stays_then e (connected_after e mine held) _ (connected_stays e mine held) (flush_stays (connected_after e mine held) (cookie_ack_emission held cookie) answers h)
 maintain_stays e cookie (open_in phase mine held) answers h = flush_stays e (cookie_ack_emission held cookie) answers h
 
+by_there : (b : Bool) (e : Endpoint) (cookie : Cookie) (transfer : Transfer) → is_there (queues_by b e cookie transfer).transfer ≡ true
+by_there true e cookie transfer = refl
+by_there false e cookie transfer = refl
+
+other_there : (e : Endpoint) (mine : Pair) (cookie : Cookie) (transfer : Option Transfer) → is_there (queues_for_other e mine cookie transfer).transfer ≡ true
+other_there e mine cookie None = refl
+other_there e mine cookie (Some transfer) = by_there (outlasts e mine cookie transfer) e cookie transfer
+
+collided_there : (e : Endpoint) (core : Core) (cookie : Cookie) → is_there (queues_collided e core cookie).transfer ≡ true
+collided_there e closed cookie = refl
+collided_there e (cookie_wait mine) cookie = refl
+collided_there e (cookie_echoed mine held echoed) cookie = other_there e mine cookie e.queues.transfer
+collided_there e (open_in phase mine held) cookie = refl
+
 resolved_leaves : (e : Endpoint) (cookie : Cookie) (core : Core) (word : ℕ) (resolution : Resolution) (answers : List Answer) → ResolvedAnswers e cookie core word resolution answers
     → LeavesIn e (resolved_by (flush_answered answers) e cookie core word resolution)
-resolved_leaves e cookie core word establish_new answers h = established_begins e cookie (queue_kept e cookie) word (connected ∷ []) answers h
+resolved_leaves e cookie core word establish_new answers h = established_begins e cookie (queues_kept e cookie) word (connected ∷ []) answers refl h
 resolved_leaves e cookie core word restart answers h = restart_at e cookie word core answers h
-resolved_leaves e cookie core word simultaneous_init answers h = established_begins e cookie (queue_begun e cookie) word (connected ∷ []) answers h
+resolved_leaves e cookie core word simultaneous_init answers h = established_begins e cookie (queues_collided e core cookie) word (connected ∷ []) answers (collided_there e core cookie) h
 resolved_leaves e cookie core word discard answers h = inl (unmoved e)
 resolved_leaves e cookie core word maintain_existing answers h = inl (maintain_stays e cookie core answers h)
 resolved_leaves e cookie core word invalid_tag answers h = inl (unmoved e)
-resolved_leaves e cookie core word stale answers h = inl (unmoved e)
+resolved_leaves e cookie core word stale answers h = by_stale_outcome (LeavesIn e) e cookie (inl (record { left = refl; there = refl; last = refl })) (inl (unmoved e))
 
 echoed_leaves : (e : Endpoint) (core : Core) (header : ℕ) (read : Result Cookie (List ℕ)) (word : ℕ) (answers : List Answer) → EchoedAnswers e core header read word answers
     → LeavesIn e (cookie_echo_by (flush_answered answers) e core header read word)

@@ -3,7 +3,7 @@ use Rattle.std.specs.Prelude.{◌≡◌, ◌⊎◌, ℕ, true, Option, None, Som
 use Rattle.dcsctp_spec_lemmas.specs.spec.endpoint.CookieEchoOutcomes.{CookieEchoTurn}
 use Rattle.dcsctp_spec_lemmas.specs.spec.endpoint.EndOutcomes.{ended_tag}
 use Rattle.dcsctp_spec_lemmas.specs.spec.endpoint.Endpoint.{Endpoint, held_in}
-use Rattle.dcsctp_spec_lemmas.specs.spec.endpoint.Outcome.{Outcome}
+use Rattle.dcsctp_spec_lemmas.specs.spec.endpoint.Outcome.{Outcome, packet_counted}
 use Rattle.dcsctp_spec_lemmas.specs.spec.endpoint.Turn.{Input, Turn}
 use Rattle.dcsctp_spec_lemmas.specs.spec.queues.Transfer.{Transfer}
 use Rattle.dcsctp_spec_laws.specs.LeftLaws.{IsOwnInput}
@@ -21,8 +21,8 @@ LastTagWhere e before (Some new) last = last ≡ e.last_tag
 abbrev pub LastTagStays : Type 0
 LastTagStays = (e : Endpoint) (input : Input) (o : Outcome) → IsOwnInput input → Turn e input o → LastTagWhere e e.queues.transfer o.after.queues.transfer o.after.last_tag
 
--- By the RFC a COOKIE ECHO under it makes nothing where there is no association.
+-- By the RFC a COOKIE ECHO under it makes nothing where there is no association: at most a packet says so.
 abbrev pub LastTagIsSpent : Type 0
 LastTagIsSpent =
     (e : Endpoint) (tag : ℕ) (bytes : List ℕ) (o : Outcome) → e.options.follow_rfc ≡ true → e.last_tag ≡ Some tag → held_in e.core ≡ None
-    → CookieEchoTurn e tag bytes o → (o.after ≡ e) × (o.effects ≡ [])
+    → CookieEchoTurn e tag bytes o → ((o.after ≡ e) ⊎ (o.after ≡ packet_counted e)) × (o.effects ≡ [])

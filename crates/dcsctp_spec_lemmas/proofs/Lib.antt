@@ -25,6 +25,7 @@ pub mod PacketLengths
 pub mod PackingLemmas
 pub mod RangesLemmas
 pub mod ReassemblyLemmas
+pub mod RefusalLemmas
 pub mod ReportLemmas
 pub mod ResendingOutcomes
 pub mod SackOutcomeLemmas

@@ -9,7 +9,7 @@ use Rattle.dcsctp_spec_lemmas.specs.types.declared.word.Word.TheVariants.{U64}
 use Rattle.dcsctp_spec_lemmas.specs.spec.Cookie.{Cookie}
 use Rattle.dcsctp_spec_lemmas.specs.spec.endpoint.Event.{Event, connected}
 use Rattle.dcsctp_spec_lemmas.specs.spec.Packet.{Introduction, Content, cookie_ack, Emission}
-use Rattle.dcsctp_spec_lemmas.specs.spec.queues.SendQueue.{SendQueueState}
+use Rattle.dcsctp_spec_lemmas.specs.spec.queues.Transfer.{EndpointQueues}
 use Rattle.dcsctp_spec_lemmas.specs.spec.queues.Transfer.{Transfer}
 use Rattle.dcsctp_spec_lemmas.specs.spec.endpoint.Endpoint.{Endpoint, Core, closed, cookie_wait, cookie_echoed, open_in}
 use Rattle.dcsctp_spec_lemmas.specs.spec.endpoint.Outcome.{Outcome, still, quiet, sends, behind, then_outcome, noting, fits}
@@ -144,8 +144,8 @@ cookie_ack_turn_now e mine held cookie o is idle turn =
 
 -- ---- COOKIE ECHO
 
-pub establish_now : (e : Endpoint) (cookie : Cookie) (queue : SendQueueState) (tie : ℕ) (events : List (Event Emission)) (answers : List Answer) → IsIdle (established_by e cookie queue tie)
-    → EstablishAnswers e cookie queue tie answers → establish_by (flush_answered answers) e cookie queue tie events ≡ establish_outcome e cookie queue tie events
-establish_now e cookie queue tie events answers idle h =
+pub establish_now : (e : Endpoint) (cookie : Cookie) (queues : EndpointQueues) (tie : ℕ) (events : List (Event Emission)) (answers : List Answer) → IsIdle (established_by e cookie queues tie)
+    → EstablishAnswers e cookie queues tie answers → establish_by (flush_answered answers) e cookie queues tie events ≡ establish_outcome e cookie queues tie events
+establish_now e cookie queues tie events answers idle h =
     let link : AssociationIdentity = identity_of cookie.maker (held_by_cookie e.options cookie) in
-    ap (noting (holds link ∷ connects link ∷ [])) (flush_is_now (established_by e cookie queue tie) (U64 tie ∷ []) events _ cookie.addressee.tag (cookie_ack ∷ []) answers idle h)
+    ap (noting (holds link ∷ connects link ∷ [])) (flush_is_now (established_by e cookie queues tie) (U64 tie ∷ []) events _ cookie.addressee.tag (cookie_ack ∷ []) answers idle h)

@@ -1,5 +1,5 @@
 -- COOKIE ECHO keeps what is true, in each of its cases.
-use Rattle.std.proofs.Common.{◌≡◌, ◌==◌, ℕ, Bool, true, false, List, [], ◌∷◌, inl, inr, refl, sym, subst, ap, ◌∙◌, Result, arith}
+use Rattle.std.proofs.Common.{◌&&◌, ◌≡◌, ◌==◌, ℕ, Bool, true, false, List, [], ◌∷◌, inl, inr, refl, sym, subst, ap, ◌∙◌, Result, arith}
 use Rattle.std.proofs.lemmas.Bool.Decides.{nat_tests}
 use Rattle.dcsctp_spec_lemmas.specs.types.declared.association.Pair.{Pair}
 use Rattle.dcsctp_spec_lemmas.specs.types.declared.association.Held.{Held}
@@ -9,15 +9,15 @@ use Rattle.dcsctp_spec_lemmas.specs.spec.Cookie.{Cookie}
 use Rattle.dcsctp_spec_lemmas.specs.spec.Packet.{Content, cookie_echo, cookie_ack}
 use Rattle.dcsctp_spec_lemmas.specs.spec.endpoint.Endpoint.{Core, closed, cookie_wait, cookie_echoed, open_in, established, shutdown_pending, shutdown_sent, shutdown_received, shutdown_ack_sent}
 use Rattle.dcsctp_spec_lemmas.specs.spec.endpoint.Following.{next_chunk, dropped_rest}
-use Rattle.dcsctp_spec_lemmas.specs.spec.association.Effect.{AssociationIdentity, Effect, sends, holds, connects, identity_of}
+use Rattle.dcsctp_spec_lemmas.specs.spec.association.Effect.{AssociationIdentity, Effect, sends, holds, connects, emitted_alone, identity_of}
 use Rattle.dcsctp_spec_lemmas.specs.spec.association.Choices.{Choices}
 use Rattle.dcsctp_spec_lemmas.specs.spec.association.FlushChanges.{flush}
-use Rattle.dcsctp_spec_lemmas.specs.spec.association.CookieEchoChanges.{Resolution, establish_new, restart, simultaneous_init, discard, maintain_existing, invalid_tag, stale, aged, case_by, case_without_peer, case_with_peer, resolve, held_by_cookie, new_association_change, restart_change, maintain_change, resolved_change, read_echo_change, cookie_echo_change}
+use Rattle.dcsctp_spec_lemmas.specs.spec.association.CookieEchoChanges.{stale_error, Resolution, establish_new, restart, simultaneous_init, discard, maintain_existing, invalid_tag, stale, aged, case_by, case_without_peer, case_with_peer, resolve, held_by_cookie, new_association_change, restart_change, maintain_change, resolved_change, read_echo_change, cookie_echo_change}
 use Rattle.dcsctp_spec_runs.specs.Past.{HasEffect}
 use Rattle.dcsctp_spec_lemmas.proofs.ControlEcho.{kept_by_age}
 use Rattle.dcsctp_theorem_association.proofs.Facts.{agreed_link, TrueEcho, TrueAck, PeerFacts, TrueCore}
-use Rattle.dcsctp_theorem_association.proofs.Flushes.{flush_true, flush_peer}
-use Rattle.dcsctp_theorem_association.proofs.Turns.{Kept, dropped_kept, open_kept, SameTag}
+use Rattle.dcsctp_theorem_association.proofs.Flushes.{alone_true, alone_free, flush_true, flush_peer}
+use Rattle.dcsctp_theorem_association.proofs.Turns.{Kept, stays_kept, dropped_kept, open_kept, SameTag}
 use Rattle.dcsctp_theorem_association.proofs.HandshakeKept.{new_peer}
 use Rattle.dcsctp_theorem_association.proofs.CookieAckKept.{connected_kept}
 
@@ -175,7 +175,9 @@ resolved_kept options their_offer mine theirs core header bytes behind choices m
 resolved_kept options their_offer mine theirs core header bytes behind choices invalid_tag my_tags their_tags h echo delivered is =
     dropped_kept (offer_of options) their_offer mine theirs core h
 resolved_kept options their_offer mine theirs core header bytes behind choices stale my_tags their_tags h echo delivered is =
-    dropped_kept (offer_of options) their_offer mine theirs core h
+    let tells : Bool = options.follow_rfc && choices.fits in
+    stays_kept (offer_of options) their_offer mine theirs core (emitted_alone tells echo.cookie.addressee.tag stale_error) dropped_rest h
+    (alone_true (offer_of options) their_offer mine theirs tells echo.cookie.addressee.tag stale_error tt) (alone_free tells echo.cookie.addressee.tag stale_error tt)
 
 pub cookie_echo_kept : (options : Options) (their_offer : Offer) (mine theirs : List Effect) (core : Core) (header : ℕ) (bytes : List ℕ) (behind : List Content) (choices : Choices)
     → SameTag mine → SameTag theirs → TrueCore (offer_of options) their_offer mine theirs core → TrueEcho their_offer (offer_of options) theirs mine header bytes

@@ -1,5 +1,5 @@
 -- The effects of a turn say truly what the association is after it.
-use Rattle.std.proofs.Common.{◌≡◌, ℕ, Bool, true, false, Option, None, Some, Result, Ok, Err, List, [], ◌∷◌, inl, inr, refl, sym, subst, ap, ◌∙◌}
+use Rattle.std.proofs.Common.{◌&&◌, ◌≡◌, ℕ, Bool, true, false, Option, None, Some, Result, Ok, Err, List, [], ◌∷◌, inl, inr, refl, sym, subst, ap, ◌∙◌}
 use Rattle.dcsctp_spec_lemmas.specs.types.declared.association.Pair.{Pair}
 use Rattle.dcsctp_spec_lemmas.specs.types.declared.association.Held.{Held}
 use Rattle.dcsctp_spec_lemmas.specs.types.declared.options.Options.{Options}
@@ -15,7 +15,7 @@ use Rattle.dcsctp_spec_lemmas.specs.spec.association.ResumeChanges.{resumed_held
 use Rattle.dcsctp_spec_lemmas.specs.spec.association.Choices.{Filling, Choices}
 use Rattle.dcsctp_spec_lemmas.specs.spec.association.FlushChanges.{reset_request, Flushed, flush}
 use Rattle.dcsctp_spec_lemmas.specs.spec.association.HandshakeChanges.{introduction_of, connect_change, init_change, echo_change, held_by_init_ack, init_ack_change, cookie_ack_change, t1_again_change, t1_gives_up_change}
-use Rattle.dcsctp_spec_lemmas.specs.spec.association.CookieEchoChanges.{Resolution, establish_new, restart, simultaneous_init, discard, maintain_existing, invalid_tag, stale, aged, resolve, held_by_cookie, new_association_change, restart_change, maintain_change, resolved_change, read_echo_change}
+use Rattle.dcsctp_spec_lemmas.specs.spec.association.CookieEchoChanges.{stale_error, Resolution, establish_new, restart, simultaneous_init, discard, maintain_existing, invalid_tag, stale, aged, resolve, held_by_cookie, new_association_change, restart_change, maintain_change, resolved_change, read_echo_change}
 use Rattle.dcsctp_spec_lemmas.specs.spec.association.ResetChanges.{re_config_change, peer_part_handled}
 use Rattle.dcsctp_spec_lemmas.specs.spec.association.ShutdownChanges.{shutdown_step_change, shutdown_change}
 use Rattle.dcsctp_spec_lemmas.specs.spec.association.Acts.{Act, connect, t1_expires, shut_down, step_of_shutdown, shutdown_repeats, abort_with, hands_over, flushes, request_again, request_renewed, sent_then_flushed, flush_change, request_sent, request_again_change, renewed_by, request_renewed_change, act_change, violation_change, plain_change, chunk_change, shutdown_chunk_change}
@@ -121,7 +121,7 @@ resolved_meant options core cookie choices simultaneous_init = new_meant options
 resolved_meant options core cookie choices discard = same_meant refl tt
 resolved_meant options core cookie choices maintain_existing = maintains_meant core cookie choices
 resolved_meant options core cookie choices invalid_tag = same_meant refl tt
-resolved_meant options core cookie choices stale = same_meant refl tt
+resolved_meant options core cookie choices stale = same_meant refl (alone_says core (options.follow_rfc && choices.fits) cookie.addressee.tag stale_error)
 
 echo_meant : (options : Options) (core : Core) (header : ℕ) (read : Result Cookie (List ℕ)) (choices : Choices) → Meant core (read_echo_change options core header read choices)
 echo_meant options core header (Err text) choices = same_meant refl tt

@@ -6,6 +6,7 @@ use Rattle.std.specs.Duration.{as_nanos}
 use Rattle.std.proofs.lemmas.List.{append-nil}
 use Rattle.std.proofs.lemmas.Nat.{from_be_bytes-to_be_bytes_8}
 use Rattle.std.proofs.lemmas.Bool.Decides.{nat_tests}
+use Rattle.dcsctp_spec_lemmas.proofs.RefusalLemmas.{by_stale_outcome}
 use Rattle.dcsctp_spec_lemmas.specs.types.declared.options.Options.{Options}
 use Rattle.dcsctp_spec_lemmas.specs.types.Settings.{SameOptions}
 use Rattle.dcsctp_spec_lemmas.specs.spec.Cookie.{Cookie, cookie_bytes, cookie_at, cookie_fields, u64_at, has_magic, has_zero_tag, size_text, magic_text, tag_text, cut, is_stale}
@@ -26,7 +27,7 @@ use Rattle.dcsctp_spec_runs.specs.Fitting.{AllSent}
 use Rattle.dcsctp_spec_runs.specs.Sockets.{PerformedAct, Both, of_side, turns_after, endpoint_after, SocketRun}
 use Rattle.dcsctp_spec_lemmas.specs.spec.endpoint.FlushOutcomes.{Answer, flush_answered}
 use Rattle.dcsctp_spec_lemmas.specs.spec.endpoint.HandshakeOutcomes.{cookie_for}
-use Rattle.dcsctp_spec_lemmas.specs.spec.endpoint.CookieEchoOutcomes.{is_tag_over, is_spent, resolved_by, resolved_now, cookie_echo_by, ResolvedAnswers, EchoedAnswers, CookieEchoTurn, maintain_by}
+use Rattle.dcsctp_spec_lemmas.specs.spec.endpoint.CookieEchoOutcomes.{stale_outcome, is_tag_over, is_spent, resolved_by, resolved_now, cookie_echo_by, ResolvedAnswers, EchoedAnswers, CookieEchoTurn, maintain_by}
 use Rattle.dcsctp_spec_laws.proofs.AlongLemmas.{along_append}
 use Rattle.dcsctp_spec_runs.proofs.RunsAlong.{run_along}
 use Rattle.dcsctp_spec_lemmas.proofs.ControlEcho.{judging, maintain_at}
@@ -166,9 +167,13 @@ not_noted (resumes other own last ∷ effects) link none (inr has) = not_noted e
 kept_is_none : (e : Endpoint) (cookie : Cookie) (header word : ℕ) (answers : List Answer) (link : AssociationIdentity) → resolved_now e e.core header cookie ≡ maintain_existing
     → ResolvedAnswers e cookie e.core word maintain_existing answers → HasEffect (holds link) (maintain_by (flush_answered answers) e cookie e.core).effects → ⊥
 kept_is_none e cookie header word answers link case h has =
-    let choices : Choices = judging e false answers in
+    let choices : Choices = judging e cookie false answers in
     let controlled : IsControlled e (maintain_by (flush_answered answers) e cookie e.core) (maintain_change e.core cookie choices) = maintain_at e cookie e.core header false answers refl case h in
     not_noted (maintain_change e.core cookie choices).effects link (maintain_none e.core cookie choices) (subst (HasEffect (holds link)) controlled.effects has)
+
+-- A stale one makes none.
+stale_none : (e : Endpoint) (cookie : Cookie) (link : AssociationIdentity) → HasEffect (holds link) (stale_outcome e cookie).effects → ⊥
+stale_none e cookie link has = by_stale_outcome (λ o. HasEffect (holds link) o.effects → ⊥) e cookie (λ none. none) (λ none. none) has
 
 -- where its case isn't that of a stale one
 abbrev IsFresh : Bool → Resolution → Type 0
@@ -177,13 +182,13 @@ IsFresh old resolution = (old ≡ false) × (aged old resolution ≡ resolution)
 made_fresh : (e : Endpoint) (cookie : Cookie) (header word : ℕ) (answers : List Answer) (link : AssociationIdentity) (old : Bool) (resolution : Resolution) → resolved_now e e.core header cookie ≡ aged old resolution
     → ResolvedAnswers e cookie e.core word (aged old resolution) answers → HasEffect (holds link) (resolved_by (flush_answered answers) e cookie e.core word (aged old resolution)).effects → old ≡ false
 made_fresh e cookie header word answers link false resolution case h has = refl
-made_fresh e cookie header word answers link true establish_new case h has = absurd has
-made_fresh e cookie header word answers link true restart case h has = absurd has
-made_fresh e cookie header word answers link true simultaneous_init case h has = absurd has
+made_fresh e cookie header word answers link true establish_new case h has = absurd (stale_none e cookie link has)
+made_fresh e cookie header word answers link true restart case h has = absurd (stale_none e cookie link has)
+made_fresh e cookie header word answers link true simultaneous_init case h has = absurd (stale_none e cookie link has)
 made_fresh e cookie header word answers link true discard case h has = absurd has
 made_fresh e cookie header word answers link true maintain_existing case h has = absurd (kept_is_none e cookie header word answers link case h has)
 made_fresh e cookie header word answers link true invalid_tag case h has = absurd has
-made_fresh e cookie header word answers link true stale case h has = absurd has
+made_fresh e cookie header word answers link true stale case h has = absurd (stale_none e cookie link has)
 
 neither : (a b : Bool) → (a || b) ≡ false → b ≡ false
 neither false b is = is

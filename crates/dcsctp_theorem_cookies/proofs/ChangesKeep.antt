@@ -1,6 +1,6 @@
 -- If rules on cookies hold of what is received, they hold of what is sent, and of the
 -- association after it: the only cookie that an association echoes is that of an INIT ACK.
-use Rattle.std.proofs.Common.{ℕ, Bool, true, false, Option, None, Some, List, [], ◌∷◌, Result, Ok, Err}
+use Rattle.std.proofs.Common.{ℕ, ◌&&◌, Bool, true, false, Option, None, Some, List, [], ◌∷◌, Result, Ok, Err}
 use Rattle.dcsctp_spec_lemmas.specs.types.declared.association.Pair.{Pair}
 use Rattle.dcsctp_spec_lemmas.specs.types.declared.association.Held.{Held}
 use Rattle.dcsctp_spec_lemmas.specs.types.declared.options.Options.{Options}
@@ -12,7 +12,7 @@ use Rattle.dcsctp_spec_lemmas.specs.spec.endpoint.Following.{Following}
 use Rattle.dcsctp_spec_lemmas.specs.spec.association.Effect.{Effect, ends, Change, ended}
 use Rattle.dcsctp_spec_lemmas.specs.spec.association.Choices.{Filling, Choices}
 use Rattle.dcsctp_spec_lemmas.specs.spec.association.HandshakeChanges.{introduction_of, answering_introduction, connect_change, sends_init_ack, init_change, echo_change, held_by_init_ack, init_ack_change, cookie_ack_change, t1_again_change, t1_gives_up_change}
-use Rattle.dcsctp_spec_lemmas.specs.spec.association.CookieEchoChanges.{Resolution, establish_new, restart, simultaneous_init, discard, maintain_existing, invalid_tag, stale, aged, resolve, held_by_cookie, new_association_change, restart_change, maintain_change, resolved_change, read_echo_change}
+use Rattle.dcsctp_spec_lemmas.specs.spec.association.CookieEchoChanges.{stale_error, Resolution, establish_new, restart, simultaneous_init, discard, maintain_existing, invalid_tag, stale, aged, resolve, held_by_cookie, new_association_change, restart_change, maintain_change, resolved_change, read_echo_change}
 use Rattle.dcsctp_spec_lemmas.specs.spec.association.ShutdownChanges.{shutdown_step_change_in, shutdown_step_change, shutdown_call_change, abort_call_change, shutdown_again_change, abort_change, shutdown_change, shutdown_ack_change, shutdown_complete_change}
 use Rattle.dcsctp_spec_lemmas.specs.spec.association.Acts.{Act, connect, t1_expires, shut_down, step_of_shutdown, shutdown_repeats, abort_with, hands_over, flushes, request_again, request_renewed, flush_change, hand_over_change, act_change, violation_change, plain_change, shutdown_chunk_change, chunk_change}
 use Rattle.dcsctp_spec_lemmas.proofs.AbortLemmas.{by_abort}
@@ -91,7 +91,7 @@ module _ (rules : Rules) where
   resolved_keeps options core cookie choices discard h = record { effects = tt; core = h }
   resolved_keeps options core cookie choices maintain_existing h = maintain_keeps core cookie choices h
   resolved_keeps options core cookie choices invalid_tag h = record { effects = tt; core = h }
-  resolved_keeps options core cookie choices stale h = record { effects = tt; core = h }
+  resolved_keeps options core cookie choices stale h = record { effects = alone_keeps rules (options.follow_rfc && choices.fits) cookie.addressee.tag stale_error tt; core = h }
 
   cookie_echo_keeps : (options : Options) (core : Core) (header : ℕ) (read : Result Cookie (List ℕ)) (choices : Choices) → CoreKeeps rules core
       → ChangeKeeps rules (read_echo_change options core header read choices)

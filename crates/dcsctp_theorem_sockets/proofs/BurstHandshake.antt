@@ -1,5 +1,6 @@
 -- How many packets the turns of the handshake, of ABORT and of T1 send.
 use Rattle.std.proofs.Common.{◌≡◌, ◌≤◌, ℕ, max, Option, None, Some, Result, Ok, Err, List, [], ◌∷◌, sym, subst, arith}
+use Rattle.dcsctp_spec_lemmas.proofs.RefusalLemmas.{by_stale_outcome}
 use Rattle.dcsctp_spec_lemmas.specs.types.declared.word.Word.TheVariants.{U32, U64}
 use Rattle.dcsctp_spec_lemmas.specs.types.declared.ends.AbortReason.{AbortReason}
 use Rattle.dcsctp_spec_lemmas.specs.types.declared.ends.AbortReason.TheVariants as reasons
@@ -8,7 +9,7 @@ use Rattle.dcsctp_spec_lemmas.specs.types.declared.options.Options.{Options}
 use Rattle.dcsctp_spec_lemmas.specs.spec.endpoint.Cause.{Cause}
 use Rattle.dcsctp_spec_lemmas.specs.spec.Cookie.{Cookie}
 use Rattle.dcsctp_spec_lemmas.specs.spec.endpoint.Event.{aborted}
-use Rattle.dcsctp_spec_lemmas.specs.spec.queues.SendQueue.{SendQueueState}
+use Rattle.dcsctp_spec_lemmas.specs.spec.queues.Transfer.{EndpointQueues}
 use Rattle.dcsctp_spec_lemmas.specs.spec.Packet.{Introduction, shutdown_ack, init_ack}
 use Rattle.dcsctp_spec_lemmas.specs.spec.endpoint.Endpoint.{Endpoint, Core, closed, cookie_wait, cookie_echoed, open_in, established, shutdown_pending, shutdown_sent, shutdown_received, shutdown_ack_sent}
 use Rattle.dcsctp_spec_lemmas.specs.spec.endpoint.Outcome.{Outcome, emits, to_peer}
@@ -16,7 +17,7 @@ use Rattle.dcsctp_spec_lemmas.specs.spec.endpoint.FlushOutcomes.{Answer, draft_t
 use Rattle.dcsctp_spec_lemmas.specs.spec.endpoint.EndOutcomes.{abort_outcome, abort_to, end_of, aborting_outcome}
 use Rattle.dcsctp_spec_lemmas.specs.spec.endpoint.HandshakeOutcomes.{pair_from, renewed_pair, init_ack_emission, init_outcome, init_emission, awaits_init_ack, connect_outcome, no_cookie_text, abort_emission, awaits_cookie_ack, InitAckAnswers, init_ack_by, connected_after, CookieAckAnswers, cookie_ack_by}
 use Rattle.dcsctp_spec_lemmas.specs.spec.endpoint.TimerOutcomes.{AgainAnswers, again_by, t1_gives_up_outcome}
-use Rattle.dcsctp_spec_lemmas.specs.spec.endpoint.CookieEchoOutcomes.{resolved_now, established_by, cookie_ack_emission, EstablishAnswers, queue_kept, queue_begun, RestartAnswers, restart_by_where, MaintainAnswers, maintain_by, ResolvedAnswers, resolved_by, EchoedAnswers, cookie_echo_by}
+use Rattle.dcsctp_spec_lemmas.specs.spec.endpoint.CookieEchoOutcomes.{resolved_now, established_by, cookie_ack_emission, EstablishAnswers, queues_kept, queues_begun, queues_collided, RestartAnswers, restart_by_where, MaintainAnswers, maintain_by, ResolvedAnswers, resolved_by, EchoedAnswers, cookie_echo_by}
 use Rattle.dcsctp_spec_lemmas.specs.spec.association.CookieEchoChanges.{held_by_cookie, Resolution, establish_new, restart, simultaneous_init, discard, maintain_existing, invalid_tag, stale}
 use Rattle.dcsctp_theorem_sockets.specs.Bursts.{packets_of_chunk, packets_of_t1}
 use Rattle.dcsctp_spec_lemmas.proofs.AbortLemmas.{by_abort_outcome}
@@ -75,20 +76,20 @@ burst_of n events few = omega (arith, few)
 nothing_of : (n : ℕ) → 0 ≤ max 1 n
 nothing_of n = omega arith
 
-established_echoed : (e : Endpoint) (cookie : Cookie) (queue : SendQueueState) (tie : ℕ) (answers : List Answer) → EstablishAnswers e cookie queue tie answers
-    → IsEchoed (flush_of (established_by e cookie queue tie) (cookie_ack_emission (held_by_cookie e.options cookie) cookie) answers)
-established_echoed e cookie queue tie answers allowed =
-    burst_of _ _ (flush_is_burst (established_by e cookie queue tie) (cookie_ack_emission (held_by_cookie e.options cookie) cookie) answers tt allowed)
+established_echoed : (e : Endpoint) (cookie : Cookie) (queues : EndpointQueues) (tie : ℕ) (answers : List Answer) → EstablishAnswers e cookie queues tie answers
+    → IsEchoed (flush_of (established_by e cookie queues tie) (cookie_ack_emission (held_by_cookie e.options cookie) cookie) answers)
+established_echoed e cookie queues tie answers allowed =
+    burst_of _ _ (flush_is_burst (established_by e cookie queues tie) (cookie_ack_emission (held_by_cookie e.options cookie) cookie) answers tt allowed)
 
 restarted_echoed : (e : Endpoint) (cookie : Cookie) (tie : ℕ) (core : Core) (answers : List Answer) → RestartAnswers e cookie tie core answers
     → IsEchoed (restart_by_where (flush_answered answers) e cookie tie core)
-restarted_echoed e cookie tie closed answers allowed = established_echoed e cookie (queue_begun e cookie) tie answers allowed
-restarted_echoed e cookie tie (cookie_wait my) answers allowed = established_echoed e cookie (queue_begun e cookie) tie answers allowed
-restarted_echoed e cookie tie (cookie_echoed my held echoed) answers allowed = established_echoed e cookie (queue_begun e cookie) tie answers allowed
-restarted_echoed e cookie tie (open_in established my held) answers allowed = established_echoed e cookie (queue_begun e cookie) tie answers allowed
-restarted_echoed e cookie tie (open_in shutdown_pending my held) answers allowed = established_echoed e cookie (queue_begun e cookie) tie answers allowed
-restarted_echoed e cookie tie (open_in shutdown_sent my held) answers allowed = established_echoed e cookie (queue_begun e cookie) tie answers allowed
-restarted_echoed e cookie tie (open_in shutdown_received my held) answers allowed = established_echoed e cookie (queue_begun e cookie) tie answers allowed
+restarted_echoed e cookie tie closed answers allowed = established_echoed e cookie (queues_begun e cookie) tie answers allowed
+restarted_echoed e cookie tie (cookie_wait my) answers allowed = established_echoed e cookie (queues_begun e cookie) tie answers allowed
+restarted_echoed e cookie tie (cookie_echoed my held echoed) answers allowed = established_echoed e cookie (queues_begun e cookie) tie answers allowed
+restarted_echoed e cookie tie (open_in established my held) answers allowed = established_echoed e cookie (queues_begun e cookie) tie answers allowed
+restarted_echoed e cookie tie (open_in shutdown_pending my held) answers allowed = established_echoed e cookie (queues_begun e cookie) tie answers allowed
+restarted_echoed e cookie tie (open_in shutdown_sent my held) answers allowed = established_echoed e cookie (queues_begun e cookie) tie answers allowed
+restarted_echoed e cookie tie (open_in shutdown_received my held) answers allowed = established_echoed e cookie (queues_begun e cookie) tie answers allowed
 restarted_echoed e cookie tie (open_in shutdown_ack_sent my held) answers allowed = omega arith
 
 maintained_echoed : (e : Endpoint) (cookie : Cookie) (core : Core) (answers : List Answer) → e.core ≡ core → MaintainAnswers e cookie core answers → IsEchoed (maintain_by (flush_answered answers) e cookie core)
@@ -99,13 +100,13 @@ maintained_echoed e cookie (open_in phase my held) answers is allowed = burst_of
 
 resolved_echoed : (e : Endpoint) (cookie : Cookie) (core : Core) (word : ℕ) (resolution : Resolution) (answers : List Answer) → e.core ≡ core → ResolvedAnswers e cookie core word resolution answers
     → IsEchoed (resolved_by (flush_answered answers) e cookie core word resolution)
-resolved_echoed e cookie core word establish_new answers is allowed = established_echoed e cookie (queue_kept e cookie) word answers allowed
+resolved_echoed e cookie core word establish_new answers is allowed = established_echoed e cookie (queues_kept e cookie) word answers allowed
 resolved_echoed e cookie core word restart answers is allowed = restarted_echoed e cookie word core answers allowed
-resolved_echoed e cookie core word simultaneous_init answers is allowed = established_echoed e cookie (queue_begun e cookie) word answers allowed
+resolved_echoed e cookie core word simultaneous_init answers is allowed = established_echoed e cookie (queues_collided e core cookie) word answers allowed
 resolved_echoed e cookie core word discard answers is allowed = nothing_of _
 resolved_echoed e cookie core word maintain_existing answers is allowed = maintained_echoed e cookie core answers is allowed
 resolved_echoed e cookie core word invalid_tag answers is allowed = nothing_of _
-resolved_echoed e cookie core word stale answers is allowed = nothing_of _
+resolved_echoed e cookie core word stale answers is allowed = by_stale_outcome IsEchoed e cookie (omega arith) (nothing_of _)
 
 pub echo_counts : (e : Endpoint) (core : Core) (header : ℕ) (found : Result Cookie (List ℕ)) (word : ℕ) (answers : List Answer) → e.core ≡ core → EchoedAnswers e core header found word answers
     → IsEchoed (cookie_echo_by (flush_answered answers) e core header found word)

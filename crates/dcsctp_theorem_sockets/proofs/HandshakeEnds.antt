@@ -15,9 +15,9 @@ use Rattle.dcsctp_spec_lemmas.specs.spec.endpoint.Endpoint.{Endpoint, Core, clos
 use Rattle.dcsctp_spec_lemmas.specs.spec.endpoint.Outcome.{Outcome, noting, quiet, sends, packet_counted}
 use Rattle.dcsctp_spec_lemmas.specs.spec.endpoint.Turn.{act_input}
 use Rattle.dcsctp_spec_lemmas.specs.spec.endpoint.HandshakeOutcomes.{pair_from, echo_emission, connected_after}
-use Rattle.dcsctp_spec_lemmas.specs.spec.endpoint.CookieEchoOutcomes.{established_by, interleaves, queue_where, queue_kept, EstablishAnswers, ResolvedAnswers, EchoedAnswers, resolved_by, cookie_echo_by, establish_outcome}
+use Rattle.dcsctp_spec_lemmas.specs.spec.endpoint.CookieEchoOutcomes.{established_by, interleaves, queue_where, queues_with, queues_kept, EstablishAnswers, ResolvedAnswers, EchoedAnswers, resolved_by, cookie_echo_by, establish_outcome}
 use Rattle.dcsctp_spec_lemmas.specs.spec.endpoint.FlushOutcomes.{FlushKind, flush_answered, IsIdle}
-use Rattle.dcsctp_spec_lemmas.specs.spec.queues.SendQueue.{SendQueueState}
+use Rattle.dcsctp_spec_lemmas.specs.spec.queues.Transfer.{EndpointQueues}
 use Rattle.dcsctp_spec_lemmas.specs.spec.association.CookieEchoChanges.{Resolution, held_by_cookie}
 use Rattle.dcsctp_spec_lemmas.specs.spec.association.HandshakeChanges.{introduction_of, new_held, held_by_init_ack}
 use Rattle.dcsctp_spec_lemmas.specs.spec.association.Acts.{connect}
@@ -52,14 +52,15 @@ established_effects a b p q =
     let held : Held = held_by_cookie b (made_cookie a p q) in
     holds (identity_of q held) ∷ connects (identity_of q held) ∷ []
 
--- the send queue, in which nothing waits
-abbrev queue_there : Options → Options → Pair → Pair → SendQueueState
-queue_there a b p q = record (echoed b).queues.queue { is_interleaved = interleaves (echoed b) (made_cookie a p q) }
+-- the send queue, in which nothing waits, and nothing is in flight
+abbrev queues_there : Options → Options → Pair → Pair → EndpointQueues
+queues_there a b p q =
+    queues_with (echoed b) (made_cookie a p q) (record (echoed b).queues.queue { is_interleaved = interleaves (echoed b) (made_cookie a p q) })
 
 abbrev pub establishing : Options → Options → Pair → Pair → ℕ → Outcome
 establishing a b p q tie =
     noting (established_effects a b p q)
-    (sends (established_by (echoed b) (made_cookie a p q) (queue_there a b p q) tie) (U64 tie ∷ []) (connected ∷ []) (acknowledgement a b p q))
+    (sends (established_by (echoed b) (made_cookie a p q) (queues_there a b p q) tie) (U64 tie ∷ []) (connected ∷ []) (acknowledgement a b p q))
 
 -- The socket is established, and answers COOKIE ACK.
 pub record Establishes (a b : Options) (p q : Pair) (turns : List Transition) : Type 0 where
@@ -81,22 +82,22 @@ cookie_reads law a p q good mine own =
     })
 
 -- It is this queue whether or not its numbers start again.
-queue_there_where : (follows : Bool) (a b : Options) (p q : Pair) → queue_where follows (echoed b) (made_cookie a p q) ≡ queue_there a b p q
+queue_there_where : (follows : Bool) (a b : Options) (p q : Pair) → queues_with (echoed b) (made_cookie a p q) (queue_where follows (echoed b) (made_cookie a p q)) ≡ queues_there a b p q
 queue_there_where true a b p q = refl
 queue_there_where false a b p q = refl
 
-queue_is : (a b : Options) (p q : Pair) → queue_kept (echoed b) (made_cookie a p q) ≡ queue_there a b p q
+queue_is : (a b : Options) (p q : Pair) → queues_kept (echoed b) (made_cookie a p q) ≡ queues_there a b p q
 queue_is a b p q = queue_there_where b.follow_rfc a b p q
 
-pub established_idle : (a b : Options) (p q : Pair) (tie : ℕ) → IsIdle (established_by (echoed b) (made_cookie a p q) (queue_kept (echoed b) (made_cookie a p q)) tie)
-established_idle a b p q tie = subst (λ (queue : SendQueueState). IsIdle (established_by (echoed b) (made_cookie a p q) queue tie)) (sym (queue_is a b p q)) refl
+pub established_idle : (a b : Options) (p q : Pair) (tie : ℕ) → IsIdle (established_by (echoed b) (made_cookie a p q) (queues_kept (echoed b) (made_cookie a p q)) tie)
+established_idle a b p q tie = subst (λ (queues : EndpointQueues). IsIdle (established_by (echoed b) (made_cookie a p q) queues tie)) (sym (queue_is a b p q)) refl
 
 -- its COOKIE ACK is sent
 pub established_sends : (a b : Options) (p q : Pair) (tie : ℕ) → Good b
-    → establish_outcome (echoed b) (made_cookie a p q) (queue_kept (echoed b) (made_cookie a p q)) tie (connected ∷ []) ≡ establishing a b p q tie
+    → establish_outcome (echoed b) (made_cookie a p q) (queues_kept (echoed b) (made_cookie a p q)) tie (connected ∷ []) ≡ establishing a b p q tie
 established_sends a b p q tie good =
-    let after : Endpoint = established_by (echoed b) (made_cookie a p q) (queue_there a b p q) tie in
-    ap (λ (queue : SendQueueState). establish_outcome (echoed b) (made_cookie a p q) queue tie (connected ∷ [])) (queue_is a b p q)
+    let after : Endpoint = established_by (echoed b) (made_cookie a p q) (queues_there a b p q) tie in
+    ap (λ (queues : EndpointQueues). establish_outcome (echoed b) (made_cookie a p q) queues tie (connected ∷ [])) (queue_is a b p q)
     ∙ ap (λ (x : Bool). noting (established_effects a b p q) (cond x (sends after (U64 tie ∷ []) (connected ∷ []) (acknowledgement a b p q)) (quiet after (U64 tie ∷ []) (connected ∷ [])))) good.allow.burst
 
 establishes_by : HandshakeLaws → (a b : Options) (p q : Pair) (turns : List Transition) → Good a → Good b → FitsPair p → FitsPair q
@@ -108,14 +109,14 @@ establishes_by law a b p q turns good_a good_b mine own h =
     let word : ℕ = h.comes.0 in
     let flush : FlushKind = flush_answered h.comes.1 in
     let reads : cookie_at bytes ≡ Ok cookie = cookie_reads law a p q good_a mine own in
-    let allowed : EstablishAnswers e cookie (queue_kept e cookie) word h.comes.1 =
+    let allowed : EstablishAnswers e cookie (queues_kept e cookie) word h.comes.1 =
     subst (λ (case : Resolution). ResolvedAnswers e cookie closed word case h.comes.1) (case_at_start e a p q refl refl)
     (subst (λ (found : Result Cookie (List ℕ)). EchoedAnswers e closed q.tag found word h.comes.1) reads h.comes.2) in
-    let is : h.outcome ≡ establish_outcome e cookie (queue_kept e cookie) word (connected ∷ []) =
+    let is : h.outcome ≡ establish_outcome e cookie (queues_kept e cookie) word (connected ∷ []) =
     h.comes.3
     ∙ ap (λ (found : Result Cookie (List ℕ)). cookie_echo_by flush e closed q.tag found word) reads
     ∙ ap (λ (case : Resolution). resolved_by flush e cookie closed word case) (case_at_start e a p q refl refl)
-    ∙ establish_now e cookie (queue_kept e cookie) word (connected ∷ []) h.comes.1 (established_idle a b p q word) allowed in
+    ∙ establish_now e cookie (queues_kept e cookie) word (connected ∷ []) h.comes.1 (established_idle a b p q word) allowed in
     record { tie = word; only = taken_as (answered b) q.tag (cookie_echo bytes) turns h _ (is ∙ established_sends a b p q word good_b) refl (refl, refl) }
 
 pub echo_is_taken : (a b : Options) (p q : Pair) → Good a → FitsPair q → a.remote_port ≡ b.local_port → IsTaken b a true q.tag (cookie_echo (cookie_bytes (made_cookie a p q)))

@@ -14,7 +14,7 @@ use Rattle.dcsctp_spec_lemmas.specs.spec.association.HandshakeChanges.{held_by_i
 use Rattle.dcsctp_spec_lemmas.specs.spec.association.CookieEchoChanges.{Resolution, establish_new, held_by_cookie}
 use Rattle.dcsctp_spec_lemmas.specs.spec.endpoint.FlushOutcomes.{Answer, draft_to, FlushAnswers, flush_answered, IsIdle}
 use Rattle.dcsctp_spec_lemmas.specs.spec.endpoint.HandshakeOutcomes.{awaits_cookie_ack, echo_emission, EchoAnswers, init_ack_by, InitAckAnswers, init_ack_outcome, InitAckTurn, connected_after, cookie_ack_by, CookieAckAnswers, cookie_ack_outcome, CookieAckTurn}
-use Rattle.dcsctp_spec_lemmas.specs.spec.endpoint.CookieEchoOutcomes.{resolved_now, established_by, cookie_ack_emission, queue_kept, resolved_by, cookie_echo_by, ResolvedAnswers, EchoedAnswers, CookieEchoTurn, establish_outcome}
+use Rattle.dcsctp_spec_lemmas.specs.spec.endpoint.CookieEchoOutcomes.{resolved_now, established_by, cookie_ack_emission, queues_kept, resolved_by, cookie_echo_by, ResolvedAnswers, EchoedAnswers, CookieEchoTurn, establish_outcome}
 use Rattle.dcsctp_spec_runs.proofs.FlushLemmas.{flush_is_now, echo_now, establish_now}
 use Rattle.dcsctp_theorem_sockets.proofs.Idle.{idle_answers}
 
@@ -50,10 +50,10 @@ cookie_ack_turn_of e mine held cookie o is idle comes =
 
 -- of a COOKIE ECHO that makes a new association
 pub cookie_echo_turn_of : (e : Endpoint) (header : ℕ) (bytes : List ℕ) (cookie : Cookie) (word : ℕ) (o : Outcome) → e.core ≡ closed → cookie_at bytes ≡ Ok cookie
-    → resolved_now e closed header cookie ≡ establish_new → IsIdle (established_by e cookie (queue_kept e cookie) word)
-    → o ≡ establish_outcome e cookie (queue_kept e cookie) word (connected ∷ []) → CookieEchoTurn e header bytes o
+    → resolved_now e closed header cookie ≡ establish_new → IsIdle (established_by e cookie (queues_kept e cookie) word)
+    → o ≡ establish_outcome e cookie (queues_kept e cookie) word (connected ∷ []) → CookieEchoTurn e header bytes o
 cookie_echo_turn_of e header bytes cookie word o is reads resolves idle comes =
-    let after : Endpoint = established_by e cookie (queue_kept e cookie) word in
+    let after : Endpoint = established_by e cookie (queues_kept e cookie) word in
     let draft = cookie_ack_emission (held_by_cookie e.options cookie) cookie in
     let h : (answers : List Answer) × FlushAnswers after draft answers = idle_answers after draft idle in
     let resolved : ResolvedAnswers e cookie closed word (resolved_now e closed header cookie) h.0 =
@@ -63,7 +63,7 @@ cookie_echo_turn_of e header bytes cookie word o is reads resolves idle comes =
       subst (λ (core : Core). EchoedAnswers e core header (cookie_at bytes) word h.0) (sym is)
           (subst (λ (found : Result Cookie (List ℕ)). EchoedAnswers e closed header found word h.0) (sym reads) resolved),
       comes
-          ∙ sym (establish_now e cookie (queue_kept e cookie) word (connected ∷ []) h.0 idle h.1)
+          ∙ sym (establish_now e cookie (queues_kept e cookie) word (connected ∷ []) h.0 idle h.1)
           ∙ ap (λ (case : Resolution). resolved_by (flush_answered h.0) e cookie closed word case) (sym resolves)
           ∙ ap (λ (found : Result Cookie (List ℕ)). cookie_echo_by (flush_answered h.0) e closed header found word) (sym reads)
           ∙ ap (λ (core : Core). cookie_echo_by (flush_answered h.0) e core header (cookie_at bytes) word) (sym is),

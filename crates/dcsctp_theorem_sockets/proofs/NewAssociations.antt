@@ -1,5 +1,5 @@
 -- An association that a turn makes differs from the one before it, and is what the turn records first.
-use Rattle.std.proofs.Common.{◌≡◌, ◌≢◌, ◌==◌, ℕ, Bool, true, false, Option, None, Some, Result, Ok, Err, List, [], ◌∷◌, inl, inr, refl, sym, subst, ap, ◌∙◌, arith}
+use Rattle.std.proofs.Common.{◌≡◌, ◌≢◌, ◌==◌, ◌&&◌, ℕ, Bool, true, false, Option, None, Some, Result, Ok, Err, List, [], ◌∷◌, inl, inr, refl, sym, subst, ap, ◌∙◌, arith}
 use Rattle.std.proofs.lemmas.Bool.Decides.{nat_tests}
 use Rattle.dcsctp_spec_lemmas.specs.types.declared.association.Pair.{Pair}
 use Rattle.dcsctp_spec_lemmas.specs.types.declared.association.Held.{Held}
@@ -7,11 +7,11 @@ use Rattle.dcsctp_spec_lemmas.specs.types.declared.options.Options.{Options}
 use Rattle.dcsctp_spec_lemmas.specs.spec.Cookie.{Cookie, cookie_at}
 use Rattle.dcsctp_spec_lemmas.specs.spec.Packet.{Introduction, Content, init, init_ack, cookie_echo, cookie_ack, re_config, abort, shutdown, shutdown_ack, shutdown_complete, plain}
 use Rattle.dcsctp_spec_lemmas.specs.spec.endpoint.Endpoint.{Core, closed, cookie_wait, cookie_echoed, open_in, OpenPhase, shutdown_ack_sent}
-use Rattle.dcsctp_spec_lemmas.specs.spec.association.Effect.{AssociationIdentity, Effect, holds, ends, Change, emitted, identity_of, identity_in}
+use Rattle.dcsctp_spec_lemmas.specs.spec.association.Effect.{AssociationIdentity, Effect, holds, ends, Change, emitted, emitted_alone, identity_of, identity_in}
 use Rattle.dcsctp_spec_lemmas.specs.spec.association.Choices.{Choices}
 use Rattle.dcsctp_spec_lemmas.specs.spec.association.FlushChanges.{flush}
 use Rattle.dcsctp_spec_lemmas.specs.spec.association.HandshakeChanges.{init_change, held_by_init_ack, init_ack_change, cookie_ack_change}
-use Rattle.dcsctp_spec_lemmas.specs.spec.association.CookieEchoChanges.{Resolution, establish_new, restart, simultaneous_init, discard, maintain_existing, invalid_tag, stale, aged, resolve, case_by, case_without_peer, held_by_cookie, new_association_change, shutting_down_error, restart_change, maintain_change, resolved_change, read_echo_change}
+use Rattle.dcsctp_spec_lemmas.specs.spec.association.CookieEchoChanges.{stale_error, stale_change, Resolution, establish_new, restart, simultaneous_init, discard, maintain_existing, invalid_tag, stale, aged, resolve, case_by, case_without_peer, held_by_cookie, new_association_change, shutting_down_error, restart_change, maintain_change, resolved_change, read_echo_change}
 use Rattle.dcsctp_spec_lemmas.specs.spec.association.ResumeChanges.{resumed_held, resume_change}
 use Rattle.dcsctp_spec_lemmas.specs.spec.association.Acts.{chunk_change}
 use Rattle.dcsctp_spec_runs.specs.Past.{HasEffect}
@@ -102,12 +102,17 @@ unknown_first : (options : Options) (core : Core) (cookie : Cookie) (choices : C
 unknown_first options core cookie choices true = new_first options cookie choices
 unknown_first options core cookie choices false = tt
 
+stale_anew : (options : Options) (core : Core) (cookie : Cookie) (choices : Choices) → New core (stale_change options core cookie choices).effects
+stale_anew options core cookie choices =
+    let tells : Bool = options.follow_rfc && choices.fits in
+    none_anew core (emitted_alone tells cookie.addressee.tag stale_error) (none-alone tells cookie.addressee.tag stale_error)
+
 -- whatever the cookie's age
 aged_anew : (options : Options) (core : Core) (cookie : Cookie) (choices : Choices) (old : Bool) (resolution : Resolution)
     → New core (resolved_change options core cookie choices resolution).effects → New core (resolved_change options core cookie choices (aged old resolution)).effects
-aged_anew options core cookie choices true establish_new h = none_anew core [] tt
-aged_anew options core cookie choices true restart h = none_anew core [] tt
-aged_anew options core cookie choices true simultaneous_init h = none_anew core [] tt
+aged_anew options core cookie choices true establish_new h = stale_anew options core cookie choices
+aged_anew options core cookie choices true restart h = stale_anew options core cookie choices
+aged_anew options core cookie choices true simultaneous_init h = stale_anew options core cookie choices
 aged_anew options core cookie choices true discard h = h
 aged_anew options core cookie choices true maintain_existing h = h
 aged_anew options core cookie choices true invalid_tag h = h

@@ -1,5 +1,6 @@
 -- The turns of shutdown leave numbers that fit their fields, and send what is read as itself.
 use Rattle.std.proofs.Common.{◌<◌, ◌^◌, ℕ, Bool, true, false, Option, None, Some, [], ◌∷◌, refl, sym, subst, arith}
+use Rattle.dcsctp_spec_lemmas.specs.wire.Fields.{cause_of}
 use Rattle.dcsctp_spec_lemmas.specs.wire.Spelling.{parameters_len}
 use Rattle.dcsctp_spec_lemmas.specs.types.declared.association.Pair.{Pair}
 use Rattle.dcsctp_spec_lemmas.specs.types.declared.association.Held.{Held}
@@ -9,6 +10,7 @@ use Rattle.dcsctp_spec_lemmas.specs.spec.queues.Transfer.{Transfer}
 use Rattle.dcsctp_spec_lemmas.specs.spec.endpoint.Endpoint.{Endpoint, Core, closed, cookie_wait, cookie_echoed, open_in, OpenPhase, established, shutdown_pending, shutdown_sent, shutdown_received, shutdown_ack_sent}
 use Rattle.dcsctp_spec_lemmas.specs.spec.endpoint.Outcome.{Outcome, sends, to_peer}
 use Rattle.dcsctp_spec_lemmas.specs.spec.endpoint.Turn.{BeginTurn}
+use Rattle.dcsctp_spec_lemmas.specs.spec.association.CookieEchoChanges.{stale_error}
 use Rattle.dcsctp_spec_lemmas.specs.spec.endpoint.CookieEchoOutcomes.{refused_restart_outcome}
 use Rattle.dcsctp_spec_lemmas.specs.spec.endpoint.EndOutcomes.{reflected_outcome}
 use Rattle.dcsctp_spec_lemmas.specs.spec.endpoint.ShutdownOutcomes.{received_tsn, phase_at, t2_begun, t2_goes_on, may_go_on, step_by, step_outcome, t1_stopped, shut_down_outcome, shutdown_outcome, shutdown_ack_outcome, shutdown_complete_outcome, shutdown_sent_again, t2_again_outcome, shutdown_repeated}
@@ -34,6 +36,19 @@ completed_sendable reflected = record { fits = tt; reads = refl; said = tt }
 pub while_ending_sendable : Sendable (plain (error_of (cookie_received_while_shutting_down ∷ [])))
 unfolding parameters_len
 while_ending_sendable = record { fits = record { len_fits = omega arith; causes_fit = (tt, tt) }; reads = refl; said = tt }
+
+pub stale_sendable : Sendable stale_error
+unfolding parameters_len cause_of
+stale_sendable =
+    let byte : 0 < 2 ^ 8 = omega arith in
+    record {
+      fits = record {
+        len_fits = omega arith;
+        causes_fit = (record { code_fits = omega arith; read_as_unknown = refl; value_in_bytes = (byte, (byte, (byte, (byte, tt)))) }, tt);
+      };
+      reads = refl;
+      said = tt;
+    }
 
 -- one packet to the peer
 to_peer_fits : (e : Endpoint) (held : Held) (content : Content) → FitsEndpoint e → FitsHeld held → Sendable content → TurnFits (sends e [] [] (to_peer held content))

@@ -1,6 +1,7 @@
 -- The turns of the handshake, of ABORT and of T1 send no packet that is longer than a limit,
 -- whatever a chunk says.
 use Rattle.std.proofs.Common.{◌≡◌, ℕ, Option, None, Some, Result, Ok, Err, List, [], ◌∷◌, refl, arith}
+use Rattle.dcsctp_spec_lemmas.proofs.RefusalLemmas.{by_stale_outcome}
 use Rattle.dcsctp_spec_lemmas.specs.wire.Spelling.{parameter_bytes, other_bytes, parameter_chunk_bytes}
 use Rattle.dcsctp_spec_lemmas.specs.types.declared.association.Pair.{Pair}
 use Rattle.dcsctp_spec_lemmas.specs.types.declared.association.Held.{Held}
@@ -12,7 +13,7 @@ use Rattle.dcsctp_spec_lemmas.specs.types.declared.kinds.ErrorKind.TheVariants.{
 use Rattle.dcsctp_spec_lemmas.specs.spec.endpoint.Cause.{Cause}
 use Rattle.dcsctp_spec_lemmas.specs.spec.Cookie.{Cookie}
 use Rattle.dcsctp_spec_lemmas.specs.spec.endpoint.Event.{Event, connected, connection_restarted, aborted}
-use Rattle.dcsctp_spec_lemmas.specs.spec.queues.SendQueue.{SendQueueState}
+use Rattle.dcsctp_spec_lemmas.specs.spec.queues.Transfer.{EndpointQueues}
 use Rattle.dcsctp_spec_lemmas.specs.spec.Packet.{Introduction, cookie_ack, shutdown_ack, Emission}
 use Rattle.dcsctp_spec_lemmas.specs.spec.endpoint.Endpoint.{Endpoint, Core, closed, cookie_wait, cookie_echoed, open_in, established, shutdown_pending, shutdown_sent, shutdown_received, shutdown_ack_sent}
 use Rattle.dcsctp_spec_lemmas.specs.spec.endpoint.Outcome.{Outcome, contents_len, emits, to_peer}
@@ -20,8 +21,8 @@ use Rattle.dcsctp_spec_lemmas.specs.spec.endpoint.FlushOutcomes.{Answer, draft_t
 use Rattle.dcsctp_spec_lemmas.specs.spec.endpoint.EndOutcomes.{ended_outcome, abort_outcome, abort_to, end_of, aborting_outcome}
 use Rattle.dcsctp_spec_lemmas.specs.spec.endpoint.HandshakeOutcomes.{pair_from, renewed_pair, init_ack_emission, init_outcome, init_emission, awaits_init_ack, connect_outcome, no_cookie_text, abort_emission, awaits_cookie_ack, InitAckAnswers, accepted_init_ack_by, init_ack_by, connected_after, CookieAckAnswers, cookie_ack_by}
 use Rattle.dcsctp_spec_lemmas.specs.spec.endpoint.TimerOutcomes.{AgainAnswers, again_by, t1_gives_up_outcome}
-use Rattle.dcsctp_spec_lemmas.specs.spec.endpoint.CookieEchoOutcomes.{resolved_now, established_by, cookie_ack_emission, EstablishAnswers, establish_by, queue_kept, queue_begun, restart_by, RestartAnswers, restart_by_where, MaintainAnswers, maintain_by, ResolvedAnswers, resolved_by, EchoedAnswers, cookie_echo_by}
-use Rattle.dcsctp_spec_lemmas.specs.spec.association.CookieEchoChanges.{held_by_cookie, shutting_down_error, Resolution, establish_new, restart, simultaneous_init, discard, maintain_existing, invalid_tag, stale}
+use Rattle.dcsctp_spec_lemmas.specs.spec.endpoint.CookieEchoOutcomes.{resolved_now, established_by, cookie_ack_emission, EstablishAnswers, establish_by, queues_kept, queues_begun, queues_collided, restart_by, RestartAnswers, restart_by_where, MaintainAnswers, maintain_by, ResolvedAnswers, resolved_by, EchoedAnswers, cookie_echo_by}
+use Rattle.dcsctp_spec_lemmas.specs.spec.association.CookieEchoChanges.{held_by_cookie, shutting_down_error, stale_error, Resolution, establish_new, restart, simultaneous_init, discard, maintain_existing, invalid_tag, stale}
 use Rattle.dcsctp_spec_lemmas.proofs.AbortLemmas.{by_abort_outcome}
 use Rattle.dcsctp_theorem_sockets.proofs.Sizes.{AtLimit, AllShort, TurnSizes, short_append, emits_sizes, flushed_sizes, echoed_sizes}
 
@@ -81,19 +82,24 @@ acknowledged_sizes : (limit : ℕ) (e : Endpoint) (words : List Word) (events : 
 acknowledged_sizes limit e words events held cookie answers allowed h before =
     flushed_sizes limit e words events (cookie_ack_emission held cookie).with_checksum cookie.addressee.tag (cookie_ack ∷ []) answers allowed h before (omega (arith, h.1, ack_len))
 
-established_sizes : (limit : ℕ) (e : Endpoint) (cookie : Cookie) (queue : SendQueueState) (tie : ℕ) (events : List (Event Emission)) (answers : List Answer)
-    → EstablishAnswers e cookie queue tie answers → AtLimit limit e → AllShort limit events → TurnSizes limit (establish_by (flush_answered answers) e cookie queue tie events)
-established_sizes limit e cookie queue tie events answers allowed h before =
-    acknowledged_sizes limit (established_by e cookie queue tie) (U64 tie ∷ []) events (held_by_cookie e.options cookie) cookie answers allowed h before
+established_sizes : (limit : ℕ) (e : Endpoint) (cookie : Cookie) (queues : EndpointQueues) (tie : ℕ) (events : List (Event Emission)) (answers : List Answer)
+    → EstablishAnswers e cookie queues tie answers → AtLimit limit e → AllShort limit events → TurnSizes limit (establish_by (flush_answered answers) e cookie queues tie events)
+established_sizes limit e cookie queues tie events answers allowed h before =
+    acknowledged_sizes limit (established_by e cookie queues tie) (U64 tie ∷ []) events (held_by_cookie e.options cookie) cookie answers allowed h before
 
-begun_sizes : (limit : ℕ) (e : Endpoint) (cookie : Cookie) (tie : ℕ) (answers : List Answer) → EstablishAnswers e cookie (queue_begun e cookie) tie answers → AtLimit limit e
+begun_sizes : (limit : ℕ) (e : Endpoint) (cookie : Cookie) (tie : ℕ) (answers : List Answer) → EstablishAnswers e cookie (queues_begun e cookie) tie answers → AtLimit limit e
     → TurnSizes limit (restart_by (flush_answered answers) e cookie tie)
-begun_sizes limit e cookie tie answers allowed h = established_sizes limit e cookie (queue_begun e cookie) tie (connection_restarted ∷ connected ∷ []) answers allowed h tt
+begun_sizes limit e cookie tie answers allowed h = established_sizes limit e cookie (queues_begun e cookie) tie (connection_restarted ∷ connected ∷ []) answers allowed h tt
 
 -- SHUTDOWN ACK and ERROR
 refusal_len : contents_len (shutdown_ack ∷ shutting_down_error ∷ []) ≡ 12
 unfolding other_bytes parameter_chunk_bytes parameter_bytes
 refusal_len = refl
+
+-- ERROR with the cause Stale Cookie
+stale_len : contents_len (stale_error ∷ []) ≡ 12
+unfolding other_bytes parameter_chunk_bytes parameter_bytes
+stale_len = refl
 
 restarted_sizes : (limit : ℕ) (e : Endpoint) (cookie : Cookie) (tie : ℕ) (core : Core) (answers : List Answer) → RestartAnswers e cookie tie core answers → AtLimit limit e
     → TurnSizes limit (restart_by_where (flush_answered answers) e cookie tie core)
@@ -115,13 +121,13 @@ maintained_sizes limit e cookie (open_in phase my held) answers allowed h = ackn
 
 resolved_sizes : (limit : ℕ) (e : Endpoint) (cookie : Cookie) (core : Core) (word : ℕ) (resolution : Resolution) (answers : List Answer) → ResolvedAnswers e cookie core word resolution answers
     → AtLimit limit e → TurnSizes limit (resolved_by (flush_answered answers) e cookie core word resolution)
-resolved_sizes limit e cookie core word establish_new answers allowed h = established_sizes limit e cookie (queue_kept e cookie) word (connected ∷ []) answers allowed h tt
+resolved_sizes limit e cookie core word establish_new answers allowed h = established_sizes limit e cookie (queues_kept e cookie) word (connected ∷ []) answers allowed h tt
 resolved_sizes limit e cookie core word restart answers allowed h = restarted_sizes limit e cookie word core answers allowed h
-resolved_sizes limit e cookie core word simultaneous_init answers allowed h = established_sizes limit e cookie (queue_begun e cookie) word (connected ∷ []) answers allowed h tt
+resolved_sizes limit e cookie core word simultaneous_init answers allowed h = established_sizes limit e cookie (queues_collided e core cookie) word (connected ∷ []) answers allowed h tt
 resolved_sizes limit e cookie core word discard answers allowed h = (h, tt)
 resolved_sizes limit e cookie core word maintain_existing answers allowed h = maintained_sizes limit e cookie core answers allowed h
 resolved_sizes limit e cookie core word invalid_tag answers allowed h = (h, tt)
-resolved_sizes limit e cookie core word stale answers allowed h = (h, tt)
+resolved_sizes limit e cookie core word stale answers allowed h = by_stale_outcome (TurnSizes limit) e cookie (h, (omega (arith, h.1, stale_len), tt)) (h, tt)
 
 pub echo_sizes : (limit : ℕ) (e : Endpoint) (core : Core) (header : ℕ) (found : Result Cookie (List ℕ)) (word : ℕ) (answers : List Answer) → EchoedAnswers e core header found word answers
     → AtLimit limit e → TurnSizes limit (cookie_echo_by (flush_answered answers) e core header found word)

@@ -1,5 +1,6 @@
 -- Each turn leaves T1 running where the association connects, whatever numbers a chunk carries.
 use Rattle.std.proofs.Common.{ℕ, Bool, true, false, cond, Option, None, Some, Result, Ok, Err, List, [], ◌∷◌, sym, subst}
+use Rattle.dcsctp_spec_lemmas.proofs.RefusalLemmas.{by_stale_outcome}
 use Rattle.dcsctp_spec_lemmas.specs.types.declared.association.Pair.{Pair}
 use Rattle.dcsctp_spec_lemmas.specs.types.declared.word.Word.{Word}
 use Rattle.dcsctp_spec_lemmas.specs.types.declared.word.Word.TheVariants.{U32, U64}
@@ -7,7 +8,7 @@ use Rattle.dcsctp_spec_lemmas.specs.types.declared.ends.AbortReason.{AbortReason
 use Rattle.dcsctp_spec_lemmas.specs.spec.endpoint.Cause.{Cause}
 use Rattle.dcsctp_spec_lemmas.specs.spec.Cookie.{Cookie}
 use Rattle.dcsctp_spec_lemmas.specs.spec.endpoint.Event.{Event, connected, connection_restarted}
-use Rattle.dcsctp_spec_lemmas.specs.spec.queues.SendQueue.{SendQueueState}
+use Rattle.dcsctp_spec_lemmas.specs.spec.queues.Transfer.{EndpointQueues}
 use Rattle.dcsctp_spec_lemmas.specs.spec.Packet.{Introduction, cookie_echo, shutdown_ack, Emission}
 use Rattle.dcsctp_spec_runs.specs.Deadlines.{T1Runs}
 use Rattle.dcsctp_spec_lemmas.specs.spec.endpoint.Endpoint.{Endpoint, Core, closed, cookie_wait, cookie_echoed, open_in, established, shutdown_pending, shutdown_sent, shutdown_received, shutdown_ack_sent}
@@ -16,7 +17,7 @@ use Rattle.dcsctp_spec_lemmas.specs.spec.endpoint.FlushOutcomes.{Answer, draft_t
 use Rattle.dcsctp_spec_lemmas.specs.spec.endpoint.EndOutcomes.{abort_outcome, aborting_outcome}
 use Rattle.dcsctp_spec_lemmas.specs.spec.endpoint.HandshakeOutcomes.{pair_from, renewed_pair, init_ack_emission, init_outcome, init_emission, awaits_init_ack, connect_outcome, awaits_cookie_ack, echo_emission, EchoAnswers, InitAckAnswers, accepted_init_ack_by, init_ack_by, connected_after, CookieAckAnswers, cookie_ack_by}
 use Rattle.dcsctp_spec_lemmas.specs.spec.endpoint.TimerOutcomes.{AgainAnswers, again_by, t1_gives_up_outcome}
-use Rattle.dcsctp_spec_lemmas.specs.spec.endpoint.CookieEchoOutcomes.{resolved_now, established_by, cookie_ack_emission, EstablishAnswers, establish_by, queue_kept, queue_begun, RestartAnswers, restart_by_where, MaintainAnswers, maintain_by, ResolvedAnswers, resolved_by, EchoedAnswers, cookie_echo_by}
+use Rattle.dcsctp_spec_lemmas.specs.spec.endpoint.CookieEchoOutcomes.{resolved_now, established_by, cookie_ack_emission, EstablishAnswers, establish_by, queues_kept, queues_begun, queues_collided, RestartAnswers, restart_by_where, MaintainAnswers, maintain_by, ResolvedAnswers, resolved_by, EchoedAnswers, cookie_echo_by}
 use Rattle.dcsctp_spec_lemmas.specs.spec.association.CookieEchoChanges.{held_by_cookie, Resolution, establish_new, restart, simultaneous_init, discard, maintain_existing, invalid_tag, stale}
 use Rattle.dcsctp_spec_lemmas.proofs.AbortLemmas.{by_abort_outcome}
 use Rattle.dcsctp_spec_lemmas.proofs.FlushKeeps.{Keeps, begun_by, flush_keeps}
@@ -94,19 +95,19 @@ cookie_ack_up e (open_in phase my held) answers allowed h = h
 
 -- ---- COOKIE ECHO
 
-established_up : (e : Endpoint) (cookie : Cookie) (queue : SendQueueState) (tie : ℕ) (events : List (Event Emission)) (answers : List Answer) → EstablishAnswers e cookie queue tie answers
-    → UpAfter (establish_by (flush_answered answers) e cookie queue tie events)
-established_up e cookie queue tie events answers allowed = flush_up (established_by e cookie queue tie) (cookie_ack_emission (held_by_cookie e.options cookie) cookie) answers allowed tt
+established_up : (e : Endpoint) (cookie : Cookie) (queues : EndpointQueues) (tie : ℕ) (events : List (Event Emission)) (answers : List Answer) → EstablishAnswers e cookie queues tie answers
+    → UpAfter (establish_by (flush_answered answers) e cookie queues tie events)
+established_up e cookie queues tie events answers allowed = flush_up (established_by e cookie queues tie) (cookie_ack_emission (held_by_cookie e.options cookie) cookie) answers allowed tt
 
 restarted_up : (e : Endpoint) (cookie : Cookie) (tie : ℕ) (core : Core) (answers : List Answer) → RestartAnswers e cookie tie core answers → Up e
     → UpAfter (restart_by_where (flush_answered answers) e cookie tie core)
-restarted_up e cookie tie closed answers allowed h = established_up e cookie (queue_begun e cookie) tie (connection_restarted ∷ connected ∷ []) answers allowed
-restarted_up e cookie tie (cookie_wait my) answers allowed h = established_up e cookie (queue_begun e cookie) tie (connection_restarted ∷ connected ∷ []) answers allowed
-restarted_up e cookie tie (cookie_echoed my held echoed) answers allowed h = established_up e cookie (queue_begun e cookie) tie (connection_restarted ∷ connected ∷ []) answers allowed
-restarted_up e cookie tie (open_in established my held) answers allowed h = established_up e cookie (queue_begun e cookie) tie (connection_restarted ∷ connected ∷ []) answers allowed
-restarted_up e cookie tie (open_in shutdown_pending my held) answers allowed h = established_up e cookie (queue_begun e cookie) tie (connection_restarted ∷ connected ∷ []) answers allowed
-restarted_up e cookie tie (open_in shutdown_sent my held) answers allowed h = established_up e cookie (queue_begun e cookie) tie (connection_restarted ∷ connected ∷ []) answers allowed
-restarted_up e cookie tie (open_in shutdown_received my held) answers allowed h = established_up e cookie (queue_begun e cookie) tie (connection_restarted ∷ connected ∷ []) answers allowed
+restarted_up e cookie tie closed answers allowed h = established_up e cookie (queues_begun e cookie) tie (connection_restarted ∷ connected ∷ []) answers allowed
+restarted_up e cookie tie (cookie_wait my) answers allowed h = established_up e cookie (queues_begun e cookie) tie (connection_restarted ∷ connected ∷ []) answers allowed
+restarted_up e cookie tie (cookie_echoed my held echoed) answers allowed h = established_up e cookie (queues_begun e cookie) tie (connection_restarted ∷ connected ∷ []) answers allowed
+restarted_up e cookie tie (open_in established my held) answers allowed h = established_up e cookie (queues_begun e cookie) tie (connection_restarted ∷ connected ∷ []) answers allowed
+restarted_up e cookie tie (open_in shutdown_pending my held) answers allowed h = established_up e cookie (queues_begun e cookie) tie (connection_restarted ∷ connected ∷ []) answers allowed
+restarted_up e cookie tie (open_in shutdown_sent my held) answers allowed h = established_up e cookie (queues_begun e cookie) tie (connection_restarted ∷ connected ∷ []) answers allowed
+restarted_up e cookie tie (open_in shutdown_received my held) answers allowed h = established_up e cookie (queues_begun e cookie) tie (connection_restarted ∷ connected ∷ []) answers allowed
 restarted_up e cookie tie (open_in shutdown_ack_sent my held) answers allowed h = h
 
 maintained_up : (e : Endpoint) (cookie : Cookie) (core : Core) (answers : List Answer) → MaintainAnswers e cookie core answers → Up e → UpAfter (maintain_by (flush_answered answers) e cookie core)
@@ -117,13 +118,13 @@ maintained_up e cookie (open_in phase my held) answers allowed h = flush_up e (c
 
 resolved_up : (e : Endpoint) (cookie : Cookie) (core : Core) (word : ℕ) (resolution : Resolution) (answers : List Answer) → ResolvedAnswers e cookie core word resolution answers → Up e
     → UpAfter (resolved_by (flush_answered answers) e cookie core word resolution)
-resolved_up e cookie core word establish_new answers allowed h = established_up e cookie (queue_kept e cookie) word (connected ∷ []) answers allowed
+resolved_up e cookie core word establish_new answers allowed h = established_up e cookie (queues_kept e cookie) word (connected ∷ []) answers allowed
 resolved_up e cookie core word restart answers allowed h = restarted_up e cookie word core answers allowed h
-resolved_up e cookie core word simultaneous_init answers allowed h = established_up e cookie (queue_begun e cookie) word (connected ∷ []) answers allowed
+resolved_up e cookie core word simultaneous_init answers allowed h = established_up e cookie (queues_collided e core cookie) word (connected ∷ []) answers allowed
 resolved_up e cookie core word discard answers allowed h = h
 resolved_up e cookie core word maintain_existing answers allowed h = maintained_up e cookie core answers allowed h
 resolved_up e cookie core word invalid_tag answers allowed h = h
-resolved_up e cookie core word stale answers allowed h = h
+resolved_up e cookie core word stale answers allowed h = by_stale_outcome UpAfter e cookie h h
 
 pub echo_up : (e : Endpoint) (core : Core) (header : ℕ) (found : Result Cookie (List ℕ)) (word : ℕ) (answers : List Answer) → EchoedAnswers e core header found word answers → Up e
     → UpAfter (cookie_echo_by (flush_answered answers) e core header found word)

@@ -1,5 +1,6 @@
 -- Each turn leaves numbers that fit their fields, and sends what is read as itself.
 use Rattle.std.proofs.Common.{◌≡◌, ℕ, ◌<◌, Bool, true, false, cond, Option, None, Some, Result, Ok, Err, List, [], ◌∷◌, ◌^◌, refl, sym, subst, arith}
+use Rattle.dcsctp_spec_lemmas.proofs.RefusalLemmas.{by_stale_outcome}
 use Rattle.dcsctp_spec_lemmas.specs.wire.ReadsBack.{FitsEcho}
 use Rattle.dcsctp_spec_lemmas.specs.types.declared.association.Pair.{Pair}
 use Rattle.dcsctp_spec_lemmas.specs.types.declared.association.Held.{Held}
@@ -10,14 +11,14 @@ use Rattle.dcsctp_spec_lemmas.specs.spec.Cookie.{Cookie, cookie_at}
 use Rattle.dcsctp_spec_lemmas.specs.spec.endpoint.Cause.{Cause}
 use Rattle.dcsctp_spec_lemmas.specs.spec.endpoint.Event.{Event, sent, connected, connection_restarted, aborted}
 use Rattle.dcsctp_spec_lemmas.specs.spec.Packet.{Introduction, Content, init, init_ack, cookie_echo, cookie_ack, re_config, abort, shutdown, shutdown_ack, shutdown_complete, plain, Emission}
-use Rattle.dcsctp_spec_lemmas.specs.spec.queues.SendQueue.{SendQueueState}
+use Rattle.dcsctp_spec_lemmas.specs.spec.queues.Transfer.{EndpointQueues}
 use Rattle.dcsctp_spec_lemmas.specs.spec.endpoint.Endpoint.{Endpoint, Core, closed, cookie_wait, cookie_echoed, open_in, established, shutdown_pending, shutdown_sent, shutdown_received, shutdown_ack_sent}
 use Rattle.dcsctp_spec_lemmas.specs.spec.endpoint.Outcome.{Outcome, noting, quiet, sends, emits, fits, to_peer, drawing}
 use Rattle.dcsctp_spec_lemmas.specs.spec.endpoint.Turn.{ContentTurn}
 use Rattle.dcsctp_spec_lemmas.specs.spec.endpoint.FlushOutcomes.{Answer, draft_to, FlushAnswers, flush_answered}
 use Rattle.dcsctp_spec_lemmas.specs.spec.endpoint.EndOutcomes.{ended_outcome, abort_outcome}
 use Rattle.dcsctp_spec_lemmas.specs.spec.endpoint.HandshakeOutcomes.{pair_from, renewed_pair, renewed_pair_outcome, cookie_for, init_ack_emission, init_outcome, init_emission, awaits_init_ack, connect_outcome, no_cookie_text, abort_emission, awaits_cookie_ack, echo_emission, EchoAnswers, InitAckAnswers, accepted_init_ack_by, init_ack_by, connected_after, CookieAckAnswers, cookie_ack_by}
-use Rattle.dcsctp_spec_lemmas.specs.spec.endpoint.CookieEchoOutcomes.{resolved_now, established_by, cookie_ack_emission, EstablishAnswers, establish_by, queue_kept, queue_begun, RestartAnswers, restart_by_where, MaintainAnswers, maintain_by, ResolvedAnswers, resolved_by, EchoedAnswers, cookie_echo_by}
+use Rattle.dcsctp_spec_lemmas.specs.spec.endpoint.CookieEchoOutcomes.{resolved_now, established_by, cookie_ack_emission, EstablishAnswers, establish_by, queues_kept, queues_begun, queues_collided, RestartAnswers, restart_by_where, MaintainAnswers, maintain_by, ResolvedAnswers, resolved_by, EchoedAnswers, cookie_echo_by}
 use Rattle.dcsctp_spec_lemmas.specs.spec.association.Effect.{AssociationIdentity, Effect, holds, connects, identity_of}
 use Rattle.dcsctp_spec_lemmas.specs.spec.association.HandshakeChanges.{held_by_init_ack, new_held}
 use Rattle.dcsctp_spec_lemmas.specs.spec.association.CookieEchoChanges.{held_by_cookie, Resolution, establish_new, restart, simultaneous_init, discard, maintain_existing, invalid_tag, stale}
@@ -35,7 +36,7 @@ use Rattle.dcsctp_theorem_sockets.proofs.Resets.{reset_fits}
 use Rattle.dcsctp_theorem_sockets.proofs.Sendable.{init_sendable, init_ack_sendable, echo_sendable, ack_sendable, abort_sendable}
 use Rattle.dcsctp_theorem_sockets.proofs.Sent.{all_sent_append}
 use Rattle.dcsctp_theorem_sockets.proofs.HeardShutdowns.{heard_fits}
-use Rattle.dcsctp_theorem_sockets.proofs.ShutdownFits.{shutdown_ack_sendable, shutdown_ack_fits, shutdown_complete_fits, refused_restart_fits}
+use Rattle.dcsctp_theorem_sockets.proofs.ShutdownFits.{stale_sendable, shutdown_ack_sendable, shutdown_ack_fits, shutdown_complete_fits, refused_restart_fits}
 
 -- ---- one packet at most
 
@@ -148,13 +149,13 @@ acknowledged_fits e words events held cookie answers allowed h before tag_fits =
     flushed_fits e words events (cookie_ack_emission held cookie).with_checksum cookie.addressee.tag (cookie_ack ∷ []) answers allowed h before
     (record { tag = tag_fits; contents = (ack_sendable, tt) })
 
-established_fits : (e : Endpoint) (cookie : Cookie) (queue : SendQueueState) (tie : ℕ) (events : List (Event Emission)) (answers : List Answer) → EstablishAnswers e cookie queue tie answers
-    → FitsEndpoint e → ReadPairs cookie → AllSent IsSendable events → TurnFits (establish_by (flush_answered answers) e cookie queue tie events)
-established_fits e cookie queue tie events answers allowed h pairs before =
+established_fits : (e : Endpoint) (cookie : Cookie) (queues : EndpointQueues) (tie : ℕ) (events : List (Event Emission)) (answers : List Answer) → EstablishAnswers e cookie queues tie answers
+    → FitsEndpoint e → ReadPairs cookie → AllSent IsSendable events → TurnFits (establish_by (flush_answered answers) e cookie queues tie events)
+established_fits e cookie queues tie events answers allowed h pairs before =
     let held : Held = held_by_cookie e.options cookie in
     let link : AssociationIdentity = identity_of cookie.maker held in
     noting_fits (holds link ∷ connects link ∷ []) _
-    (acknowledged_fits (established_by e cookie queue tie) (U64 tie ∷ []) events held cookie answers allowed
+    (acknowledged_fits (established_by e cookie queues tie) (U64 tie ∷ []) events held cookie answers allowed
     (record {
       valid = h.valid;
       options = h.options;
@@ -164,19 +165,19 @@ established_fits e cookie queue tie events answers allowed h pairs before =
 
 restarted_fits : (e : Endpoint) (cookie : Cookie) (tie : ℕ) (core : Core) (answers : List Answer) → RestartAnswers e cookie tie core answers → FitsEndpoint e → FitsCore core → ReadPairs cookie
     → TurnFits (restart_by_where (flush_answered answers) e cookie tie core)
-restarted_fits e cookie tie closed answers allowed h own pairs = established_fits e cookie (queue_begun e cookie) tie (connection_restarted ∷ connected ∷ []) answers allowed h pairs (tt, (tt, tt))
+restarted_fits e cookie tie closed answers allowed h own pairs = established_fits e cookie (queues_begun e cookie) tie (connection_restarted ∷ connected ∷ []) answers allowed h pairs (tt, (tt, tt))
 restarted_fits e cookie tie (cookie_wait my) answers allowed h own pairs =
-    established_fits e cookie (queue_begun e cookie) tie (connection_restarted ∷ connected ∷ []) answers allowed h pairs (tt, (tt, tt))
+    established_fits e cookie (queues_begun e cookie) tie (connection_restarted ∷ connected ∷ []) answers allowed h pairs (tt, (tt, tt))
 restarted_fits e cookie tie (cookie_echoed my held echoed) answers allowed h own pairs =
-    established_fits e cookie (queue_begun e cookie) tie (connection_restarted ∷ connected ∷ []) answers allowed h pairs (tt, (tt, tt))
+    established_fits e cookie (queues_begun e cookie) tie (connection_restarted ∷ connected ∷ []) answers allowed h pairs (tt, (tt, tt))
 restarted_fits e cookie tie (open_in established my held) answers allowed h own pairs =
-    established_fits e cookie (queue_begun e cookie) tie (connection_restarted ∷ connected ∷ []) answers allowed h pairs (tt, (tt, tt))
+    established_fits e cookie (queues_begun e cookie) tie (connection_restarted ∷ connected ∷ []) answers allowed h pairs (tt, (tt, tt))
 restarted_fits e cookie tie (open_in shutdown_pending my held) answers allowed h own pairs =
-    established_fits e cookie (queue_begun e cookie) tie (connection_restarted ∷ connected ∷ []) answers allowed h pairs (tt, (tt, tt))
+    established_fits e cookie (queues_begun e cookie) tie (connection_restarted ∷ connected ∷ []) answers allowed h pairs (tt, (tt, tt))
 restarted_fits e cookie tie (open_in shutdown_sent my held) answers allowed h own pairs =
-    established_fits e cookie (queue_begun e cookie) tie (connection_restarted ∷ connected ∷ []) answers allowed h pairs (tt, (tt, tt))
+    established_fits e cookie (queues_begun e cookie) tie (connection_restarted ∷ connected ∷ []) answers allowed h pairs (tt, (tt, tt))
 restarted_fits e cookie tie (open_in shutdown_received my held) answers allowed h own pairs =
-    established_fits e cookie (queue_begun e cookie) tie (connection_restarted ∷ connected ∷ []) answers allowed h pairs (tt, (tt, tt))
+    established_fits e cookie (queues_begun e cookie) tie (connection_restarted ∷ connected ∷ []) answers allowed h pairs (tt, (tt, tt))
 restarted_fits e cookie tie (open_in shutdown_ack_sent my held) answers allowed h own pairs = refused_restart_fits e held h own.1
 
 maintained_fits : (e : Endpoint) (cookie : Cookie) (core : Core) (answers : List Answer) → MaintainAnswers e cookie core answers → FitsEndpoint e → FitsCore core → ReadPairs cookie
@@ -191,13 +192,19 @@ maintained_fits e cookie (open_in phase my held) answers allowed h own pairs = a
 
 resolved_fits : (e : Endpoint) (cookie : Cookie) (core : Core) (word : ℕ) (resolution : Resolution) (answers : List Answer) → ResolvedAnswers e cookie core word resolution answers → FitsEndpoint e
     → FitsCore core → ReadPairs cookie → TurnFits (resolved_by (flush_answered answers) e cookie core word resolution)
-resolved_fits e cookie core word establish_new answers allowed h own pairs = established_fits e cookie (queue_kept e cookie) word (connected ∷ []) answers allowed h pairs (tt, tt)
+resolved_fits e cookie core word establish_new answers allowed h own pairs = established_fits e cookie (queues_kept e cookie) word (connected ∷ []) answers allowed h pairs (tt, tt)
 resolved_fits e cookie core word restart answers allowed h own pairs = restarted_fits e cookie word core answers allowed h own pairs
-resolved_fits e cookie core word simultaneous_init answers allowed h own pairs = established_fits e cookie (queue_begun e cookie) word (connected ∷ []) answers allowed h pairs (tt, tt)
+resolved_fits e cookie core word simultaneous_init answers allowed h own pairs = established_fits e cookie (queues_collided e core cookie) word (connected ∷ []) answers allowed h pairs (tt, tt)
 resolved_fits e cookie core word discard answers allowed h own pairs = record { after = h; sends = tt }
 resolved_fits e cookie core word maintain_existing answers allowed h own pairs = maintained_fits e cookie core answers allowed h own pairs
 resolved_fits e cookie core word invalid_tag answers allowed h own pairs = record { after = h; sends = (tt, tt) }
-resolved_fits e cookie core word stale answers allowed h own pairs = record { after = h; sends = (tt, tt) }
+resolved_fits e cookie core word stale answers allowed h own pairs =
+    by_stale_outcome TurnFits e cookie
+    (record {
+      after = record { valid = h.valid; options = h.options; core = h.core; t1 = h.t1 };
+      sends = (tt, (record { tag = pairs.addressee.tag; contents = (stale_sendable, tt) }, tt));
+    })
+    (record { after = h; sends = (tt, tt) })
 
 echo_fits : (e : Endpoint) (core : Core) (header : ℕ) (bytes : List ℕ) (found : Result Cookie (List ℕ)) (word : ℕ) (answers : List Answer) → EchoedAnswers e core header found word answers
     → cookie_at bytes ≡ found → FitsEndpoint e → FitsCore core → FitsEcho bytes → TurnFits (cookie_echo_by (flush_answered answers) e core header found word)

@@ -5,7 +5,7 @@ use dcsctp_receive_reassembly::ReassemblyQueue;
 use dcsctp_receive_tracker::DataTracker;
 use dcsctp_send_retransmission::RetransmissionQueue;
 use dcsctp_send_retransmission::send_timer::RetransmissionTimeout;
-use dcsctp_send_retransmission::types::{Capabilities, Options};
+use dcsctp_send_retransmission::types::{Capabilities, Options, SocketTime};
 use std::alloc::Global;
 use std::marker::Model;
 use std::time::Duration;
@@ -54,7 +54,7 @@ impl Transfer {
     ghost use Rattle.dcsctp_send_retransmission.specs.spec.queues.Items.{unacknowledged_items};
     ghost use Rattle.dcsctp_send_retransmission.specs.spec.queues.Outstanding.{next_tsn};
     ghost use Rattle.dcsctp_send_retransmission.specs.spec.queues.Retransmission.{outstanding_count};
-    ghost use Rattle.dcsctp_send_retransmission.specs.spec.queues.Transfer.{new_transfer};
+    ghost use Rattle.dcsctp_send_retransmission.specs.spec.queues.Transfer.{new_transfer, outlasts_peer, transfer_kept};
     ghost use Rattle.dcsctp_send_retransmission.specs.spec.queues.Tracker.{cumulative_tsn};
 
     /// Nothing was sent or received yet. `first_tsn` is the first TSN that we send, and `peer_first_tsn` the
@@ -88,6 +88,35 @@ impl Transfer {
             ),
             alloc,
         }
+    }
+
+    /// Can what was sent go on to another peer as it is? Yes if nothing was acknowledged, `first_tsn` is the first TSN,
+    /// and its messages are numbered by these capabilities, and may be abandoned by them.
+    pub fn outlasts_peer(&self, first_tsn: u32, capabilities: &Capabilities) -> bool
+        ensures { result ≡ outlasts_peer first_tsn capabilities.now self.now }
+    {
+        let queue = &self.retransmission_queue;
+        queue.is_untouched(first_tsn)
+            && queue.is_interleaving() == capabilities.message_interleaving
+            && queue.is_partially_reliable() == capabilities.partial_reliability
+    }
+
+    /// Keeps what was sent for another peer, to which all of it is sent again. Nothing was received from it yet.
+    /// `peer_first_tsn` is its first TSN, and `a_rwnd` its receive window in bytes. Allocates nothing.
+    pub fn keep_for_peer(
+        &mut self,
+        now: SocketTime,
+        options: &Options,
+        peer_first_tsn: u32,
+        a_rwnd: u32,
+    )
+        ensures { self.new ≡ transfer_kept now options.now peer_first_tsn a_rwnd self.old }
+    {
+        let window = options.max_receiver_window_buffer_size;
+        self.retransmission_queue
+            .keep_for_peer(now, options, a_rwnd);
+        self.data_tracker = DataTracker::new(self.alloc, options, peer_first_tsn);
+        self.reassembly_queue = ReassemblyQueue::new(self.alloc, window, part_overhead(options));
     }
 
     /// The TSN that is sent next.

@@ -1,15 +1,15 @@
 -- What a COOKIE ECHO does to the association (RFC 9260, section 5.2.4): which case it is, and what each does.
-use Rattle.std.specs.Prelude.{◌==◌, ℕ, Bool, true, false, List, [], ◌∷◌, Result, Ok, Err}
+use Rattle.std.specs.Prelude.{◌==◌, ◌&&◌, ℕ, Bool, true, false, List, [], ◌∷◌, Result, Ok, Err}
 use Rattle.dcsctp_types.specs.declared.association.Pair.{Pair}
 use Rattle.dcsctp_types.specs.declared.association.Held.{Held}
 use Rattle.dcsctp_types.specs.declared.options.Options.{Options}
 use Rattle.dcsctp_types.specs.Offer.{offer_of, negotiated}
 use Rattle.dcsctp_spec.specs.Cookie.{Cookie, cookie_at}
-use Rattle.dcsctp_spec.specs.endpoint.Cause.{cookie_received_while_shutting_down}
+use Rattle.dcsctp_spec.specs.endpoint.Cause.{cookie_received_while_shutting_down, stale_cookie}
 use Rattle.dcsctp_spec.specs.Packet.{Content, cookie_ack, shutdown_ack, plain, error_of}
 use Rattle.dcsctp_spec.specs.endpoint.Endpoint.{Core, closed, cookie_wait, cookie_echoed, open_in, OpenPhase, established, shutdown_ack_sent}
 use Rattle.dcsctp_spec.specs.endpoint.Following.{next_chunk, dropped_rest}
-use Rattle.dcsctp_spec.specs.association.Effect.{holds, connects, Change, unchanged, rest_dropped, emitted, identity_of}
+use Rattle.dcsctp_spec.specs.association.Effect.{holds, connects, Change, unchanged, rest_dropped, emitted, emitted_alone, identity_of}
 use Rattle.dcsctp_spec.specs.association.Choices.{Choices}
 use Rattle.dcsctp_spec.specs.association.FlushChanges.{Flushed, flush}
 use Rattle.dcsctp_spec.specs.association.HandshakeChanges.{new_held}
@@ -105,6 +105,19 @@ maintain_change (open_in phase my held) cookie choices =
     record { core = open_in phase my after.held; effects = after.effects; following = next_chunk }
 maintain_change core cookie choices = unchanged core
 
+-- ERROR with the cause Stale Cookie
+abbrev pub stale_error : Content
+stale_error = plain (error_of (stale_cookie ∷ []))
+
+-- By the RFC's rules the peer gets to know that its cookie is stale.
+abbrev pub stale_change : Options → Core → Cookie → Choices → Change
+stale_change options core cookie choices =
+    record {
+      core = core;
+      effects = emitted_alone (options.follow_rfc && choices.fits) cookie.addressee.tag stale_error;
+      following = dropped_rest;
+    }
+
 abbrev pub resolved_change : Options → Core → Cookie → Choices → Resolution → Change
 resolved_change options core cookie choices establish_new = new_association_change options cookie choices
 resolved_change options core cookie choices restart = restart_change options core cookie choices
@@ -112,7 +125,7 @@ resolved_change options core cookie choices simultaneous_init = new_association_
 resolved_change options core cookie choices discard = rest_dropped core
 resolved_change options core cookie choices maintain_existing = maintain_change core cookie choices
 resolved_change options core cookie choices invalid_tag = rest_dropped core
-resolved_change options core cookie choices stale = rest_dropped core
+resolved_change options core cookie choices stale = stale_change options core cookie choices
 
 -- Bytes that are no cookie change nothing.
 abbrev pub read_echo_change : Options → Core → ℕ → Result Cookie (List ℕ) → Choices → Change

@@ -28,6 +28,14 @@ user_initiated_abort text = wire.user_initiated_abort text
 abbrev pub protocol_violation : List ℕ → Cause
 protocol_violation text = wire.protocol_violation text
 
+-- Stale Cookie (RFC 9260, section 3.3.10.3)
+abbrev pub stale_cookie_code : ℕ
+stale_cookie_code = 3
+
+-- It doesn't say for how long the cookie has been stale.
+abbrev pub stale_cookie : Cause
+stale_cookie = wire.unknown_cause stale_cookie_code (0 ∷ 0 ∷ 0 ∷ 0 ∷ [])
+
 -- ---- why a socket aborts its association
 
 -- what was broken

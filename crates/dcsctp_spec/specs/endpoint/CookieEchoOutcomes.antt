@@ -1,6 +1,7 @@
 -- The turn of a COOKIE ECHO (RFC 9260, sections 5.1 and 5.2.4). association/CookieEchoChanges says which case it is.
-use Rattle.std.specs.Prelude.{◌≡◌, ◌==◌, ◌&&◌, ◌||◌, ℕ, min, Bool, true, false, Option, None, Some, List, [], ◌∷◌, codes, Result, Ok, Err}
+use Rattle.std.specs.Prelude.{◌≡◌, ◌==◌, ◌&&◌, ◌||◌, not, is_some, ℕ, min, Bool, true, false, if◌then◌else◌, Option, None, Some, List, [], ◌∷◌, codes, Result, Ok, Err}
 use Rattle.std.specs.Duration.{as_nanos}
+use Rattle.dcsctp_types.specs.declared.association.Pair.{Pair}
 use Rattle.dcsctp_types.specs.declared.association.Held.{Held}
 use Rattle.dcsctp_types.specs.declared.options.Options.{Options}
 use Rattle.dcsctp_types.specs.declared.word.Word.TheVariants.{U64}
@@ -9,11 +10,11 @@ use Rattle.dcsctp_spec.specs.Cookie.{Cookie, cookie_at, is_stale}
 use Rattle.dcsctp_spec.specs.endpoint.Event.{Event, sent, connected, connection_restarted, error}
 use Rattle.dcsctp_spec.specs.Packet.{cookie_ack, shutdown_ack, Emission}
 use Rattle.dcsctp_spec.specs.queues.SendQueue.{SendQueueState, numbered_for}
-use Rattle.dcsctp_spec.specs.queues.Transfer.{new_transfer}
+use Rattle.dcsctp_spec.specs.queues.Transfer.{Transfer, EndpointQueues, new_transfer, outlasts_peer, transfer_kept}
 use Rattle.dcsctp_spec.specs.endpoint.Endpoint.{Endpoint, Core, cookie_echoed, open_in, OpenPhase, established, shutdown_ack_sent, stopped_timers, heartbeats_begun, errors_begun}
-use Rattle.dcsctp_spec.specs.endpoint.Outcome.{Outcome, noting, still, packet_counted}
+use Rattle.dcsctp_spec.specs.endpoint.Outcome.{Outcome, noting, still, packet_counted, behind, emits}
 use Rattle.dcsctp_spec.specs.endpoint.Following.{dropped_rest}
-use Rattle.dcsctp_spec.specs.association.CookieEchoChanges.{Resolution, establish_new, restart, simultaneous_init, discard, maintain_existing, invalid_tag, stale, aged, resolve, held_by_cookie, shutting_down_error}
+use Rattle.dcsctp_spec.specs.association.CookieEchoChanges.{Resolution, establish_new, restart, simultaneous_init, discard, maintain_existing, invalid_tag, stale, aged, resolve, held_by_cookie, shutting_down_error, stale_error}
 use Rattle.dcsctp_spec.specs.association.Effect.{holds, connects, identity_of}
 use Rattle.dcsctp_spec.specs.endpoint.FlushOutcomes.{Answer, FlushAnswers, FlushKind, flush_answered, flush_outcome}
 use Rattle.dcsctp_spec.specs.endpoint.HandshakeOutcomes.{queue_anew, connected_after}
@@ -36,6 +37,17 @@ discard_outcome e = record { words = []; effects = []; after = e; events = []; f
 -- one OnError, no change, and the rest of the packet is dropped
 abbrev pub refused_echo_outcome : Endpoint → List ℕ → Outcome
 refused_echo_outcome e text = record { words = []; effects = []; after = e; events = error ParseFailed text ∷ []; following = dropped_rest }
+
+-- ERROR with the cause Stale Cookie, under the tag that the peer has by the cookie
+abbrev pub stale_emission : Cookie → Emission
+stale_emission cookie = record { with_checksum = true; packet = record { tag = cookie.addressee.tag; contents = stale_error ∷ [] } }
+
+-- A stale cookie is reported to the user. By the RFC it is reported to the peer too, if the packet fits (RFC 9260, section 5.1.5).
+abbrev pub stale_outcome : Endpoint → Cookie → Outcome
+stale_outcome e cookie =
+    if e.options.follow_rfc
+    then record (behind [] (error ParseFailed stale_text ∷ []) (emits e [] (stale_emission cookie))) { following = dropped_rest }
+    else refused_echo_outcome e stale_text
 
 -- SHUTDOWN ACK again, and ERROR with the cause Cookie Received While Shutting Down (RFC 9260, section 5.2.4, A)
 abbrev pub shutting_down_emission : Held → Emission
@@ -63,8 +75,8 @@ window_by_cookie options cookie = min cookie.window options.max_send_buffer_size
 
 -- The association is established, and what belongs to it is new. The heartbeat interval starts again, and a running heartbeat
 -- timeout continues.
-abbrev pub established_by : Endpoint → Cookie → SendQueueState → ℕ → Endpoint
-established_by e cookie queue tie =
+abbrev pub established_by : Endpoint → Cookie → EndpointQueues → ℕ → Endpoint
+established_by e cookie queues tie =
     record e {
       core = open_in established cookie.maker (held_by_cookie e.options cookie);
       tie = tie;
@@ -73,10 +85,7 @@ established_by e cookie queue tie =
       error_count = errors_begun e;
       heartbeat_sent = None;
       timers = heartbeats_begun e (record stopped_timers { heartbeat_interval = e.timers.heartbeat_interval; heartbeat_timeout = e.timers.heartbeat_timeout });
-      queues = record {
-        queue = queue;
-        transfer = Some (new_transfer e.options (held_by_cookie e.options cookie).capabilities cookie.maker.first_tsn cookie.addressee.first_tsn (window_by_cookie e.options cookie));
-      };
+      queues = queues;
       left = [];
     }
 
@@ -86,36 +95,65 @@ cookie_ack_emission held cookie =
     record { with_checksum = held.capabilities.zero_checksum_method.0 == 0; packet = record { tag = cookie.addressee.tag; contents = cookie_ack ∷ [] } }
 
 -- These events, and a flush that begins with COOKIE ACK.
-abbrev pub establish_by : FlushKind → Endpoint → Cookie → SendQueueState → ℕ → List (Event Emission) → Outcome
-establish_by flush e cookie queue tie events =
+abbrev pub establish_by : FlushKind → Endpoint → Cookie → EndpointQueues → ℕ → List (Event Emission) → Outcome
+establish_by flush e cookie queues tie events =
     let held : Held = held_by_cookie e.options cookie in
     noting (holds (identity_of cookie.maker held) ∷ connects (identity_of cookie.maker held) ∷ [])
-    (flush (established_by e cookie queue tie) (U64 tie ∷ []) events (held.capabilities.zero_checksum_method.0 == 0) cookie.addressee.tag (cookie_ack ∷ []))
+    (flush (established_by e cookie queues tie) (U64 tie ∷ []) events (held.capabilities.zero_checksum_method.0 == 0) cookie.addressee.tag (cookie_ack ∷ []))
 
 -- are messages of such an association numbered for interleaving?
 abbrev pub interleaves : Endpoint → Cookie → Bool
 interleaves e cookie = (held_by_cookie e.options cookie).capabilities.message_interleaving
 
+-- nothing is in flight yet, and nothing was received; this waits to be sent
+abbrev pub queues_with : Endpoint → Cookie → SendQueueState → EndpointQueues
+queues_with e cookie queue =
+    record {
+      queue = queue;
+      transfer = Some (new_transfer e.options (held_by_cookie e.options cookie).capabilities cookie.maker.first_tsn cookie.addressee.first_tsn (window_by_cookie e.options cookie));
+    }
+
 -- What waits to be sent starts again if there was a peer.
-abbrev pub queue_begun : Endpoint → Cookie → SendQueueState
-queue_begun e cookie = queue_anew e.queues.queue (interleaves e cookie)
+abbrev pub queues_begun : Endpoint → Cookie → EndpointQueues
+queues_begun e cookie = queues_with e cookie (queue_anew e.queues.queue (interleaves e cookie))
 
 -- Otherwise what waits stays, numbered as negotiated; by the RFC its numbers start again, too (RFC 9260, sections 5.1 and 6.5).
 abbrev pub queue_where : Bool → Endpoint → Cookie → SendQueueState
-queue_where true e cookie = queue_begun e cookie
+queue_where true e cookie = queue_anew e.queues.queue (interleaves e cookie)
 queue_where false e cookie = numbered_for (interleaves e cookie) e.queues.queue
 
-abbrev pub queue_kept : Endpoint → Cookie → SendQueueState
-queue_kept e cookie = queue_where e.options.follow_rfc e cookie
+abbrev pub queues_kept : Endpoint → Cookie → EndpointQueues
+queues_kept e cookie = queues_with e cookie (queue_where e.options.follow_rfc e cookie)
+
+-- Does what was sent to the one peer go to the other? By the RFC it does if the other has read none of it (RFC 9260, section 5.2.4,
+-- B): nothing was acknowledged, and our own pair is the same. A request to reset streams would be an old one.
+abbrev pub outlasts : Endpoint → Pair → Cookie → Transfer → Bool
+outlasts e mine cookie transfer =
+    (e.options.follow_rfc && mine.tag == cookie.maker.tag)
+    && (not (is_some e.outstanding) && outlasts_peer cookie.maker.first_tsn (held_by_cookie e.options cookie).capabilities transfer)
+
+abbrev pub queues_by : Bool → Endpoint → Cookie → Transfer → EndpointQueues
+queues_by true e cookie transfer =
+    record e.queues { transfer = Some (transfer_kept e.moment e.options cookie.addressee.first_tsn (window_by_cookie e.options cookie) transfer) }
+queues_by false e cookie transfer = queues_begun e cookie
+
+abbrev pub queues_for_other : Endpoint → Pair → Cookie → Option Transfer → EndpointQueues
+queues_for_other e mine cookie None = queues_begun e cookie
+queues_for_other e mine cookie (Some transfer) = queues_by (outlasts e mine cookie transfer) e cookie transfer
+
+-- Both sides began at the same time. What was sent may outlast the one peer while its COOKIE ACK is awaited.
+abbrev pub queues_collided : Endpoint → Core → Cookie → EndpointQueues
+queues_collided e (cookie_echoed mine held echoed) cookie = queues_for_other e mine cookie e.queues.transfer
+queues_collided e core cookie = queues_begun e cookie
 
 abbrev pub establish_new_by : FlushKind → Endpoint → Cookie → ℕ → Outcome
-establish_new_by flush e cookie tie = establish_by flush e cookie (queue_kept e cookie) tie (connected ∷ [])
-
-abbrev pub replace_by : FlushKind → Endpoint → Cookie → ℕ → List (Event Emission) → Outcome
-replace_by flush e cookie tie events = establish_by flush e cookie (queue_begun e cookie) tie events
+establish_new_by flush e cookie tie = establish_by flush e cookie (queues_kept e cookie) tie (connected ∷ [])
 
 abbrev pub restart_by : FlushKind → Endpoint → Cookie → ℕ → Outcome
-restart_by flush e cookie tie = replace_by flush e cookie tie (connection_restarted ∷ connected ∷ [])
+restart_by flush e cookie tie = establish_by flush e cookie (queues_begun e cookie) tie (connection_restarted ∷ connected ∷ [])
+
+abbrev pub collide_by : FlushKind → Endpoint → Core → Cookie → ℕ → Outcome
+collide_by flush e core cookie tie = establish_by flush e cookie (queues_collided e core cookie) tie (connected ∷ [])
 
 abbrev pub restart_by_in : FlushKind → Endpoint → Cookie → ℕ → OpenPhase → Held → Outcome
 restart_by_in flush e cookie tie shutdown_ack_sent held = refused_restart_outcome e held
@@ -142,11 +180,11 @@ maintain_by flush e cookie core = still e
 abbrev pub resolved_by : FlushKind → Endpoint → Cookie → Core → ℕ → Resolution → Outcome
 resolved_by flush e cookie core word establish_new = establish_new_by flush e cookie word
 resolved_by flush e cookie core word restart = restart_by_where flush e cookie word core
-resolved_by flush e cookie core word simultaneous_init = replace_by flush e cookie word (connected ∷ [])
+resolved_by flush e cookie core word simultaneous_init = collide_by flush e core cookie word
 resolved_by flush e cookie core word discard = discard_outcome e
 resolved_by flush e cookie core word maintain_existing = maintain_by flush e cookie core
 resolved_by flush e cookie core word invalid_tag = refused_echo_outcome e invalid_tag_text
-resolved_by flush e cookie core word stale = refused_echo_outcome e stale_text
+resolved_by flush e cookie core word stale = stale_outcome e cookie
 
 abbrev pub is_last_tag : Option ℕ → ℕ → Bool
 is_last_tag None header = false
@@ -174,17 +212,17 @@ cookie_echo_by flush e core header (Ok cookie) word = resolved_by flush e cookie
 
 -- ---- the answers that its flush may get, if there is one
 
-abbrev pub EstablishAnswers : Endpoint → Cookie → SendQueueState → ℕ → List Answer → Type 0
-EstablishAnswers e cookie queue tie answers =
-    FlushAnswers (established_by e cookie queue tie) (cookie_ack_emission (held_by_cookie e.options cookie) cookie) answers
+abbrev pub EstablishAnswers : Endpoint → Cookie → EndpointQueues → ℕ → List Answer → Type 0
+EstablishAnswers e cookie queues tie answers =
+    FlushAnswers (established_by e cookie queues tie) (cookie_ack_emission (held_by_cookie e.options cookie) cookie) answers
 
 abbrev pub RestartAnswersIn : Endpoint → Cookie → ℕ → OpenPhase → List Answer → Type 0
 RestartAnswersIn e cookie tie shutdown_ack_sent answers = answers ≡ []
-RestartAnswersIn e cookie tie phase answers = EstablishAnswers e cookie (queue_begun e cookie) tie answers
+RestartAnswersIn e cookie tie phase answers = EstablishAnswers e cookie (queues_begun e cookie) tie answers
 
 abbrev pub RestartAnswers : Endpoint → Cookie → ℕ → Core → List Answer → Type 0
 RestartAnswers e cookie tie (open_in phase mine held) answers = RestartAnswersIn e cookie tie phase answers
-RestartAnswers e cookie tie core answers = EstablishAnswers e cookie (queue_begun e cookie) tie answers
+RestartAnswers e cookie tie core answers = EstablishAnswers e cookie (queues_begun e cookie) tie answers
 
 abbrev pub MaintainAnswers : Endpoint → Cookie → Core → List Answer → Type 0
 MaintainAnswers e cookie (cookie_echoed mine held echoed) answers = FlushAnswers (connected_after e mine held) (cookie_ack_emission held cookie) answers
@@ -192,9 +230,9 @@ MaintainAnswers e cookie (open_in phase mine held) answers = FlushAnswers e (coo
 MaintainAnswers e cookie core answers = answers ≡ []
 
 abbrev pub ResolvedAnswers : Endpoint → Cookie → Core → ℕ → Resolution → List Answer → Type 0
-ResolvedAnswers e cookie core word establish_new answers = EstablishAnswers e cookie (queue_kept e cookie) word answers
+ResolvedAnswers e cookie core word establish_new answers = EstablishAnswers e cookie (queues_kept e cookie) word answers
 ResolvedAnswers e cookie core word restart answers = RestartAnswers e cookie word core answers
-ResolvedAnswers e cookie core word simultaneous_init answers = EstablishAnswers e cookie (queue_begun e cookie) word answers
+ResolvedAnswers e cookie core word simultaneous_init answers = EstablishAnswers e cookie (queues_collided e core cookie) word answers
 ResolvedAnswers e cookie core word discard answers = answers ≡ []
 ResolvedAnswers e cookie core word maintain_existing answers = MaintainAnswers e cookie core answers
 ResolvedAnswers e cookie core word invalid_tag answers = answers ≡ []
@@ -212,14 +250,14 @@ CookieEchoTurn e header bytes o =
 
 -- ---- if nothing waits, as it is so far
 
-abbrev pub establish_outcome : Endpoint → Cookie → SendQueueState → ℕ → List (Event Emission) → Outcome
-establish_outcome e cookie queue tie events = establish_by flush_outcome e cookie queue tie events
+abbrev pub establish_outcome : Endpoint → Cookie → EndpointQueues → ℕ → List (Event Emission) → Outcome
+establish_outcome e cookie queues tie events = establish_by flush_outcome e cookie queues tie events
 
 abbrev pub establish_new_outcome : Endpoint → Cookie → ℕ → Outcome
 establish_new_outcome e cookie tie = establish_new_by flush_outcome e cookie tie
 
-abbrev pub replace_outcome : Endpoint → Cookie → ℕ → List (Event Emission) → Outcome
-replace_outcome e cookie tie events = replace_by flush_outcome e cookie tie events
+abbrev pub collide_outcome : Endpoint → Core → Cookie → ℕ → Outcome
+collide_outcome e core cookie tie = collide_by flush_outcome e core cookie tie
 
 abbrev pub restart_outcome : Endpoint → Cookie → ℕ → Outcome
 restart_outcome e cookie tie = restart_by flush_outcome e cookie tie

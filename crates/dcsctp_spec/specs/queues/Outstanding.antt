@@ -1,9 +1,9 @@
 -- What is outstanding: the items of consecutive TSNs (RFC 9260, section 6.1).
-use Rattle.std.specs.Prelude.{ℕ, ◌+◌, ◌-◌, ◌%◌, ◌^◌, Bool, List, [], ◌∷◌, length, if◌then◌else◌}
+use Rattle.std.specs.Prelude.{ℕ, ◌+◌, ◌-◌, ◌%◌, ◌^◌, ◌==◌, ◌&&◌, Bool, List, [], ◌∷◌, length, if◌then◌else◌}
 use Rattle.dcsctp_types.specs.wire.declared.chunk.sack.GapAckBlock.{GapAckBlock}
 use Rattle.dcsctp_types.specs.declared.progress.Change.TheVariants.{Acknowledge}
 use Rattle.dcsctp_types.specs.Sizes.{data_header_size, i_data_header_size}
-use Rattle.dcsctp_spec.specs.queues.Items.{Item, changed_between}
+use Rattle.dcsctp_spec.specs.queues.Items.{Item, never_acknowledged_items, changed_between}
 
 pub record OutstandingState : Type 0 where
   -- the TSN of the first item; the one before is the last that was acknowledged cumulatively
@@ -27,6 +27,11 @@ tsn_at outstanding place = (outstanding.first_tsn + place) % 2 ^ 32
 -- the TSN of the next item
 abbrev pub next_tsn : OutstandingState → ℕ
 next_tsn outstanding = tsn_at outstanding (length outstanding.items)
+
+-- Is this the first TSN, and was nothing acknowledged yet?
+abbrev pub is_untouched : ℕ → OutstandingState → Bool
+is_untouched first outstanding =
+    (outstanding.first_tsn == first) && (never_acknowledged_items outstanding.items == length outstanding.items)
 
 -- how far a TSN is after the first
 abbrev pub distance_to : OutstandingState → ℕ → ℕ

@@ -135,6 +135,16 @@ with_duration rto measured state =
 abbrev pub with_reset_begun : RetransmissionState → RetransmissionState
 with_reset_begun state = record state { reset_begun = true }
 
+-- What was sent goes to another peer, with this window: all of it is lost, and nothing is known of the path.
+abbrev pub kept_for_peer : ℕ → Options → ℕ → RetransmissionState → RetransmissionState
+kept_for_peer now options window state =
+    record (all_lost state) {
+      congestion = new_congestion options window;
+      timer = timer_with now state.outstanding.items (record state.timer { running = None });
+      peer_window = window;
+      fast_retransmit_due = false;
+    }
+
 -- one more packet with that many bytes of chunks that were sent again, if there are any
 abbrev pub counted_again : ℕ → RetransmissionState → RetransmissionState
 counted_again size state =

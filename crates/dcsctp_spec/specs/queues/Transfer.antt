@@ -3,11 +3,11 @@ use Rattle.std.specs.Prelude.{◌==◌, ℕ, nat_lt, not, ◌&&◌, ◌||◌, Bo
 use Rattle.dcsctp_types.specs.declared.capabilities.Capabilities.{Capabilities}
 use Rattle.dcsctp_types.specs.declared.options.Options.{Options}
 use Rattle.dcsctp_spec.specs.queues.Items.{marked_items}
-use Rattle.dcsctp_spec.specs.queues.Outstanding.{next_tsn}
+use Rattle.dcsctp_spec.specs.queues.Outstanding.{next_tsn, is_untouched}
 use Rattle.dcsctp_spec.specs.queues.OwnResets.{ready_streams}
 use Rattle.dcsctp_spec.specs.queues.Reassembly.{ReassemblyState, new_reassembly, remaining_bytes, bytes_to_watermark}
-use Rattle.dcsctp_spec.specs.queues.Retransmission.{RetransmissionState, new_retransmission, outstanding_count, can_send}
-use Rattle.dcsctp_spec.specs.queues.SendQueue.{SendQueueState, empty_queue, has_queued_data}
+use Rattle.dcsctp_spec.specs.queues.Retransmission.{RetransmissionState, new_retransmission, kept_for_peer, outstanding_count, can_send}
+use Rattle.dcsctp_spec.specs.queues.SendQueue.{SendQueueState, empty_queue, has_queued_data, is_other}
 use Rattle.dcsctp_spec.specs.queues.Timeout.{TimeoutState, new_timeout}
 use Rattle.dcsctp_spec.specs.queues.Tracker.{TrackerState, new_tracker, owes_acknowledgement, is_acknowledgement_due}
 
@@ -28,6 +28,25 @@ new_transfer options capabilities first_tsn peer_first_tsn window =
     record {
       retransmission = new_retransmission options first_tsn window capabilities.partial_reliability capabilities.message_interleaving;
       timeout = new_timeout options;
+      tracker = new_tracker options peer_first_tsn;
+      reassembly = new_reassembly options.max_receiver_window_buffer_size (part_overhead options);
+    }
+
+-- ---- another peer for what was sent
+
+-- Can it go on with another peer as it is? Yes if nothing was acknowledged, the first TSN is the same, and so is how messages are
+-- numbered and whether they may be abandoned.
+abbrev pub outlasts_peer : ℕ → Capabilities → Transfer → Bool
+outlasts_peer first_tsn capabilities transfer =
+    is_untouched first_tsn transfer.retransmission.outstanding
+    && not (is_other transfer.retransmission.outstanding.is_interleaved capabilities.message_interleaving)
+    && not (is_other transfer.retransmission.partial_reliability capabilities.partial_reliability)
+
+-- What was sent goes to it, and nothing was received from it.
+abbrev pub transfer_kept : ℕ → Options → ℕ → ℕ → Transfer → Transfer
+transfer_kept now options peer_first_tsn window transfer =
+    record transfer {
+      retransmission = kept_for_peer now options window transfer.retransmission;
       tracker = new_tracker options peer_first_tsn;
       reassembly = new_reassembly options.max_receiver_window_buffer_size (part_overhead options);
     }
