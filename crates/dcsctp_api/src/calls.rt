@@ -96,7 +96,8 @@ pub trait DcSctpSocket {
         ensures call { AdvancesClock (user_view self.old) now result (user_view self.new) }
         ensures earlier { (user_view self.old).failed ≡ false
             → now < (user_view self.old).endpoint.moment → IsOk result }
-        ensures waits { (user_view self.old).failed ≡ false → Waits (user_view self.old).endpoint now
+        ensures waits { (user_view self.old).failed ≡ false
+            → Waits (user_view self.old).endpoint now
             → OnlyMovesClock (user_view self.old) now result (user_view self.new) };
 
     /// The socket's next deadline, never before the present moment; `SocketTime::infinite_future()` if there
@@ -125,8 +126,8 @@ pub trait DcSctpSocket {
         messages: Vec<Message>,
         options: &SendOptions,
     ) -> Result<Result<(), BatchSendError>, SocketFault>
-        ensures { SendsMany (map message_content messages.items) options.now (user_view self.old) result
-            (user_view self.new) };
+        ensures { SendsMany (map message_content messages.items) options.now (user_view self.old)
+            result (user_view self.new) };
 
     /// Resets streams (RFC 6525, section 5.1.2), one after another. Their messages that haven't been started
     /// are dropped, with the events of other messages that are abandoned. No other message is started on them
@@ -206,10 +207,13 @@ pub trait DcSctpSocket {
         &mut self,
         state: &SocketHandoverState,
     ) -> Result<Result<(), RestoreError>, SocketFault>
-        requires { is_valid_snapshot (user_view self.old).endpoint.options (snapshot state.now) ≡ true }
-        ensures call { RestoresSocket (snapshot state.now) (user_view self.old) result (user_view self.new) }
+        requires { is_valid_snapshot (user_view self.old).endpoint.options (snapshot state.now)
+            ≡ true }
+        ensures call { RestoresSocket (snapshot state.now) (user_view self.old) result
+            (user_view self.new) }
         ensures idle { (user_view self.old).failed ≡ false
-            → inputs_of_restore (user_view self.old).endpoint.core (snapshot state.now) ≡ [] → IsOk result };
+            → inputs_of_restore (user_view self.old).endpoint.core (snapshot state.now) ≡ []
+            → IsOk result };
 
     /// The state of the association.
     fn state(&self) -> SocketState
@@ -223,12 +227,14 @@ pub trait DcSctpSocket {
     /// Sets how many bytes a message may have from now on. Allocates nothing, and works on a socket that has
     /// failed, too.
     fn set_max_message_size(&mut self, max_message_size: usize)
-        ensures { user_view self.new ≡ with_setting (longest_message max_message_size) (user_view self.old) };
+        ensures { user_view self.new
+            ≡ with_setting (longest_message max_message_size) (user_view self.old) };
 
     /// Sets the priority of a stream. Of the streams with messages that wait, one of the greatest priority is
     /// sent first. It outlasts an association. A stream that isn't set has `default_stream_priority`.
     fn set_stream_priority(&mut self, stream_id: StreamId, priority: u16) -> Result<(), SocketFault>
-        ensures { Sets (stream_priority stream_id.0 priority) (user_view self.old) result (user_view self.new) };
+        ensures { Sets (stream_priority stream_id.0 priority) (user_view self.old) result
+            (user_view self.new) };
 
     /// The priority of a stream. Allocates nothing.
     fn get_stream_priority(&self, stream_id: StreamId) -> u16
@@ -252,5 +258,6 @@ pub trait DcSctpSocket {
         stream_id: StreamId,
         bytes: usize,
     ) -> Result<(), SocketFault>
-        ensures { Sets (stream_low_threshold stream_id.0 bytes) (user_view self.old) result (user_view self.new) };
+        ensures { Sets (stream_low_threshold stream_id.0 bytes) (user_view self.old) result
+            (user_view self.new) };
 }

@@ -45,7 +45,8 @@ pub extern "C" fn dcsctp_close(handle: &mut Handle) -> i32
 /// Handles a packet from the peer.
 #[unsafe(no_mangle)]
 pub extern "C" fn dcsctp_handle_input(handle: &mut Handle, packet: &[u8]) -> i32
-    ensures { Exported (InputHandled packet.now) handle.old.slot.value result handle.new.slot.value }
+    ensures { Exported (InputHandled packet.now) handle.old.slot.value result
+        handle.new.slot.value }
 {
     if !handle.is_open() {
         return Status::NoSocket.number();
@@ -73,8 +74,9 @@ pub extern "C" fn dcsctp_send(
     payload: &[u8],
     options: &SendOptionsRecord,
 ) -> i32
-    ensures { Exported (MessageSent (record { stream = stream_id; ppid = ppid; payload = payload.now }) options.now)
-        handle.old.slot.value result handle.new.slot.value }
+    ensures { Exported
+        (MessageSent (record { stream = stream_id; ppid = ppid; payload = payload.now })
+        options.now) handle.old.slot.value result handle.new.slot.value }
 {
     if !handle.is_open() {
         return Status::NoSocket.number();
@@ -107,7 +109,8 @@ pub extern "C" fn dcsctp_send_many(
 /// Resets streams.
 #[unsafe(no_mangle)]
 pub extern "C" fn dcsctp_reset_streams(handle: &mut Handle, stream_ids: &[u16]) -> i32
-    ensures { Exported (StreamsReset stream_ids.now) handle.old.slot.value result handle.new.slot.value }
+    ensures { Exported (StreamsReset stream_ids.now) handle.old.slot.value result
+        handle.new.slot.value }
 {
     if !handle.is_open() {
         return Status::NoSocket.number();
@@ -122,8 +125,8 @@ pub extern "C" fn dcsctp_set_stream_priority(
     stream_id: u16,
     priority: u16,
 ) -> i32
-    ensures { Exported (SettingMade (stream_priority stream_id priority)) handle.old.slot.value result
-        handle.new.slot.value }
+    ensures { Exported (SettingMade (stream_priority stream_id priority)) handle.old.slot.value
+        result handle.new.slot.value }
 {
     if !handle.is_open() {
         return Status::NoSocket.number();
@@ -142,8 +145,8 @@ pub extern "C" fn dcsctp_set_buffered_amount_low_threshold(
     stream_id: u16,
     bytes: usize,
 ) -> i32
-    ensures { Exported (SettingMade (stream_low_threshold stream_id bytes)) handle.old.slot.value result
-        handle.new.slot.value }
+    ensures { Exported (SettingMade (stream_low_threshold stream_id bytes)) handle.old.slot.value
+        result handle.new.slot.value }
 {
     if !handle.is_open() {
         return Status::NoSocket.number();

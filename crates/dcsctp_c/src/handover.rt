@@ -26,8 +26,8 @@ pub extern "C" fn dcsctp_handover_bytes(
     buffer: &mut [u8],
     length: &mut usize,
 ) -> i32
-    ensures answer { Asked CopiesSnapshotFrom handle.old.slot.value (buffer_of buffer.old length.old) result
-        (buffer_of buffer.new length.new) }
+    ensures answer { Asked CopiesSnapshotFrom handle.old.slot.value
+        (buffer_of buffer.old length.old) result (buffer_of buffer.new length.new) }
     ensures same { handle.new ≡ handle.old }
 {
     if !handle.is_open() {

@@ -28,7 +28,8 @@ pub extern "C" fn dcsctp_create(
     seed: &[u8; 32],
     now: u64,
 ) -> i32
-    ensures { CreatedIn options.now seed.now now handle.old.slot.value result handle.new.slot.value }
+    ensures { CreatedIn options.now seed.now now handle.old.slot.value result
+        handle.new.slot.value }
 {
     if handle.is_open() {
         return Status::AlreadyCreated.number();

@@ -43,7 +43,8 @@ pub extern "C" fn dcsctp_has_failed(handle: &mut Handle) -> i32
 /// The socket's next deadline.
 #[unsafe(no_mangle)]
 pub extern "C" fn dcsctp_poll_timeout(handle: &mut Handle, moment: &mut u64) -> i32
-    ensures answer { Asked (WritesAnswer (λ session told. told ≡ min (next_moment (view session).endpoint) never))
+    ensures answer { Asked
+        (WritesAnswer (λ session told. told ≡ min (next_moment (view session).endpoint) never))
         handle.old.slot.value moment.old result moment.new }
     ensures same { handle.new ≡ handle.old }
 {
@@ -85,7 +86,8 @@ pub extern "C" fn dcsctp_buffered_amount(
     stream_id: u16,
     bytes: &mut usize,
 ) -> i32
-    ensures answer { Asked (WritesAnswer (AmountIs stream_id)) handle.old.slot.value bytes.old result bytes.new }
+    ensures answer { Asked (WritesAnswer (AmountIs stream_id)) handle.old.slot.value bytes.old
+        result bytes.new }
     ensures same { handle.new ≡ handle.old }
 {
     if !handle.is_open() {
@@ -102,7 +104,8 @@ pub extern "C" fn dcsctp_buffered_amount_low_threshold(
     stream_id: u16,
     bytes: &mut usize,
 ) -> i32
-    ensures answer { Asked (WritesAnswer (λ session told. told ≡ (stream_shown (view session) stream_id).threshold))
+    ensures answer { Asked
+        (WritesAnswer (λ session told. told ≡ (stream_shown (view session) stream_id).threshold))
         handle.old.slot.value bytes.old result bytes.new }
     ensures same { handle.new ≡ handle.old }
 {
@@ -123,7 +126,8 @@ pub extern "C" fn dcsctp_get_stream_priority(
     stream_id: u16,
     priority: &mut u16,
 ) -> i32
-    ensures answer { Asked (WritesAnswer (λ session told. told ≡ (stream_shown (view session) stream_id).priority))
+    ensures answer { Asked
+        (WritesAnswer (λ session told. told ≡ (stream_shown (view session) stream_id).priority))
         handle.old.slot.value priority.old result priority.new }
     ensures same { handle.new ≡ handle.old }
 {
@@ -137,7 +141,8 @@ pub extern "C" fn dcsctp_get_stream_priority(
 /// How many messages are ready to be taken.
 #[unsafe(no_mangle)]
 pub extern "C" fn dcsctp_messages_ready_count(handle: &mut Handle, count: &mut usize) -> i32
-    ensures answer { Asked (WritesAnswer (λ session told. told ≡ length (ready_messages (view session).endpoint)))
+    ensures answer { Asked
+        (WritesAnswer (λ session told. told ≡ length (ready_messages (view session).endpoint)))
         handle.old.slot.value count.old result count.new }
     ensures same { handle.new ≡ handle.old }
 {
@@ -198,7 +203,8 @@ pub extern "C" fn dcsctp_get_counts(handle: &mut Handle, counts: &mut CountsReco
 /// Why the socket can't be handed over now.
 #[unsafe(no_mangle)]
 pub extern "C" fn dcsctp_get_handover_readiness(handle: &mut Handle, reasons: &mut u32) -> i32
-    ensures answer { Asked (WritesAnswer ReadinessIs) handle.old.slot.value reasons.old result reasons.new }
+    ensures answer { Asked (WritesAnswer ReadinessIs) handle.old.slot.value reasons.old result
+        reasons.new }
     ensures same { handle.new ≡ handle.old }
 {
     if !handle.is_open() {

@@ -12,7 +12,8 @@ use dcsctp_session::{EventRecord, MessageRecord, Status};
 /// Takes the event that was added first.
 #[unsafe(no_mangle)]
 pub extern "C" fn dcsctp_poll_event(handle: &mut Handle, event: &mut EventRecord) -> i32
-    ensures { Written WritesEvent handle.old.slot.value event.old result event.new handle.new.slot.value }
+    ensures { Written WritesEvent handle.old.slot.value event.old result event.new
+        handle.new.slot.value }
 {
     if !handle.is_open() {
         return Status::NoSocket.number();
@@ -31,7 +32,8 @@ pub extern "C" fn dcsctp_event_bytes(
     buffer: &mut [u8],
     length: &mut usize,
 ) -> i32
-    ensures answer { Asked (CopiesFrom (λ session. bytes_in session.taken.event)) handle.old.slot.value
+    ensures answer { Asked (CopiesFrom (λ session. bytes_in session.taken.event))
+        handle.old.slot.value
         (buffer_of buffer.old length.old) result (buffer_of buffer.new length.new) }
     ensures same { handle.new ≡ handle.old }
 {
@@ -48,7 +50,8 @@ pub extern "C" fn dcsctp_event_view(
     bytes: &mut *const u8,
     length: &mut usize,
 ) -> i32
-    ensures answer { Asked (ShowsFrom (λ session. packet_in_event session.taken.event)) handle.old.slot.value
+    ensures answer { Asked (ShowsFrom (λ session. packet_in_event session.taken.event))
+        handle.old.slot.value
         (output_place bytes.old length.old) result (output_place bytes.new length.new) }
     ensures same { handle.new ≡ handle.old }
 {
@@ -65,7 +68,8 @@ pub extern "C" fn dcsctp_event_streams(
     buffer: &mut [u16],
     count: &mut usize,
 ) -> i32
-    ensures answer { Asked (CopiesFrom (λ session. streams_in_event session.taken.event)) handle.old.slot.value
+    ensures answer { Asked (CopiesFrom (λ session. streams_in_event session.taken.event))
+        handle.old.slot.value
         (buffer_of buffer.old count.old) result (buffer_of buffer.new count.new) }
     ensures same { handle.new ≡ handle.old }
 {
@@ -98,7 +102,8 @@ pub extern "C" fn dcsctp_message_bytes(
     buffer: &mut [u8],
     length: &mut usize,
 ) -> i32
-    ensures answer { Asked (CopiesFrom (λ session. payload_in session.taken.message)) handle.old.slot.value
+    ensures answer { Asked (CopiesFrom (λ session. payload_in session.taken.message))
+        handle.old.slot.value
         (buffer_of buffer.old length.old) result (buffer_of buffer.new length.new) }
     ensures same { handle.new ≡ handle.old }
 {
@@ -115,7 +120,8 @@ pub extern "C" fn dcsctp_message_view(
     bytes: &mut *const u8,
     length: &mut usize,
 ) -> i32
-    ensures answer { Asked (ShowsFrom (λ session. message_in session.taken.message)) handle.old.slot.value
+    ensures answer { Asked (ShowsFrom (λ session. message_in session.taken.message))
+        handle.old.slot.value
         (output_place bytes.old length.old) result (output_place bytes.new length.new) }
     ensures same { handle.new ≡ handle.old }
 {

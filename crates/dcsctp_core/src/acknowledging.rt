@@ -16,7 +16,9 @@ impl State {
         also_if_delayed: bool,
         packet: &mut SctpPacketBuilder,
     ) -> Result<(), AllocError>
-        ensures ok { OnOk result (AcknowledgesInQueues (transfer_of self.old) also_if_delayed self.old packet.old self.new packet.new) }
+        ensures ok { OnOk result
+            (AcknowledgesInQueues (transfer_of self.old) also_if_delayed self.old packet.old
+            self.new packet.new) }
         ensures idle { WantsNone (transfer_of self.old) also_if_delayed → IsOk result }
     {
         match self.tcb_mut() {

@@ -363,7 +363,8 @@ impl<R: Rng> Context<R> {
     /// Advances the heartbeat interval to the present moment, and returns whether it expires. If so, it runs
     /// again.
     pub fn expire_heartbeat_interval(&mut self) -> bool
-        ensures answer { result ≡ is_timer_due (endpoint_of self.old) (own_timer heartbeat_interval) }
+        ensures answer { result
+            ≡ is_timer_due (endpoint_of self.old) (own_timer heartbeat_interval) }
         ensures left { view_of self.new ≡ where_expired result (interval_expired
             (endpoint_of self.old)) (view_of self.old) }
     {
@@ -388,7 +389,8 @@ impl<R: Rng> Context<R> {
     /// Advances the timer of the answer to a HEARTBEAT to the present moment, and returns whether it expires.
     /// It stops then, and an error is counted.
     pub fn expire_heartbeat_timeout(&mut self) -> bool
-        ensures answer { result ≡ is_timer_due (endpoint_of self.old) (own_timer heartbeat_timeout) }
+        ensures answer { result
+            ≡ is_timer_due (endpoint_of self.old) (own_timer heartbeat_timeout) }
         ensures left { view_of self.new ≡ where_expired result (timeout_outcome
             (endpoint_of self.old)).after (view_of self.old) }
     {
@@ -562,7 +564,8 @@ impl<R: Rng> Context<R> {
 
     /// Counts a packet that was handed in; the count saturates. No chunk of it was answered yet.
     pub fn count_packet(&mut self)
-        ensures { Moves R.stream (view_of self.old) (arrival_turn (view_of self.old)) (view_of self.new) }
+        ensures { Moves R.stream (view_of self.old) (arrival_turn (view_of self.old))
+            (view_of self.new) }
     {
         self.rx_packets_count = self.rx_packets_count.saturating_add(1);
         self.has_answered = false;

@@ -198,7 +198,9 @@ impl<R: Rng> Context<R> {
 
     // May data follow: does some wait, or do the windows allow it?
     fn may_send_data(&self) -> bool
-        ensures { result ≡ (has_queued_data self.now.send_queue || can_queues_send (transfer_of self.now.state)) }
+        ensures { result
+            ≡ (has_queued_data self.now.send_queue
+            || can_queues_send (transfer_of self.now.state)) }
     {
         let can_send = match self.state.tcb() {
             None => false,

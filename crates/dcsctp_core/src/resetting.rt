@@ -39,7 +39,8 @@ fn number_of(stream: StreamId) -> u16
 
 /// The streams as a request has them, two bytes each.
 pub fn stream_bytes(alloc: Global, streams: &[StreamId]) -> Result<Vec<u8>, AllocError>
-    ensures bytes { IfOk result (λ bytes. bytes.items ≡ flat_map (to_be_bytes w16) (stream_numbers streams.now)) }
+    ensures bytes { IfOk result
+        (λ bytes. bytes.items ≡ flat_map (to_be_bytes w16) (stream_numbers streams.now)) }
     ensures fit { OnOk result (AllByRecursion IsStream (stream_numbers streams.now)) }
 {
     let mut bytes = Vec::new(alloc);
@@ -58,10 +59,14 @@ fn put_request(
     request: &ResetRequest,
     packet: &mut SctpPacketBuilder,
 ) -> Result<(), AllocError>
-    requires { length (chunk_bytes (chunk_out (reset_request request.now.number (reset_of request.now)))) ≤ bytes_remaining packet.old }
+    requires { length
+        (chunk_bytes (chunk_out (reset_request request.now.number (reset_of request.now))))
+        ≤ bytes_remaining packet.old }
     ensures fit { OnOk result (AllByRecursion IsStream (stream_numbers request.now.streams.items)) }
     ensures packet { OnOk result (packet.new ≡ record packet.old {
-      body = packet.old.body ++ chunk_bytes (chunk_out (reset_request request.now.number (reset_of request.now)));
+      body = packet.old.body
+          ++ chunk_bytes
+          (chunk_out (reset_request request.now.number (reset_of request.now)));
     }) }
 {
     let streams = stream_bytes(alloc, &request.streams)?;
@@ -124,7 +129,9 @@ impl TransmissionControlBlock {
         packet: &mut SctpPacketBuilder,
     ) -> Result<(), AllocError>
         requires { 20 + (length streams.items + 1) / 2 * 4 ≤ bytes_remaining packet.old }
-        ensures { OnOk result (StartsReset now (stream_numbers streams.items) self.old packet.old self.new packet.new) }
+        ensures { OnOk result
+            (StartsReset now (stream_numbers streams.items) self.old packet.old self.new
+            packet.new) }
     {
         let last_tsn = self.transfer.begin_reset_streams();
         let number = self.next_outgoing_reset_req_seq_nbr;
@@ -150,7 +157,8 @@ impl TransmissionControlBlock {
         queue: &mut SendQueue,
         packet: &mut SctpPacketBuilder,
     ) -> Result<(), AllocError>
-        ensures ok { OnOk result (BeginsReset now queue.old self.old packet.old queue.new self.new packet.new) }
+        ensures ok { OnOk result
+            (BeginsReset now queue.old self.old packet.old queue.new self.new packet.new) }
         ensures idle { is_none_ready (ready_streams queue.old) ≡ true → IsOk result }
     {
         if self.reset_request.is_some() || !queue.has_streams_ready_to_be_reset() {

@@ -166,8 +166,10 @@ impl TransmissionControlBlock {
     /// section 3.3.1; RFC 8260, section 2.1). With its header it has less than 65,536 bytes, by contract. Allocates
     /// nothing.
     pub fn make_data_chunk<'a>(&self, tsn: u32, fragment: &'a DataToSend) -> Chunk<'a>
-        requires { header_of self.now.capabilities.message_interleaving + length fragment.now.payload < 2 ^ 16 }
-        ensures { chunk_content result ≡ chunk_said self.now.capabilities.message_interleaving tsn fragment.now }
+        requires { header_of self.now.capabilities.message_interleaving
+            + length fragment.now.payload < 2 ^ 16 }
+        ensures { chunk_content result
+            ≡ chunk_said self.now.capabilities.message_interleaving tsn fragment.now }
     {
         make_data_chunk(tsn, fragment, self.capabilities.message_interleaving)
     }
@@ -175,7 +177,8 @@ impl TransmissionControlBlock {
     /// Why the association can't be handed over to another process. `with_outstanding_data`: what is in
     /// flight goes along.
     pub fn get_handover_readiness(&self, with_outstanding_data: bool) -> HandoverReadiness
-        ensures reasons { result.0 ≡ bit_or (reason_where (is_some self.now.reset_request) pending_stream_reset_request)
+        ensures reasons { result.0
+            ≡ bit_or (reason_where (is_some self.now.reset_request) pending_stream_reset_request)
             (transfer_readiness with_outstanding_data self.now.transfer) }
         ensures sound { IsSoundTransfer self.now.transfer }
     {

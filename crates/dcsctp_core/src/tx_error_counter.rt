@@ -39,7 +39,8 @@ impl TxErrorCounter {
 
     /// Counts an error, up to one beyond the limit.
     pub fn increment(&mut self)
-        ensures { self.new ≡ record self.old { count = error_counted self.old.limit self.old.count } }
+        ensures { self.new
+            ≡ record self.old { count = error_counted self.old.limit self.old.count } }
     {
         self.value = match self.limit {
             None => 0,

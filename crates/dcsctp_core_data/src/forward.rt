@@ -32,7 +32,8 @@ fn skipped_messages_in(
     alloc: Global,
     chunk: &IForwardTsnChunk<'_>,
 ) -> Result<Vec<SkippedTo>, AllocError>
-    ensures { IfOk result (λ skipped. skipped.items ≡ messages_skipped_in chunk.now.skipped_streams.now) }
+    ensures { IfOk result
+        (λ skipped. skipped.items ≡ messages_skipped_in chunk.now.skipped_streams.now) }
 {
     let mut skipped = Vec::new(alloc);
     for index in 0..chunk.skipped_stream_count() {
@@ -54,7 +55,9 @@ pub fn handle_forward_tsn<R: Rng>(
     context: &mut Context<R>,
     chunk: &ForwardTsnChunk<'_>,
 ) -> Result<(), AllocError>
-    ensures { TakesOne R.stream (ForwardAt chunk.now.new_cumulative_tsn (skipped_in chunk.now.skipped_streams.now)) context.old result context.new }
+    ensures { TakesOne R.stream
+        (ForwardAt chunk.now.new_cumulative_tsn (skipped_in chunk.now.skipped_streams.now))
+        context.old result context.new }
 {
     let Some(tcb) = context.state.tcb_mut() else {
         return Ok(());
@@ -71,7 +74,9 @@ pub fn handle_i_forward_tsn<R: Rng>(
     context: &mut Context<R>,
     chunk: &IForwardTsnChunk<'_>,
 ) -> Result<(), AllocError>
-    ensures { TakesOne R.stream (ForwardAt chunk.now.new_cumulative_tsn (messages_skipped_in chunk.now.skipped_streams.now)) context.old result context.new }
+    ensures { TakesOne R.stream
+        (ForwardAt chunk.now.new_cumulative_tsn
+        (messages_skipped_in chunk.now.skipped_streams.now)) context.old result context.new }
 {
     let Some(tcb) = context.state.tcb_mut() else {
         return Ok(());

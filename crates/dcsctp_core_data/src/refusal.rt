@@ -16,8 +16,8 @@ const NOT_CONNECTED: &str = "Received unexpected commands on socket that is not 
 
 // Reports data without an association. `Err`: an allocation failed, and nothing has changed.
 pub(crate) fn report_not_connected<R: Rng>(context: &mut Context<R>) -> Result<(), AllocError>
-    ensures { Tries R.stream (report_turn ErrorKind.NotConnected not_connected_text) context.old result
-        context.new }
+    ensures { Tries R.stream (report_turn ErrorKind.NotConnected not_connected_text) context.old
+        result context.new }
 {
     let text = String::from_str(context.alloc, NOT_CONNECTED)?;
     context.report(ErrorKind::NotConnected, text)?;

@@ -20,7 +20,8 @@ const NO_TCB: &str = "No TCB";
 
 // Reports a SACK without an association. `Err`: an allocation failed, and nothing has changed.
 fn report_no_tcb<R: Rng>(context: &mut Context<R>) -> Result<(), AllocError>
-    ensures { Tries R.stream (report_turn ErrorKind.NotConnected no_tcb_text) context.old result context.new }
+    ensures { Tries R.stream (report_turn ErrorKind.NotConnected no_tcb_text) context.old result
+        context.new }
 {
     let text = String::from_str(context.alloc, NO_TCB)?;
     context.report(ErrorKind::NotConnected, text)?;

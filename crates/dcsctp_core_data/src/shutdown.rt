@@ -29,7 +29,9 @@ fn may_have_sent(state: &State) -> bool
 
 // Does a SHUTDOWN with this cumulative TSN ack acknowledge? Only with `Options::follow_rfc`.
 fn heeds_shutdown<R: Rng>(context: &Context<R>, cumulative_tsn_ack: u32) -> bool
-    ensures { result ≡ heeds_in (endpoint_of context.now) (core_of context.now.state) (transfer_of context.now.state) cumulative_tsn_ack }
+    ensures { result
+        ≡ heeds_in (endpoint_of context.now) (core_of context.now.state)
+        (transfer_of context.now.state) cumulative_tsn_ack }
 {
     match context.state.tcb() {
         None => false,
@@ -59,7 +61,8 @@ fn acknowledge_and_receive<R: Rng>(
     context: &mut Context<R>,
     cumulative_tsn_ack: u32,
 ) -> Result<(), AllocError>
-    requires { heeds_in (endpoint_of context.old) (core_of context.old.state) (transfer_of context.old.state) cumulative_tsn_ack ≡ true }
+    requires { heeds_in (endpoint_of context.old) (core_of context.old.state)
+        (transfer_of context.old.state) cumulative_tsn_ack ≡ true }
     ensures { TakesOne R.stream (ShutdownAt cumulative_tsn_ack) context.old result context.new }
 {
     let sack = SackChunk {
@@ -82,7 +85,8 @@ pub fn handle_shutdown<R: Rng>(
     context: &mut Context<R>,
     chunk: &ShutdownChunk,
 ) -> Result<(), AllocError>
-    ensures { TakesOne R.stream (ShutdownAt chunk.now.cumulative_tsn_ack) context.old result context.new }
+    ensures { TakesOne R.stream (ShutdownAt chunk.now.cumulative_tsn_ack) context.old result
+        context.new }
 {
     let cumulative_tsn_ack = chunk.cumulative_tsn_ack;
     if heeds_shutdown(context, cumulative_tsn_ack) {

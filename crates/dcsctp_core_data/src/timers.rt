@@ -11,7 +11,8 @@ use rand_core::Rng;
 /// Advances the delay of an acknowledgement to the present moment, and returns whether it is over. The
 /// acknowledgement is due then. Allocates nothing.
 pub fn handle_acknowledgement_delay<R: Rng>(context: &mut Context<R>) -> bool
-    ensures { ExpiresAlways R.stream (own_timer acknowledgement_delay) context.old result context.new }
+    ensures { ExpiresAlways R.stream (own_timer acknowledgement_delay) context.old result
+        context.new }
 {
     match context.state.tcb_mut() {
         None => false,

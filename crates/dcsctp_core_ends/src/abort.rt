@@ -19,7 +19,8 @@ pub fn handle_abort<R: Rng>(
     context: &mut Context<R>,
     abort: &AbortChunk<'_>,
 ) -> Result<Following, AllocError>
-    ensures { HandlesWholeTurn R.stream (abort_turn (map cause_content abort.now.error_causes.items))
+    ensures { HandlesWholeTurn R.stream
+        (abort_turn (map cause_content abort.now.error_causes.items))
         context.old result context.new }
 {
     match context.state {

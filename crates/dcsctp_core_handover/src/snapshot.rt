@@ -33,7 +33,8 @@ fn connected_state<R>(
     context: &Context<R>,
     tcb: &TransmissionControlBlock,
 ) -> Result<SocketHandoverState, AllocError>
-    ensures { IfOk result (λ state. snapshot state ≡ snapshot_with (endpoint_of context.now) tcb.now) }
+    ensures { IfOk result
+        (λ state. snapshot state ≡ snapshot_with (endpoint_of context.now) tcb.now) }
 {
     let now = context.moment;
     let with_data = context.options.enable_handover_with_outstanding_data;

@@ -250,8 +250,8 @@ fn restart_where_open<R: Rng>(
     context: &mut Context<R>,
     cookie: &StateCookie,
 ) -> Result<Following, AllocError>
-    ensures { HandlesPossibleTurn R.stream (RestartWhereAt R.stream (cookie_of cookie.now)) context.old result
-        context.new }
+    ensures { HandlesPossibleTurn R.stream (RestartWhereAt R.stream (cookie_of cookie.now))
+        context.old result context.new }
 {
     if awaits_complete(&context.state) {
         return refuse_restart(context);
@@ -290,8 +290,8 @@ pub fn handle_cookie_echo<R: Rng>(
     header_tag: u32,
     chunk: &CookieEchoChunk<'_>,
 ) -> Result<Following, AllocError>
-    ensures { HandlesPossibleTurn R.stream (CookieEchoAt header_tag chunk.now.cookie.now) context.old result
-        context.new }
+    ensures { HandlesPossibleTurn R.stream (CookieEchoAt header_tag chunk.now.cookie.now)
+        context.old result context.new }
 {
     let cookie = match StateCookie::from_bytes(chunk.cookie) {
         Ok(cookie) => cookie,

@@ -68,7 +68,8 @@ pub fn resolve_now<R: Rng>(
     header_tag: u32,
     cookie: &StateCookie,
 ) -> CookieResolution
-    ensures { resolution_of result ≡ resolved_now (endpoint_of context.now) (core_of context.now.state)
+    ensures { resolution_of result
+        ≡ resolved_now (endpoint_of context.now) (core_of context.now.state)
         header_tag (cookie_of cookie.now) }
 {
     let is_stale = cookie.is_stale(context.options.cookie_lifetime, context.moment);

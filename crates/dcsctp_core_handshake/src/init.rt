@@ -45,7 +45,8 @@ fn send_init_ack<R: Rng>(
     pair: Pair,
     tie_tag: u64,
 ) -> Result<(), AllocError>
-    ensures { Tries R.stream (init_answer_turn (introduction_in (init_content init.now)) pair tie_tag)
+    ensures { Tries R.stream
+        (init_answer_turn (introduction_in (init_content init.now)) pair tie_tag)
         context.old result context.new }
 {
     let peer_capabilities = Capabilities::from_parameters(
@@ -77,7 +78,8 @@ fn send_init_ack<R: Rng>(
 //
 // `Err`: an allocation failed, and nothing has changed but the random words that were drawn.
 fn answer_anew<R: Rng>(context: &mut Context<R>, init: &InitChunk<'_>) -> Result<(), AllocError>
-    ensures { TriesDrawing R.stream (renewed_turn R.stream (introduction_in (init_content init.now)))
+    ensures { TriesDrawing R.stream
+        (renewed_turn R.stream (introduction_in (init_content init.now)))
         context.old result context.new }
 {
     match context.state.tcb() {
@@ -94,7 +96,8 @@ fn answer_anew<R: Rng>(context: &mut Context<R>, init: &InitChunk<'_>) -> Result
 
 // Answers an INIT. `Err`: an allocation failed, and nothing has changed but the random words that were drawn.
 fn answer_init<R: Rng>(context: &mut Context<R>, init: &InitChunk<'_>) -> Result<(), AllocError>
-    ensures { TriesDrawing R.stream (init_reply_turn R.stream (introduction_in (init_content init.now)))
+    ensures { TriesDrawing R.stream
+        (init_reply_turn R.stream (introduction_in (init_content init.now)))
         context.old result context.new }
 {
     match &context.state {

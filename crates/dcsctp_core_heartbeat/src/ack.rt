@@ -17,7 +17,8 @@ const INVALID_INFO: &str = "Failed to parse HEARTBEAT-ACK; Invalid info paramete
 
 // What the HEARTBEAT carried: the first Heartbeat Info counts.
 fn heartbeat_info<'a>(parameters: &[Parameter<'a>]) -> Option<&'a [u8]>
-    ensures { option_map (λ bytes. bytes.now) result ≡ info_in (map parameter_content parameters.now) }
+    ensures { option_map (λ bytes. bytes.now) result
+        ≡ info_in (map parameter_content parameters.now) }
 {
     for parameter in parameters {
         if let Parameter::HeartbeatInfo { info } = parameter {
@@ -39,8 +40,8 @@ fn counter_in(parameters: &[Parameter<'_>]) -> Option<u32>
 
 // Reports an answer without a counter. `Err`: an allocation failed, and nothing has changed.
 fn report_invalid_info<R: Rng>(context: &mut Context<R>) -> Result<(), AllocError>
-    ensures { Tries R.stream (report_turn ErrorKind.ParseFailed invalid_info_text) context.old result
-        context.new }
+    ensures { Tries R.stream (report_turn ErrorKind.ParseFailed invalid_info_text) context.old
+        result context.new }
 {
     let text = String::from_str(context.alloc, INVALID_INFO)?;
     context.report(ErrorKind::ParseFailed, text)?;

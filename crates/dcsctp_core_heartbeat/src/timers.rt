@@ -18,8 +18,8 @@ use std::alloc::AllocError;
 //
 // `Err`: an allocation failed, and nothing has changed.
 fn emit_heartbeat<R: Rng>(context: &mut Context<R>, counter: u32) -> Result<(), AllocError>
-    ensures { EmitsToPeer (heartbeat_chunk (heartbeat_info (to_be_bytes w32 counter) ∷ [])) context.old
-        result context.new }
+    ensures { EmitsToPeer (heartbeat_chunk (heartbeat_info (to_be_bytes w32 counter) ∷ []))
+        context.old result context.new }
 {
     let info = counter.to_be_bytes();
     let mut parameters = Vec::with_capacity(context.alloc, 1)?;

@@ -29,8 +29,8 @@ fn add_message<R: Rng>(
     options: &SendOptions,
 ) -> Result<(), AllocError>
     requires { 0 < vec_len message.payload }
-    ensures { Tries R.stream (queued_turn (sending_of options.now (message_content message))) context.old result
-        context.new }
+    ensures { Tries R.stream (queued_turn (sending_of options.now (message_content message)))
+        context.old result context.new }
 {
     context.send_queue.add(context.moment, message, options)?;
     context.count_message();
@@ -70,8 +70,8 @@ fn queue_at<R: Rng>(
     options: &SendOptions,
     queued: &mut QueuedAll,
 ) -> Result<(), AllocError>
-    ensures { QueuesAt R.stream place (sending_of options.now (message_content message)) queued.old context.old
-        result queued.new context.new }
+    ensures { QueuesAt R.stream place (sending_of options.now (message_content message)) queued.old
+        context.old result queued.new context.new }
 {
     match queue_message(context, message, options)? {
         Some(error) => queued.refused.push((place, error))?,

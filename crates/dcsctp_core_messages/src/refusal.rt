@@ -20,7 +20,8 @@ pub(crate) fn refusal<R: Rng>(
     stream_id: StreamId,
     len: usize,
 ) -> Option<SendError>
-    ensures { option_map refusal_of result ≡ message_refusal (endpoint_of context.now) stream_id.0 len }
+    ensures { option_map refusal_of result
+        ≡ message_refusal (endpoint_of context.now) stream_id.0 len }
 {
     let limit = context.options.max_message_size;
     if len == 0 {
@@ -40,7 +41,9 @@ pub(crate) fn refusal<R: Rng>(
 
 // Is the send buffer full, in all or for this stream?
 fn has_no_room<R: Rng>(context: &Context<R>, stream_id: StreamId) -> bool
-    ensures { result ≡ is_full (endpoint_of context.now).options (endpoint_of context.now).queues.queue stream_id.0 }
+    ensures { result
+        ≡ is_full (endpoint_of context.now).options (endpoint_of context.now).queues.queue
+        stream_id.0 }
 {
     context.options.max_send_buffer_size <= context.send_queue.total_buffered_amount()
         || context.options.per_stream_send_queue_limit
@@ -87,8 +90,9 @@ fn text_of(error: SendError) -> &'static str
 
 // Reports why a message is refused. `Err`: an allocation failed, and nothing has changed.
 fn report_refusal<R: Rng>(context: &mut Context<R>, error: SendError) -> Result<(), AllocError>
-    ensures { Tries R.stream (report_turn (refusal_kind (refusal_of error)) (message_refusal_text (refusal_of error))) context.old result
-        context.new }
+    ensures { Tries R.stream
+        (report_turn (refusal_kind (refusal_of error)) (message_refusal_text (refusal_of error)))
+        context.old result context.new }
 {
     let text = String::from_str(context.alloc, text_of(error))?;
     context.report(kind_of(error), text)?;
@@ -103,7 +107,8 @@ pub(crate) fn tell_refusal<R: Rng>(
     error: SendError,
     lifecycle_id: Option<LifecycleId>,
 ) -> Result<(), AllocError>
-    ensures { TakesTurn R.stream (message_refusal_turn (refusal_of error) lifecycle_id) context.old result context.new }
+    ensures { TakesTurn R.stream (message_refusal_turn (refusal_of error) lifecycle_id) context.old
+        result context.new }
 {
     tell_end(context, lifecycle_id)?;
     report_refusal(context, error)?;

@@ -22,7 +22,8 @@ pub fn do_reset_streams<R: Rng>(
     context: &mut Context<R>,
     stream_ids: &[StreamId],
 ) -> Result<Result<(), ResetStreamsError>, AllocError>
-    ensures turn { ResetsOwnStreams R.stream (stream_numbers stream_ids.now) context.old result context.new }
+    ensures turn { ResetsOwnStreams R.stream (stream_numbers stream_ids.now) context.old result
+        context.new }
     ensures refused { reset_refusal (endpoint_of context.old) ≢ None → IsOk result }
 {
     match refusal(context) {
@@ -66,7 +67,8 @@ fn prepare_streams<R: Rng>(
     context: &mut Context<R>,
     stream_ids: &[StreamId],
 ) -> Result<(), AllocError>
-    ensures { TakesOne R.stream (SomeAt (stream_numbers stream_ids.now)) context.old result context.new }
+    ensures { TakesOne R.stream (SomeAt (stream_numbers stream_ids.now)) context.old result
+        context.new }
 {
     for stream_id in stream_ids {
         prepare_stream(context, *stream_id)?;

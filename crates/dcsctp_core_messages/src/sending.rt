@@ -21,8 +21,8 @@ pub fn do_send<R: Rng>(
     message: Message,
     options: &SendOptions,
 ) -> Result<Result<(), SendError>, AllocError>
-    ensures { SendsOne R.stream (sending_of options.now (message_content message)) context.old result
-        context.new }
+    ensures { SendsOne R.stream (sending_of options.now (message_content message)) context.old
+        result context.new }
 {
     match queue_message(context, message, options)? {
         Some(error) => Ok(Err(error)),

@@ -36,7 +36,8 @@ fn is_reached(
     tcb: &TransmissionControlBlock,
     request: Option<OutgoingSsnResetRequestParameter<'_>>,
 ) -> bool
-    ensures { result ≡ is_request_reached (Some tcb.now.transfer) (option_map wanted_by request.entry) }
+    ensures { result
+        ≡ is_request_reached (Some tcb.now.transfer) (option_map wanted_by request.entry) }
 {
     match request {
         None => true,
@@ -62,7 +63,8 @@ fn is_again(
     streams: &[u16],
 ) -> bool
     requires { streams.now ≡ (wanted_by request.now).streams }
-    ensures { result ≡ is_renewal (performed_reset (Some old.now)) last (Some (asked_number request.now))
+    ensures { result
+        ≡ is_renewal (performed_reset (Some old.now)) last (Some (asked_number request.now))
         (Some (wanted_by request.now)) }
 {
     if old.number != last || request.request_seq_nbr != last.wrapping_add(1) {
@@ -136,7 +138,8 @@ fn state_of(
     follows: bool,
     request: Option<OutgoingSsnResetRequestParameter<'_>>,
 ) -> Result<RequestState, AllocError>
-    ensures { IfOk result (λ state. in_state state ≡ state_for follows (performed_reset kept.now) (Some tcb.now)
+    ensures { IfOk result
+        (λ state. in_state state ≡ state_for follows (performed_reset kept.now) (Some tcb.now)
         (option_map asked_number request.entry) (option_map wanted_by request.entry)) }
 {
     let last = tcb.last_processed_req_seq_nbr;
@@ -171,7 +174,8 @@ fn renewable_of<R: Rng>(
     last: u32,
     request: Option<OutgoingSsnResetRequestParameter<'_>>,
 ) -> Result<Option<PerformedReset>, AllocError>
-    ensures { IfOk result (λ kept. performed_reset kept ≡ renewable_by (endpoint_of context.now) last
+    ensures { IfOk result
+        (λ kept. performed_reset kept ≡ renewable_by (endpoint_of context.now) last
         (option_map asked_number request.entry) (option_map wanted_by request.entry)) }
 {
     let Some(request) = request else {
@@ -236,7 +240,8 @@ fn keep_last<R: Rng>(context: &mut Context<R>, last: LastRequest)
 // Resets streams of the peer. `Err`: an allocation failed for something that waited for that.
 fn reset_streams(state: &mut State, streams: &[StreamId]) -> Result<(), AllocError>
     ensures { OnOk result
-        (ChangesQueues (ResetsTransferStreams (stream_numbers streams.now)) (transfer_of state.old) state.old state.new) }
+        (ChangesQueues (ResetsTransferStreams (stream_numbers streams.now)) (transfer_of state.old)
+        state.old state.new) }
 {
     match state.tcb_mut() {
         None => Ok(()),
@@ -248,8 +253,8 @@ fn reset_streams(state: &mut State, streams: &[StreamId]) -> Result<(), AllocErr
 // nothing has changed.
 fn defer_reset(state: &mut State, last_tsn: u32, streams: &[StreamId]) -> Result<(), AllocError>
     ensures ok { OnOk result (ChangesQueues
-        (DefersTo (record { last_tsn = last_tsn; streams = stream_numbers streams.now })) (transfer_of state.old)
-        state.old state.new) }
+        (DefersTo (record { last_tsn = last_tsn; streams = stream_numbers streams.now }))
+        (transfer_of state.old) state.old state.new) }
     ensures err { OnErr result (state.new ≡ state.old) }
 {
     match state.tcb_mut() {
@@ -309,7 +314,8 @@ fn carry_out_reset<R: Rng>(
     request: Option<OutgoingSsnResetRequestParameter<'_>>,
     treatment: Treatment,
 ) -> Result<(), AllocError>
-    ensures { TreatsReset treatment (option_map wanted_by request.entry) context.old result context.new }
+    ensures { TreatsReset treatment (option_map wanted_by request.entry) context.old result
+        context.new }
 {
     match request {
         None => Ok(()),
@@ -408,7 +414,8 @@ fn carry_out<R: Rng>(
     request: Option<OutgoingSsnResetRequestParameter<'_>>,
     worked: &HandledRequests,
 ) -> Result<(), AllocError>
-    ensures { CarriesOut worked.now (option_map wanted_by request.entry) context.old result context.new }
+    ensures { CarriesOut worked.now (option_map wanted_by request.entry) context.old result
+        context.new }
 {
     let told = settle(context, worked.own);
     if worked.is_own_first {
@@ -435,8 +442,8 @@ fn refusal_text(parameters: &[Parameter<'_>]) -> &'static str
 // Reports a chunk that is an error. `Err`: an allocation failed, and nothing has changed.
 fn refuse<R: Rng>(context: &mut Context<R>, parameters: &[Parameter<'_>]) -> Result<(), AllocError>
     ensures { Tries R.stream
-        (report_turn ErrorKind.ProtocolViolation (reset_refusal_text (reset_parameters parameters.now)))
-        context.old result context.new }
+        (report_turn ErrorKind.ProtocolViolation
+        (reset_refusal_text (reset_parameters parameters.now))) context.old result context.new }
 {
     let text = String::from_str(context.alloc, refusal_text(parameters))?;
     context.report(ErrorKind::ProtocolViolation, text)?;
@@ -450,8 +457,8 @@ fn respond<R: Rng>(
     responses: Vec<Parameter<'static>>,
 ) -> Result<(), AllocError>
     ensures { AreResponses responses.entry.items
-        → Tries R.stream (responses_turn (reset_parameters responses.entry.items)) context.old result
-        context.new }
+        → Tries R.stream (responses_turn (reset_parameters responses.entry.items)) context.old
+        result context.new }
 {
     if responses.as_slice().is_empty() {
         return Ok(());
@@ -469,7 +476,8 @@ fn respond_and_flush<R: Rng>(
     parameters: &[Parameter<'_>],
     worked: HandledRequests,
 ) -> Result<(), AllocError>
-    ensures { Finishes R.stream (reset_parameters parameters.now) worked context.old result context.new }
+    ensures { Finishes R.stream (reset_parameters parameters.now) worked context.old result
+        context.new }
 {
     if worked.is_refused {
         return refuse(context, parameters);
@@ -526,8 +534,8 @@ pub fn handle_re_config<R: Rng>(
     context: &mut Context<R>,
     chunk: &ReConfigChunk<'_>,
 ) -> Result<(), AllocError>
-    ensures { TakesOne R.stream (ReConfigAt (reset_parameters chunk.now.parameters.items)) context.old
-        result context.new }
+    ensures { TakesOne R.stream (ReConfigAt (reset_parameters chunk.now.parameters.items))
+        context.old result context.new }
 {
     handle_parameters(context, &chunk.parameters)
 }

@@ -17,7 +17,8 @@ pub(crate) fn requested<'a>(
     parameters: &[Parameter<'a>],
 ) -> Option<OutgoingSsnResetRequestParameter<'a>>
     ensures wanted { option_map wanted_by result ≡ requested_in (reset_parameters parameters.now) }
-    ensures number { option_map asked_number result ≡ request_number_in (reset_parameters parameters.now) }
+    ensures number { option_map asked_number result
+        ≡ request_number_in (reset_parameters parameters.now) }
 {
     for parameter in parameters {
         if let Parameter::OutgoingSsnResetRequest(request) = parameter {
@@ -32,7 +33,8 @@ pub(crate) fn streams_of(
     alloc: Global,
     request: &OutgoingSsnResetRequestParameter<'_>,
 ) -> Result<Vec<StreamId>, AllocError>
-    ensures { IfOk result (λ streams. stream_numbers streams.items ≡ reset_streams_in request.now.streams.now) }
+    ensures { IfOk result
+        (λ streams. stream_numbers streams.items ≡ reset_streams_in request.now.streams.now) }
 {
     let mut streams = Vec::new(alloc);
     for index in 0..request.stream_count() {

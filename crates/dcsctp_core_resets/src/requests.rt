@@ -137,7 +137,8 @@ fn place_of(last: u32, number: u32) -> Place
 // A request of this number is handled: performed if everything was received that was sent before it, else in
 // progress (RFC 6525, section 5.2.2).
 fn perform_or_defer(number: u32, is_reached: bool) -> AnsweredRequest
-    ensures { (base : Held) → AnswersAs base result (changes.performed_request base number is_reached) }
+    ensures { (base : Held)
+        → AnswersAs base result (changes.performed_request base number is_reached) }
 {
     if is_reached {
         let result = ReconfigurationResponseResult::SuccessPerformed;
@@ -170,7 +171,8 @@ fn renew(number: u32) -> AnsweredRequest
 
 // The next request is handled by what it finds.
 fn answer_next(number: u32, state: RequestState) -> AnsweredRequest
-    ensures { (base : Held) → AnswersAs base result (changes.next_request base number (in_state state)) }
+    ensures { (base : Held)
+        → AnswersAs base result (changes.next_request base number (in_state state)) }
 {
     match state {
         RequestState::Early => perform_or_defer(number, false),
@@ -192,7 +194,8 @@ fn is_due(state: RequestState) -> bool
 
 // The last request again is answered as before; one in progress is handled again.
 fn repeated(last: LastRequest, is_reached: bool) -> AnsweredRequest
-    ensures { (base : Held) → AnswersAs base result (changes.repeated (held_with base last) last.result is_reached) }
+    ensures { (base : Held)
+        → AnswersAs base result (changes.repeated (held_with base last) last.result is_reached) }
 {
     match last.result {
         ReconfigurationResponseResult::InProgress => perform_or_defer(last.number, is_reached),
@@ -222,7 +225,8 @@ fn refused(last: LastRequest) -> AnsweredRequest
 
 // How an Outgoing SSN Reset Request of this number is answered.
 fn answer_outgoing(last: LastRequest, number: u32, state: RequestState) -> AnsweredRequest
-    ensures { (base : Held) → AnswersAs base result (outgoing_by (held_with base last) number (in_state state)
+    ensures { (base : Held)
+        → AnswersAs base result (outgoing_by (held_with base last) number (in_state state)
         (changes.request_place last.number number)) }
 {
     match place_of(last.number, number) {
@@ -298,7 +302,8 @@ impl HandledRequests {
     // Handles an answer to a request of this number. If that is our outstanding one, it was performed, has
     // failed, or is in progress (RFC 6525, section 5.2.7).
     fn take_response(&mut self, number: u32, answer: ReconfigurationResponseResult)
-        ensures { self.new ≡ with_response (is_outstanding number self.old.outstanding) answer self.old }
+        ensures { self.new
+            ≡ with_response (is_outstanding number self.old.outstanding) answer self.old }
     {
         match self.outstanding {
             Some(outstanding) if outstanding == number => match answer {
@@ -325,7 +330,8 @@ impl HandledRequests {
         parameter: &Parameter<'_>,
     ) -> Result<(), AllocError>
         requires { (self.old.has_worked && is_outgoing (parameter_said parameter.now)) ≡ false }
-        ensures { OnOk result (HandlesParameter (in_state state) (parameter_said parameter.now) self.old self.new) }
+        ensures { OnOk result
+            (HandlesParameter (in_state state) (parameter_said parameter.now) self.old self.new) }
     {
         match parameter {
             Parameter::OutgoingSsnResetRequest(request) => {
@@ -368,7 +374,9 @@ pub(crate) fn handle_requests(
     state: RequestState,
     parameters: &[Parameter<'_>],
 ) -> Result<HandledRequests, AllocError>
-    ensures { IfOk result (λ worked. HandlesParameters (in_state state) last outstanding (reset_parameters parameters.now) worked) }
+    ensures { IfOk result
+        (λ worked. HandlesParameters (in_state state) last outstanding
+        (reset_parameters parameters.now) worked) }
 {
     let mut worked = HandledRequests {
         last,

@@ -14,7 +14,8 @@ use std::ops::Bound;
 
 /// The last entry whose key is this one or less. The last of all is found without a search by key.
 pub fn entry_up_to<'x, V>(entries: &'x BTreeMap<u128, V>, key: u128) -> Option<(&'x u128, &'x V)>
-    ensures entry { option_map deref_pair result ≡ entry_before (count_up_to key entries.now.entries) entries.now.entries }
+    ensures entry { option_map deref_pair result
+        ≡ entry_before (count_up_to key entries.now.entries) entries.now.entries }
     ensures ordered { IsOrdered nat_cmp entries.now }
 {
     if entries.len() == 0 {
@@ -30,7 +31,8 @@ pub fn entry_up_to<'x, V>(entries: &'x BTreeMap<u128, V>, key: u128) -> Option<(
 
 /// The first entry whose key is greater than this one.
 pub fn entry_behind<'x, V>(entries: &'x BTreeMap<u128, V>, key: u128) -> Option<(&'x u128, &'x V)>
-    ensures entry { option_map deref_pair result ≡ slice_get entries.now.entries (count_up_to key entries.now.entries) }
+    ensures entry { option_map deref_pair result
+        ≡ slice_get entries.now.entries (count_up_to key entries.now.entries) }
     ensures ordered { IsOrdered nat_cmp entries.now }
 {
     entries
@@ -45,8 +47,13 @@ pub fn put_entry<V: Drop>(
     value: V,
 ) -> Result<(), AllocError>
     requires absent { get nat_cmp entries.old key ≡ None }
-    ensures ok { OnOk result (entries.new.entries ≡ take (count_up_to key entries.old.entries) entries.old.entries ++ (key, value) ∷ drop (count_up_to key entries.old.entries) entries.old.entries) }
-    ensures others { OnOk result ((other : ℕ) → is_at (nat_cmp key) other ≡ false → get nat_cmp entries.new other ≡ get nat_cmp entries.old other) }
+    ensures ok { OnOk result
+        (entries.new.entries
+        ≡ take (count_up_to key entries.old.entries) entries.old.entries ++ (key, value)
+        ∷ drop (count_up_to key entries.old.entries) entries.old.entries) }
+    ensures others { OnOk result
+        ((other : ℕ) → is_at (nat_cmp key) other ≡ false
+        → get nat_cmp entries.new other ≡ get nat_cmp entries.old other) }
     ensures ordered { IsOrdered nat_cmp entries.new }
     ensures err { OnErr result (entries.new.entries ≡ entries.old.entries) }
 {

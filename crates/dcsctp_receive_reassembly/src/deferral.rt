@@ -91,8 +91,10 @@ pub fn part_entries(
     streams: &NamedStreams,
     entries: &[SkippedTo],
 ) -> Result<PartedEntries, AllocError>
-    ensures within { IfOk result (λ parted. parted.within.items ≡ entries_within streams.now entries.now) }
-    ensures beside { IfOk result (λ parted. parted.beside.items ≡ entries_beside streams.now entries.now) }
+    ensures within { IfOk result
+        (λ parted. parted.within.items ≡ entries_within streams.now entries.now) }
+    ensures beside { IfOk result
+        (λ parted. parted.beside.items ≡ entries_beside streams.now entries.now) }
 {
     let mut within = Vec::new(alloc);
     let mut beside = Vec::new(alloc);
@@ -113,7 +115,8 @@ pub fn with_skips(
     tsn: u32,
     entries: &[SkippedTo],
 ) -> Result<WaitingSkips, AllocError>
-    ensures { IfOk result (λ all. skips_as all ≡ with_skips tsn entries.now (option_map skips_as skips.now)) }
+    ensures { IfOk result
+        (λ all. skips_as all ≡ with_skips tsn entries.now (option_map skips_as skips.now)) }
 {
     let mut kept = match skips {
         Some(skips) => skips.entries.clone()?,
@@ -140,8 +143,11 @@ fn skip_then(
     skips: &Option<WaitingSkips>,
     overhead: usize,
 ) -> Result<(), AllocError>
-    ensures ok { OnOk result (SkipsThen (option_map skips_as skips.now) (incoming_of incoming.old) (incoming_of incoming.new)) }
-    ensures err { OnErr result (SameIncoming (incoming_of incoming.old) (incoming_of incoming.new)) }
+    ensures ok { OnOk result
+        (SkipsThen (option_map skips_as skips.now) (incoming_of incoming.old)
+        (incoming_of incoming.new)) }
+    ensures err { OnErr result
+        (SameIncoming (incoming_of incoming.old) (incoming_of incoming.new)) }
     ensures used { Balances overhead incoming.old incoming.new }
 {
     match skips {
@@ -159,11 +165,20 @@ fn handle_deferred(
     waiting: &WaitingData,
     overhead: usize,
 ) -> Result<(), AllocError>
-    requires { held_used overhead (incoming_of incoming.old) + waiting_used overhead (waiting_model waiting.now) ≤ incoming.old.used }
-    ensures ok { OnOk result (HandlesWaiting (waiting_model waiting.now) (incoming_of incoming.old) (incoming_of incoming.new)) }
-    ensures worked { OnOk result (incoming.new.used + held_used overhead (incoming_of incoming.old) + waiting_used overhead (waiting_model waiting.now) ≡ incoming.old.used + held_used overhead (incoming_of incoming.new)) }
-    ensures err { OnErr result (SameIncoming (incoming_of incoming.old) (incoming_of incoming.new)) }
-    ensures left { OnErr result (incoming.new.used + held_used overhead (incoming_of incoming.old) ≡ incoming.old.used + held_used overhead (incoming_of incoming.new)) }
+    requires { held_used overhead (incoming_of incoming.old)
+        + waiting_used overhead (waiting_model waiting.now) ≤ incoming.old.used }
+    ensures ok { OnOk result
+        (HandlesWaiting (waiting_model waiting.now) (incoming_of incoming.old)
+        (incoming_of incoming.new)) }
+    ensures worked { OnOk result
+        (incoming.new.used + held_used overhead (incoming_of incoming.old)
+        + waiting_used overhead (waiting_model waiting.now)
+        ≡ incoming.old.used + held_used overhead (incoming_of incoming.new)) }
+    ensures err { OnErr result
+        (SameIncoming (incoming_of incoming.old) (incoming_of incoming.new)) }
+    ensures left { OnErr result
+        (incoming.new.used + held_used overhead (incoming_of incoming.old)
+        ≡ incoming.old.used + held_used overhead (incoming_of incoming.new)) }
 {
     let copy = waiting.data.copied(incoming.alloc)?;
     let used = part_used(waiting.data.payload.len(), overhead);
@@ -184,10 +199,18 @@ fn handle_all_deferred(
     waiting: &mut VecDeque<WaitingData>,
     overhead: usize,
 ) -> Result<(), AllocError>
-    requires { incoming.old.used ≡ held_used overhead (incoming_of incoming.old) + sum_by (waiting_used overhead) (map waiting_model waiting.old.items) }
-    ensures ok { OnOk result (HandlesAll (map waiting_model waiting.old.items) (incoming_of incoming.old) (incoming_of incoming.new)) }
-    ensures err { OnErr result (HandlesFront (map waiting_model waiting.old.items) (incoming_of incoming.old) (incoming_of incoming.new) (map waiting_model waiting.new.items)) }
-    ensures used { incoming.new.used ≡ held_used overhead (incoming_of incoming.new) + sum_by (waiting_used overhead) (map waiting_model waiting.new.items) }
+    requires { incoming.old.used
+        ≡ held_used overhead (incoming_of incoming.old)
+        + sum_by (waiting_used overhead) (map waiting_model waiting.old.items) }
+    ensures ok { OnOk result
+        (HandlesAll (map waiting_model waiting.old.items) (incoming_of incoming.old)
+        (incoming_of incoming.new)) }
+    ensures err { OnErr result
+        (HandlesFront (map waiting_model waiting.old.items) (incoming_of incoming.old)
+        (incoming_of incoming.new) (map waiting_model waiting.new.items)) }
+    ensures used { incoming.new.used
+        ≡ held_used overhead (incoming_of incoming.new)
+        + sum_by (waiting_used overhead) (map waiting_model waiting.new.items) }
     ensures none { OnOk result (map waiting_model waiting.new.items ≡ []) }
 {
     while !waiting.is_empty() {
@@ -204,12 +227,22 @@ pub fn handle_deferral(
     deferral: &mut Deferral,
     overhead: usize,
 ) -> Result<(), AllocError>
-    requires { incoming.old.used ≡ held_used overhead (incoming_of incoming.old) + sum_by (waiting_used overhead) (map waiting_model deferral.old.waiting.items) }
-    ensures ok { OnOk result (HandlesDeferral (deferral_of deferral.old) (incoming_of incoming.old) (incoming_of incoming.new)) }
-    ensures err { OnErr result (HandlesFront (map waiting_model deferral.old.waiting.items) (incoming_of incoming.old) (incoming_of incoming.new) (map waiting_model deferral.new.waiting.items)) }
-    ensures used { incoming.new.used ≡ held_used overhead (incoming_of incoming.new) + sum_by (waiting_used overhead) (map waiting_model deferral.new.waiting.items) }
+    requires { incoming.old.used
+        ≡ held_used overhead (incoming_of incoming.old)
+        + sum_by (waiting_used overhead) (map waiting_model deferral.old.waiting.items) }
+    ensures ok { OnOk result
+        (HandlesDeferral (deferral_of deferral.old) (incoming_of incoming.old)
+        (incoming_of incoming.new)) }
+    ensures err { OnErr result
+        (HandlesFront (map waiting_model deferral.old.waiting.items) (incoming_of incoming.old)
+        (incoming_of incoming.new) (map waiting_model deferral.new.waiting.items)) }
+    ensures used { incoming.new.used
+        ≡ held_used overhead (incoming_of incoming.new)
+        + sum_by (waiting_used overhead) (map waiting_model deferral.new.waiting.items) }
     ensures none { OnOk result (map waiting_model deferral.new.waiting.items ≡ []) }
-    ensures kept { (deferral.new.last_tsn ≡ deferral.old.last_tsn) × (deferral.new.streams ≡ deferral.old.streams) × (deferral.new.skips ≡ deferral.old.skips) }
+    ensures kept { (deferral.new.last_tsn ≡ deferral.old.last_tsn)
+        × (deferral.new.streams ≡ deferral.old.streams)
+        × (deferral.new.skips ≡ deferral.old.skips) }
 {
     handle_all_deferred(incoming, &mut deferral.waiting, overhead)?;
     skip_then(incoming, &deferral.skips, overhead)

@@ -66,7 +66,8 @@ impl Fragments {
         overhead: usize,
     ) -> Result<Assembled, AllocError>
         requires { part.place / 2 ^ 64 ≡ part.number }
-        ensures ok { IfOk result (λ outcome. AddsPart (part_of part) self.old (assembled_of outcome) self.new) }
+        ensures ok { IfOk result
+            (λ outcome. AddsPart (part_of part) self.old (assembled_of outcome) self.new) }
         ensures number { IfOk result (λ outcome. IsOfMessage part.number outcome) }
         ensures used { IfOk result (λ outcome. IsFreed overhead self.old outcome self.new) }
         ensures err { OnErr result (self.new ≡ self.old) }

@@ -29,7 +29,9 @@ pub fn ordered_streams(
     alloc: Global,
     streams: &BTreeMap<u16, Stream>,
 ) -> Result<Vec<HandoverOrderedStream>, AllocError>
-    ensures { IfOk result (λ list. list.items ≡ map (λ entry. ordered_stream entry.0 entry.1) (map entry_of streams.now.entries)) }
+    ensures { IfOk result
+        (λ list. list.items
+        ≡ map (λ entry. ordered_stream entry.0 entry.1) (map entry_of streams.now.entries)) }
 {
     let mut list = Vec::with_capacity(alloc, streams.len())?;
     for (id, stream) in streams.iter() {
@@ -54,8 +56,13 @@ fn put_stream(
     streams: &mut BTreeMap<u16, Stream>,
     state: &HandoverOrderedStream,
 ) -> Result<(), AllocError>
-    ensures streams { OnOk result ((id : ℕ) → stream_on id (map entry_of streams.new.entries) ≡ restored_over (state.now ∷ []) id (stream_on id (map entry_of streams.old.entries))) }
-    ensures used { (overhead : ℕ) → OnOk result (streams_used overhead (map entry_of streams.new.entries) ≤ streams_used overhead (map entry_of streams.old.entries)) }
+    ensures streams { OnOk result
+        ((id : ℕ) → stream_on id (map entry_of streams.new.entries)
+        ≡ restored_over (state.now ∷ []) id (stream_on id (map entry_of streams.old.entries))) }
+    ensures used { (overhead : ℕ)
+        → OnOk result
+        (streams_used overhead (map entry_of streams.new.entries)
+        ≤ streams_used overhead (map entry_of streams.old.entries)) }
 {
     let _ = streams.insert(state.id, restored_stream(alloc, state))?;
     Ok(())
@@ -66,8 +73,11 @@ pub fn restored_streams(
     alloc: Global,
     states: &[HandoverOrderedStream],
 ) -> Result<BTreeMap<u16, Stream>, AllocError>
-    ensures streams { IfOk result (λ streams. (id : ℕ) → stream_on id (map entry_of streams.entries) ≡ restored_stream id states.now) }
-    ensures used { (overhead : ℕ) → IfOk result (λ streams. streams_used overhead (map entry_of streams.entries) ≡ 0) }
+    ensures streams { IfOk result
+        (λ streams. (id : ℕ)
+        → stream_on id (map entry_of streams.entries) ≡ restored_stream id states.now) }
+    ensures used { (overhead : ℕ)
+        → IfOk result (λ streams. streams_used overhead (map entry_of streams.entries) ≡ 0) }
 {
     let mut streams = BTreeMap::new(alloc);
     for state in states.iter().rev() {

@@ -55,9 +55,13 @@ pub fn make_stream(
     id: StreamId,
 ) -> Result<(), AllocError>
     ensures made { OnOk result (IsSome (get nat_cmp streams.new id.0)) }
-    ensures kept { (other : ℕ) → IsSome (get nat_cmp streams.old other) → IsSome (get nat_cmp streams.new other) }
-    ensures streams { KeepsStreams (map entry_of streams.old.entries) (map entry_of streams.new.entries) }
-    ensures used { (overhead : ℕ) → streams_used overhead (map entry_of streams.new.entries) ≡ streams_used overhead (map entry_of streams.old.entries) }
+    ensures kept { (other : ℕ) → IsSome (get nat_cmp streams.old other)
+        → IsSome (get nat_cmp streams.new other) }
+    ensures streams { KeepsStreams (map entry_of streams.old.entries)
+        (map entry_of streams.new.entries) }
+    ensures used { (overhead : ℕ)
+        → streams_used overhead (map entry_of streams.new.entries)
+        ≡ streams_used overhead (map entry_of streams.old.entries) }
 {
     if !streams.contains_key(&id.0) {
         let _ = streams.insert(id.0, Stream::new(alloc, id))?;
@@ -75,10 +79,27 @@ fn add_to_existing_stream(
     ready: &mut VecDeque<Message>,
 ) -> Result<Counted, AllocError>
     requires { IsSome (get nat_cmp streams.old chunk.stream_id.0) }
-    ensures ok { IfOk result (λ counted. TakesOnStream tsn_number (chunk_of chunk) (stream_on chunk.stream_id.0 (map entry_of streams.old.entries)) (map message_content ready.old.items) counted.taken (stream_on chunk.stream_id.0 (map entry_of streams.new.entries)) (map message_content ready.new.items)) }
-    ensures others { (other : ℕ) → (other ≡ chunk.stream_id.0 → ⊥) → stream_on other (map entry_of streams.new.entries) ≡ stream_on other (map entry_of streams.old.entries) }
-    ensures used { IfOk result (λ counted. CountsPart (length chunk.payload.items + overhead) (streams_used overhead (map entry_of streams.old.entries) + ready_bytes (map message_content ready.old.items)) counted (streams_used overhead (map entry_of streams.new.entries) + ready_bytes (map message_content ready.new.items))) }
-    ensures err { OnErr result ((map message_content ready.new.items ≡ map message_content ready.old.items) × (stream_on chunk.stream_id.0 (map entry_of streams.new.entries) ≡ stream_on chunk.stream_id.0 (map entry_of streams.old.entries)) × (streams_used overhead (map entry_of streams.new.entries) ≡ streams_used overhead (map entry_of streams.old.entries))) }
+    ensures ok { IfOk result
+        (λ counted. TakesOnStream tsn_number (chunk_of chunk)
+        (stream_on chunk.stream_id.0 (map entry_of streams.old.entries))
+        (map message_content ready.old.items) counted.taken
+        (stream_on chunk.stream_id.0 (map entry_of streams.new.entries))
+        (map message_content ready.new.items)) }
+    ensures others { (other : ℕ) → (other ≡ chunk.stream_id.0 → ⊥)
+        → stream_on other (map entry_of streams.new.entries)
+        ≡ stream_on other (map entry_of streams.old.entries) }
+    ensures used { IfOk result
+        (λ counted. CountsPart (length chunk.payload.items + overhead)
+        (streams_used overhead (map entry_of streams.old.entries)
+        + ready_bytes (map message_content ready.old.items)) counted
+        (streams_used overhead (map entry_of streams.new.entries)
+        + ready_bytes (map message_content ready.new.items))) }
+    ensures err { OnErr result
+        ((map message_content ready.new.items ≡ map message_content ready.old.items)
+        × (stream_on chunk.stream_id.0 (map entry_of streams.new.entries)
+        ≡ stream_on chunk.stream_id.0 (map entry_of streams.old.entries))
+        × (streams_used overhead (map entry_of streams.new.entries)
+        ≡ streams_used overhead (map entry_of streams.old.entries))) }
 {
     let stream = streams.get_mut(&chunk.stream_id.0).unwrap();
     let counted = stream.route_part(alloc, tsn_number, chunk, overhead, ready)?;
@@ -94,10 +115,27 @@ fn add_to_new_stream(
     overhead: usize,
     ready: &mut VecDeque<Message>,
 ) -> Result<Counted, AllocError>
-    ensures ok { IfOk result (λ counted. TakesOnStream tsn_number (chunk_of chunk) (stream_on chunk.stream_id.0 (map entry_of streams.old.entries)) (map message_content ready.old.items) counted.taken (stream_on chunk.stream_id.0 (map entry_of streams.new.entries)) (map message_content ready.new.items)) }
-    ensures others { (other : ℕ) → (other ≡ chunk.stream_id.0 → ⊥) → stream_on other (map entry_of streams.new.entries) ≡ stream_on other (map entry_of streams.old.entries) }
-    ensures used { IfOk result (λ counted. CountsPart (length chunk.payload.items + overhead) (streams_used overhead (map entry_of streams.old.entries) + ready_bytes (map message_content ready.old.items)) counted (streams_used overhead (map entry_of streams.new.entries) + ready_bytes (map message_content ready.new.items))) }
-    ensures err { OnErr result ((map message_content ready.new.items ≡ map message_content ready.old.items) × (stream_on chunk.stream_id.0 (map entry_of streams.new.entries) ≡ stream_on chunk.stream_id.0 (map entry_of streams.old.entries)) × (streams_used overhead (map entry_of streams.new.entries) ≡ streams_used overhead (map entry_of streams.old.entries))) }
+    ensures ok { IfOk result
+        (λ counted. TakesOnStream tsn_number (chunk_of chunk)
+        (stream_on chunk.stream_id.0 (map entry_of streams.old.entries))
+        (map message_content ready.old.items) counted.taken
+        (stream_on chunk.stream_id.0 (map entry_of streams.new.entries))
+        (map message_content ready.new.items)) }
+    ensures others { (other : ℕ) → (other ≡ chunk.stream_id.0 → ⊥)
+        → stream_on other (map entry_of streams.new.entries)
+        ≡ stream_on other (map entry_of streams.old.entries) }
+    ensures used { IfOk result
+        (λ counted. CountsPart (length chunk.payload.items + overhead)
+        (streams_used overhead (map entry_of streams.old.entries)
+        + ready_bytes (map message_content ready.old.items)) counted
+        (streams_used overhead (map entry_of streams.new.entries)
+        + ready_bytes (map message_content ready.new.items))) }
+    ensures err { OnErr result
+        ((map message_content ready.new.items ≡ map message_content ready.old.items)
+        × (stream_on chunk.stream_id.0 (map entry_of streams.new.entries)
+        ≡ stream_on chunk.stream_id.0 (map entry_of streams.old.entries))
+        × (streams_used overhead (map entry_of streams.new.entries)
+        ≡ streams_used overhead (map entry_of streams.old.entries))) }
 {
     make_stream(alloc, streams, chunk.stream_id)?;
     add_to_existing_stream(alloc, streams, tsn_number, chunk, overhead, ready)
@@ -114,10 +152,27 @@ fn add_to_stream(
     overhead: usize,
     ready: &mut VecDeque<Message>,
 ) -> Result<Counted, AllocError>
-    ensures ok { IfOk result (λ counted. TakesOnStream tsn_number (chunk_of chunk) (stream_on chunk.stream_id.0 (map entry_of streams.old.entries)) (map message_content ready.old.items) counted.taken (stream_on chunk.stream_id.0 (map entry_of streams.new.entries)) (map message_content ready.new.items)) }
-    ensures others { (other : ℕ) → (other ≡ chunk.stream_id.0 → ⊥) → stream_on other (map entry_of streams.new.entries) ≡ stream_on other (map entry_of streams.old.entries) }
-    ensures used { IfOk result (λ counted. CountsPart (length chunk.payload.items + overhead) (streams_used overhead (map entry_of streams.old.entries) + ready_bytes (map message_content ready.old.items)) counted (streams_used overhead (map entry_of streams.new.entries) + ready_bytes (map message_content ready.new.items))) }
-    ensures err { OnErr result ((map message_content ready.new.items ≡ map message_content ready.old.items) × (stream_on chunk.stream_id.0 (map entry_of streams.new.entries) ≡ stream_on chunk.stream_id.0 (map entry_of streams.old.entries)) × (streams_used overhead (map entry_of streams.new.entries) ≡ streams_used overhead (map entry_of streams.old.entries))) }
+    ensures ok { IfOk result
+        (λ counted. TakesOnStream tsn_number (chunk_of chunk)
+        (stream_on chunk.stream_id.0 (map entry_of streams.old.entries))
+        (map message_content ready.old.items) counted.taken
+        (stream_on chunk.stream_id.0 (map entry_of streams.new.entries))
+        (map message_content ready.new.items)) }
+    ensures others { (other : ℕ) → (other ≡ chunk.stream_id.0 → ⊥)
+        → stream_on other (map entry_of streams.new.entries)
+        ≡ stream_on other (map entry_of streams.old.entries) }
+    ensures used { IfOk result
+        (λ counted. CountsPart (length chunk.payload.items + overhead)
+        (streams_used overhead (map entry_of streams.old.entries)
+        + ready_bytes (map message_content ready.old.items)) counted
+        (streams_used overhead (map entry_of streams.new.entries)
+        + ready_bytes (map message_content ready.new.items))) }
+    ensures err { OnErr result
+        ((map message_content ready.new.items ≡ map message_content ready.old.items)
+        × (stream_on chunk.stream_id.0 (map entry_of streams.new.entries)
+        ≡ stream_on chunk.stream_id.0 (map entry_of streams.old.entries))
+        × (streams_used overhead (map entry_of streams.new.entries)
+        ≡ streams_used overhead (map entry_of streams.old.entries))) }
 {
     match streams.get_mut(&chunk.stream_id.0) {
         Some(stream) => {
@@ -130,7 +185,8 @@ fn add_to_stream(
 
 // Does something of a stream wait for more?
 fn any_holds_parts(streams: &BTreeMap<u16, Stream>) -> bool
-    ensures any { result ≡ list_any (λ entry. holds_parts entry.1) (map entry_of streams.now.entries) }
+    ensures any { result
+        ≡ list_any (λ entry. holds_parts entry.1) (map entry_of streams.now.entries) }
     ensures order { AreInOrder (map entry_of streams.now.entries) }
 {
     for (_, stream) in streams.iter() {
@@ -160,7 +216,11 @@ impl Incoming {
 
     // CountsPart data that was taken.
     fn count(&mut self, counted: Counted)
-        ensures incoming { incoming_of self.new ≡ record (incoming_of self.old) { messages_received = received_more counted.taken.ready self.old.messages_received } }
+        ensures incoming { incoming_of self.new
+            ≡ record (incoming_of self.old) {
+              messages_received = received_more counted.taken.ready
+                  self.old.messages_received;
+            } }
         ensures used { self.new.used ≡ capped_u128 (self.old.used - counted.freed + counted.added) }
     {
         self.used = self
@@ -180,7 +240,9 @@ impl Incoming {
         overhead: usize,
     ) -> Result<(), AllocError>
         requires { self.old.used + (length chunk.payload.items + overhead) < 2 ^ 128 }
-        ensures ok { OnOk result (TakesUnorderedData tsn_number (chunk_of chunk) (incoming_of self.old) (incoming_of self.new)) }
+        ensures ok { OnOk result
+            (TakesUnorderedData tsn_number (chunk_of chunk) (incoming_of self.old)
+            (incoming_of self.new)) }
         ensures used { Balances overhead self.old self.new }
         ensures err { OnErr result (SameIncoming (incoming_of self.old) (incoming_of self.new)) }
         ensures count { OnErr result (self.new.used ≡ self.old.used) }
@@ -204,7 +266,9 @@ impl Incoming {
         overhead: usize,
     ) -> Result<(), AllocError>
         requires { self.old.used + (length chunk.payload.items + overhead) < 2 ^ 128 }
-        ensures ok { OnOk result (TakesStreamData tsn_number (chunk_of chunk) (incoming_of self.old) (incoming_of self.new)) }
+        ensures ok { OnOk result
+            (TakesStreamData tsn_number (chunk_of chunk) (incoming_of self.old)
+            (incoming_of self.new)) }
         ensures used { Balances overhead self.old self.new }
         ensures err { OnErr result (SameIncoming (incoming_of self.old) (incoming_of self.new)) }
         ensures count { OnErr result (self.new.used ≡ self.old.used) }
@@ -230,7 +294,9 @@ impl Incoming {
         overhead: usize,
     ) -> Result<(), AllocError>
         requires { self.old.used + (length chunk.payload.items + overhead) < 2 ^ 128 }
-        ensures ok { OnOk result (TakesChunk tsn_number chunk.numbering (chunk_of chunk) (incoming_of self.old) (incoming_of self.new)) }
+        ensures ok { OnOk result
+            (TakesChunk tsn_number chunk.numbering (chunk_of chunk) (incoming_of self.old)
+            (incoming_of self.new)) }
         ensures used { Balances overhead self.old self.new }
         ensures err { OnErr result (SameIncoming (incoming_of self.old) (incoming_of self.new)) }
         ensures count { OnErr result (self.new.used ≡ self.old.used) }
@@ -249,7 +315,9 @@ impl Incoming {
     #[inline(always)]
     pub fn add_data(&mut self, tsn: u32, chunk: Data, overhead: usize) -> Result<(), AllocError>
         requires { self.old.used + (length chunk.payload.items + overhead) < 2 ^ 128 }
-        ensures ok { OnOk result (TakesIncomingChunk tsn (chunk_of chunk) (incoming_of self.old) (incoming_of self.new)) }
+        ensures ok { OnOk result
+            (TakesIncomingChunk tsn (chunk_of chunk) (incoming_of self.old)
+            (incoming_of self.new)) }
         ensures used { Balances overhead self.old self.new }
         ensures err { OnErr result (SameIncoming (incoming_of self.old) (incoming_of self.new)) }
         ensures count { OnErr result (self.new.used ≡ self.old.used) }
@@ -270,9 +338,18 @@ impl Incoming {
 
     /// Takes the message that became ready first.
     pub fn next_message(&mut self) -> Option<Message>
-        ensures some { IfSome result (λ message. map message_content self.old.ready.items ≡ message_content message ∷ map message_content self.new.ready.items) }
-        ensures left { IfSome result (λ _. incoming_of self.new ≡ record (incoming_of self.old) { ready = map message_content self.new.ready.items }) }
-        ensures none { IfNone result ((map message_content self.old.ready.items ≡ []) × (incoming_of self.new ≡ incoming_of self.old)) }
+        ensures some { IfSome result
+            (λ message. map message_content self.old.ready.items
+            ≡ message_content message ∷ map message_content self.new.ready.items) }
+        ensures left { IfSome result
+            (λ _. incoming_of self.new
+            ≡ record (incoming_of self.old) {
+              ready = map message_content
+                  self.new.ready.items;
+            }) }
+        ensures none { IfNone result
+            ((map message_content self.old.ready.items ≡ [])
+            × (incoming_of self.new ≡ incoming_of self.old)) }
         ensures used { (overhead : ℕ) → Balances overhead self.old self.new }
     {
         match self.ready.pop_front() {

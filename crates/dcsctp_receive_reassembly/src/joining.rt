@@ -51,7 +51,10 @@ fn precedes(part: &Part, first: u128, run: &Run) -> bool
 
 // Adds a copy of the payloads.
 fn copy_payloads(joined: &mut Vec<u8>, payloads: &VecDeque<Vec<u8>>) -> Result<(), AllocError>
-    ensures { OnOk result (joined.new.items ≡ joined.old.items ++ joined_bytes (map (λ payload. payload.items) payloads.now.items)) }
+    ensures { OnOk result
+        (joined.new.items
+        ≡ joined.old.items
+        ++ joined_bytes (map (λ payload. payload.items) payloads.now.items)) }
 {
     for index in 0..payloads.len() {
         joined.extend_from_slice(payloads[index].as_slice())?;
@@ -61,7 +64,8 @@ fn copy_payloads(joined: &mut Vec<u8>, payloads: &VecDeque<Vec<u8>>) -> Result<(
 
 // Adds a copy of the payloads of a run.
 fn copy_run(joined: &mut Vec<u8>, run: &Run) -> Result<(), AllocError>
-    ensures { OnOk result (joined.new.items ≡ joined.old.items ++ joined_bytes (run_model (0, run.now)).payloads) }
+    ensures { OnOk result
+        (joined.new.items ≡ joined.old.items ++ joined_bytes (run_model (0, run.now)).payloads) }
 {
     joined.extend_from_slice(run.payload.as_slice())?;
     copy_payloads(joined, &run.others)
@@ -99,8 +103,14 @@ fn joined(
     behind: Option<(u128, &Run)>,
     overhead: usize,
 ) -> Result<Whole, AllocError>
-    ensures used { IfOk result (λ whole. whole.used ≡ capped_u128 (lent_used overhead (lent_run before.entry) + lent_used overhead (lent_run behind.entry))) }
-    ensures whole { IfOk result (λ whole. whole_of whole ≡ whole_run (merged (lent_run before.entry) (part_of part) (lent_run behind.entry))) }
+    ensures used { IfOk result
+        (λ whole. whole.used
+        ≡ capped_u128
+        (lent_used overhead (lent_run before.entry)
+        + lent_used overhead (lent_run behind.entry))) }
+    ensures whole { IfOk result
+        (λ whole. whole_of whole
+        ≡ whole_run (merged (lent_run before.entry) (part_of part) (lent_run behind.entry))) }
 {
     if before.is_none() && behind.is_none() {
         return Ok(Whole {
@@ -150,7 +160,9 @@ fn run_before<'x>(nearest: Option<(u128, &'x Run)>, part: &Part) -> Option<(u128
 
 // The run that follows on the part. Nothing follows on an end.
 fn run_behind<'x>(part: &Part, runs: &'x BTreeMap<u128, Run>) -> Option<(u128, &'x Run)>
-    ensures { lent_run result ≡ run_behind (part_of part.now) (count_up_to part.now.place runs.now.entries) (map run_model runs.now.entries) }
+    ensures { lent_run result
+        ≡ run_behind (part_of part.now) (count_up_to part.now.place runs.now.entries)
+        (map run_model runs.now.entries) }
 {
     if part.is_end {
         return None;
@@ -165,7 +177,8 @@ fn run_behind<'x>(part: &Part, runs: &'x BTreeMap<u128, Run>) -> Option<(u128, &
 
 // Is the message of the part whole with the runs on both sides?
 fn is_whole(before: Option<(u128, &Run)>, part: &Part, behind: Option<(u128, &Run)>) -> bool
-    ensures { result ≡ is_whole (merged (lent_run before.entry) (part_of part.now) (lent_run behind.entry)) }
+    ensures { result
+        ≡ is_whole (merged (lent_run before.entry) (part_of part.now) (lent_run behind.entry)) }
 {
     let has_beginning = match before {
         Some((_, run)) => run.has_beginning,
@@ -180,11 +193,17 @@ fn is_whole(before: Option<(u128, &Run)>, part: &Part, behind: Option<(u128, &Ru
 
 // The part goes alone among the runs.
 fn keep_alone(alloc: Global, runs: &mut BTreeMap<u128, Run>, part: Part) -> Result<(), AllocError>
-    requires absent { is_held_before (count_up_to part.place runs.old.entries) (map run_model runs.old.entries) part.place ≡ false }
+    requires absent { is_held_before (count_up_to part.place runs.old.entries)
+        (map run_model runs.old.entries) part.place ≡ false }
     requires ordered { IsOrdered nat_cmp runs.old }
-    ensures ok { OnOk result (map run_model runs.new.entries ≡ with_part false false (count_up_to part.place runs.old.entries) (part_of part) (map run_model runs.old.entries)) }
+    ensures ok { OnOk result
+        (map run_model runs.new.entries
+        ≡ with_part false false (count_up_to part.place runs.old.entries) (part_of part)
+        (map run_model runs.old.entries)) }
     ensures err { OnErr result (runs.new.entries ≡ runs.old.entries) }
-    ensures others { OnOk result ((other : ℕ) → is_at (nat_cmp part.place) other ≡ false → get nat_cmp runs.new other ≡ get nat_cmp runs.old other) }
+    ensures others { OnOk result
+        ((other : ℕ) → is_at (nat_cmp part.place) other ≡ false
+        → get nat_cmp runs.new other ≡ get nat_cmp runs.old other) }
     ensures ordered { IsOrdered nat_cmp runs.new }
 {
     put_entry(runs, part.place, single(alloc, part))
@@ -192,8 +211,12 @@ fn keep_alone(alloc: Global, runs: &mut BTreeMap<u128, Run>, part: Part) -> Resu
 
 // The part goes to the run before it, which begins at `first`.
 fn keep_before(runs: &mut BTreeMap<u128, Run>, first: u128, part: Part) -> Result<(), AllocError>
-    requires before { RunBeginsAt first (entry_before (count_up_to part.place runs.old.entries) (map run_model runs.old.entries)) }
-    ensures ok { OnOk result (map run_model runs.new.entries ≡ with_part true false (count_up_to part.place runs.old.entries) (part_of part) (map run_model runs.old.entries)) }
+    requires before { RunBeginsAt first
+        (entry_before (count_up_to part.place runs.old.entries) (map run_model runs.old.entries)) }
+    ensures ok { OnOk result
+        (map run_model runs.new.entries
+        ≡ with_part true false (count_up_to part.place runs.old.entries) (part_of part)
+        (map run_model runs.old.entries)) }
     ensures err { OnErr result (map run_model runs.new.entries ≡ map run_model runs.old.entries) }
 {
     append(runs.get_mut(&first).unwrap(), part)
@@ -207,10 +230,15 @@ fn keep_behind(
     part: Part,
     next: u128,
 ) -> Result<(), AllocError>
-    requires absent { is_held_before (count_up_to part.place runs.old.entries) (map run_model runs.old.entries) part.place ≡ false }
-    requires behind { RunBeginsAt next (slice_get (map run_model runs.old.entries) (count_up_to part.place runs.old.entries)) }
+    requires absent { is_held_before (count_up_to part.place runs.old.entries)
+        (map run_model runs.old.entries) part.place ≡ false }
+    requires behind { RunBeginsAt next
+        (slice_get (map run_model runs.old.entries) (count_up_to part.place runs.old.entries)) }
     requires ordered { IsOrdered nat_cmp runs.old }
-    ensures ok { OnOk result (map run_model runs.new.entries ≡ with_part false true (count_up_to part.place runs.old.entries) (part_of part) (map run_model runs.old.entries)) }
+    ensures ok { OnOk result
+        (map run_model runs.new.entries
+        ≡ with_part false true (count_up_to part.place runs.old.entries) (part_of part)
+        (map run_model runs.old.entries)) }
     ensures err { OnErr result (map run_model runs.new.entries ≡ map run_model runs.old.entries) }
 {
     let place = part.place;
@@ -228,10 +256,15 @@ fn keep_between(
     part: Part,
     next: u128,
 ) -> Result<(), AllocError>
-    requires before { RunBeginsAt first (entry_before (count_up_to part.place runs.old.entries) (map run_model runs.old.entries)) }
-    requires behind { RunBeginsAt next (slice_get (map run_model runs.old.entries) (count_up_to part.place runs.old.entries)) }
+    requires before { RunBeginsAt first
+        (entry_before (count_up_to part.place runs.old.entries) (map run_model runs.old.entries)) }
+    requires behind { RunBeginsAt next
+        (slice_get (map run_model runs.old.entries) (count_up_to part.place runs.old.entries)) }
     requires ordered { IsOrdered nat_cmp runs.old }
-    ensures ok { OnOk result (map run_model runs.new.entries ≡ with_part true true (count_up_to part.place runs.old.entries) (part_of part) (map run_model runs.old.entries)) }
+    ensures ok { OnOk result
+        (map run_model runs.new.entries
+        ≡ with_part true true (count_up_to part.place runs.old.entries) (part_of part)
+        (map run_model runs.old.entries)) }
     ensures err { OnErr result (map run_model runs.new.entries ≡ map run_model runs.old.entries) }
 {
     reserve_between(runs, first, next)?;
@@ -248,11 +281,17 @@ fn keep(
     part: Part,
     next: Option<u128>,
 ) -> Result<(), AllocError>
-    requires absent { is_held_before (count_up_to part.place runs.old.entries) (map run_model runs.old.entries) part.place ≡ false }
-    requires before { BeginsIf first (entry_before (count_up_to part.place runs.old.entries) (map run_model runs.old.entries)) }
-    requires behind { BeginsIf next (slice_get (map run_model runs.old.entries) (count_up_to part.place runs.old.entries)) }
+    requires absent { is_held_before (count_up_to part.place runs.old.entries)
+        (map run_model runs.old.entries) part.place ≡ false }
+    requires before { BeginsIf first
+        (entry_before (count_up_to part.place runs.old.entries) (map run_model runs.old.entries)) }
+    requires behind { BeginsIf next
+        (slice_get (map run_model runs.old.entries) (count_up_to part.place runs.old.entries)) }
     requires ordered { IsOrdered nat_cmp runs.old }
-    ensures ok { OnOk result (map run_model runs.new.entries ≡ with_part (is_some first) (is_some next) (count_up_to part.place runs.old.entries) (part_of part) (map run_model runs.old.entries)) }
+    ensures ok { OnOk result
+        (map run_model runs.new.entries
+        ≡ with_part (is_some first) (is_some next) (count_up_to part.place runs.old.entries)
+        (part_of part) (map run_model runs.old.entries)) }
     ensures err { OnErr result (map run_model runs.new.entries ≡ map run_model runs.old.entries) }
 {
     match (first, next) {
@@ -266,7 +305,10 @@ fn keep(
 // Takes the runs out that a message was joined from: they begin at these places.
 fn take_out(runs: &mut BTreeMap<u128, Run>, first: Option<u128>, next: Option<u128>)
     requires ordered { IsOrdered nat_cmp runs.old }
-    ensures { (at : ℕ) → BeginsIf first (entry_before at (map run_model runs.old.entries)) → BeginsIf next (slice_get (map run_model runs.old.entries) at) → map run_model runs.new.entries ≡ without_runs (is_some first) (is_some next) at (map run_model runs.old.entries) }
+    ensures { (at : ℕ) → BeginsIf first (entry_before at (map run_model runs.old.entries))
+        → BeginsIf next (slice_get (map run_model runs.old.entries) at)
+        → map run_model runs.new.entries
+        ≡ without_runs (is_some first) (is_some next) at (map run_model runs.old.entries) }
 {
     match (first, next) {
         (Some(first), Some(next)) => {
@@ -309,9 +351,13 @@ pub fn add_part(
     part: Part,
     overhead: usize,
 ) -> Result<Assembled, AllocError>
-    ensures ok { IfOk result (λ outcome. AddsPart (part_of part) (map run_model runs.old.entries) (assembled_of outcome) (map run_model runs.new.entries)) }
+    ensures ok { IfOk result
+        (λ outcome. AddsPart (part_of part) (map run_model runs.old.entries) (assembled_of outcome)
+        (map run_model runs.new.entries)) }
     ensures number { IfOk result (λ outcome. IsOfMessage part.number outcome) }
-    ensures used { IfOk result (λ outcome. IsFreed overhead (map run_model runs.old.entries) outcome (map run_model runs.new.entries)) }
+    ensures used { IfOk result
+        (λ outcome. IsFreed overhead (map run_model runs.old.entries) outcome
+        (map run_model runs.new.entries)) }
     ensures err { OnErr result (map run_model runs.new.entries ≡ map run_model runs.old.entries) }
 {
     let nearest = run_up_to(runs, part.place);

@@ -28,8 +28,12 @@ use std::collections::{BTreeMap, VecDeque};
 
 /// The part follows on the last part of a run.
 pub fn append(run: &mut Run, part: Part) -> Result<(), AllocError>
-    ensures ok { OnOk result ((first : ℕ) → run_model (first, run.new) ≡ merged (Some (run_model (first, run.old))) (part_of part) None) }
-    ensures err { OnErr result ((first : ℕ) → run_model (first, run.new) ≡ run_model (first, run.old)) }
+    ensures ok { OnOk result
+        ((first : ℕ)
+        → run_model (first, run.new)
+        ≡ merged (Some (run_model (first, run.old))) (part_of part) None) }
+    ensures err { OnErr result
+        ((first : ℕ) → run_model (first, run.new) ≡ run_model (first, run.old)) }
 {
     run.others.push_back(part.payload)?;
     run.has_end = part.is_end;
@@ -39,7 +43,8 @@ pub fn append(run: &mut Run, part: Part) -> Result<(), AllocError>
 /// The parts of another run follow on those of a run of one part. There is room for one more in front.
 pub fn take_over(run: &mut Run, behind: Run)
     requires { length behind.others.items < deque_capacity behind.others }
-    ensures { (next : ℕ) (part : PartModel) → run_model (part.place, run.old) ≡ single_run part → run_model (part.place, run.new) ≡ merged None part (Some (run_model (next, behind))) }
+    ensures { (next : ℕ) (part : PartModel) → run_model (part.place, run.old) ≡ single_run part
+        → run_model (part.place, run.new) ≡ merged None part (Some (run_model (next, behind))) }
 {
     let Run {
         payload,
@@ -54,8 +59,11 @@ pub fn take_over(run: &mut Run, behind: Run)
 
 // Appends the part, and then the parts of `behind`, to those of a run that has room for them.
 fn link_behind(run: &mut Run, payload: Vec<u8>, behind: Run)
-    requires { length run.old.others.items + 2 + length behind.others.items ≤ deque_capacity run.old.others }
-    ensures { (first next : ℕ) (part : PartModel) → part.payload ≡ payload.items → run_model (first, run.new) ≡ merged (Some (run_model (first, run.old))) part (Some (run_model (next, behind))) }
+    requires { length run.old.others.items + 2 + length behind.others.items
+        ≤ deque_capacity run.old.others }
+    ensures { (first next : ℕ) (part : PartModel) → part.payload ≡ payload.items
+        → run_model (first, run.new)
+        ≡ merged (Some (run_model (first, run.old))) part (Some (run_model (next, behind))) }
 {
     let Run {
         payload: next,
@@ -82,8 +90,11 @@ fn move_in_front(front: &mut VecDeque<Vec<u8>>, others: &mut VecDeque<Vec<u8>>)
 // Puts the parts of `run` except its first, and then the part, in front of the parts of `behind`, which has
 // room for them. `run` takes them all over.
 fn link_in_front(run: &mut Run, payload: Vec<u8>, behind: Run)
-    requires { length run.old.others.items + 2 + length behind.others.items ≤ deque_capacity behind.others }
-    ensures { (first next : ℕ) (part : PartModel) → part.payload ≡ payload.items → run_model (first, run.new) ≡ merged (Some (run_model (first, run.old))) part (Some (run_model (next, behind))) }
+    requires { length run.old.others.items + 2 + length behind.others.items
+        ≤ deque_capacity behind.others }
+    ensures { (first next : ℕ) (part : PartModel) → part.payload ≡ payload.items
+        → run_model (first, run.new)
+        ≡ merged (Some (run_model (first, run.old))) part (Some (run_model (next, behind))) }
 {
     let Run {
         payload: next,
@@ -102,7 +113,9 @@ fn link_in_front(run: &mut Run, payload: Vec<u8>, behind: Run)
 /// longer one, in which there is room.
 pub fn link(run: &mut Run, payload: Vec<u8>, behind: Run)
     requires { CanLink run.old behind }
-    ensures { (first next : ℕ) (part : PartModel) → part.payload ≡ payload.items → run_model (first, run.new) ≡ merged (Some (run_model (first, run.old))) part (Some (run_model (next, behind))) }
+    ensures { (first next : ℕ) (part : PartModel) → part.payload ≡ payload.items
+        → run_model (first, run.new)
+        ≡ merged (Some (run_model (first, run.old))) part (Some (run_model (next, behind))) }
 {
     if behind.others.len() <= run.others.len() {
         link_behind(run, payload, behind);
@@ -114,7 +127,8 @@ pub fn link(run: &mut Run, payload: Vec<u8>, behind: Run)
 // Makes room in a run for that many more parts.
 fn reserve_in(run: &mut Run, count: usize) -> Result<(), AllocError>
     ensures kept { (first : ℕ) → run_model (first, run.new) ≡ run_model (first, run.old) }
-    ensures room { OnOk result (length run.new.others.items + count ≤ deque_capacity run.new.others) }
+    ensures room { OnOk result
+        (length run.new.others.items + count ≤ deque_capacity run.new.others) }
 {
     run.others.try_reserve(count)?;
     Ok(())

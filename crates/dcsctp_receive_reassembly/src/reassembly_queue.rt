@@ -87,7 +87,9 @@ impl ReassemblyQueue {
 
     /// Takes the message that became ready first; none if none is ready. Allocates nothing.
     pub fn get_next_message(&mut self) -> Option<Message>
-        ensures some { IfSome result (λ message. self.old.incoming.ready ≡ message_content message ∷ self.new.incoming.ready) }
+        ensures some { IfSome result
+            (λ message. self.old.incoming.ready
+            ≡ message_content message ∷ self.new.incoming.ready) }
         ensures left { IfSome result (λ _. self.new ≡ with_ready self.new.incoming.ready self.old) }
         ensures none { IfNone result ((self.old.incoming.ready ≡ []) × (self.new ≡ self.old)) }
     {
@@ -128,7 +130,8 @@ impl ReassemblyQueue {
     /// Adds what a snapshot has of it: the TSN that was handled last, and for each stream the number of its
     /// next ordered message. `Err`: an allocation failed, and nothing has changed.
     pub fn add_to_handover_state(&self, rx: &mut HandoverReceive) -> Result<(), AllocError>
-        ensures ok { OnOk result (received_part rx.new ≡ with_reassembly self.now (received_part rx.old)) }
+        ensures ok { OnOk result
+            (received_part rx.new ≡ with_reassembly self.now (received_part rx.old)) }
         ensures err { OnErr result (received_part rx.new ≡ received_part rx.old) }
     {
         rx.ordered_streams = ordered_streams(self.incoming.alloc, &self.incoming.streams)?;
@@ -299,7 +302,9 @@ impl ReassemblyQueue {
     // others it is handled. All memory is allocated before anything changes.
     fn forward_beside(&mut self, tsn: u32, skipped: &[SkippedTo]) -> Result<(), AllocError>
         requires { is_forward_deferred tsn self.old.deferral ≡ true }
-        ensures ok { OnOk result ((deferral : DeferralModel) → self.old.deferral ≡ Some deferral → ForwardsBeside tsn skipped.now deferral self.old self.new) }
+        ensures ok { OnOk result
+            ((deferral : DeferralModel) → self.old.deferral ≡ Some deferral
+            → ForwardsBeside tsn skipped.now deferral self.old self.new) }
         ensures err { OnErr result (SameQueue self.old self.new) }
     {
         if let Some(deferral) = &mut self.deferral {
@@ -327,7 +332,8 @@ impl ReassemblyQueue {
         sender_last_assigned_tsn: u32,
         streams: &[StreamId],
     ) -> Result<(), AllocError>
-        ensures ok { OnOk result (self.new ≡ deferring sender_last_assigned_tsn (stream_numbers streams.now) self.old) }
+        ensures ok { OnOk result
+            (self.new ≡ deferring sender_last_assigned_tsn (stream_numbers streams.now) self.old) }
         ensures err { OnErr result (self.new ≡ self.old) }
     {
         if self.deferral.is_some() {

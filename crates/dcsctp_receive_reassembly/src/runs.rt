@@ -81,7 +81,8 @@ pub fn holds(first: u128, run: &Run, place: u128) -> bool
 /// The last run that begins at this place or before it, and where. The last of all is found without a search
 /// by key.
 pub fn run_up_to<'x>(runs: &'x BTreeMap<u128, Run>, place: u128) -> Option<(u128, &'x Run)>
-    ensures run { lent_run result ≡ entry_before (count_up_to place runs.now.entries) (map run_model runs.now.entries) }
+    ensures run { lent_run result
+        ≡ entry_before (count_up_to place runs.now.entries) (map run_model runs.now.entries) }
     ensures ordered { IsOrdered nat_cmp runs.now }
 {
     let (first, run) = entry_up_to(runs, place)?;
@@ -90,7 +91,8 @@ pub fn run_up_to<'x>(runs: &'x BTreeMap<u128, Run>, place: u128) -> Option<(u128
 
 // How many bytes the payloads have together, at most `usize::MAX`.
 fn size_of(payloads: &VecDeque<Vec<u8>>) -> usize
-    ensures { result ≡ capped_usize (payloads_used 0 (map (λ payload. payload.items) payloads.now.items)) }
+    ensures { result
+        ≡ capped_usize (payloads_used 0 (map (λ payload. payload.items) payloads.now.items)) }
 {
     let mut size: usize = 0;
     for index in 0..payloads.len() {
@@ -116,7 +118,8 @@ pub fn part_used(size: usize, overhead: usize) -> u128
 
 // How much the parts with these payloads use, at most `u128::MAX`.
 fn payloads_used(payloads: &VecDeque<Vec<u8>>, overhead: usize) -> u128
-    ensures { result ≡ capped_u128 (payloads_used overhead (map (λ payload. payload.items) payloads.now.items)) }
+    ensures { result
+        ≡ capped_u128 (payloads_used overhead (map (λ payload. payload.items) payloads.now.items)) }
 {
     let mut used: u128 = 0;
     for index in 0..payloads.len() {
@@ -145,7 +148,10 @@ pub fn runs_used(runs: &BTreeMap<u128, Run>, overhead: usize) -> u128
 
 // How much the runs of the messages with these numbers use, at most `u128::MAX`.
 fn messages_used(runs: &BTreeMap<u128, Run>, numbers: &StreamTable, overhead: usize) -> u128
-    ensures { result ≡ capped_u128 (runs_used overhead (filter (λ run. marks numbers.now run.number) (map run_model runs.now.entries))) }
+    ensures { result
+        ≡ capped_u128
+        (runs_used overhead
+        (filter (λ run. marks numbers.now run.number) (map run_model runs.now.entries))) }
 {
     let mut used: u128 = 0;
     for (_, run) in runs {
@@ -158,8 +164,12 @@ fn messages_used(runs: &BTreeMap<u128, Run>, numbers: &StreamTable, overhead: us
 
 /// Drops the runs of the messages with these numbers, and returns how much they used.
 pub fn drop_messages(runs: &mut BTreeMap<u128, Run>, numbers: &StreamTable, overhead: usize) -> u128
-    ensures kept { map run_model runs.new.entries ≡ filter (λ run. not (marks numbers.now run.number)) (map run_model runs.old.entries) }
-    ensures size { result ≡ capped_u128 (runs_used overhead (filter (λ run. marks numbers.now run.number) (map run_model runs.old.entries))) }
+    ensures kept { map run_model runs.new.entries
+        ≡ filter (λ run. not (marks numbers.now run.number)) (map run_model runs.old.entries) }
+    ensures size { result
+        ≡ capped_u128
+        (runs_used overhead
+        (filter (λ run. marks numbers.now run.number) (map run_model runs.old.entries))) }
 {
     let dropped = messages_used(runs, numbers, overhead);
     runs.retain(|_, run| !numbers.has(run.number));
@@ -178,8 +188,10 @@ fn first_begins_up_to(runs: &BTreeMap<u128, Run>, place: u128) -> bool
 
 /// Drops the runs in front that begin at this place or before it, and returns how much they used.
 pub fn drop_places(runs: &mut BTreeMap<u128, Run>, place: u128, overhead: usize) -> u128
-    ensures kept { map run_model runs.new.entries ≡ behind_place place (map run_model runs.old.entries) }
-    ensures size { result ≡ capped_u128 (runs_used overhead (up_to_place place (map run_model runs.old.entries))) }
+    ensures kept { map run_model runs.new.entries
+        ≡ behind_place place (map run_model runs.old.entries) }
+    ensures size { result
+        ≡ capped_u128 (runs_used overhead (up_to_place place (map run_model runs.old.entries))) }
 {
     let mut dropped: u128 = 0;
     while first_begins_up_to(runs, place) {

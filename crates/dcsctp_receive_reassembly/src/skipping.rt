@@ -42,8 +42,11 @@ fn make_streams(
     entries: &[SkippedTo],
 ) -> Result<(), AllocError>
     ensures made { OnOk result (AllMade entries.now streams.new) }
-    ensures streams { KeepsStreams (map entry_of streams.old.entries) (map entry_of streams.new.entries) }
-    ensures used { (overhead : ℕ) → streams_used overhead (map entry_of streams.new.entries) ≡ streams_used overhead (map entry_of streams.old.entries) }
+    ensures streams { KeepsStreams (map entry_of streams.old.entries)
+        (map entry_of streams.new.entries) }
+    ensures used { (overhead : ℕ)
+        → streams_used overhead (map entry_of streams.new.entries)
+        ≡ streams_used overhead (map entry_of streams.old.entries) }
 {
     for entry in entries {
         make_stream(alloc, streams, stream_of(entry))?;
@@ -63,7 +66,9 @@ fn waiting_on(streams: &BTreeMap<u16, Stream>, id: StreamId) -> usize
 
 // How many messages wait on a stream that wasn't seen yet. It is then.
 fn waiting_once(streams: &BTreeMap<u16, Stream>, id: StreamId, seen: &mut StreamTable) -> usize
-    ensures count { result ≡ (if marks seen.old id.0 then 0 else length (stream_on id.0 (map entry_of streams.now.entries)).waiting) }
+    ensures count { result
+        ≡ (if marks seen.old id.0 then 0
+        else length (stream_on id.0 (map entry_of streams.now.entries)).waiting) }
     ensures seen { (other : ℕ) → marks seen.new other ≡ ((id.0 == other) || marks seen.old other) }
 {
     let is_seen = seen.has(u64::from(id.0));
@@ -74,7 +79,9 @@ fn waiting_once(streams: &BTreeMap<u16, Stream>, id: StreamId, seen: &mut Stream
 // How many messages wait on the streams that are named, at most `usize::MAX`. A stream counts once, however
 // often it is named.
 fn room_for_all(streams: &BTreeMap<u16, Stream>, entries: &[SkippedTo]) -> usize
-    ensures { result ≡ capped_usize (room_for entries.now (λ id. stream_on id (map entry_of streams.now.entries))) }
+    ensures { result
+        ≡ capped_usize
+        (room_for entries.now (λ id. stream_on id (map entry_of streams.now.entries))) }
 {
     let mut seen = StreamTable::new();
     let mut room: usize = 0;
@@ -86,7 +93,9 @@ fn room_for_all(streams: &BTreeMap<u16, Stream>, entries: &[SkippedTo]) -> usize
 
 // The same. One stream is looked up without a table.
 fn room_for(streams: &BTreeMap<u16, Stream>, entries: &[SkippedTo]) -> usize
-    ensures { result ≡ capped_usize (room_for entries.now (λ id. stream_on id (map entry_of streams.now.entries))) }
+    ensures { result
+        ≡ capped_usize
+        (room_for entries.now (λ id. stream_on id (map entry_of streams.now.entries))) }
 {
     match entries {
         [] => 0,
@@ -104,12 +113,34 @@ fn skip_on(
     ready: &mut VecDeque<Message>,
 ) -> u128
     requires made { IsSome (get nat_cmp streams.old (skipped_stream entry.now)) }
-    requires room { deque_len ready.old + length (stream_on (skipped_stream entry.now) (map entry_of streams.old.entries)).waiting ≤ deque_capacity ready.old }
-    ensures streams { (id : ℕ) → stream_on id (map entry_of streams.new.entries) ≡ skipped_on entry.now id (stream_on id (map entry_of streams.old.entries)) }
-    ensures made { (id : ℕ) → IsSome (get nat_cmp streams.old id) → IsSome (get nat_cmp streams.new id) }
-    ensures ready { map message_content ready.new.items ≡ map message_content ready.old.items ++ skip_deliveries entry.now (stream_on (skipped_stream entry.now) (map entry_of streams.old.entries)) }
-    ensures used { streams_used overhead (map entry_of streams.new.entries) + ready_bytes (map message_content ready.new.items) + (skip_used overhead entry.now (stream_on (skipped_stream entry.now) (map entry_of streams.old.entries)) + length (skip_deliveries entry.now (stream_on (skipped_stream entry.now) (map entry_of streams.old.entries))) * overhead) ≡ streams_used overhead (map entry_of streams.old.entries) + ready_bytes (map message_content ready.old.items) }
-    ensures size { result ≡ capped_u128 (skip_used overhead entry.now (stream_on (skipped_stream entry.now) (map entry_of streams.old.entries)) + length (skip_deliveries entry.now (stream_on (skipped_stream entry.now) (map entry_of streams.old.entries))) * overhead) }
+    requires room { deque_len ready.old
+        + length (stream_on (skipped_stream entry.now) (map entry_of streams.old.entries)).waiting
+        ≤ deque_capacity ready.old }
+    ensures streams { (id : ℕ)
+        → stream_on id (map entry_of streams.new.entries)
+        ≡ skipped_on entry.now id (stream_on id (map entry_of streams.old.entries)) }
+    ensures made { (id : ℕ) → IsSome (get nat_cmp streams.old id)
+        → IsSome (get nat_cmp streams.new id) }
+    ensures ready { map message_content ready.new.items
+        ≡ map message_content ready.old.items
+        ++ skip_deliveries entry.now
+        (stream_on (skipped_stream entry.now) (map entry_of streams.old.entries)) }
+    ensures used { streams_used overhead (map entry_of streams.new.entries)
+        + ready_bytes (map message_content ready.new.items)
+        + (skip_used overhead entry.now
+        (stream_on (skipped_stream entry.now) (map entry_of streams.old.entries))
+        + length (skip_deliveries entry.now
+        (stream_on (skipped_stream entry.now) (map entry_of streams.old.entries)))
+        * overhead)
+        ≡ streams_used overhead (map entry_of streams.old.entries)
+        + ready_bytes (map message_content ready.old.items) }
+    ensures size { result
+        ≡ capped_u128
+        (skip_used overhead entry.now
+        (stream_on (skipped_stream entry.now) (map entry_of streams.old.entries))
+        + length (skip_deliveries entry.now
+        (stream_on (skipped_stream entry.now) (map entry_of streams.old.entries)))
+        * overhead) }
     ensures room { deque_capacity ready.new ≡ deque_capacity ready.old }
 {
     let stream = streams.get_mut(&stream_of(entry).0).unwrap();
@@ -118,9 +149,16 @@ fn skip_on(
 
 // Forgets the stream, so that it starts again, and returns how much it used.
 fn forget_stream(streams: &mut BTreeMap<u16, Stream>, id: StreamId, overhead: usize) -> u128
-    ensures streams { (other : ℕ) → stream_on other (map entry_of streams.new.entries) ≡ (if id.0 == other then new_stream other else stream_on other (map entry_of streams.old.entries)) }
-    ensures used { streams_used overhead (map entry_of streams.new.entries) + kept_stream_used overhead (stream_on id.0 (map entry_of streams.old.entries)) ≡ streams_used overhead (map entry_of streams.old.entries) }
-    ensures size { result ≡ capped_u128 (kept_stream_used overhead (stream_on id.0 (map entry_of streams.old.entries))) }
+    ensures streams { (other : ℕ)
+        → stream_on other (map entry_of streams.new.entries)
+        ≡ (if id.0 == other then new_stream other
+        else stream_on other (map entry_of streams.old.entries)) }
+    ensures used { streams_used overhead (map entry_of streams.new.entries)
+        + kept_stream_used overhead (stream_on id.0 (map entry_of streams.old.entries))
+        ≡ streams_used overhead (map entry_of streams.old.entries) }
+    ensures size { result
+        ≡ capped_u128
+        (kept_stream_used overhead (stream_on id.0 (map entry_of streams.old.entries))) }
 {
     match streams.remove(&id.0) {
         Some(stream) => stream.used(overhead),
@@ -134,9 +172,16 @@ fn forget_each_stream(
     ids: &[StreamId],
     overhead: usize,
 ) -> u128
-    ensures streams { (other : ℕ) → stream_on other (map entry_of streams.new.entries) ≡ (if is_named (stream_numbers ids.now) other then new_stream other else stream_on other (map entry_of streams.old.entries)) }
-    ensures used { streams_used overhead (map entry_of streams.new.entries) ≤ streams_used overhead (map entry_of streams.old.entries) }
-    ensures size { result ≡ capped_u128 (streams_used overhead (map entry_of streams.old.entries) - streams_used overhead (map entry_of streams.new.entries)) }
+    ensures streams { (other : ℕ)
+        → stream_on other (map entry_of streams.new.entries)
+        ≡ (if is_named (stream_numbers ids.now) other then new_stream other
+        else stream_on other (map entry_of streams.old.entries)) }
+    ensures used { streams_used overhead (map entry_of streams.new.entries)
+        ≤ streams_used overhead (map entry_of streams.old.entries) }
+    ensures size { result
+        ≡ capped_u128
+        (streams_used overhead (map entry_of streams.old.entries) - streams_used overhead
+        (map entry_of streams.new.entries)) }
 {
     let mut used: u128 = 0;
     for id in ids {
@@ -147,7 +192,8 @@ fn forget_each_stream(
 
 // Forgets all streams, and returns how much they used.
 fn forget_streams(streams: &mut BTreeMap<u16, Stream>, overhead: usize) -> u128
-    ensures streams { (other : ℕ) → stream_on other (map entry_of streams.new.entries) ≡ new_stream other }
+    ensures streams { (other : ℕ)
+        → stream_on other (map entry_of streams.new.entries) ≡ new_stream other }
     ensures used { streams_used overhead (map entry_of streams.new.entries) ≡ 0 }
     ensures size { result ≡ capped_u128 (streams_used overhead (map entry_of streams.old.entries)) }
 {
@@ -163,9 +209,12 @@ impl Incoming {
     // Skips messages of one stream, which exists. There is room for all that wait on it.
     fn skip(&mut self, entry: &SkippedTo, overhead: usize)
         requires made { IsSome (get nat_cmp self.old.streams (skipped_stream entry.now)) }
-        requires room { deque_len self.old.ready + length (stream_on (skipped_stream entry.now) (map entry_of self.old.streams.entries)).waiting ≤ deque_capacity self.old.ready }
+        requires room { deque_len self.old.ready
+            + length (stream_on (skipped_stream entry.now)
+            (map entry_of self.old.streams.entries)).waiting ≤ deque_capacity self.old.ready }
         ensures skips { SkipsOne entry.now (incoming_of self.old) (incoming_of self.new) }
-        ensures made { (id : ℕ) → IsSome (get nat_cmp self.old.streams id) → IsSome (get nat_cmp self.new.streams id) }
+        ensures made { (id : ℕ) → IsSome (get nat_cmp self.old.streams id)
+            → IsSome (get nat_cmp self.new.streams id) }
         ensures room { deque_capacity self.new.ready ≡ deque_capacity self.old.ready }
         ensures used { Balances overhead self.old self.new }
     {
@@ -176,7 +225,9 @@ impl Incoming {
     // Skips messages of streams that exist. There is room for all that wait on them.
     fn skip_all(&mut self, entries: &[SkippedTo], overhead: usize)
         requires made { AllMade entries.now self.old.streams }
-        requires room { deque_len self.old.ready + room_for entries.now (λ id. stream_on id (map entry_of self.old.streams.entries)) ≤ deque_capacity self.old.ready }
+        requires room { deque_len self.old.ready
+            + room_for entries.now (λ id. stream_on id (map entry_of self.old.streams.entries))
+            ≤ deque_capacity self.old.ready }
         ensures skips { SkipsAll entries.now (incoming_of self.old) (incoming_of self.new) }
         ensures used { Balances overhead self.old self.new }
     {
@@ -187,7 +238,11 @@ impl Incoming {
 
     // Drops the parts of unordered messages of DATA that begin at this TSN or before it.
     fn drop_unordered(&mut self, tsn_number: u64, overhead: usize)
-        ensures incoming { incoming_of self.new ≡ record (incoming_of self.old) { unordered = behind_place tsn_number (incoming_of self.old).unordered } }
+        ensures incoming { incoming_of self.new
+            ≡ record (incoming_of self.old) {
+              unordered = behind_place tsn_number
+                  (incoming_of self.old).unordered;
+            } }
         ensures ready { self.new.ready ≡ self.old.ready }
         ensures streams { self.new.streams ≡ self.old.streams }
         ensures used { Balances overhead self.old self.new }
@@ -200,8 +255,11 @@ impl Incoming {
     // names.
     fn move_on(&mut self, tsn_number: u64, entries: &[SkippedTo], overhead: usize)
         requires made { AllMade entries.now self.old.streams }
-        requires room { deque_len self.old.ready + room_for entries.now (λ id. stream_on id (map entry_of self.old.streams.entries)) ≤ deque_capacity self.old.ready }
-        ensures moves { MovesTo tsn_number entries.now (incoming_of self.old) (incoming_of self.new) }
+        requires room { deque_len self.old.ready
+            + room_for entries.now (λ id. stream_on id (map entry_of self.old.streams.entries))
+            ≤ deque_capacity self.old.ready }
+        ensures moves { MovesTo tsn_number entries.now (incoming_of self.old)
+            (incoming_of self.new) }
         ensures used { Balances overhead self.old self.new }
     {
         let before = self.ready.len();
@@ -220,7 +278,8 @@ impl Incoming {
         entries: &[SkippedTo],
         overhead: usize,
     ) -> Result<(), AllocError>
-        ensures ok { OnOk result (MovesOn tsn entries.now (incoming_of self.old) (incoming_of self.new)) }
+        ensures ok { OnOk result
+            (MovesOn tsn entries.now (incoming_of self.old) (incoming_of self.new)) }
         ensures used { Balances overhead self.old self.new }
         ensures err { OnErr result (SameIncoming (incoming_of self.old) (incoming_of self.new)) }
     {
@@ -246,7 +305,8 @@ impl Incoming {
     // Forgets these streams. The parts of unordered messages are visited once, however many streams there
     // are.
     fn reset_each_stream(&mut self, streams: &[StreamId], overhead: usize)
-        ensures resets { ResetsEach (stream_numbers streams.now) (incoming_of self.old) (incoming_of self.new) }
+        ensures resets { ResetsEach (stream_numbers streams.now) (incoming_of self.old)
+            (incoming_of self.new) }
         ensures used { Balances overhead self.old self.new }
     {
         let dropped = drop_messages(&mut self.unordered, &table_of(streams), overhead);
@@ -256,7 +316,8 @@ impl Incoming {
 
     /// Forgets the streams that are named, so that they start again; an empty list names all.
     pub fn reset_streams(&mut self, streams: &[StreamId], overhead: usize)
-        ensures resets { ResetsStreams (stream_numbers streams.now) (incoming_of self.old) (incoming_of self.new) }
+        ensures resets { ResetsStreams (stream_numbers streams.now) (incoming_of self.old)
+            (incoming_of self.new) }
         ensures used { Balances overhead self.old self.new }
     {
         if streams.is_empty() {

@@ -82,7 +82,9 @@ pub fn deliver_unordered(
     ready: &mut VecDeque<Message>,
 ) -> Counted
     requires { deque_len ready.old < deque_capacity ready.old }
-    ensures does { (part : PartModel) → length part.payload ≡ size → UnorderedOutcome part (delivered_as id.0) (map message_content ready.old.items) (assembled_of outcome) result.taken (map message_content ready.new.items) }
+    ensures does { (part : PartModel) → length part.payload ≡ size
+        → UnorderedOutcome part (delivered_as id.0) (map message_content ready.old.items)
+        (assembled_of outcome) result.taken (map message_content ready.new.items) }
     ensures used { CountsOutcome overhead size outcome result }
 {
     match outcome {
@@ -115,9 +117,18 @@ fn add_and_deliver_at_once(
     ready: &mut VecDeque<Message>,
 ) -> Result<Counted, AllocError>
     requires { part.place / 2 ^ 64 ≡ part.number }
-    ensures ok { IfOk result (λ counted. TakesUnordered (part_of part) (delivered_as id.0) fragments.old (map message_content ready.old.items) counted.taken fragments.new (map message_content ready.new.items)) }
-    ensures used { IfOk result (λ counted. CountsPart (length part.payload.items + overhead) (runs_used overhead fragments.old + ready_bytes (map message_content ready.old.items)) counted (runs_used overhead fragments.new + ready_bytes (map message_content ready.new.items))) }
-    ensures err { OnErr result ((fragments.new ≡ fragments.old) × (map message_content ready.new.items ≡ map message_content ready.old.items)) }
+    ensures ok { IfOk result
+        (λ counted. TakesUnordered (part_of part) (delivered_as id.0) fragments.old
+        (map message_content ready.old.items) counted.taken fragments.new
+        (map message_content ready.new.items)) }
+    ensures used { IfOk result
+        (λ counted. CountsPart (length part.payload.items + overhead)
+        (runs_used overhead fragments.old + ready_bytes (map message_content ready.old.items))
+        counted (runs_used overhead fragments.new
+        + ready_bytes (map message_content ready.new.items))) }
+    ensures err { OnErr result
+        ((fragments.new ≡ fragments.old)
+        × (map message_content ready.new.items ≡ map message_content ready.old.items)) }
 {
     let size = part.payload.len();
     ready.try_reserve(1)?;
@@ -177,7 +188,9 @@ fn hold_place(
 // The message waits at the place that was taken for it.
 fn fill_place(waiting: &mut BTreeMap<u64, Waiting>, whole: Whole)
     requires there { IsSome (get nat_cmp waiting.old whole.number) }
-    ensures { (before : List (ℕ × Waiting)) → HoldsPlace whole.number before waiting.old.entries → WaitsAmong (whole_of whole) (map waiting_whole before) (map waiting_whole waiting.new.entries) }
+    ensures { (before : List (ℕ × Waiting)) → HoldsPlace whole.number before waiting.old.entries
+        → WaitsAmong (whole_of whole) (map waiting_whole before)
+        (map waiting_whole waiting.new.entries) }
 {
     let message = waiting.get_mut(&whole.number).unwrap();
     message.ppid = whole.ppid;
@@ -186,7 +199,8 @@ fn fill_place(waiting: &mut BTreeMap<u64, Waiting>, whole: Whole)
 
 // Frees the place that was taken for a message of this number.
 fn leave_place(waiting: &mut BTreeMap<u64, Waiting>, number: u64)
-    ensures { (before : List (ℕ × Waiting)) → HoldsPlace number before waiting.old.entries → waiting.new.entries ≡ before }
+    ensures { (before : List (ℕ × Waiting)) → HoldsPlace number before waiting.old.entries
+        → waiting.new.entries ≡ before }
 {
     let _ = waiting.remove(&number);
 }
@@ -211,8 +225,11 @@ impl Stream {
     /// for all that wait.
     pub fn deliver(&mut self, ready: &mut VecDeque<Message>) -> usize
         requires { deque_len ready.old + btree_map_len self.old.waiting ≤ deque_capacity ready.old }
-        ensures stream { stream_model self.new ≡ delivered_from self.old.next (stream_model self.old) }
-        ensures ready { map message_content ready.new.items ≡ map message_content ready.old.items ++ deliveries_from self.old.next (stream_model self.old) }
+        ensures stream { stream_model self.new
+            ≡ delivered_from self.old.next (stream_model self.old) }
+        ensures ready { map message_content ready.new.items
+            ≡ map message_content ready.old.items
+            ++ deliveries_from self.old.next (stream_model self.old) }
         ensures count { result ≡ length (deliveries_from self.old.next (stream_model self.old)) }
         ensures room { deque_capacity ready.new ≡ deque_capacity ready.old }
     {
@@ -230,10 +247,14 @@ impl Stream {
 
     // The next message is whole: it becomes ready, with those that waited for it. There is room for them.
     fn deliver_next(&mut self, whole: Whole, ready: &mut VecDeque<Message>) -> usize
-        requires room { deque_len ready.old + btree_map_len self.old.waiting < deque_capacity ready.old }
+        requires room { deque_len ready.old + btree_map_len self.old.waiting
+            < deque_capacity ready.old }
         requires next { whole.number ≡ self.old.next }
-        ensures stream { stream_model self.new ≡ delivered_from (next_after self.old.next (whole_of whole)) (stream_model self.old) }
-        ensures ready { map message_content ready.new.items ≡ map message_content ready.old.items ++ ready_with (stream_model self.old) (whole_of whole) }
+        ensures stream { stream_model self.new
+            ≡ delivered_from (next_after self.old.next (whole_of whole)) (stream_model self.old) }
+        ensures ready { map message_content ready.new.items
+            ≡ map message_content ready.old.items
+            ++ ready_with (stream_model self.old) (whole_of whole) }
         ensures count { result ≡ length (ready_with (stream_model self.old) (whole_of whole)) }
     {
         self.next = self.next.saturating_add(1);
@@ -249,13 +270,24 @@ impl Stream {
         overhead: usize,
         ready: &mut VecDeque<Message>,
     ) -> Counted
-        requires room { deque_len ready.old + btree_map_len self.old.waiting < deque_capacity ready.old }
+        requires room { deque_len ready.old + btree_map_len self.old.waiting
+            < deque_capacity ready.old }
         requires next { whole.number ≡ self.old.next }
-        ensures taken { result.taken ≡ record { kept_bytes = size; ready = length (ready_with (stream_model self.old) (whole_of whole)) } }
-        ensures stream { stream_model self.new ≡ delivered_from (next_after self.old.next (whole_of whole)) (stream_model self.old) }
-        ensures ready { map message_content ready.new.items ≡ map message_content ready.old.items ++ ready_with (stream_model self.old) (whole_of whole) }
+        ensures taken { result.taken
+            ≡ record {
+              kept_bytes = size;
+              ready = length (ready_with (stream_model self.old) (whole_of whole));
+            } }
+        ensures stream { stream_model self.new
+            ≡ delivered_from (next_after self.old.next (whole_of whole)) (stream_model self.old) }
+        ensures ready { map message_content ready.new.items
+            ≡ map message_content ready.old.items
+            ++ ready_with (stream_model self.old) (whole_of whole) }
         ensures added { result.added ≡ length whole.payload.items }
-        ensures freed { result.freed ≡ capped_u128 (whole.used + (length (ready_with (stream_model self.old) (whole_of whole)) - 1) * overhead) }
+        ensures freed { result.freed
+            ≡ capped_u128
+            (whole.used
+            + (length (ready_with (stream_model self.old) (whole_of whole)) - 1) * overhead) }
     {
         let added = whole.payload.len() as u128;
         let used = whole.used;
@@ -282,9 +314,19 @@ impl Stream {
     ) -> Result<Counted, AllocError>
         requires next { part.number ≡ self.old.next }
         requires place { part.place / 2 ^ 64 ≡ part.number }
-        ensures ok { IfOk result (λ counted. TakesOrdered (part_of part) (stream_model self.old) (map message_content ready.old.items) counted.taken (stream_model self.new) (map message_content ready.new.items)) }
-        ensures used { IfOk result (λ counted. CountsPart (length part.payload.items + overhead) (kept_stream_used overhead (stream_model self.old) + ready_bytes (map message_content ready.old.items)) counted (kept_stream_used overhead (stream_model self.new) + ready_bytes (map message_content ready.new.items))) }
-        ensures err { OnErr result ((stream_model self.new ≡ stream_model self.old) × (map message_content ready.new.items ≡ map message_content ready.old.items)) }
+        ensures ok { IfOk result
+            (λ counted. TakesOrdered (part_of part) (stream_model self.old)
+            (map message_content ready.old.items) counted.taken (stream_model self.new)
+            (map message_content ready.new.items)) }
+        ensures used { IfOk result
+            (λ counted. CountsPart (length part.payload.items + overhead)
+            (kept_stream_used overhead (stream_model self.old)
+            + ready_bytes (map message_content ready.old.items)) counted
+            (kept_stream_used overhead (stream_model self.new)
+            + ready_bytes (map message_content ready.new.items))) }
+        ensures err { OnErr result
+            ((stream_model self.new ≡ stream_model self.old)
+            × (map message_content ready.new.items ≡ map message_content ready.old.items)) }
     {
         let size = part.payload.len();
         ready.try_reserve(self.waiting.len() + 1)?;
@@ -307,8 +349,14 @@ impl Stream {
         requires ahead { self.old.next < part.number }
         requires fresh { get nat_cmp self.old.waiting part.number ≡ None }
         requires place { part.place / 2 ^ 64 ≡ part.number }
-        ensures ok { (ready : List MessageContent) → IfOk result (λ counted. TakesOrdered (part_of part) (stream_model self.old) ready counted.taken (stream_model self.new) ready) }
-        ensures used { IfOk result (λ counted. CountsPart (length part.payload.items + overhead) (kept_stream_used overhead (stream_model self.old)) counted (kept_stream_used overhead (stream_model self.new))) }
+        ensures ok { (ready : List MessageContent)
+            → IfOk result
+            (λ counted. TakesOrdered (part_of part) (stream_model self.old) ready counted.taken
+            (stream_model self.new) ready) }
+        ensures used { IfOk result
+            (λ counted. CountsPart (length part.payload.items + overhead)
+            (kept_stream_used overhead (stream_model self.old)) counted
+            (kept_stream_used overhead (stream_model self.new))) }
         ensures err { OnErr result (stream_model self.new ≡ stream_model self.old) }
     {
         let size = part.payload.len();
@@ -348,10 +396,25 @@ impl Stream {
         ready: &mut VecDeque<Message>,
     ) -> Result<Counted, AllocError>
         requires { part.place / 2 ^ 64 ≡ part.number }
-        ensures past { part.number < self.old.next → IfOk result (λ counted. NothingTaken counted.taken × (stream_model self.new ≡ stream_model self.old) × (map message_content ready.new.items ≡ map message_content ready.old.items)) }
-        ensures ok { self.old.next ≤ part.number → IfOk result (λ counted. TakesAhead (part_of part) (stream_model self.old) (map message_content ready.old.items) counted.taken (stream_model self.new) (map message_content ready.new.items)) }
-        ensures used { IfOk result (λ counted. CountsPart (length part.payload.items + overhead) (kept_stream_used overhead (stream_model self.old) + ready_bytes (map message_content ready.old.items)) counted (kept_stream_used overhead (stream_model self.new) + ready_bytes (map message_content ready.new.items))) }
-        ensures err { OnErr result ((stream_model self.new ≡ stream_model self.old) × (map message_content ready.new.items ≡ map message_content ready.old.items)) }
+        ensures past { part.number < self.old.next
+            → IfOk result
+            (λ counted. NothingTaken counted.taken
+            × (stream_model self.new ≡ stream_model self.old)
+            × (map message_content ready.new.items ≡ map message_content ready.old.items)) }
+        ensures ok { self.old.next ≤ part.number
+            → IfOk result
+            (λ counted. TakesAhead (part_of part) (stream_model self.old)
+            (map message_content ready.old.items) counted.taken (stream_model self.new)
+            (map message_content ready.new.items)) }
+        ensures used { IfOk result
+            (λ counted. CountsPart (length part.payload.items + overhead)
+            (kept_stream_used overhead (stream_model self.old)
+            + ready_bytes (map message_content ready.old.items)) counted
+            (kept_stream_used overhead (stream_model self.new)
+            + ready_bytes (map message_content ready.new.items))) }
+        ensures err { OnErr result
+            ((stream_model self.new ≡ stream_model self.old)
+            × (map message_content ready.new.items ≡ map message_content ready.old.items)) }
     {
         if part.number < self.next {
             return Ok(NOTHING);
@@ -383,10 +446,23 @@ impl Stream {
         ready: &mut VecDeque<Message>,
     ) -> Result<Counted, AllocError>
         requires { part.place / 2 ^ 64 ≡ part.number }
-        ensures used { IfOk result (λ counted. CountsPart (length part.payload.items + overhead) (runs_used overhead self.old.unordered + ready_bytes (map message_content ready.old.items)) counted (runs_used overhead self.new.unordered + ready_bytes (map message_content ready.new.items))) }
-        ensures ok { IfOk result (λ counted. TakesUnordered (part_of part) (delivered_as self.old.id.0) self.old.unordered (map message_content ready.old.items) counted.taken self.new.unordered (map message_content ready.new.items)) }
-        ensures ordered { (self.new.id ≡ self.old.id) × (self.new.next ≡ self.old.next) × (self.new.last_unordered ≡ self.old.last_unordered) × (self.new.waiting.entries ≡ self.old.waiting.entries) × (self.new.ordered ≡ self.old.ordered) }
-        ensures err { OnErr result ((stream_model self.new ≡ stream_model self.old) × (map message_content ready.new.items ≡ map message_content ready.old.items)) }
+        ensures used { IfOk result
+            (λ counted. CountsPart (length part.payload.items + overhead)
+            (runs_used overhead self.old.unordered
+            + ready_bytes (map message_content ready.old.items)) counted
+            (runs_used overhead self.new.unordered
+            + ready_bytes (map message_content ready.new.items))) }
+        ensures ok { IfOk result
+            (λ counted. TakesUnordered (part_of part) (delivered_as self.old.id.0)
+            self.old.unordered (map message_content ready.old.items) counted.taken
+            self.new.unordered (map message_content ready.new.items)) }
+        ensures ordered { (self.new.id ≡ self.old.id) × (self.new.next ≡ self.old.next)
+            × (self.new.last_unordered ≡ self.old.last_unordered)
+            × (self.new.waiting.entries ≡ self.old.waiting.entries)
+            × (self.new.ordered ≡ self.old.ordered) }
+        ensures err { OnErr result
+            ((stream_model self.new ≡ stream_model self.old)
+            × (map message_content ready.new.items ≡ map message_content ready.old.items)) }
     {
         add_and_deliver_at_once(alloc, self.id, &mut self.unordered, part, overhead, ready)
     }
@@ -401,9 +477,19 @@ impl Stream {
         overhead: usize,
         ready: &mut VecDeque<Message>,
     ) -> Result<Counted, AllocError>
-        ensures used { IfOk result (λ counted. CountsPart (length chunk.payload.items + overhead) (kept_stream_used overhead (stream_model self.old) + ready_bytes (map message_content ready.old.items)) counted (kept_stream_used overhead (stream_model self.new) + ready_bytes (map message_content ready.new.items))) }
-        ensures ok { IfOk result (λ counted. TakesOnStream tsn_number (chunk_of chunk) (stream_model self.old) (map message_content ready.old.items) counted.taken (stream_model self.new) (map message_content ready.new.items)) }
-        ensures err { OnErr result ((stream_model self.new ≡ stream_model self.old) × (map message_content ready.new.items ≡ map message_content ready.old.items)) }
+        ensures used { IfOk result
+            (λ counted. CountsPart (length chunk.payload.items + overhead)
+            (kept_stream_used overhead (stream_model self.old)
+            + ready_bytes (map message_content ready.old.items)) counted
+            (kept_stream_used overhead (stream_model self.new)
+            + ready_bytes (map message_content ready.new.items))) }
+        ensures ok { IfOk result
+            (λ counted. TakesOnStream tsn_number (chunk_of chunk) (stream_model self.old)
+            (map message_content ready.old.items) counted.taken (stream_model self.new)
+            (map message_content ready.new.items)) }
+        ensures err { OnErr result
+            ((stream_model self.new ≡ stream_model self.old)
+            × (map message_content ready.new.items ≡ map message_content ready.old.items)) }
     {
         match chunk.numbering {
             Numbering::Ordered { ssn } => {
@@ -440,8 +526,13 @@ impl Stream {
     ) -> u128
         requires { deque_len ready.old + btree_map_len self.old.waiting ≤ deque_capacity ready.old }
         ensures stream { stream_model self.new ≡ skipped entry.now (stream_model self.old) }
-        ensures ready { map message_content ready.new.items ≡ map message_content ready.old.items ++ skip_deliveries entry.now (stream_model self.old) }
-        ensures size { result ≡ capped_u128 (skip_used overhead entry.now (stream_model self.old) + length (skip_deliveries entry.now (stream_model self.old)) * overhead) }
+        ensures ready { map message_content ready.new.items
+            ≡ map message_content ready.old.items
+            ++ skip_deliveries entry.now (stream_model self.old) }
+        ensures size { result
+            ≡ capped_u128
+            (skip_used overhead entry.now (stream_model self.old)
+            + length (skip_deliveries entry.now (stream_model self.old)) * overhead) }
         ensures room { deque_capacity ready.new ≡ deque_capacity ready.old }
     {
         match entry {
@@ -473,8 +564,14 @@ impl Stream {
     fn skip_ordered(&mut self, number: u64, overhead: usize, ready: &mut VecDeque<Message>) -> u128
         requires { deque_len ready.old + btree_map_len self.old.waiting ≤ deque_capacity ready.old }
         ensures stream { stream_model self.new ≡ skipped_in_order number (stream_model self.old) }
-        ensures ready { map message_content ready.new.items ≡ map message_content ready.old.items ++ deliveries_from (next_past number self.old.next) (stream_model self.old) }
-        ensures size { result ≡ capped_u128 (runs_used overhead (runs_up_to number self.old.ordered) + length (deliveries_from (next_past number self.old.next) (stream_model self.old)) * overhead) }
+        ensures ready { map message_content ready.new.items
+            ≡ map message_content ready.old.items
+            ++ deliveries_from (next_past number self.old.next) (stream_model self.old) }
+        ensures size { result
+            ≡ capped_u128
+            (runs_used overhead (runs_up_to number self.old.ordered)
+            + length (deliveries_from (next_past number self.old.next) (stream_model self.old))
+            * overhead) }
         ensures room { deque_capacity ready.new ≡ deque_capacity ready.old }
     {
         let dropped = self.ordered.drop_up_to(number, overhead);
@@ -486,8 +583,10 @@ impl Stream {
     // The unordered messages up to this number are skipped: their parts are dropped (RFC 8260, section
     // 2.3.1).
     fn skip_unordered(&mut self, number: u64, overhead: usize) -> u128
-        ensures stream { stream_model self.new ≡ skipped_out_of_order number (stream_model self.old) }
-        ensures size { result ≡ capped_u128 (runs_used overhead (runs_up_to number self.old.unordered)) }
+        ensures stream { stream_model self.new
+            ≡ skipped_out_of_order number (stream_model self.old) }
+        ensures size { result
+            ≡ capped_u128 (runs_used overhead (runs_up_to number self.old.unordered)) }
     {
         self.last_unordered = number;
         self.unordered.drop_up_to(number, overhead)

@@ -78,7 +78,8 @@ fn heeds_gap(follows_rfc: bool, received: &Received) -> bool
 
 // Keeps a TSN that came again for the next SACK, if there is room for it.
 fn keep_duplicate(duplicates: &mut Vec<u32>, tsn: u32, is_new: bool) -> Result<(), AllocError>
-    ensures ok { OnOk result (duplicates.new.items ≡ with_duplicate tsn is_new duplicates.old.items) }
+    ensures ok { OnOk result
+        (duplicates.new.items ≡ with_duplicate tsn is_new duplicates.old.items) }
     ensures err { OnErr result ((is_new ≡ false) × (duplicates.new.items ≡ duplicates.old.items)) }
 {
     if !is_new && duplicates.len() < MAX_DUPLICATE_TSNS {
@@ -124,7 +125,10 @@ fn gap_ack_blocks(alloc: Global, received: &Received, most: usize) -> Result<Vec
     requires beyond { IsBeyond received.now.cumulative (ranges_of received.now.ranges) }
     requires near { IsWithinReach received.now.cumulative (ranges_of received.now.ranges) }
     requires few { most ≤ 2 ^ 16 }
-    ensures { IfOk result (λ blocks. blocks.items ≡ flat_map (block_bytes received.now.cumulative) (take most (ranges_of received.now.ranges))) }
+    ensures { IfOk result
+        (λ blocks. blocks.items
+        ≡ flat_map (block_bytes received.now.cumulative)
+        (take most (ranges_of received.now.ranges))) }
 {
     let count = received.ranges.len().min(most);
     let mut blocks = Vec::with_capacity(alloc, 4 * count)?;
@@ -425,10 +429,17 @@ impl DataTracker {
         a_rwnd: u32,
         room: usize,
     ) -> Result<SelectiveAck, AllocError>
-        ensures cumulative { IfOk result (λ sack. sack.cumulative_tsn_ack ≡ self.old.cumulative % 2 ^ 32) }
+        ensures cumulative { IfOk result
+            (λ sack. sack.cumulative_tsn_ack ≡ self.old.cumulative % 2 ^ 32) }
         ensures window { IfOk result (λ sack. sack.a_rwnd ≡ a_rwnd) }
-        ensures blocks { IfOk result (λ sack. sack.gap_ack_blocks.items ≡ flat_map (block_bytes self.old.cumulative) (take (most_blocks self.old.follows_rfc room) self.old.ranges)) }
-        ensures duplicates { IfOk result (λ sack. sack.duplicate_tsns.items ≡ flat_map (to_be_bytes w32) (take (duplicates_left self.old room) self.old.duplicates)) }
+        ensures blocks { IfOk result
+            (λ sack. sack.gap_ack_blocks.items
+            ≡ flat_map (block_bytes self.old.cumulative)
+            (take (most_blocks self.old.follows_rfc room) self.old.ranges)) }
+        ensures duplicates { IfOk result
+            (λ sack. sack.duplicate_tsns.items
+            ≡ flat_map (to_be_bytes w32)
+            (take (duplicates_left self.old room) self.old.duplicates)) }
         ensures few { length self.old.duplicates ≤ 20 }
         ensures ok { OnOk result (self.new ≡ record self.old { duplicates = [] }) }
         ensures err { OnErr result (self.new ≡ self.old) }

@@ -52,8 +52,11 @@ fn range_of(found: Option<(&u64, &u64)>) -> Option<TsnRange>
 // The ranges around a number, by one search.
 fn search_neighbors(ranges: &BTreeMap<u64, u64>, number: u64) -> Neighbors
     requires { number + 1 < 2 ^ 64 }
-    ensures before { result.before ≡ option_map range_of (entry_before (count_up_to number ranges.now.entries) ranges.now.entries) }
-    ensures behind { result.behind ≡ option_map (λ last. range_of (number + 1, last)) (get nat_cmp ranges.now (number + 1)) }
+    ensures before { result.before
+        ≡ option_map range_of
+        (entry_before (count_up_to number ranges.now.entries) ranges.now.entries) }
+    ensures behind { result.behind
+        ≡ option_map (λ last. range_of (number + 1, last)) (get nat_cmp ranges.now (number + 1)) }
     ensures ordered { IsOrdered nat_cmp ranges.now }
 {
     let mut up_to = ranges.range(..=number + 1);
@@ -72,8 +75,11 @@ fn search_neighbors(ranges: &BTreeMap<u64, u64>, number: u64) -> Neighbors
 
 // The ranges around a number. Those of a number beyond all others are found without a search by key.
 fn find_neighbors(ranges: &BTreeMap<u64, u64>, number: u64) -> Neighbors
-    ensures before { result.before ≡ option_map range_of (entry_before (count_up_to number ranges.now.entries) ranges.now.entries) }
-    ensures behind { result.behind ≡ option_map (λ last. range_of (number + 1, last)) (get nat_cmp ranges.now (number + 1)) }
+    ensures before { result.before
+        ≡ option_map range_of
+        (entry_before (count_up_to number ranges.now.entries) ranges.now.entries) }
+    ensures behind { result.behind
+        ≡ option_map (λ last. range_of (number + 1, last)) (get nat_cmp ranges.now (number + 1)) }
     ensures ordered { IsOrdered nat_cmp ranges.now }
 {
     if ranges.len() == 0 {
@@ -99,7 +105,8 @@ fn put(
     number: u64,
     behind: Option<TsnRange>,
 ) -> Result<(), AllocError>
-    ensures ok { OnOk result (Joins (insert_entry nat_cmp ranges.old.entries number) number behind ranges.new.entries) }
+    ensures ok { OnOk result
+        (Joins (insert_entry nat_cmp ranges.old.entries number) number behind ranges.new.entries) }
     ensures err { OnErr result (ranges.new.entries ≡ ranges.old.entries) }
 {
     let Some(next) = behind else {
@@ -113,7 +120,8 @@ fn put(
 
 // The range that begins at `first` ends at `last` from now on.
 fn set_last(ranges: &mut BTreeMap<u64, u64>, first: u64, last: u64)
-    ensures entries { ranges.new.entries ≡ set_value (is_at (nat_cmp first)) ranges.old.entries last }
+    ensures entries { ranges.new.entries
+        ≡ set_value (is_at (nat_cmp first)) ranges.old.entries last }
     ensures ordered { IsOrdered nat_cmp ranges.new }
 {
     if let Some(end) = ranges.get_mut(&first) {
@@ -124,7 +132,8 @@ fn set_last(ranges: &mut BTreeMap<u64, u64>, first: u64, last: u64)
 // Extends the range that begins at `first` up to the number. If another one begins right after the number,
 // the two become one.
 fn extend(ranges: &mut BTreeMap<u64, u64>, first: u64, number: u64, behind: Option<TsnRange>)
-    ensures { Joins (set_value (is_at (nat_cmp first)) ranges.old.entries) number behind ranges.new.entries }
+    ensures { Joins (set_value (is_at (nat_cmp first)) ranges.old.entries) number behind
+        ranges.new.entries }
 {
     let Some(next) = behind else {
         set_last(ranges, first, number);
@@ -176,9 +185,13 @@ impl Received {
     fn add(&mut self, number: u64) -> Result<bool, AllocError>
         requires beyond { self.old.cumulative + 1 < number }
         requires ordered { IsBeyond self.old.cumulative (ranges_of self.old.ranges) }
-        ensures added { IfOk result (λ _. AddsToRanges self.old.cumulative number (ranges_of self.old.ranges) (ranges_of self.new.ranges)) }
-        ensures answer { IfOk result (λ is_new. is_new ≡ not (is_in number (ranges_of self.old.ranges))) }
-        ensures known { IfOk result (λ is_new. is_new ≡ false → ranges_of self.new.ranges ≡ ranges_of self.old.ranges) }
+        ensures added { IfOk result
+            (λ _. AddsToRanges self.old.cumulative number (ranges_of self.old.ranges)
+            (ranges_of self.new.ranges)) }
+        ensures answer { IfOk result
+            (λ is_new. is_new ≡ not (is_in number (ranges_of self.old.ranges))) }
+        ensures known { IfOk result
+            (λ is_new. is_new ≡ false → ranges_of self.new.ranges ≡ ranges_of self.old.ranges) }
         ensures kept { self.new.cumulative ≡ self.old.cumulative }
         ensures err { OnErr result (ranges_of self.new.ranges ≡ ranges_of self.old.ranges) }
     {
@@ -199,8 +212,12 @@ impl Received {
     /// Adds a number, and returns whether it is new. `Err`: an allocation failed, and nothing has changed.
     pub fn receive(&mut self, number: u64) -> Result<bool, AllocError>
         requires { IsBeyond self.old.cumulative (ranges_of self.old.ranges) }
-        ensures ok { IfOk result (λ is_new. ReceivesNumber number self.old.cumulative (ranges_of self.old.ranges) is_new self.new.cumulative (ranges_of self.new.ranges)) }
-        ensures err { OnErr result ((self.new.cumulative ≡ self.old.cumulative) × (ranges_of self.new.ranges ≡ ranges_of self.old.ranges)) }
+        ensures ok { IfOk result
+            (λ is_new. ReceivesNumber number self.old.cumulative (ranges_of self.old.ranges) is_new
+            self.new.cumulative (ranges_of self.new.ranges)) }
+        ensures err { OnErr result
+            ((self.new.cumulative ≡ self.old.cumulative)
+            × (ranges_of self.new.ranges ≡ ranges_of self.old.ranges)) }
     {
         if number <= self.cumulative {
             return Ok(false);

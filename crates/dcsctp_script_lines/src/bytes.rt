@@ -37,7 +37,8 @@ fn without_spaces(alloc: Global, text: &str) -> Result<Vec<u8>, AllocError>
 
 // Keeps a byte that is no space.
 fn keep_digit(digits: &mut Vec<u8>, byte: &u8) -> Result<(), AllocError>
-    ensures { IfOk result (λ done. digits.new.items ≡ digits.old.items ++ digits_in (byte.now ∷ [])) }
+    ensures { IfOk result
+        (λ done. digits.new.items ≡ digits.old.items ++ digits_in (byte.now ∷ [])) }
 {
     if *byte == b' ' {
         return Ok(());

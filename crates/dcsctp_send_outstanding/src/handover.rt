@@ -29,7 +29,8 @@ fn state_again(is_abandoned: bool, acked: bool, is_lost: bool) -> ItemState
 // The item's progress. Misses are counted from 0 again, since each SACK reports whether the item is missing.
 fn progress_again(part: &HandoverOutstandingData) -> Progress
     ensures { result ≡ record {
-      state = state_again part.now.is_abandoned part.now.acked (part.now.is_to_be_retransmitted || part.now.is_nacked);
+      state = state_again part.now.is_abandoned part.now.acked
+          (part.now.is_to_be_retransmitted || part.now.is_nacked);
       was_acknowledged = part.now.acked;
       times_sent_again = part.now.retransmission_count;
       sent_before = None;
@@ -82,7 +83,8 @@ impl Item {
         was_reset: bool,
         part: &HandoverOutstandingData,
     ) -> Result<Item, AllocError>
-        ensures { IfOk result (λ item. item ≡ item_again now was_reset (outstanding_part part.now)) }
+        ensures { IfOk result
+            (λ item. item ≡ item_again now was_reset (outstanding_part part.now)) }
     {
         Ok(Item {
             fragment: fragment_again(alloc, now, part)?,

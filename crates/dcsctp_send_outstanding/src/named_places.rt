@@ -57,7 +57,8 @@ impl NamedPlaces {
 
     /// Forgets all places where the test holds.
     pub fn clear_if(&mut self, test: bool)
-        ensures { (place : ℕ) → IsNamedPlace self.new place → (test ≡ false) × IsNamedPlace self.old place }
+        ensures { (place : ℕ) → IsNamedPlace self.new place
+            → (test ≡ false) × IsNamedPlace self.old place }
     {
         if test {
             self.clear();
@@ -66,7 +67,8 @@ impl NamedPlaces {
 
     /// Adds the places from `start` on and before `end`.
     pub fn add(&mut self, start: usize, end: usize)
-        ensures { (place : ℕ) → IsNamedPlace self.new place → IsNamedPlace self.old place ⊎ IsPlaceWithin start end place }
+        ensures { (place : ℕ) → IsNamedPlace self.new place
+            → IsNamedPlace self.old place ⊎ IsPlaceWithin start end place }
     {
         let row = Row {
             start: start.saturating_add(self.removed),

@@ -74,7 +74,8 @@ impl Outstanding {
 
     /// Nothing was sent yet. Allocates nothing.
     pub fn new(alloc: Global, first_tsn: u32, interleaving: bool) -> Outstanding
-        ensures { result ≡ record { first_tsn = first_tsn; is_interleaved = interleaving; items = [] } }
+        ensures { result
+            ≡ record { first_tsn = first_tsn; is_interleaved = interleaving; items = [] } }
     {
         Outstanding {
             items: VecDeque::new(alloc),
@@ -192,7 +193,8 @@ impl Outstanding {
     /// How long the chunk of the item at the place is.
     pub fn size_at(&self, place: usize) -> usize
         requires { place < length self.now.items }
-        ensures { IfSome (slice_get self.now.items place) (λ item. result ≡ item_size (header self.now) item) }
+        ensures { IfSome (slice_get self.now.items place)
+            (λ item. result ≡ item_size (header self.now) item) }
     {
         self.items[place].size(self.interleaving)
     }
@@ -203,7 +205,8 @@ impl Outstanding {
     fn change_at(&mut self, change: Change, place: usize)
         requires place { place < length self.old.items }
         requires may { MayChange change place self.old.items }
-        ensures { self.new ≡ record self.old { items = changed_between change place (place + 1) self.old.items } }
+        ensures { self.new
+            ≡ record self.old { items = changed_between change place (place + 1) self.old.items } }
     {
         let interleaving = self.interleaving;
         let item = &mut self.items[place];
@@ -221,7 +224,8 @@ impl Outstanding {
     #[inline(always)]
     fn change_each(&mut self, change: Change, start: usize, end: usize)
         requires { KeepsAbandoned change }
-        ensures { self.new ≡ record self.old { items = changed_between change start end self.old.items } }
+        ensures { self.new
+            ≡ record self.old { items = changed_between change start end self.old.items } }
     {
         let limit = end.min(self.len());
         for place in start..limit {
@@ -233,7 +237,8 @@ impl Outstanding {
     fn change_one(&mut self, change: Change, place: usize)
         requires place { place < length self.old.items }
         requires keeps { KeepsAbandoned change }
-        ensures { self.new ≡ record self.old { items = changed_between change place (place + 1) self.old.items } }
+        ensures { self.new
+            ≡ record self.old { items = changed_between change place (place + 1) self.old.items } }
     {
         if is_left_by(change, self.item(place).progress) {
             return;
@@ -259,7 +264,8 @@ impl Outstanding {
     // at those from this row on, and returns the row at which it ends.
     fn change_from(&mut self, change: Change, start: usize, end: usize, row: usize) -> usize
         requires { KeepsAbandoned change }
-        ensures { self.new ≡ record self.old { items = changed_between change start end self.old.items } }
+        ensures { self.new
+            ≡ record self.old { items = changed_between change start end self.old.items } }
     {
         let limit = end.min(self.len());
         let mut row = row;
@@ -283,7 +289,8 @@ impl Outstanding {
     #[inline(always)]
     pub fn change_between(&mut self, change: Change, start: usize, end: usize)
         requires { KeepsAbandoned change }
-        ensures { self.new ≡ record self.old { items = changed_between change start end self.old.items } }
+        ensures { self.new
+            ≡ record self.old { items = changed_between change start end self.old.items } }
     {
         if self.named.is_empty() {
             self.change_each(change, start, end);
@@ -296,7 +303,11 @@ impl Outstanding {
     #[inline(always)]
     pub fn send_again(&mut self, place: usize, next: u32)
         requires { IsMarkedAt place self.old.items }
-        ensures { self.new ≡ record self.old { items = changed_between (SendAgain next) place (place + 1) self.old.items } }
+        ensures { self.new
+            ≡ record self.old {
+              items = changed_between (SendAgain next) place (place + 1)
+                  self.old.items;
+            } }
     {
         self.change_at(Change::SendAgain(next), place);
     }
@@ -321,8 +332,11 @@ impl Outstanding {
 
     // The first place from `start` on with an item that waits to be sent again.
     fn marked_from(&self, start: usize) -> Option<usize>
-        ensures some { IfSome result (λ place. IsMarkedAt place self.now.items × NoneMarkedBetween start place self.now.items) }
-        ensures none { IfNone result (NoneMarkedBetween start (length self.now.items) self.now.items) }
+        ensures some { IfSome result
+            (λ place. IsMarkedAt place self.now.items
+            × NoneMarkedBetween start place self.now.items) }
+        ensures none { IfNone result
+            (NoneMarkedBetween start (length self.now.items) self.now.items) }
     {
         let len = self.len();
         for place in start..len {
@@ -336,7 +350,12 @@ impl Outstanding {
     /// Drops that many first items.
     pub fn remove_first(&mut self, count: usize)
         requires { count ≤ length self.old.items }
-        ensures { self.new ≡ record { first_tsn = (self.old.first_tsn + count) % 2 ^ 32; is_interleaved = self.old.is_interleaved; items = drop count self.old.items } }
+        ensures { self.new
+            ≡ record {
+              first_tsn = (self.old.first_tsn + count) % 2 ^ 32;
+              is_interleaved = self.old.is_interleaved;
+              items = drop count self.old.items;
+            } }
     {
         let _ = &self.first_tsn;
         for _ in 0..count {
@@ -358,7 +377,12 @@ impl Outstanding {
     // Drops the first item.
     fn remove_one(&mut self)
         requires { 0 < length self.old.items }
-        ensures { self.new ≡ record { first_tsn = (self.old.first_tsn + 1) % 2 ^ 32; is_interleaved = self.old.is_interleaved; items = drop 1 self.old.items } }
+        ensures { self.new
+            ≡ record {
+              first_tsn = (self.old.first_tsn + 1) % 2 ^ 32;
+              is_interleaved = self.old.is_interleaved;
+              items = drop 1 self.old.items;
+            } }
     {
         if let Some(item) = self.items.pop_front() {
             let size = item.size(self.interleaving);
@@ -390,7 +414,8 @@ impl Outstanding {
         requires room { length self.old.items + 1 < 2 ^ 31 }
         requires max { (1 ≤ max) × (max ≤ 65535) }
         ensures tries { TriesNext now max self.old self.new result }
-        ensures takes { TriesItem now max begins_after_reset self.old queue.old (contents events.old) self.new queue.new (contents events.new) result }
+        ensures takes { TriesItem now max begins_after_reset self.old queue.old
+            (contents events.old) self.new queue.new (contents events.new) result }
         ensures none { IfOk result (λ sent. IfNone sent (HasNone queue.new)) }
     {
         self.items.reserve(1)?;

@@ -72,9 +72,15 @@ impl Backlog {
 
     /// Adds a message after the others of its stream. `Err`: an allocation failed, and nothing has changed.
     pub fn put(&mut self, stream_id: StreamId, message: QueuedMessage) -> Result<(), AllocError>
-        ensures ok { OnOk result (queue_of self.new ≡ record (queue_of self.old) { streams = stream_changed stream_id.0 (with_message message) (used (queue_of self.old) stream_id.0) }) }
+        ensures ok { OnOk result
+            (queue_of self.new
+            ≡ record (queue_of self.old) {
+              streams = stream_changed stream_id.0
+                  (with_message message) (used (queue_of self.old) stream_id.0);
+            }) }
         ensures was_ascending { IsAscending self.old.streams }
-        ensures can { CanGoOn self.old.streams self.old.under_way → CanGoOn self.new.streams self.new.under_way }
+        ensures can { CanGoOn self.old.streams self.old.under_way
+            → CanGoOn self.new.streams self.new.under_way }
         ensures err { OnErr result (self.new ≡ self.old) }
     {
         match self.streams.find(stream_id) {
@@ -98,7 +104,8 @@ impl Backlog {
         ensures place { IfOk result (λ place. IsFound self.new.streams stream_id.0 (Ok place)) }
         ensures ascending { IsAscending self.new.streams }
         ensures was_ascending { IsAscending self.old.streams }
-        ensures can { CanGoOn self.old.streams self.old.under_way → CanGoOn self.new.streams self.new.under_way }
+        ensures can { CanGoOn self.old.streams self.old.under_way
+            → CanGoOn self.new.streams self.new.under_way }
         ensures err { OnErr result (self.new ≡ self.old) }
     {
         match self.streams.find(stream_id) {
@@ -113,9 +120,12 @@ impl Backlog {
 
     /// Sets the stream's threshold, in bytes. `Err`: an allocation failed, and nothing has changed.
     pub fn set_threshold(&mut self, stream_id: StreamId, bytes: usize) -> Result<(), AllocError>
-        ensures ok { OnOk result (queue_of self.new ≡ set_in_queue (stream_low_threshold stream_id.0 bytes) (queue_of self.old)) }
+        ensures ok { OnOk result
+            (queue_of self.new
+            ≡ set_in_queue (stream_low_threshold stream_id.0 bytes) (queue_of self.old)) }
         ensures was_ascending { IsAscending self.old.streams }
-        ensures can { CanGoOn self.old.streams self.old.under_way → CanGoOn self.new.streams self.new.under_way }
+        ensures can { CanGoOn self.old.streams self.old.under_way
+            → CanGoOn self.new.streams self.new.under_way }
         ensures err { OnErr result (self.new ≡ self.old) }
     {
         let place = self.use_stream(stream_id)?;
@@ -125,9 +135,12 @@ impl Backlog {
 
     /// Sets the stream's priority. `Err`: an allocation failed, and nothing has changed.
     pub fn set_priority(&mut self, stream_id: StreamId, priority: u16) -> Result<(), AllocError>
-        ensures ok { OnOk result (queue_of self.new ≡ set_in_queue (stream_priority stream_id.0 priority) (queue_of self.old)) }
+        ensures ok { OnOk result
+            (queue_of self.new
+            ≡ set_in_queue (stream_priority stream_id.0 priority) (queue_of self.old)) }
         ensures was_ascending { IsAscending self.old.streams }
-        ensures can { CanGoOn self.old.streams self.old.under_way → CanGoOn self.new.streams self.new.under_way }
+        ensures can { CanGoOn self.old.streams self.old.under_way
+            → CanGoOn self.new.streams self.new.under_way }
         ensures err { OnErr result (self.new ≡ self.old) }
     {
         let place = self.use_stream(stream_id)?;
@@ -176,8 +189,12 @@ impl Backlog {
     /// Reports which amounts fall to their thresholds if that much leaves the stream.
     pub fn tell_low(&self, events: &mut Events, place: usize, size: usize) -> Result<(), AllocError>
         requires { place < length self.now.streams }
-        ensures ok { OnOk result (contents events.new ≡ contents events.old ++ part_events place size (queue_of self.now)) }
-        ensures err { OnErr result (TellsFront (contents events.old) (part_events place size (queue_of self.now)) (contents events.new)) }
+        ensures ok { OnOk result
+            (contents events.new
+            ≡ contents events.old ++ part_events place size (queue_of self.now)) }
+        ensures err { OnErr result
+            (TellsFront (contents events.old) (part_events place size (queue_of self.now))
+            (contents events.new)) }
     {
         let stream = self.streams.at(place);
         if falls_low(stream.threshold(), stream.amount(), size) {
@@ -206,10 +223,21 @@ impl Backlog {
         sent: usize,
     ) -> Result<(), AllocError>
         requires { place < length self.old.streams }
-        ensures ok { (message : Waiting) → front_of (stream_at self.old.streams place).messages ≡ Some message → OnOk result (queue_of self.new ≡ without_rest place sent message (queue_of self.old)) }
-        ensures told { (message : Waiting) → front_of (stream_at self.old.streams place).messages ≡ Some message → OnOk result (contents events.new ≡ contents events.old ++ drop_events place sent message (queue_of self.old)) }
+        ensures ok { (message : Waiting)
+            → front_of (stream_at self.old.streams place).messages ≡ Some message
+            → OnOk result
+            (queue_of self.new ≡ without_rest place sent message (queue_of self.old)) }
+        ensures told { (message : Waiting)
+            → front_of (stream_at self.old.streams place).messages ≡ Some message
+            → OnOk result
+            (contents events.new
+            ≡ contents events.old ++ drop_events place sent message (queue_of self.old)) }
         ensures err { OnErr result (self.new ≡ self.old) }
-        ensures front { (message : Waiting) → front_of (stream_at self.old.streams place).messages ≡ Some message → OnErr result (TellsFront (contents events.old) (drop_events place sent message (queue_of self.old)) (contents events.new)) }
+        ensures front { (message : Waiting)
+            → front_of (stream_at self.old.streams place).messages ≡ Some message
+            → OnErr result
+            (TellsFront (contents events.old) (drop_events place sent message (queue_of self.old))
+            (contents events.new)) }
     {
         let Some(message) = self.streams.at(place).front() else {
             return Ok(());

@@ -90,7 +90,9 @@ impl SendQueue {
         options: &SendOptions,
     ) -> Result<(), AllocError>
         requires { 0 < vec_len message.payload }
-        ensures ok { OnOk result (self.new ≡ with_added message.stream_id.0 (queued now (message_content message) options.now self.old) self.old) }
+        ensures ok { OnOk result
+            (self.new ≡ with_added message.stream_id.0
+            (queued now (message_content message) options.now self.old) self.old) }
         ensures err { OnErr result (self.new ≡ self.old) }
     {
         let stream_id = message.stream_id;
@@ -118,10 +120,13 @@ impl SendQueue {
         max: usize,
     ) -> Result<Option<DataToSend>, AllocError>
         requires { 0 < max }
-        ensures ok { IfOk result (λ next. TakesNextFragment now max self.old (contents events.old) next self.new (contents events.new)) }
+        ensures ok { IfOk result
+            (λ next. TakesNextFragment now max self.old (contents events.old) next self.new
+            (contents events.new)) }
         ensures size { IfOk result (λ next. IfSome next (HasSize max)) }
         ensures err { OnErr result (DropsSome now self.old self.new) }
-        ensures front { OnErr result (StopsTaking now max self.old (contents events.old) self.new (contents events.new)) }
+        ensures front { OnErr result
+            (StopsTaking now max self.old (contents events.old) self.new (contents events.new)) }
     {
         match self.backlog.under_way {
             Some(under_way) => self.backlog.go_on(events, under_way, max),
@@ -137,9 +142,13 @@ impl SendQueue {
         stream_id: StreamId,
         message_id: u64,
     ) -> Result<bool, AllocError>
-        ensures ok { IfOk result (λ is_dropped. DiscardsNamed self.old stream_id.0 message_id (contents events.old) is_dropped self.new (contents events.new)) }
+        ensures ok { IfOk result
+            (λ is_dropped. DiscardsNamed self.old stream_id.0 message_id (contents events.old)
+            is_dropped self.new (contents events.new)) }
         ensures err { OnErr result (self.new ≡ self.old) }
-        ensures front { OnErr result (StopsDiscarding self.old stream_id.0 message_id (contents events.old) (contents events.new)) }
+        ensures front { OnErr result
+            (StopsDiscarding self.old stream_id.0 message_id (contents events.old)
+            (contents events.new)) }
     {
         self.backlog.discard(events, stream_id, message_id)
     }
@@ -192,7 +201,8 @@ impl SendQueue {
         events: &mut Events,
         stream_id: StreamId,
     ) -> Result<(), AllocError>
-        ensures tries { TriesStream stream_id.0 self.old (contents events.old) result self.new (contents events.new) }
+        ensures tries { TriesStream stream_id.0 self.old (contents events.old) result self.new
+            (contents events.new) }
         ensures err { OnErr result (IsUsedAtMost stream_id.0 self.old self.new) }
     {
         self.backlog.prepare(events, stream_id)
@@ -209,7 +219,8 @@ impl SendQueue {
     /// ascending. They stay paused until `commit_reset_streams` or `rollback_reset_streams`. `Err`: an
     /// allocation failed, and none is handed out.
     pub fn get_streams_ready_to_reset(&mut self, max: usize) -> Result<Vec<StreamId>, AllocError>
-        ensures streams { IfOk result (λ ids. stream_numbers ids.items ≡ take max (ready_streams self.old)) }
+        ensures streams { IfOk result
+            (λ ids. stream_numbers ids.items ≡ take max (ready_streams self.old)) }
         ensures left { OnOk result (self.new ≡ queue_handing_out max self.old) }
         ensures err { OnErr result (self.new ≡ self.old) }
     {
@@ -252,7 +263,9 @@ impl SendQueue {
         with_outstanding_data: bool,
         tx: &mut HandoverTransmission,
     ) -> Result<(), AllocError>
-        ensures ok { OnOk result (send_part tx.new ≡ part_with_queue now with_outstanding_data self.now (send_part tx.old)) }
+        ensures ok { OnOk result
+            (send_part tx.new
+            ≡ part_with_queue now with_outstanding_data self.now (send_part tx.old)) }
         ensures err { OnErr result (send_part tx.new ≡ send_part tx.old) }
     {
         let streams = self.backlog.handover_streams()?;
@@ -321,7 +334,8 @@ impl SendQueue {
         stream_id: StreamId,
         bytes: usize,
     ) -> Result<(), AllocError>
-        ensures ok { OnOk result (self.new ≡ set_in_queue (stream_low_threshold stream_id.0 bytes) self.old) }
+        ensures ok { OnOk result
+            (self.new ≡ set_in_queue (stream_low_threshold stream_id.0 bytes) self.old) }
         ensures err { OnErr result (self.new ≡ self.old) }
     {
         self.backlog.set_threshold(stream_id, bytes)
@@ -339,7 +353,8 @@ impl SendQueue {
 
     /// Sets the stream's priority.
     pub fn set_priority(&mut self, stream_id: StreamId, priority: u16) -> Result<(), AllocError>
-        ensures ok { OnOk result (self.new ≡ set_in_queue (stream_priority stream_id.0 priority) self.old) }
+        ensures ok { OnOk result
+            (self.new ≡ set_in_queue (stream_priority stream_id.0 priority) self.old) }
         ensures err { OnErr result (self.new ≡ self.old) }
     {
         self.backlog.set_priority(stream_id, priority)

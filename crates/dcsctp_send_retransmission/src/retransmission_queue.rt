@@ -96,7 +96,9 @@ impl RetransmissionQueue {
         partial_reliability: bool,
         interleaving: bool,
     ) -> RetransmissionQueue
-        ensures { result ≡ new_retransmission options.now my_initial_tsn a_rwnd partial_reliability interleaving }
+        ensures { result
+            ≡ new_retransmission options.now my_initial_tsn a_rwnd partial_reliability
+            interleaving }
     {
         RetransmissionQueue {
             outstanding: Outstanding::new(alloc, my_initial_tsn, interleaving),
@@ -272,8 +274,11 @@ impl RetransmissionQueue {
 
     /// What the chunk of the TSN says; none if the TSN isn't outstanding.
     pub fn chunk(&self, tsn: u32) -> Option<&DataToSend>
-        ensures found { IfSome result (λ fragment. HasFragment (distance_to self.now.outstanding tsn) fragment.now self.now.outstanding.items) }
-        ensures none { IfNone result (length self.now.outstanding.items ≤ distance_to self.now.outstanding tsn) }
+        ensures found { IfSome result
+            (λ fragment. HasFragment (distance_to self.now.outstanding tsn) fragment.now
+            self.now.outstanding.items) }
+        ensures none { IfNone result
+            (length self.now.outstanding.items ≤ distance_to self.now.outstanding tsn) }
         ensures places { FindsPlaces self.now.outstanding }
     {
         let place = self.outstanding.distance_to(tsn);
@@ -338,7 +343,8 @@ impl RetransmissionQueue {
 
     // Runs the timer where something is outstanding, and only there (RFC 9260, section 6.3.2).
     fn keep_timer(&mut self, now: SocketTime)
-        ensures { self.new ≡ record self.old { timer = timer_with now self.old.outstanding.items self.old.timer } }
+        ensures { self.new
+            ≡ record self.old { timer = timer_with now self.old.outstanding.items self.old.timer } }
     {
         if self.outstanding.len() == 0 {
             self.timer.stop();

@@ -106,7 +106,8 @@ impl QueuedMessage {
           is_unordered = options.now.unordered;
           payload = message.payload.items;
           max_retransmissions = options.now.max_retransmissions;
-          expires_at = option_map (λ lifetime. min (now + as_nanos lifetime) max_nanos) options.now.lifetime;
+          expires_at = option_map (λ lifetime. min (now + as_nanos lifetime) max_nanos)
+              options.now.lifetime;
           lifecycle = option_map lifecycle_number options.now.lifecycle_id;
         } }
     {
@@ -193,8 +194,10 @@ impl QueuedMessage {
 
     /// Reports that it was abandoned before it was fully sent, if it has a lifecycle id.
     pub fn tell_expired(&self, events: &mut Events) -> Result<(), AllocError>
-        ensures ok { OnOk result (contents events.new ≡ contents events.old ++ expiry_events self.now) }
-        ensures err { OnErr result (TellsFront (contents events.old) (expiry_events self.now) (contents events.new)) }
+        ensures ok { OnOk result
+            (contents events.new ≡ contents events.old ++ expiry_events self.now) }
+        ensures err { OnErr result
+            (TellsFront (contents events.old) (expiry_events self.now) (contents events.new)) }
     {
         if let Some(id) = self.lifecycle_id {
             events.add(SocketEvent::OnLifecycleMessageExpired(id))?;
@@ -205,8 +208,10 @@ impl QueuedMessage {
 
     /// Reports that it was fully sent, if it has a lifecycle id.
     pub fn tell_fully_sent(&self, events: &mut Events) -> Result<(), AllocError>
-        ensures ok { OnOk result (contents events.new ≡ contents events.old ++ sent_events self.now) }
-        ensures err { OnErr result (TellsFront (contents events.old) (sent_events self.now) (contents events.new)) }
+        ensures ok { OnOk result
+            (contents events.new ≡ contents events.old ++ sent_events self.now) }
+        ensures err { OnErr result
+            (TellsFront (contents events.old) (sent_events self.now) (contents events.new)) }
     {
         if let Some(id) = self.lifecycle_id {
             events.add(SocketEvent::OnLifecycleMessageFullySent(id))?;

@@ -201,8 +201,11 @@ impl OutgoingStream {
 
     /// Reports that its messages, except for that many of the oldest, are abandoned.
     pub fn tell_dropped(&self, events: &mut Events, kept: usize) -> Result<(), AllocError>
-        ensures ok { OnOk result (contents events.new ≡ contents events.old ++ expiries (drop kept self.now.messages)) }
-        ensures err { OnErr result (TellsFront (contents events.old) (expiries (drop kept self.now.messages)) (contents events.new)) }
+        ensures ok { OnOk result
+            (contents events.new ≡ contents events.old ++ expiries (drop kept self.now.messages)) }
+        ensures err { OnErr result
+            (TellsFront (contents events.old) (expiries (drop kept self.now.messages))
+            (contents events.new)) }
     {
         for place in kept..self.messages.len() {
             let message = &self.messages[place];
@@ -231,7 +234,9 @@ impl OutgoingStream {
         alloc: Global,
         now: SocketTime,
     ) -> Result<Vec<HandoverStreamMessage>, AllocError>
-        ensures { IfOk result (λ parts. map queued_part parts.items ≡ map (whole_message now self.now.id) self.now.messages) }
+        ensures { IfOk result
+            (λ parts. map queued_part parts.items
+            ≡ map (whole_message now self.now.id) self.now.messages) }
     {
         let mut parts = Vec::with_capacity(alloc, self.messages.len())?;
         for place in 0..self.messages.len() {

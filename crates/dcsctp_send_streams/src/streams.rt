@@ -137,7 +137,9 @@ impl Streams {
 
     /// Does a message wait at the moment `now` that may be begun?
     pub fn waits_at(&self, now: SocketTime) -> bool
-        ensures { result ≡ list_any (λ stream. is_some (turn_of stream) && has_live now stream.messages) self.now }
+        ensures { result
+            ≡ list_any (λ stream. is_some (turn_of stream) && has_live now stream.messages)
+            self.now }
     {
         self.items
             .iter()
@@ -146,7 +148,9 @@ impl Streams {
 
     /// Does a message without a lifetime wait for the reset of its stream?
     pub fn waits_for_reset(&self) -> bool
-        ensures { result ≡ list_any (λ stream. is_paused stream && list_any is_lasting stream.messages) self.now }
+        ensures { result
+            ≡ list_any (λ stream. is_paused stream && list_any is_lasting stream.messages)
+            self.now }
     {
         self.items
             .iter()
@@ -172,7 +176,9 @@ impl Streams {
     /// Adds a message after the others of the stream. `Err`: an allocation failed, and nothing has changed.
     pub fn push(&mut self, place: usize, message: QueuedMessage) -> Result<(), AllocError>
         requires { place < length self.old }
-        ensures ok { OnOk result (self.new ≡ slice_set self.old place (with_message message (stream_at self.old place))) }
+        ensures ok { OnOk result
+            (self.new ≡ slice_set self.old place
+            (with_message message (stream_at self.old place))) }
         ensures err { OnErr result (self.new ≡ self.old) }
     {
         let stream = &mut self.items[place];
@@ -192,7 +198,9 @@ impl Streams {
         rest: usize,
     ) -> Result<(), AllocError>
         requires { place < length self.old }
-        ensures ok { OnOk result (self.new ≡ slice_set self.old place (with_rest message rest (stream_at self.old place))) }
+        ensures ok { OnOk result
+            (self.new ≡ slice_set self.old place
+            (with_rest message rest (stream_at self.old place))) }
         ensures err { OnErr result (self.new ≡ self.old) }
     {
         let stream = &mut self.items[place];
@@ -207,7 +215,8 @@ impl Streams {
     #[inline(always)]
     pub fn pop(&mut self, place: usize) -> Option<QueuedMessage>
         requires { place < length self.old }
-        ensures left { self.new ≡ slice_set self.old place (without_front (stream_at self.old place)) }
+        ensures left { self.new
+            ≡ slice_set self.old place (without_front (stream_at self.old place)) }
         ensures result { result ≡ front_of (stream_at self.old place).messages }
     {
         let stream = &mut self.items[place];
@@ -287,7 +296,8 @@ impl Streams {
     /// Gives the stream the numbers and the priority that a snapshot has.
     pub fn restore(&mut self, place: usize, named: &HandoverOutgoingStream)
         requires { place < length self.old }
-        ensures { self.new ≡ slice_set self.old place (stream_restored named.now (stream_at self.old place)) }
+        ensures { self.new
+            ≡ slice_set self.old place (stream_restored named.now (stream_at self.old place)) }
     {
         let stream = &mut self.items[place];
         let before = stream.turn();
@@ -313,7 +323,8 @@ impl Streams {
     /// Sets the stream's priority.
     pub fn set_priority(&mut self, place: usize, priority: u16)
         requires { place < length self.old }
-        ensures { self.new ≡ slice_set self.old place (record (stream_at self.old place) { priority = priority }) }
+        ensures { self.new
+            ≡ slice_set self.old place (record (stream_at self.old place) { priority = priority }) }
     {
         let stream = &mut self.items[place];
         let before = stream.turn();
@@ -325,7 +336,9 @@ impl Streams {
     /// Sets the stream's threshold.
     pub fn set_threshold(&mut self, place: usize, threshold: usize)
         requires { place < length self.old }
-        ensures { self.new ≡ slice_set self.old place (record (stream_at self.old place) { threshold = threshold }) }
+        ensures { self.new
+            ≡ slice_set self.old place
+            (record (stream_at self.old place) { threshold = threshold }) }
     {
         let stream = &mut self.items[place];
         stream.set_threshold(threshold);
@@ -334,7 +347,10 @@ impl Streams {
     /// Takes that much away from the stream's amount.
     pub fn reduce(&mut self, place: usize, size: usize)
         requires { place < length self.old }
-        ensures { self.new ≡ slice_set self.old place (record (stream_at self.old place) { amount = (stream_at self.old place).amount - size }) }
+        ensures { self.new
+            ≡ slice_set self.old place
+            (record (stream_at self.old
+            place) { amount = (stream_at self.old place).amount - size }) }
     {
         let stream = &mut self.items[place];
         stream.reduce(size);
@@ -343,7 +359,8 @@ impl Streams {
     /// Adds that much to the stream's amount, which stops at the greatest `usize`.
     pub fn raise(&mut self, place: usize, size: usize)
         requires { place < length self.old }
-        ensures { self.new ≡ slice_set self.old place (amount_raised size (stream_at self.old place)) }
+        ensures { self.new
+            ≡ slice_set self.old place (amount_raised size (stream_at self.old place)) }
     {
         let stream = &mut self.items[place];
         stream.raise(size);
@@ -352,7 +369,9 @@ impl Streams {
     /// Counts a message of the stream that is begun.
     pub fn count_begun(&mut self, place: usize, is_interleaved: bool, is_unordered: bool)
         requires { place < length self.old }
-        ensures { self.new ≡ slice_set self.old place (stream_counted is_interleaved is_unordered (stream_at self.old place)) }
+        ensures { self.new
+            ≡ slice_set self.old place
+            (stream_counted is_interleaved is_unordered (stream_at self.old place)) }
     {
         let stream = &mut self.items[place];
         stream.count_begun(is_interleaved, is_unordered);

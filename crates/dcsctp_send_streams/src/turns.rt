@@ -40,7 +40,8 @@ fn add_turn(turns: &mut Vec<Turn>, turn: Turn)
 // Takes a turn out.
 fn remove_turn(turns: &mut Vec<Turn>, turn: Turn)
     requires { HoldsTurns turns.old.items (Some turn) (vec_capacity turns.old) }
-    ensures turns { (others : List Turn) → turns.old.items ≡ with_turn turn others → turns.new.items ≡ others }
+    ensures turns { (others : List Turn) → turns.old.items ≡ with_turn turn others
+        → turns.new.items ≡ others }
     ensures capacity { vec_capacity turns.new ≡ vec_capacity turns.old }
 {
     let place = place_of(turns, turn);
@@ -50,7 +51,8 @@ fn remove_turn(turns: &mut Vec<Turn>, turn: Turn)
 /// Puts one turn in the place of another, if there are any.
 pub fn move_turn(turns: &mut Vec<Turn>, before: Option<Turn>, after: Option<Turn>)
     requires { HoldsTurns turns.old.items before (vec_capacity turns.old) }
-    ensures turns { (others : List Turn) → turns.old.items ≡ with_optional_turn before others → turns.new.items ≡ with_optional_turn after others }
+    ensures turns { (others : List Turn) → turns.old.items ≡ with_optional_turn before others
+        → turns.new.items ≡ with_optional_turn after others }
     ensures capacity { vec_capacity turns.new ≡ vec_capacity turns.old }
 {
     match before {

@@ -12,7 +12,8 @@ use std::time::Duration;
 
 // The smoothed round trip with one more, where `variance` says whether one was measured before.
 fn smoothed(variance: Option<Duration>, srtt: Duration, rtt: Duration) -> Duration
-    ensures { as_nanos result ≡ smoothed (option_map as_nanos variance) (as_nanos srtt) (as_nanos rtt) }
+    ensures { as_nanos result
+        ≡ smoothed (option_map as_nanos variance) (as_nanos srtt) (as_nanos rtt) }
 {
     match variance {
         None => rtt,
@@ -22,7 +23,8 @@ fn smoothed(variance: Option<Duration>, srtt: Duration, rtt: Duration) -> Durati
 
 // The variance with one more round trip. `srtt` is the smoothed one before it.
 fn variance_with(variance: Option<Duration>, srtt: Duration, rtt: Duration) -> Duration
-    ensures { as_nanos result ≡ variance_with (option_map as_nanos variance) (as_nanos srtt) (as_nanos rtt) }
+    ensures { as_nanos result
+        ≡ variance_with (option_map as_nanos variance) (as_nanos srtt) (as_nanos rtt) }
 {
     match variance {
         None => duration_of(rtt.as_nanos() / 2),

@@ -169,7 +169,11 @@ impl Timer {
 
     /// Starts the timer so that it expires at the moment `now`, whether it runs or not.
     pub fn start_due(&mut self, now: SocketTime)
-        ensures { self.new ≡ record self.old { running = started now (record self.old.settings { duration = 0 }) } }
+        ensures { self.new
+            ≡ record self.old {
+              running = started now
+                  (record self.old.settings { duration = 0 });
+            } }
     {
         self.running = Some(Running {
             deadline: now + Duration::ZERO,

@@ -28,7 +28,8 @@ pub struct OutgoingRecord<'a> {
 // A copy of a message; of one that is longer than `limit`, of that many bytes and one more. `Err`: an allocation
 // failed.
 fn copied(alloc: Global, message: &OutgoingRecord, limit: usize) -> Result<Message, AllocError>
-    ensures { IfOk result (λ copy. IsFrontMessage limit (outgoing_content message.now) (message_content copy)) }
+    ensures { IfOk result
+        (λ copy. IsFrontMessage limit (outgoing_content message.now) (message_content copy)) }
 {
     let payload = Vec::from_slice(alloc, front(message.payload, limit))?;
     Ok(Message::new(StreamId(message.stream_id), PpId(message.ppid), payload))
@@ -130,7 +131,8 @@ impl Session {
         results: &mut [i32],
     ) -> Status
         requires room { length messages.now ≤ length results.old }
-        ensures { CopiesSent messages.now options.now self.old results.old result results.new self.new }
+        ensures { CopiesSent messages.now options.now self.old results.old result results.new
+            self.new }
     {
         let limit = self.socket.options().max_message_size;
         let Ok(copies) = copied_messages(self.alloc, messages, limit) else {
@@ -154,7 +156,8 @@ impl Session {
         options: &SendOptionsRecord,
         results: &mut [i32],
     ) -> Status
-        ensures { ManySent messages.now options.now self.old results.old result results.new self.new }
+        ensures { ManySent messages.now options.now self.old results.old result results.new
+            self.new }
     {
         if results.len() < messages.len() {
             return Status::BufferTooSmall;

@@ -114,7 +114,11 @@ impl EventRecord {
 
     // An event that reports an error.
     fn with_error(kind: u32, error: ErrorKind, text: &str) -> EventRecord
-        ensures { result ≡ record (plain_record kind) { length = length text.now; error_kind = error_number error } }
+        ensures { result
+            ≡ record (plain_record kind) {
+              length = length text.now;
+              error_kind = error_number error;
+            } }
     {
         EventRecord {
             error_kind: error_number(error),

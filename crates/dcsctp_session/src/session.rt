@@ -172,8 +172,8 @@ impl Session {
         payload: &[u8],
         options: &SendOptionsRecord,
     ) -> Status
-        ensures { MessageSent (record { stream = stream_id; ppid = ppid; payload = payload.now }) options.now
-            self.old result self.new }
+        ensures { MessageSent (record { stream = stream_id; ppid = ppid; payload = payload.now })
+            options.now self.old result self.new }
     {
         if !options.is_valid() {
             return Status::InvalidSendOptions;

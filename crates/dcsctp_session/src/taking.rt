@@ -24,7 +24,8 @@ impl Session {
     /// Copies the packet or the text of the event that was taken last, and says how many bytes it has. A
     /// buffer that is too small is unchanged.
     pub fn event_bytes(&self, buffer: &mut [u8], length: &mut usize) -> Status
-        ensures { CopiesTaken (bytes_in self.now.taken.event) buffer.old result buffer.new length.new }
+        ensures { CopiesTaken (bytes_in self.now.taken.event) buffer.old result buffer.new
+            length.new }
     {
         match &self.taken.event {
             Some(SocketEvent::SendPacket(packet)) => copy_bytes(packet.as_slice(), buffer, length),
@@ -40,7 +41,8 @@ impl Session {
     /// Says where the packet of the event lies that was taken last, and how many bytes it has. It lies there until
     /// the next event is taken. `Status::NothingToCopy`: it has none.
     pub fn event_view(&self, bytes: &mut *const u8, length: &mut usize) -> Status
-        ensures { ShowsPlace (packet_in_event self.now.taken.event) bytes.old result bytes.new length.new }
+        ensures { ShowsPlace (packet_in_event self.now.taken.event) bytes.old result bytes.new
+            length.new }
     {
         match &self.taken.event {
             Some(SocketEvent::SendPacket(packet)) => show_place(packet, bytes, length),
@@ -54,7 +56,8 @@ impl Session {
     /// Copies the streams of the event that was taken last, and says how many there are. A buffer that is too
     /// small is unchanged.
     pub fn event_streams(&self, buffer: &mut [u16], count: &mut usize) -> Status
-        ensures { CopiesTaken (streams_in_event self.now.taken.event) buffer.old result buffer.new count.new }
+        ensures { CopiesTaken (streams_in_event self.now.taken.event) buffer.old result buffer.new
+            count.new }
     {
         match &self.taken.event {
             Some(SocketEvent::OnStreamsResetFailed(ids)) => {
@@ -86,7 +89,8 @@ impl Session {
     /// Copies the payload of the message that was taken last, and says how many bytes it has. A buffer that
     /// is too small is unchanged.
     pub fn message_bytes(&self, buffer: &mut [u8], length: &mut usize) -> Status
-        ensures { CopiesTaken (payload_in self.now.taken.message) buffer.old result buffer.new length.new }
+        ensures { CopiesTaken (payload_in self.now.taken.message) buffer.old result buffer.new
+            length.new }
     {
         match &self.taken.message {
             Some(message) => copy_bytes(message.payload.as_slice(), buffer, length),
@@ -100,7 +104,8 @@ impl Session {
     /// Says where the payload of the message lies that was taken last, and how many bytes it has. It lies there
     /// until the next message is taken. `Status::NothingToCopy`: no message was taken.
     pub fn message_view(&self, bytes: &mut *const u8, length: &mut usize) -> Status
-        ensures { ShowsPlace (message_in self.now.taken.message) bytes.old result bytes.new length.new }
+        ensures { ShowsPlace (message_in self.now.taken.message) bytes.old result bytes.new
+            length.new }
     {
         match &self.taken.message {
             Some(message) => show_place(&message.payload, bytes, length),

@@ -40,7 +40,8 @@ pub(crate) trait Element: Drop {
 // Writes elements one after another.
 #[tactic(auto, using(crate::proofs::Lists::written_more))]
 fn write_elements<T: Element>(out: &mut Vec<u8>, elements: &[T]) -> Result<(), AllocError>
-    ensures bytes { OnOk result (out.new.items ≡ out.old.items ++ flat_map T.bytes_of (map T.part_of elements.now)) }
+    ensures bytes { OnOk result
+        (out.new.items ≡ out.old.items ++ flat_map T.bytes_of (map T.part_of elements.now)) }
     ensures fits { OnOk result (AllByRecursion T.fits (map T.part_of elements.now)) }
 {
     for element in elements {
@@ -52,7 +53,9 @@ fn write_elements<T: Element>(out: &mut Vec<u8>, elements: &[T]) -> Result<(), A
 /// Writes a list at the end of bytes: its length, and its elements.
 #[tactic(auto, unfolding(crate::specs::Fields::element_list_bytes))]
 pub(crate) fn write_list<T: Element>(out: &mut Vec<u8>, elements: &[T]) -> Result<(), AllocError>
-    ensures bytes { OnOk result (out.new.items ≡ out.old.items ++ element_list_bytes T.bytes_of (map T.part_of elements.now)) }
+    ensures bytes { OnOk result
+        (out.new.items
+        ≡ out.old.items ++ element_list_bytes T.bytes_of (map T.part_of elements.now)) }
     ensures fits { OnOk result (FitsElements T.fits (map T.part_of elements.now)) }
 {
     write_u64(out, elements.len() as u64)?;

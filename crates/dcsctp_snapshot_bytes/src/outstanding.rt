@@ -53,7 +53,8 @@ struct FragmentFate {
 
 #[tactic(auto, unfolding(crate::specs::ReadingItems::fragment_numbers_at))]
 fn read_numbers(reader: &mut Reader) -> Result<FragmentNumbers, ReadError>
-    ensures { ReadsValue (λ numbers. numbers) fragment_numbers_at reader.old.rest.now result reader.new.rest.now }
+    ensures { ReadsValue (λ numbers. numbers) fragment_numbers_at reader.old.rest.now result
+        reader.new.rest.now }
 {
     Ok(FragmentNumbers {
         stream_id: reader.u16()?,
@@ -66,7 +67,8 @@ fn read_numbers(reader: &mut Reader) -> Result<FragmentNumbers, ReadError>
 
 #[tactic(auto, unfolding(crate::specs::ReadingItems::fragment_flags_at))]
 fn read_flags(reader: &mut Reader) -> Result<FragmentFlags, ReadError>
-    ensures { ReadsValue (λ flags. flags) fragment_flags_at reader.old.rest.now result reader.new.rest.now }
+    ensures { ReadsValue (λ flags. flags) fragment_flags_at reader.old.rest.now result
+        reader.new.rest.now }
 {
     Ok(FragmentFlags {
         is_beginning: reader.flag()?,
@@ -77,7 +79,8 @@ fn read_flags(reader: &mut Reader) -> Result<FragmentFlags, ReadError>
 
 #[tactic(auto, unfolding(crate::specs::ReadingItems::fragment_limits_at))]
 fn read_limits(reader: &mut Reader) -> Result<FragmentLimits, ReadError>
-    ensures { ReadsValue (λ limits. limits) fragment_limits_at reader.old.rest.now result reader.new.rest.now }
+    ensures { ReadsValue (λ limits. limits) fragment_limits_at reader.old.rest.now result
+        reader.new.rest.now }
 {
     Ok(FragmentLimits {
         message_id: reader.u64()?,
@@ -89,7 +92,8 @@ fn read_limits(reader: &mut Reader) -> Result<FragmentLimits, ReadError>
 
 #[tactic(auto, unfolding(crate::specs::ReadingItems::fragment_fate_at))]
 fn read_fate(reader: &mut Reader) -> Result<FragmentFate, ReadError>
-    ensures { ReadsValue (λ fate. fate) fragment_fate_at reader.old.rest.now result reader.new.rest.now }
+    ensures { ReadsValue (λ fate. fate) fragment_fate_at reader.old.rest.now result
+        reader.new.rest.now }
 {
     Ok(FragmentFate {
         acked: reader.flag()?,
@@ -102,7 +106,8 @@ fn read_fate(reader: &mut Reader) -> Result<FragmentFate, ReadError>
 // Which fragment it is.
 #[tactic(auto, unfolding(crate::specs::Spelling::fragment_bytes))]
 fn write_fragment(out: &mut Vec<u8>, sent: &HandoverOutstandingData) -> Result<(), AllocError>
-    ensures bytes { OnOk result (out.new.items ≡ out.old.items ++ fragment_bytes (outstanding_part sent.now)) }
+    ensures bytes { OnOk result
+        (out.new.items ≡ out.old.items ++ fragment_bytes (outstanding_part sent.now)) }
     ensures fits { OnOk result (FitsFragment (outstanding_part sent.now)) }
 {
     write_u16(out, sent.stream_id)?;
@@ -119,7 +124,8 @@ fn write_fragment(out: &mut Vec<u8>, sent: &HandoverOutstandingData) -> Result<(
 // How long it is tried, and what became of it.
 #[tactic(auto, unfolding(crate::specs::Spelling::sending_bytes))]
 fn write_sending(out: &mut Vec<u8>, sent: &HandoverOutstandingData) -> Result<(), AllocError>
-    ensures bytes { OnOk result (out.new.items ≡ out.old.items ++ sending_bytes (outstanding_part sent.now)) }
+    ensures bytes { OnOk result
+        (out.new.items ≡ out.old.items ++ sending_bytes (outstanding_part sent.now)) }
     ensures fits { OnOk result (FitsSending (outstanding_part sent.now)) }
 {
     write_u64(out, sent.message_id)?;

@@ -36,7 +36,8 @@ struct QueuedProgress {
 
 #[tactic(auto, unfolding(crate::specs::ReadingItems::limits_at))]
 fn read_limits(reader: &mut Reader) -> Result<QueuedLimits, ReadError>
-    ensures { ReadsValue (λ limits. limits) limits_at reader.old.rest.now result reader.new.rest.now }
+    ensures { ReadsValue (λ limits. limits) limits_at reader.old.rest.now result
+        reader.new.rest.now }
 {
     Ok(QueuedLimits {
         expires_in_ms: reader.optional_i32()?,
@@ -48,7 +49,8 @@ fn read_limits(reader: &mut Reader) -> Result<QueuedLimits, ReadError>
 
 #[tactic(auto, unfolding(crate::specs::ReadingItems::progress_at))]
 fn read_progress(reader: &mut Reader) -> Result<QueuedProgress, ReadError>
-    ensures { ReadsValue (λ progress. progress) progress_at reader.old.rest.now result reader.new.rest.now }
+    ensures { ReadsValue (λ progress. progress) progress_at reader.old.rest.now result
+        reader.new.rest.now }
 {
     Ok(QueuedProgress {
         remaining_offset: reader.u64()? as usize,

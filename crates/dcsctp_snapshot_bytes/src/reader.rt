@@ -45,7 +45,8 @@ impl<'a> Reader<'a> {
     /// A number of two bytes.
     #[tactic(auto, unfolding(crate::specs::Fields::number_of_width))]
     pub(crate) fn u16(&mut self) -> Result<u16, ReadError>
-        ensures { ReadsValue (λ number. number) (number_of_width w16) self.old.rest.now result self.new.rest.now }
+        ensures { ReadsValue (λ number. number) (number_of_width w16) self.old.rest.now result
+            self.new.rest.now }
     {
         if self.rest.len() < 2 {
             return Err(ReadError::Malformed);
@@ -58,7 +59,8 @@ impl<'a> Reader<'a> {
     /// A number of four bytes.
     #[tactic(auto, unfolding(crate::specs::Fields::number_of_width))]
     pub(crate) fn u32(&mut self) -> Result<u32, ReadError>
-        ensures { ReadsValue (λ number. number) (number_of_width w32) self.old.rest.now result self.new.rest.now }
+        ensures { ReadsValue (λ number. number) (number_of_width w32) self.old.rest.now result
+            self.new.rest.now }
     {
         if self.rest.len() < 4 {
             return Err(ReadError::Malformed);
@@ -71,7 +73,8 @@ impl<'a> Reader<'a> {
     /// A number of eight bytes.
     #[tactic(auto, unfolding(crate::specs::Fields::number_of_width))]
     pub(crate) fn u64(&mut self) -> Result<u64, ReadError>
-        ensures { ReadsValue (λ number. number) (number_of_width w64) self.old.rest.now result self.new.rest.now }
+        ensures { ReadsValue (λ number. number) (number_of_width w64) self.old.rest.now result
+            self.new.rest.now }
     {
         if self.rest.len() < 8 {
             return Err(ReadError::Malformed);
@@ -86,7 +89,8 @@ impl<'a> Reader<'a> {
     /// A number of four bytes with a sign.
     #[tactic(auto, unfolding(crate::specs::Fields::signed_at))]
     pub(crate) fn i32(&mut self) -> Result<i32, ReadError>
-        ensures { ReadsValue (λ number. number) signed_at self.old.rest.now result self.new.rest.now }
+        ensures { ReadsValue (λ number. number) signed_at self.old.rest.now result
+            self.new.rest.now }
     {
         Ok(self.u32()?.cast_signed())
     }
@@ -94,7 +98,8 @@ impl<'a> Reader<'a> {
     /// A byte, 0 or 1.
     #[tactic(auto, unfolding(crate::specs::Fields::flag_byte_at))]
     pub(crate) fn flag(&mut self) -> Result<bool, ReadError>
-        ensures { ReadsValue (λ flag. flag) flag_byte_at self.old.rest.now result self.new.rest.now }
+        ensures { ReadsValue (λ flag. flag) flag_byte_at self.old.rest.now result
+            self.new.rest.now }
     {
         match self.rest {
             [0, rest @ ..] => {
@@ -112,7 +117,8 @@ impl<'a> Reader<'a> {
     /// A count, and that many bytes.
     #[tactic(auto, unfolding(crate::specs::Fields::payload_at))]
     pub(crate) fn payload(&mut self) -> Result<&'a [u8], ReadError>
-        ensures { ReadsValue (λ bytes. bytes.now) payload_at self.old.rest.now result self.new.rest.now }
+        ensures { ReadsValue (λ bytes. bytes.now) payload_at self.old.rest.now result
+            self.new.rest.now }
     {
         let count = self.u64()? as usize;
         if self.rest.len() < count {
@@ -126,7 +132,8 @@ impl<'a> Reader<'a> {
     /// A number of two bytes after a flag.
     #[tactic(auto, unfolding(crate::specs::Fields::optional_at))]
     pub(crate) fn optional_u16(&mut self) -> Result<Option<u16>, ReadError>
-        ensures { ReadsValue (λ value. value) (optional_at (number_of_width w16)) self.old.rest.now result self.new.rest.now }
+        ensures { ReadsValue (λ value. value) (optional_at (number_of_width w16)) self.old.rest.now
+            result self.new.rest.now }
     {
         if self.flag()? {
             Ok(Some(self.u16()?))
@@ -138,7 +145,8 @@ impl<'a> Reader<'a> {
     /// A number of four bytes after a flag.
     #[tactic(auto, unfolding(crate::specs::Fields::optional_at))]
     pub(crate) fn optional_u32(&mut self) -> Result<Option<u32>, ReadError>
-        ensures { ReadsValue (λ value. value) (optional_at (number_of_width w32)) self.old.rest.now result self.new.rest.now }
+        ensures { ReadsValue (λ value. value) (optional_at (number_of_width w32)) self.old.rest.now
+            result self.new.rest.now }
     {
         if self.flag()? {
             Ok(Some(self.u32()?))
@@ -150,7 +158,8 @@ impl<'a> Reader<'a> {
     /// A number of four bytes with a sign, after a flag.
     #[tactic(auto, unfolding(crate::specs::Fields::optional_at))]
     pub(crate) fn optional_i32(&mut self) -> Result<Option<i32>, ReadError>
-        ensures { ReadsValue (λ value. value) (optional_at signed_at) self.old.rest.now result self.new.rest.now }
+        ensures { ReadsValue (λ value. value) (optional_at signed_at) self.old.rest.now result
+            self.new.rest.now }
     {
         if self.flag()? {
             Ok(Some(self.i32()?))

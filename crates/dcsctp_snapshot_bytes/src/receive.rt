@@ -25,7 +25,8 @@ struct ReceiveNumbers {
 
 #[tactic(auto, unfolding(crate::specs::Reading::receive_numbers_at))]
 fn read_numbers(reader: &mut Reader) -> Result<ReceiveNumbers, ReadError>
-    ensures { ReadsValue (λ numbers. numbers) receive_numbers_at reader.old.rest.now result reader.new.rest.now }
+    ensures { ReadsValue (λ numbers. numbers) receive_numbers_at reader.old.rest.now result
+        reader.new.rest.now }
 {
     Ok(ReceiveNumbers {
         seen_packet: reader.flag()?,
@@ -39,7 +40,8 @@ fn read_numbers(reader: &mut Reader) -> Result<ReceiveNumbers, ReadError>
 /// Writes all that concerns receiving at the end of bytes.
 #[tactic(auto, unfolding(crate::specs::Spelling::received_bytes))]
 pub(crate) fn write_receive(out: &mut Vec<u8>, rx: &HandoverReceive) -> Result<(), AllocError>
-    ensures bytes { OnOk result (out.new.items ≡ out.old.items ++ received_bytes (received_part rx.now)) }
+    ensures bytes { OnOk result
+        (out.new.items ≡ out.old.items ++ received_bytes (received_part rx.now)) }
     ensures fits { OnOk result (FitsReceived (received_part rx.now)) }
 {
     write_flag(out, rx.seen_packet)?;

@@ -36,7 +36,8 @@ fn write_capabilities(
     out: &mut Vec<u8>,
     capabilities: &HandoverCapabilities,
 ) -> Result<(), AllocError>
-    ensures bytes { OnOk result (out.new.items ≡ out.old.items ++ capabilities_bytes capabilities.now) }
+    ensures bytes { OnOk result
+        (out.new.items ≡ out.old.items ++ capabilities_bytes capabilities.now) }
     ensures fits { OnOk result (FitsCapabilities capabilities.now) }
 {
     write_flag(out, capabilities.partial_reliability)?;
@@ -104,7 +105,8 @@ fn write_state(alloc: Global, state: &SocketHandoverState) -> Result<Vec<u8>, Al
 /// Numbers of messages and data have as many bytes as their types; `remaining_offset` has 8.
 pub fn to_bytes(alloc: Global, state: &SocketHandoverState) -> Result<Vec<u8>, AllocError>
     ensures bytes { IfOk result (λ bytes. bytes.items ≡ snapshot_bytes (snapshot state.now)) }
-    ensures read_back { IfOk result (λ bytes. read_snapshot bytes.items ≡ Some (snapshot state.now)) }
+    ensures read_back { IfOk result
+        (λ bytes. read_snapshot bytes.items ≡ Some (snapshot state.now)) }
 {
     write_state(alloc, state)
 }
@@ -200,7 +202,8 @@ fn read_state(alloc: Global, bytes: &[u8]) -> Result<SocketHandoverState, ReadEr
 /// A count reserves no memory: lists take at most a small multiple of the bytes.
 pub fn from_bytes(alloc: Global, bytes: &[u8]) -> Result<Option<SocketHandoverState>, AllocError>
     ensures read { IfOk result (λ read. option_map snapshot read ≡ read_snapshot bytes.now) }
-    ensures spelled { IfOk result (λ read. IfSome read (λ state. snapshot_bytes (snapshot state) ≡ bytes.now)) }
+    ensures spelled { IfOk result
+        (λ read. IfSome read (λ state. snapshot_bytes (snapshot state) ≡ bytes.now)) }
 {
     match read_state(alloc, bytes) {
         Ok(state) => Ok(Some(state)),

@@ -33,7 +33,8 @@ struct SendProgress {
 
 #[tactic(auto, unfolding(crate::specs::Reading::windows_at))]
 fn read_windows(reader: &mut Reader) -> Result<SendWindows, ReadError>
-    ensures { ReadsValue (λ windows. windows) windows_at reader.old.rest.now result reader.new.rest.now }
+    ensures { ReadsValue (λ windows. windows) windows_at reader.old.rest.now result
+        reader.new.rest.now }
 {
     Ok(SendWindows {
         next_tsn: reader.u32()?,
@@ -45,7 +46,8 @@ fn read_windows(reader: &mut Reader) -> Result<SendWindows, ReadError>
 
 #[tactic(auto, unfolding(crate::specs::Reading::send_progress_at))]
 fn read_progress(reader: &mut Reader) -> Result<SendProgress, ReadError>
-    ensures { ReadsValue (λ progress. progress) send_progress_at reader.old.rest.now result reader.new.rest.now }
+    ensures { ReadsValue (λ progress. progress) send_progress_at reader.old.rest.now result
+        reader.new.rest.now }
 {
     Ok(SendProgress {
         ssthresh: reader.u32()?,

@@ -63,7 +63,8 @@ pub(crate) fn write_payload(out: &mut Vec<u8>, bytes: &[u8]) -> Result<(), Alloc
 /// A number of two bytes after a flag.
 #[tactic(auto, unfolding(crate::specs::Fields::optional_bytes))]
 pub(crate) fn write_optional_u16(out: &mut Vec<u8>, value: Option<u16>) -> Result<(), AllocError>
-    ensures bytes { OnOk result (out.new.items ≡ out.old.items ++ optional_bytes (number_bytes w16) value) }
+    ensures bytes { OnOk result
+        (out.new.items ≡ out.old.items ++ optional_bytes (number_bytes w16) value) }
     ensures fits { IfSome value (λ number. number < 2 ^ 16) }
 {
     write_flag(out, value.is_some())?;
@@ -76,7 +77,8 @@ pub(crate) fn write_optional_u16(out: &mut Vec<u8>, value: Option<u16>) -> Resul
 /// A number of four bytes after a flag.
 #[tactic(auto, unfolding(crate::specs::Fields::optional_bytes))]
 pub(crate) fn write_optional_u32(out: &mut Vec<u8>, value: Option<u32>) -> Result<(), AllocError>
-    ensures bytes { OnOk result (out.new.items ≡ out.old.items ++ optional_bytes (number_bytes w32) value) }
+    ensures bytes { OnOk result
+        (out.new.items ≡ out.old.items ++ optional_bytes (number_bytes w32) value) }
     ensures fits { IfSome value (λ number. number < 2 ^ 32) }
 {
     write_flag(out, value.is_some())?;
@@ -89,7 +91,8 @@ pub(crate) fn write_optional_u32(out: &mut Vec<u8>, value: Option<u32>) -> Resul
 /// A number of four bytes with a sign, after a flag.
 #[tactic(auto, unfolding(crate::specs::Fields::optional_bytes))]
 pub(crate) fn write_optional_i32(out: &mut Vec<u8>, value: Option<i32>) -> Result<(), AllocError>
-    ensures bytes { OnOk result (out.new.items ≡ out.old.items ++ optional_bytes signed_bytes value) }
+    ensures bytes { OnOk result
+        (out.new.items ≡ out.old.items ++ optional_bytes signed_bytes value) }
     ensures fits { IfSome value (FitsSigned w32) }
 {
     write_flag(out, value.is_some())?;

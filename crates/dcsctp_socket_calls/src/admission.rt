@@ -147,7 +147,8 @@ fn admit_shutdown_ack(state: &State, header: u32) -> Admission
 
 // Decides for a packet without an ABORT or a chunk of shutdown that its tag speaks of.
 fn admit_other(state: &State, packet: &SctpPacket<'_>) -> Admission
-    ensures { admission_of result ≡ admits_by (core_of state.now) (packet_in (packet_content packet.now))
+    ensures { admission_of result
+        ≡ admits_by (core_of state.now) (packet_in (packet_content packet.now))
         None None false (is_echo_in_front (packet_in (packet_content packet.now)).contents)
         ((packet_in (packet_content packet.now)).tag == 0) }
 {

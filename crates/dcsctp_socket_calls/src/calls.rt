@@ -74,7 +74,8 @@ fn has_data(chunks: &[Chunk<'_>]) -> bool
 // What precedes the chunks of a packet: data that comes while a SHUTDOWN waits for its answer is answered by
 // another. `Err`: an allocation failed, and nothing has changed.
 fn begin_packet<R: Rng>(context: &mut Context<R>, packet: &SctpPacket<'_>) -> Result<(), AllocError>
-    ensures { Tries R.stream (begin_turn (packet_content packet.now)) context.old result context.new }
+    ensures { Tries R.stream (begin_turn (packet_content packet.now)) context.old result
+        context.new }
 {
     if has_data(&packet.chunks) {
         answer_data(context)?;
@@ -84,7 +85,8 @@ fn begin_packet<R: Rng>(context: &mut Context<R>, packet: &SctpPacket<'_>) -> Re
 
 // Handles a packet that is admitted whole.
 fn handle_whole<R: Rng>(context: &mut Context<R>, packet: &SctpPacket<'_>) -> Result<(), AllocError>
-    ensures { HandlesWholePacket R.stream (packet_content packet.now) context.old result context.new }
+    ensures { HandlesWholePacket R.stream (packet_content packet.now) context.old result
+        context.new }
 {
     begin_packet(context, packet)?;
     handle_chunks(context, packet)
@@ -146,8 +148,8 @@ fn handle_packet<R: Rng>(
 /// Handles a packet (RFC 9260, section 8.5): it is counted, read, admitted or refused, and each chunk is
 /// handled.
 pub fn handle_input<R: Rng>(context: &mut Context<R>, packet: &[u8]) -> Result<(), AllocError>
-    ensures { WorksCall R.stream NoAnswer (InputTurns packet.now) (CutCall (CutTurns packet.now)) context.old
-        result context.new }
+    ensures { WorksCall R.stream NoAnswer (InputTurns packet.now) (CutCall (CutTurns packet.now))
+        context.old result context.new }
 {
     context.begin_call();
     context.count_packet();
@@ -200,7 +202,8 @@ pub fn shutdown<R: Rng>(context: &mut Context<R>) -> Result<(), AllocError>
 /// Moves the clock to `now`, and handles the timers that are due (RFC 9260, sections 5.1 and 8.3). An earlier
 /// moment changes nothing.
 pub fn advance_time<R: Rng>(context: &mut Context<R>, now: SocketTime) -> Result<(), AllocError>
-    ensures turn { WorksUserCall R.stream (advance_call now) NoAnswer context.old result context.new }
+    ensures turn { WorksUserCall R.stream (advance_call now) NoAnswer context.old result
+        context.new }
     ensures earlier { now < context.old.moment → IsOk result }
     ensures waits { Waits (endpoint_of context.old) now → IsOk result }
 {

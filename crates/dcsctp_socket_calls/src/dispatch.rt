@@ -49,7 +49,8 @@ fn dispatch_chunk<R: Rng>(
     header_tag: u32,
     chunk: &Chunk<'_>,
 ) -> Result<Following, AllocError>
-    requires { violation_in (core_of context.old.state) (content_in (chunk_content chunk.now)) ≡ None }
+    requires { violation_in (core_of context.old.state) (content_in (chunk_content chunk.now))
+        ≡ None }
     ensures { HandlesChunk R.stream header_tag (content_in (chunk_content chunk.now)) context.old
         result context.new }
 {

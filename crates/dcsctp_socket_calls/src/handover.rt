@@ -24,8 +24,8 @@ pub fn get_handover_state_and_close<R: Rng>(
     context: &mut Context<R>,
 ) -> Result<Result<SocketHandoverState, HandoverError>, AllocError>
     requires { IsSound (endpoint_of context.old) }
-    ensures call { WorksCall R.stream (IsHandoverAnswer (endpoint_of context.old)) (TurnsOf hand_over_call)
-        BeganAlone context.old result context.new }
+    ensures call { WorksCall R.stream (IsHandoverAnswer (endpoint_of context.old))
+        (TurnsOf hand_over_call) BeganAlone context.old result context.new }
     ensures refused { readiness_of (endpoint_of context.old) ≢ 0 → IsOk result }
 {
     snapshots_are_valid();
@@ -47,9 +47,10 @@ pub fn restore_from_state<R: Rng>(
 ) -> Result<Result<(), RestoreError>, AllocError>
     requires { is_valid_snapshot context.old.options (snapshot state.now) ≡ true }
     ensures call { WorksCall R.stream (IsRestoreAnswer (core_of context.old.state))
-        (RestoringTurns (snapshot state.now)) (CutCall (CutRestoring (snapshot state.now))) context.old result
-        context.new }
-    ensures idle { inputs_of_restore (core_of context.old.state) (snapshot state.now) ≡ [] → IsOk result }
+        (RestoringTurns (snapshot state.now)) (CutCall (CutRestoring (snapshot state.now)))
+        context.old result context.new }
+    ensures idle { inputs_of_restore (core_of context.old.state) (snapshot state.now) ≡ []
+        → IsOk result }
 {
     context.begin_call();
     if !context.state.is_closed() {

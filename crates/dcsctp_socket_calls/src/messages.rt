@@ -25,7 +25,8 @@ pub fn send<R: Rng>(
     options: &SendOptions,
 ) -> Result<Result<(), SendError>, AllocError>
     ensures { WorksUserCall R.stream (send_call (message_content message) options.now)
-        (IsSendAnswer (endpoint_of context.old) (message_content message)) context.old result context.new }
+        (IsSendAnswer (endpoint_of context.old) (message_content message)) context.old result
+        context.new }
 {
     context.begin_call();
     do_send(context, message, options)
@@ -37,9 +38,10 @@ pub fn send_many<R: Rng>(
     messages: Vec<Message>,
     options: &SendOptions,
 ) -> Result<Result<(), BatchSendError>, AllocError>
-    ensures { WorksUserCall R.stream (send_many_call (map message_content messages.items) options.now)
-        (IsSendManyAnswer (endpoint_of context.old) (map message_content messages.items) options.now)
-        context.old result context.new }
+    ensures { WorksUserCall R.stream
+        (send_many_call (map message_content messages.items) options.now)
+        (IsSendManyAnswer (endpoint_of context.old) (map message_content messages.items)
+        options.now) context.old result context.new }
 {
     context.begin_call();
     do_send_many(context, messages, options)

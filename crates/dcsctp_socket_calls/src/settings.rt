@@ -41,7 +41,8 @@ pub fn set_buffered_amount_low_threshold<R: Rng>(
 
 /// Says how many bytes a message may have.
 pub fn set_max_message_size<R: Rng>(context: &mut Context<R>, max_message_size: usize)
-    ensures { view_of context.new ≡ set_view (longest_message max_message_size) (view_of context.old) }
+    ensures { view_of context.new
+        ≡ set_view (longest_message max_message_size) (view_of context.old) }
 {
     context.begin_call();
     context.options.max_message_size = max_message_size;

@@ -59,7 +59,8 @@ fn end_by_errors<R: Rng>(context: &mut Context<R>) -> Result<(), AllocError>
 
 // Gives up a peer that doesn't answer, as above; else what waits is sent (RFC 9260, sections 6.3.3 and 8.1).
 fn end_or_send<R: Rng>(context: &mut Context<R>) -> Result<(), AllocError>
-    ensures { WorksTurns R.stream (EndTurns (act_input flushes ∷ [])) context.old result context.new }
+    ensures { WorksTurns R.stream (EndTurns (act_input flushes ∷ [])) context.old result
+        context.new }
 {
     if context.has_too_many_errors() {
         abort_association(context, AbortReason::TooManyErrors)?;
@@ -143,7 +144,8 @@ pub(crate) fn handle_timers<R: Rng>(context: &mut Context<R>) -> Result<(), Allo
 
 /// Moves the clock to `now`, where no timer is due then. An earlier moment changes nothing.
 pub fn move_clock<R: Rng>(context: &mut Context<R>, now: SocketTime)
-    requires { NoneIsDue (clock_at now (endpoint_of context.old)) (timers_in (core_of context.old.state)) }
+    requires { NoneIsDue (clock_at now (endpoint_of context.old))
+        (timers_in (core_of context.old.state)) }
     ensures turn { CallMoved R.stream (TurnsOf (advance_call now)) (view_of context.old)
         (view_of context.new) }
     ensures only { view_of context.new ≡ record (call_start (view_of context.old)) {

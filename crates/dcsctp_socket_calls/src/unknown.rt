@@ -86,7 +86,8 @@ fn report_to_peer<R: Rng>(
 // Tells the user of the chunk, and the peer, if it is known. `Err`: an allocation failed; the first of its
 // events may already have been added.
 fn tell<R: Rng>(context: &mut Context<R>, chunk: &UnknownChunk<'_>) -> Result<(), AllocError>
-    ensures { TakesTurn R.stream (unknown_chunk_turn chunk.now.chunk_type (unknown_bytes chunk.now.chunk_type
+    ensures { TakesTurn R.stream
+        (unknown_chunk_turn chunk.now.chunk_type (unknown_bytes chunk.now.chunk_type
         chunk.now.flags chunk.now.value.now)) context.old result context.new }
 {
     let text = text_of(context.alloc, chunk.chunk_type)?;
@@ -104,7 +105,8 @@ pub(crate) fn handle_unknown<R: Rng>(
     context: &mut Context<R>,
     chunk: &UnknownChunk<'_>,
 ) -> Result<Following, AllocError>
-    ensures { HandlesTurn R.stream (unknown_turn chunk.now.chunk_type chunk.now.flags chunk.now.value.now)
+    ensures { HandlesTurn R.stream
+        (unknown_turn chunk.now.chunk_type chunk.now.flags chunk.now.value.now)
         context.old result context.new }
 {
     if is_reported(chunk.chunk_type) {

@@ -41,8 +41,11 @@ impl Transfer {
         now: SocketTime,
         packet: &mut SctpPacketBuilder,
     ) -> Result<Option<SocketTime>, AllocError>
-        ensures ok { IfOk result (λ next. MakesForwardTsn now self.old queue.old (contents events.old) packet.old self.new queue.new (contents events.new) packet.new next) }
-        ensures told { OnErr result (TellsAbandoning now self.old queue.old (contents events.old) (contents events.new)) }
+        ensures ok { IfOk result
+            (λ next. MakesForwardTsn now self.old queue.old (contents events.old) packet.old
+            self.new queue.new (contents events.new) packet.new next) }
+        ensures told { OnErr result
+            (TellsAbandoning now self.old queue.old (contents events.old) (contents events.new)) }
         ensures kept { OnErr result (packet.new ≡ packet.old) }
         ensures idle { outstanding_count self.old.retransmission ≡ 0 → IsOk result }
     {
@@ -86,7 +89,9 @@ fn put_forward_tsn(
 
 // Puts the chunk with these entries into the packet, if it fits.
 fn add_forward_tsn(forward: &ForwardTsn, entries: &[u8], packet: &mut SctpPacketBuilder)
-    ensures added { packet.new ≡ with_chunk packet.old (forward_said forward.now.new_cumulative_tsn entries.now forward.now.skipped) }
+    ensures added { packet.new
+        ≡ with_chunk packet.old
+        (forward_said forward.now.new_cumulative_tsn entries.now forward.now.skipped) }
     ensures tsn { forward.now.new_cumulative_tsn < 2 ^ 32 }
     ensures bytes { AllByRecursion IsByte entries.now }
     ensures small { packet.old.size ≤ 65535 }
@@ -99,7 +104,8 @@ fn add_forward_tsn(forward: &ForwardTsn, entries: &[u8], packet: &mut SctpPacket
 
 // The chunk with these entries.
 fn forward_chunk<'a>(forward: &ForwardTsn, entries: &'a [u8]) -> Chunk<'a>
-    ensures { chunk_content result ≡ forward_said forward.now.new_cumulative_tsn entries.now forward.now.skipped }
+    ensures { chunk_content result
+        ≡ forward_said forward.now.new_cumulative_tsn entries.now forward.now.skipped }
 {
     let new_cumulative_tsn = forward.new_cumulative_tsn;
     match &forward.skipped {

@@ -23,8 +23,14 @@ impl Transfer {
         tx: &mut HandoverTransmission,
         rx: &mut HandoverReceive,
     ) -> Result<(), AllocError>
-        ensures sent { OnOk result (send_part tx.new ≡ with_retransmission now with_outstanding_data self.now.retransmission (send_part tx.old)) }
-        ensures received { OnOk result (received_part rx.new ≡ with_reassembly self.now.reassembly (part_with_tracker self.now.tracker (received_part rx.old))) }
+        ensures sent { OnOk result
+            (send_part tx.new
+            ≡ with_retransmission now with_outstanding_data self.now.retransmission
+            (send_part tx.old)) }
+        ensures received { OnOk result
+            (received_part rx.new
+            ≡ with_reassembly self.now.reassembly
+            (part_with_tracker self.now.tracker (received_part rx.old))) }
     {
         self.retransmission_queue
             .add_to_handover_state(now, with_outstanding_data, tx)?;
@@ -43,8 +49,11 @@ impl Transfer {
     ) -> Result<(), AllocError>
         requires tsns { self.old.tracker.ranges ≡ [] }
         requires streams { self.old.reassembly.incoming.streams ≡ [] }
-        requires items { list_all has_bytes_or_is_abandoned (send_part tx.now).outstanding_data ≡ true }
-        ensures { OnOk result (RestoresTransfer now was_reset (send_part tx.now) (received_part rx.now) self.old self.new) }
+        requires items { list_all has_bytes_or_is_abandoned (send_part tx.now).outstanding_data
+            ≡ true }
+        ensures { OnOk result
+            (RestoresTransfer now was_reset (send_part tx.now) (received_part rx.now) self.old
+            self.new) }
     {
         self.retransmission_queue
             .restore_from_state(now, was_reset, tx)?;

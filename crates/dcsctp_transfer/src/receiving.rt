@@ -58,9 +58,15 @@ impl Transfer {
         immediate_ack: bool,
         chunk: Data,
     ) -> Result<(), AllocError>
-        ensures ok { OnOk result (ReceivesData (record { tsn = tsn; immediate_ack = immediate_ack; chunk = chunk_of chunk }) self.old self.new) }
-        ensures rest { OnErr result ((self.new.retransmission ≡ self.old.retransmission) × (self.new.timeout ≡ self.old.timeout)) }
-        ensures ready { OnErr result (self.new.reassembly.incoming.ready ≡ self.old.reassembly.incoming.ready) }
+        ensures ok { OnOk result
+            (ReceivesData
+            (record { tsn = tsn; immediate_ack = immediate_ack; chunk = chunk_of chunk })
+            self.old self.new) }
+        ensures rest { OnErr result
+            ((self.new.retransmission ≡ self.old.retransmission)
+            × (self.new.timeout ≡ self.old.timeout)) }
+        ensures ready { OnErr result
+            (self.new.reassembly.incoming.ready ≡ self.old.reassembly.incoming.ready) }
     {
         if !self.data_tracker.is_tsn_valid(tsn) {
             return Ok(());
@@ -87,8 +93,11 @@ impl Transfer {
         skipped: &[SkippedTo],
     ) -> Result<(), AllocError>
         ensures ok { OnOk result (MovesForward new_cumulative_tsn skipped.now self.old self.new) }
-        ensures rest { OnErr result ((self.new.retransmission ≡ self.old.retransmission) × (self.new.timeout ≡ self.old.timeout)) }
-        ensures ready { OnErr result (self.new.reassembly.incoming.ready ≡ self.old.reassembly.incoming.ready) }
+        ensures rest { OnErr result
+            ((self.new.retransmission ≡ self.old.retransmission)
+            × (self.new.timeout ≡ self.old.timeout)) }
+        ensures ready { OnErr result
+            (self.new.reassembly.incoming.ready ≡ self.old.reassembly.incoming.ready) }
     {
         if !self.data_tracker.is_tsn_valid(new_cumulative_tsn) {
             return Ok(());
@@ -126,7 +135,11 @@ impl Transfer {
     /// acknowledgement is due at once; else nothing changes.
     pub fn expire_acknowledgement(&mut self, now: SocketTime) -> bool
         ensures answer { result ≡ has_come now (delayed_acknowledgement self.old.tracker) }
-        ensures left { self.new ≡ record self.old { tracker = if result then delay_over self.old.tracker else self.old.tracker } }
+        ensures left { self.new
+            ≡ record self.old {
+              tracker = if result then delay_over self.old.tracker
+                  else self.old.tracker;
+            } }
     {
         self.data_tracker.handle_timeout(now)
     }
@@ -135,9 +148,13 @@ impl Transfer {
     /// none is ready. With `Options::follow_rfc` an acknowledgement is due at the moment `now` if a small
     /// window opens by that (RFC 9260, section 6.2). Allocates nothing.
     pub fn get_next_message(&mut self, options: &Options, now: SocketTime) -> Option<Message>
-        ensures some { IfSome result (λ message. self.old.reassembly.incoming.ready ≡ message_content message ∷ self.new.reassembly.incoming.ready) }
-        ensures left { IfSome result (λ _. self.new ≡ taken_to options.now now self.new.reassembly.incoming.ready self.old) }
-        ensures none { IfNone result ((self.old.reassembly.incoming.ready ≡ []) × (self.new ≡ self.old)) }
+        ensures some { IfSome result
+            (λ message. self.old.reassembly.incoming.ready
+            ≡ message_content message ∷ self.new.reassembly.incoming.ready) }
+        ensures left { IfSome result
+            (λ _. self.new ≡ taken_to options.now now self.new.reassembly.incoming.ready self.old) }
+        ensures none { IfNone result
+            ((self.old.reassembly.incoming.ready ≡ []) × (self.new ≡ self.old)) }
     {
         let was_small = self.is_window_small(options);
         let message = self.reassembly_queue.get_next_message()?;
@@ -162,7 +179,9 @@ impl Transfer {
 
     // Is the window that a SACK reports too small to be worth reporting? Only with `Options::follow_rfc`.
     fn is_window_small(&self, options: &Options) -> bool
-        ensures { result ≡ (self.now.tracker.follows_rfc && nat_lt (advertised_window self.now) (open_window options.now)) }
+        ensures { result
+            ≡ (self.now.tracker.follows_rfc
+            && nat_lt (advertised_window self.now) (open_window options.now)) }
     {
         self.data_tracker.follows_rfc() && self.window_told() < open_window(options)
     }

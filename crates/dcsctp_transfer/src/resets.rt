@@ -33,7 +33,9 @@ impl Transfer {
     ///
     /// `Err`: an allocation failed, and nothing has changed.
     pub fn defer_reset(&mut self, last_tsn: u32, streams: &[StreamId]) -> Result<(), AllocError>
-        ensures ok { OnOk result (self.new ≡ defers_reset (record { last_tsn = last_tsn; streams = stream_numbers streams.now }) self.old) }
+        ensures ok { OnOk result
+            (self.new ≡ defers_reset
+            (record { last_tsn = last_tsn; streams = stream_numbers streams.now }) self.old) }
         ensures err { OnErr result (self.new ≡ self.old) }
     {
         self.reassembly_queue
@@ -46,7 +48,8 @@ impl Transfer {
     /// `Err`: an allocation failed for something that waited. That and what came after it keep waiting, and
     /// the streams are reset.
     pub fn reset_streams(&mut self, streams: &[StreamId]) -> Result<(), AllocError>
-        ensures ok { OnOk result (ResetsTransferStreams (stream_numbers streams.now) self.old self.new) }
+        ensures ok { OnOk result
+            (ResetsTransferStreams (stream_numbers streams.now) self.old self.new) }
         ensures rest { self.new ≡ record self.old { reassembly = self.new.reassembly } }
     {
         self.reassembly_queue
@@ -64,7 +67,8 @@ impl Transfer {
     /// goes beyond it any more, since message numbers start again after it. Allocates nothing.
     pub fn begin_reset_streams(&mut self) -> u32
         ensures answer { result ≡ last_assigned_tsn self.old.retransmission }
-        ensures left { self.new ≡ record self.old { retransmission = with_reset_begun self.old.retransmission } }
+        ensures left { self.new
+            ≡ record self.old { retransmission = with_reset_begun self.old.retransmission } }
     {
         self.retransmission_queue.begin_reset_streams();
         self.retransmission_queue.last_assigned_tsn()

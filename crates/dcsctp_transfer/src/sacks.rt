@@ -44,7 +44,8 @@ impl Transfer {
         now: SocketTime,
         sack: &SackChunk<'_>,
     ) -> Result<HandledSack, AllocError>
-        ensures { HandlesSack now (sack_content sack.now) self.old (contents events.old) self.new (contents events.new) result }
+        ensures { HandlesSack now (sack_content sack.now) self.old (contents events.old) self.new
+            (contents events.new) result }
     {
         let blocks = clean_sack(self.alloc, sack)?;
         let handled = self

@@ -44,10 +44,15 @@ impl Transfer {
         now: SocketTime,
         packet: &mut SctpPacketBuilder,
     ) -> Result<bool, AllocError>
-        ensures ok { IfOk result (λ any. FillsDataPacket now self.old queue.old (contents events.old) packet.old self.new queue.new (contents events.new) packet.new any) }
-        ensures told { OnErr result (TellsFilling now (bytes_remaining packet.old) self.old queue.old (contents events.old) (contents events.new)) }
+        ensures ok { IfOk result
+            (λ any. FillsDataPacket now self.old queue.old (contents events.old) packet.old
+            self.new queue.new (contents events.new) packet.new any) }
+        ensures told { OnErr result
+            (TellsFilling now (bytes_remaining packet.old) self.old queue.old (contents events.old)
+            (contents events.new)) }
         ensures kept { OnErr result (packet.new ≡ packet.old) }
-        ensures idle { has_queued_data queue.old ≡ false → outstanding_count self.old.retransmission ≡ 0 → IsOk result }
+        ensures idle { has_queued_data queue.old ≡ false
+            → outstanding_count self.old.retransmission ≡ 0 → IsOk result }
     {
         if !self.may_have_data(queue) {
             return Ok(false);
@@ -99,7 +104,9 @@ impl Transfer {
         also_if_delayed: bool,
         packet: &mut SctpPacketBuilder,
     ) -> Result<(), AllocError>
-        ensures ok { OnOk result (FillsRequestedSack (is_sack_wanted also_if_delayed self.old) self.old packet.old self.new packet.new) }
+        ensures ok { OnOk result
+            (FillsRequestedSack (is_sack_wanted also_if_delayed self.old) self.old packet.old
+            self.new packet.new) }
         ensures kept { OnErr result (packet.new ≡ packet.old) }
         ensures idle { is_sack_wanted also_if_delayed self.old ≡ false → IsOk result }
     {
@@ -132,7 +139,10 @@ impl Transfer {
     /// May anything go into the first packet of a flush: a SACK, a FORWARD-TSN, or data? A delayed SACK
     /// counts if `also_if_delayed`.
     pub fn may_fill_first(&self, queue: &SendQueue, also_if_delayed: bool) -> bool
-        ensures { result ≡ false → (is_sack_wanted also_if_delayed self.now ≡ false) × (is_first_abandoned self.now.retransmission.outstanding.items ≡ false) × (may_give queue.now self.now.retransmission ≡ false) }
+        ensures { result ≡ false
+            → (is_sack_wanted also_if_delayed self.now ≡ false)
+            × (is_first_abandoned self.now.retransmission.outstanding.items ≡ false)
+            × (may_give queue.now self.now.retransmission ≡ false) }
     {
         self.data_tracker.is_acknowledgement_due()
             || (self.data_tracker.owes_acknowledgement() && also_if_delayed)
@@ -142,7 +152,8 @@ impl Transfer {
 
     // Does a message wait, or is something outstanding?
     fn may_have_data(&self, queue: &SendQueue) -> bool
-        ensures { result ≡ (has_queued_data queue.now || nat_lt 0 (outstanding_count self.now.retransmission)) }
+        ensures { result
+            ≡ (has_queued_data queue.now || nat_lt 0 (outstanding_count self.now.retransmission)) }
     {
         queue.has_data_to_send() || 0 < self.retransmission_queue.outstanding_items()
     }
@@ -200,7 +211,8 @@ pub fn make_data_chunk<'a>(tsn: u32, fragment: &'a DataToSend, interleaving: boo
     requires { header_of interleaving + length fragment.now.payload < 2 ^ 16 }
     ensures says { chunk_content result ≡ chunk_said interleaving tsn fragment.now }
     ensures fits { FitsChunk (chunk_content result) }
-    ensures size { length (chunk_bytes (chunk_content result)) ≡ chunk_size (header_of interleaving) (length fragment.now.payload) }
+    ensures size { length (chunk_bytes (chunk_content result))
+        ≡ chunk_size (header_of interleaving) (length fragment.now.payload) }
 {
     let stream_id = fragment.stream_id.0;
     if interleaving {
@@ -220,9 +232,12 @@ pub fn make_data_chunk<'a>(tsn: u32, fragment: &'a DataToSend, interleaving: boo
 #[inline(always)]
 fn data_of<'a>(tsn: u32, stream_id: u16, ssn: u16, ppid: u32, fragment: &'a DataToSend) -> Chunk<'a>
     requires { 16 + length fragment.now.payload < 2 ^ 16 }
-    ensures says { chunk_content result ≡ data_chunk (record (data_said tsn fragment.now) { stream_id = stream_id; ssn = ssn; ppid = ppid }) }
+    ensures says { chunk_content result
+        ≡ data_chunk
+        (record (data_said tsn fragment.now) { stream_id = stream_id; ssn = ssn; ppid = ppid }) }
     ensures fits { FitsChunk (chunk_content result) }
-    ensures size { length (chunk_bytes (chunk_content result)) ≡ chunk_size 16 (length fragment.now.payload) }
+    ensures size { length (chunk_bytes (chunk_content result))
+        ≡ chunk_size 16 (length fragment.now.payload) }
 {
     let flags = flags_of(fragment);
     Chunk::Data(DataChunk {
@@ -244,9 +259,16 @@ fn i_data_of<'a>(
     fragment: &'a DataToSend,
 ) -> Chunk<'a>
     requires { 20 + length fragment.now.payload < 2 ^ 16 }
-    ensures says { chunk_content result ≡ i_data_chunk (record (i_data_said tsn fragment.now) { stream_id = stream_id; mid = mid; ppid_or_fsn = ppid_or_fsn }) }
+    ensures says { chunk_content result
+        ≡ i_data_chunk
+        (record (i_data_said tsn fragment.now) {
+          stream_id = stream_id;
+          mid = mid;
+          ppid_or_fsn = ppid_or_fsn;
+        }) }
     ensures fits { FitsChunk (chunk_content result) }
-    ensures size { length (chunk_bytes (chunk_content result)) ≡ chunk_size 20 (length fragment.now.payload) }
+    ensures size { length (chunk_bytes (chunk_content result))
+        ≡ chunk_size 20 (length fragment.now.payload) }
 {
     let flags = flags_of(fragment);
     Chunk::IData(IDataChunk {

@@ -68,7 +68,8 @@ impl Transfer {
         a_rwnd: u32,
         capabilities: &Capabilities,
     ) -> Transfer
-        ensures { result ≡ new_transfer options.now capabilities.now first_tsn peer_first_tsn a_rwnd }
+        ensures { result
+            ≡ new_transfer options.now capabilities.now first_tsn peer_first_tsn a_rwnd }
     {
         Transfer {
             retransmission_queue: RetransmissionQueue::new(
@@ -128,7 +129,8 @@ impl Transfer {
 
     /// Was something sent that is neither acknowledged nor abandoned?
     pub fn has_unacknowledged_items(&self) -> bool
-        ensures { result ≡ not (unacknowledged_items self.now.retransmission.outstanding.items == 0) }
+        ensures { result
+            ≡ not (unacknowledged_items self.now.retransmission.outstanding.items == 0) }
     {
         self.retransmission_queue.unacked_items() != 0
     }

@@ -112,7 +112,11 @@ impl CongestionControl {
 
     /// The cumulative TSN is this one: fast recovery ends if it has come to the exit point.
     pub fn leave_recovery(&mut self, cumulative_tsn_ack: u32)
-        ensures { self.new ≡ record self.old { recovery_exit = exit_after cumulative_tsn_ack self.old.recovery_exit } }
+        ensures { self.new
+            ≡ record self.old {
+              recovery_exit = exit_after cumulative_tsn_ack
+                  self.old.recovery_exit;
+            } }
     {
         match self.recovery_exit {
             None => {}

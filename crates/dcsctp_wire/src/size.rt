@@ -52,8 +52,8 @@ pub fn parameters_len(parameters: &[Parameter<'_>]) -> usize
 /// How many bytes the parameters have in a chunk, each with its padding (RFC 9260, section 3.2.1), or
 /// `usize::MAX` if that is more.
 pub fn parameters_serialized_size(parameters: &[Parameter<'_>]) -> usize
-    ensures { result ≡ min (length (flat_map parameter_bytes (map parameter_content parameters.now)))
-        usize.MAX }
+    ensures { result
+        ≡ min (length (flat_map parameter_bytes (map parameter_content parameters.now))) usize.MAX }
 {
     padded(parameters_len(parameters))
 }
@@ -137,7 +137,8 @@ pub fn sizes()
     ensures parameter { (parameter : ParameterContent) → length (parameter_bytes parameter)
         ≡ parameter_len parameter + padding_of (parameter_len parameter) }
     ensures list { (chunk_type flags : ℕ) (fields : List ℕ) (parameters : List ParameterContent)
-        → length (parameter_chunk_bytes chunk_type flags fields parameters) ≡ 4 + length fields + sum_by
+        → length (parameter_chunk_bytes chunk_type flags fields parameters)
+        ≡ 4 + length fields + sum_by
         (λ parameter. length (parameter_bytes parameter)) parameters }
     ensures other { (chunk_type flags : ℕ) (value : List ℕ) → length
         (other_bytes chunk_type flags value) ≡ 4 + length value + padding_of (length value) }

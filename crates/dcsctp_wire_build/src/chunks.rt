@@ -34,7 +34,8 @@ fn put_init(out: &mut Vec<u8>, chunk_type: u8, init: &InitChunk<'_>)
 
 // A chunk of parameters alone.
 fn put_parameter_list(out: &mut Vec<u8>, chunk_type: u8, parameters: &[Parameter<'_>])
-    requires fits { length (parameter_chunk_bytes chunk_type 0 [] (map parameter_content parameters.now))
+    requires fits { length
+        (parameter_chunk_bytes chunk_type 0 [] (map parameter_content parameters.now))
         < 2 ^ 16 }
     requires room { vec_len out.old + length (parameter_chunk_bytes chunk_type 0 []
         (map parameter_content parameters.now)) ≤ vec_capacity out.old }

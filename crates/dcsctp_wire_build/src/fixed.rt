@@ -89,8 +89,10 @@ pub(crate) fn i_data_front(chunk: &IDataChunk<'_>, len: u16) -> [u8; 20]
 /// The header and the fields of a SACK with that many blocks and duplicates.
 #[rattlefmt::skip]
 pub(crate) fn sack_front(chunk: &SackChunk<'_>, len: u16, blocks: u16, duplicates: u16) -> [u8; 16]
-    ensures { result ≡ (3 ∷ 0 ∷ to_be_bytes w16 len) ++ (to_be_bytes w32 chunk.now.cumulative_tsn_ack
-        ++ to_be_bytes w32 chunk.now.a_rwnd ++ to_be_bytes w16 blocks ++ to_be_bytes w16 duplicates) }
+    ensures { result
+        ≡ (3 ∷ 0 ∷ to_be_bytes w16 len) ++ (to_be_bytes w32 chunk.now.cumulative_tsn_ack
+        ++ to_be_bytes w32 chunk.now.a_rwnd ++ to_be_bytes w16 blocks
+        ++ to_be_bytes w16 duplicates) }
 {
     let len = len.to_be_bytes();
     let tsn = chunk.cumulative_tsn_ack.to_be_bytes();

@@ -99,7 +99,8 @@ impl<R: Rng> Rng for Recorded<R> {
     }
 
     fn fill_bytes(&mut self, dst: &mut [u8])
-        ensures answer { (dst.new, R.stream self.new.inner) ≡ fill_bytes (length dst.old) (R.stream self.old.inner) }
+        ensures answer { (dst.new, R.stream self.new.inner)
+            ≡ fill_bytes (length dst.old) (R.stream self.old.inner) }
         ensures words { self.new.words ≡ self.old.words }
         ensures ends { self.new.is_whole ≡ false }
     {

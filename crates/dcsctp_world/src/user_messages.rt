@@ -13,8 +13,8 @@ use std::alloc::AllocError;
 
 // Keeps a copy of a message that `send` accepted. `Err`: an allocation failed, and nothing was kept.
 fn keep_sent(sent: &mut Vec<Message>, message: &Message, reply: &Reply) -> Result<(), AllocError>
-    ensures { AddsAllOrFirst (sent_if (message_content message.now) reply.now) (map message_content sent.old.items) result
-        (map message_content sent.new.items) }
+    ensures { AddsAllOrFirst (sent_if (message_content message.now) reply.now)
+        (map message_content sent.old.items) result (map message_content sent.new.items) }
 {
     if let Reply::Sent(Ok(())) = reply {
         sent.push(message.copied()?)?;
@@ -68,7 +68,8 @@ fn keep_others(
     messages: &[Message],
     answer: &Result<(), BatchSendError>,
 ) -> Result<(), AllocError>
-    ensures { AddsAllOrFirst (others_from 0 (refused_by answer.now) (map message_content messages.now))
+    ensures { AddsAllOrFirst
+        (others_from 0 (refused_by answer.now) (map message_content messages.now))
         (map message_content sent.old.items) result (map message_content sent.new.items) }
 {
     for (place, message) in messages.iter().enumerate() {
@@ -84,8 +85,8 @@ fn keep_accepted(
     messages: &[Message],
     reply: &Reply,
 ) -> Result<(), AllocError>
-    ensures { AddsAllOrFirst (sent_among (map message_content messages.now) reply.now) (map message_content sent.old.items)
-        result (map message_content sent.new.items) }
+    ensures { AddsAllOrFirst (sent_among (map message_content messages.now) reply.now)
+        (map message_content sent.old.items) result (map message_content sent.new.items) }
 {
     match reply {
         Reply::SentMany(answer) => keep_others(sent, messages, answer),
@@ -112,10 +113,10 @@ pub(crate) fn keep_messages(
     call: &Call,
     reply: &Reply,
 ) -> Result<(), AllocError>
-    ensures sent { AddsAllOrFirst (messages_of_call (call_content call.now) reply.now) (map message_content sent.old.items) result
-        (map message_content sent.new.items) }
-    ensures read { AddsAllOrFirst (read_by (call_content call.now) reply.now) (map message_content read.old.items) result
-        (map message_content read.new.items) }
+    ensures sent { AddsAllOrFirst (messages_of_call (call_content call.now) reply.now)
+        (map message_content sent.old.items) result (map message_content sent.new.items) }
+    ensures read { AddsAllOrFirst (read_by (call_content call.now) reply.now)
+        (map message_content read.old.items) result (map message_content read.new.items) }
 {
     match call {
         Call::Send(message, _) => keep_sent(sent, message, reply),

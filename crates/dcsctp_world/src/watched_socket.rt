@@ -67,8 +67,8 @@ fn keep_event(
     packets: &mut Vec<Vec<u8>>,
     event: SocketEvent,
 ) -> Result<(), AllocError>
-    ensures { KeepsEvents (event_content event ∷ []) (kept events.old.items packets.old.items) result
-        (kept events.new.items packets.new.items) }
+    ensures { KeepsEvents (event_content event ∷ []) (kept events.old.items packets.old.items)
+        result (kept events.new.items packets.new.items) }
 {
     if let SocketEvent::SendPacket(packet) = &event {
         packets.push(packet.clone()?)?;
@@ -84,8 +84,8 @@ fn take_events<R: Rng + Drop>(
     events: &mut Vec<SocketEvent>,
     packets: &mut Vec<Vec<u8>>,
 ) -> Result<(), AllocError>
-    ensures { TakesAll (user_view_of R.stream socket.old) (kept events.old.items packets.old.items) result
-        (user_view_of R.stream socket.new) (kept events.new.items packets.new.items) }
+    ensures { TakesAll (user_view_of R.stream socket.old) (kept events.old.items packets.old.items)
+        result (user_view_of R.stream socket.new) (kept events.new.items packets.new.items) }
 {
     while let Some(event) = socket.poll_event() {
         keep_event(events, packets, event)?;
@@ -146,7 +146,8 @@ fn send<R: Rng + Drop>(
     message: &Message,
     options: &SendOptions,
 ) -> Result<Reply, SocketFault>
-    ensures { CallMade (UserTurns socket.old.view.endpoint (send_call (message_content message.now) options.now))
+    ensures { CallMade
+        (UserTurns socket.old.view.endpoint (send_call (message_content message.now) options.now))
         (IsCallReply socket.old.view.endpoint (send_call (message_content message.now) options.now))
         (user_view_of R.stream socket.old) result (user_view_of R.stream socket.new) }
 {
@@ -181,7 +182,8 @@ fn reset_streams<R: Rng + Drop>(
     socket: &mut Socket<R>,
     stream_ids: &[StreamId],
 ) -> Result<Reply, SocketFault>
-    ensures { CallMade (UserTurns socket.old.view.endpoint (reset_call (stream_numbers stream_ids.now)))
+    ensures { CallMade
+        (UserTurns socket.old.view.endpoint (reset_call (stream_numbers stream_ids.now)))
         (IsCallReply socket.old.view.endpoint (reset_call (stream_numbers stream_ids.now)))
         (user_view_of R.stream socket.old) result (user_view_of R.stream socket.new) }
 {
@@ -227,7 +229,8 @@ fn restore<R: Rng + Drop>(
 
 // Hands the socket over, and restores it from its snapshot. The errors are those of the calls.
 fn hand_over_and_restore<R: Rng + Drop>(socket: &mut Socket<R>) -> Result<Reply, SocketFault>
-    ensures { CallMade (OutsideHandoverTurns socket.old.view.endpoint) (IsHandedOnBy socket.old.view.endpoint)
+    ensures { CallMade (OutsideHandoverTurns socket.old.view.endpoint)
+        (IsHandedOnBy socket.old.view.endpoint)
         (user_view_of R.stream socket.old) result (user_view_of R.stream socket.new) }
 {
     match socket.get_handover_state_and_close()? {
@@ -238,8 +241,8 @@ fn hand_over_and_restore<R: Rng + Drop>(socket: &mut Socket<R>) -> Result<Reply,
 
 // The packet of this number, counted from 1.
 fn packet_numbered(packets: &[Vec<u8>], number: usize) -> Option<&Vec<u8>>
-    ensures { packet_at_number number (bytes_of_packets packets.now) ≡ option_map (λ packet. packet.now.items)
-        result }
+    ensures { packet_at_number number (bytes_of_packets packets.now)
+        ≡ option_map (λ packet. packet.now.items) result }
 {
     if number == 0 {
         return None;
@@ -290,9 +293,10 @@ impl<R: Rng + Drop> WatchedSocket<R> {
     // can't be kept.
     fn call(&mut self, call: &Call) -> Result<Reply, SocketFault>
         requires { self.old.socket.view.events ≡ [] }
-        ensures { HandlesAct R.stream (UserTurns self.old.socket.view.endpoint (call_content call.now))
-            (IsCallReply self.old.socket.view.endpoint (call_content call.now)) (shown self.old) result
-            (shown self.new) }
+        ensures { HandlesAct R.stream
+            (UserTurns self.old.socket.view.endpoint (call_content call.now))
+            (IsCallReply self.old.socket.view.endpoint (call_content call.now)) (shown self.old)
+            result (shown self.new) }
     {
         let reply = make_call(&mut self.socket, call)?;
         keep_messages(&mut self.sent, &mut self.read, call, &reply)?;
@@ -303,8 +307,8 @@ impl<R: Rng + Drop> WatchedSocket<R> {
     // Hands over these bytes. The errors are as those of `call`.
     fn hand_in(&mut self, bytes: &[u8]) -> Result<Reply, SocketFault>
         requires { self.old.socket.view.events ≡ [] }
-        ensures { HandlesAct R.stream (HandleInput self.old.socket.view.endpoint bytes.now) (λ reply. reply ≡ Done)
-            (shown self.old) result (shown self.new) }
+        ensures { HandlesAct R.stream (HandleInput self.old.socket.view.endpoint bytes.now)
+            (λ reply. reply ≡ Done) (shown self.old) result (shown self.new) }
     {
         self.socket.handle_input(bytes)?;
         self.keep_all()?;
@@ -314,8 +318,10 @@ impl<R: Rng + Drop> WatchedSocket<R> {
     // Hands over the packet of this number, if there is one. The errors are as those of `call`.
     fn deliver(&mut self, packets: &[Vec<u8>], number: usize) -> Result<Reply, SocketFault>
         requires { self.old.socket.view.events ≡ [] }
-        ensures { HandlesAct R.stream (DeliveryTurns self.old.socket.view.endpoint (packet_at_number number
-            (bytes_of_packets packets.now))) (IsDeliveryReply (packet_at_number number (bytes_of_packets packets.now)))
+        ensures { HandlesAct R.stream
+            (DeliveryTurns self.old.socket.view.endpoint (packet_at_number number
+            (bytes_of_packets packets.now)))
+            (IsDeliveryReply (packet_at_number number (bytes_of_packets packets.now)))
             (shown self.old) result (shown self.new) }
     {
         match packet_numbered(packets, number) {
@@ -338,9 +344,10 @@ impl<R: Rng + Drop> WatchedSocket<R> {
     // Restores the socket from this snapshot, if it is valid. The errors are as those of `call`.
     fn restore(&mut self, state: &SocketHandoverState) -> Result<Reply, SocketFault>
         requires { self.old.socket.view.events ≡ [] }
-        ensures { HandlesAct R.stream (ValidTurns self.old.socket.view.endpoint (snapshot state.now))
-            (IsRestoredBy self.old.socket.view.endpoint (snapshot state.now)) (shown self.old) result
-            (shown self.new) }
+        ensures { HandlesAct R.stream
+            (ValidTurns self.old.socket.view.endpoint (snapshot state.now))
+            (IsRestoredBy self.old.socket.view.endpoint (snapshot state.now)) (shown self.old)
+            result (shown self.new) }
     {
         if !state.is_valid(&self.socket.options()) {
             return Ok(Reply::NoCall);
@@ -356,8 +363,11 @@ impl<R: Rng + Drop> WatchedSocket<R> {
     /// performs nothing.
     pub fn perform(&mut self, packets: &[Vec<u8>], act: &Act) -> Result<Reply, SocketFault>
         requires { self.old.socket.view.events ≡ [] }
-        ensures { HandlesAct R.stream (TurnsOfAct self.old.socket.view.endpoint (bytes_of_packets packets.now) (act_content act.now))
-            (IsReply self.old.socket.view.endpoint (bytes_of_packets packets.now) (act_content act.now)) (shown self.old) result (shown self.new) }
+        ensures { HandlesAct R.stream
+            (TurnsOfAct self.old.socket.view.endpoint (bytes_of_packets packets.now)
+            (act_content act.now))
+            (IsReply self.old.socket.view.endpoint (bytes_of_packets packets.now)
+            (act_content act.now)) (shown self.old) result (shown self.new) }
     {
         match act {
             Act::Step(Step::Call(_, call)) => self.call(call),

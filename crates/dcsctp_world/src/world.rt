@@ -75,7 +75,8 @@ fn move_side<R: Rng + Drop>(
 ) -> Result<Reply, SocketFault>
     requires a { a.old.socket.view.events ≡ [] }
     requires b { b.old.socket.view.events ≡ [] }
-    ensures { MovesSide R.stream (act_content act.now) (both a.old b.old) result (both a.new b.new) }
+    ensures { MovesSide R.stream (act_content act.now) (both a.old b.old) result
+        (both a.new b.new) }
 {
     match side_of(act) {
         Side::A => {
@@ -107,7 +108,8 @@ fn perform_and_keep<R: Rng + Drop>(
     requires a { a.old.socket.view.events ≡ [] }
     requires b { b.old.socket.view.events ≡ [] }
     ensures call { WorksAct (recorded_stream R.stream) (act_content act)
-        (world_of a.old b.old acts.old.items false) result (world_of a.new b.new acts.new.items false) }
+        (world_of a.old b.old acts.old.items false) result
+        (world_of a.new b.new acts.new.items false) }
     ensures whole { OnOk result (AreWhole (both a.new b.new)) }
 {
     let reply = move_side(a, b, &act)?;
@@ -213,7 +215,8 @@ impl<R: Rng + Drop> World<R> {
     /// what is said of cookies are promised only up to here. The rest of what `run` says still holds. The errors are
     /// those of `apply`.
     pub fn outside(&mut self, outside: Outside) -> Result<Reply, SocketFault>
-        ensures { Applies R.stream (outside_act (outside_content outside)) self.old result self.new }
+        ensures { Applies R.stream (outside_act (outside_content outside)) self.old result
+            self.new }
     {
         self.apply_act(Act::Outside(outside))
     }

@@ -22,7 +22,9 @@ impl Outstanding {
     /// What a snapshot that is made at the moment `now` has of all items. Their payloads are copied. `Err`: an
     /// allocation failed.
     pub fn handover_data(&self, now: SocketTime) -> Result<Vec<HandoverOutstandingData>, AllocError>
-        ensures { IfOk result (λ parts. map outstanding_part parts.items ≡ map (outstanding_given now) self.now.items) }
+        ensures { IfOk result
+            (λ parts. map outstanding_part parts.items
+            ≡ map (outstanding_given now) self.now.items) }
     {
         let alloc = self.alloc;
         let mut parts = Vec::with_capacity(alloc, self.len())?;
@@ -48,7 +50,8 @@ impl Outstanding {
     fn push(&mut self, item: Item) -> Result<(), AllocError>
         requires room { length self.old.items + 1 < 2 ^ 31 }
         requires bytes { HasBytes item }
-        ensures ok { OnOk result (self.new ≡ record self.old { items = self.old.items ++ item ∷ [] }) }
+        ensures ok { OnOk result
+            (self.new ≡ record self.old { items = self.old.items ++ item ∷ [] }) }
         ensures err { OnErr result (self.new ≡ self.old) }
     {
         self.items.reserve(1)?;
@@ -72,7 +75,11 @@ impl Outstanding {
         parts: &[HandoverOutstandingData],
     ) -> Result<(), AllocError>
         requires { list_all has_bytes_or_is_abandoned (map outstanding_part parts.now) ≡ true }
-        ensures { OnOk result (self.new ≡ record self.old { first_tsn = first_tsn; items = items_again now was_reset (map outstanding_part parts.now) }) }
+        ensures { OnOk result
+            (self.new ≡ record self.old {
+              first_tsn = first_tsn;
+              items = items_again now was_reset (map outstanding_part parts.now);
+            }) }
     {
         let alloc = self.alloc;
         self.empty(first_tsn);

@@ -31,9 +31,16 @@ impl Outstanding {
         requires place { place < length self.old.items }
         requires room { length self.old.items + 1 < 2 ^ 31 }
         ensures may { MayAddEnd self.old self.new }
-        ensures ok { AtPlace self.old.items place (λ last. OnOk result (DropsRest now begins_after_reset last self.old queue.old (contents events.old) self.new queue.new (contents events.new))) }
+        ensures ok { AtPlace self.old.items place
+            (λ last. OnOk result
+            (DropsRest now begins_after_reset last self.old queue.old (contents events.old)
+            self.new queue.new (contents events.new))) }
         ensures err { OnErr result ((self.new ≡ self.old) × (queue.new ≡ queue.old)) }
-        ensures front { AtPlace self.old.items place (λ last. OnErr result ((contents events.new ≡ contents events.old) ⊎ StopsDiscarding queue.old last.fragment.stream last.fragment.message_id (contents events.old) (contents events.new))) }
+        ensures front { AtPlace self.old.items place
+            (λ last. OnErr result
+            ((contents events.new ≡ contents events.old)
+            ⊎ StopsDiscarding queue.old last.fragment.stream last.fragment.message_id
+            (contents events.old) (contents events.new))) }
     {
         self.items.reserve(1)?;
         let stream_id = self.items[place].fragment.stream_id;
@@ -59,7 +66,8 @@ impl Outstanding {
     // Does the item at the place carry the message?
     fn bears(&self, place: usize, message_id: u64) -> bool
         requires { place < length self.now.items }
-        ensures { AtPlace self.now.items place (λ item. result ≡ (item.fragment.message_id == message_id)) }
+        ensures { AtPlace self.now.items place
+            (λ item. result ≡ (item.fragment.message_id == message_id)) }
     {
         self.item(place).fragment.message_id == message_id
     }

@@ -17,7 +17,9 @@ impl Outstanding {
     // The place, if its item is neither acknowledged nor abandoned.
     fn unacknowledged_at(&self, place: usize) -> Option<usize>
         requires { place < length self.now.items }
-        ensures { IsLastPlace (λ k item. IsPlaceWithin place (place + 1) k × (is_unacknowledged item.progress.state ≡ true)) self.now.items result }
+        ensures { IsLastPlace
+            (λ k item. IsPlaceWithin place (place + 1) k
+            × (is_unacknowledged item.progress.state ≡ true)) self.now.items result }
     {
         if self.item(place).progress.state.is_unacknowledged() {
             Some(place)
@@ -28,7 +30,9 @@ impl Outstanding {
 
     // The last place from `start` on and before `end` with an item that is neither acknowledged nor abandoned.
     fn last_unacknowledged(&self, start: usize, end: usize) -> Option<usize>
-        ensures { IsLastPlace (λ place item. IsPlaceWithin start end place × (is_unacknowledged item.progress.state ≡ true)) self.now.items result }
+        ensures { IsLastPlace
+            (λ place item. IsPlaceWithin start end place
+            × (is_unacknowledged item.progress.state ≡ true)) self.now.items result }
     {
         let mut place = end.min(self.len());
         while start < place {
@@ -48,7 +52,9 @@ impl Outstanding {
         end: usize,
         row: usize,
     ) -> (Option<usize>, usize)
-        ensures { IsLastPlace (λ place item. IsPlaceWithin start end place × (is_unacknowledged item.progress.state ≡ true)) self.now.items result.0 }
+        ensures { IsLastPlace
+            (λ place item. IsPlaceWithin start end place
+            × (is_unacknowledged item.progress.state ≡ true)) self.now.items result.0 }
     {
         let limit = end.min(self.len());
         let mut last = None;
@@ -96,7 +102,8 @@ impl Outstanding {
     /// The last place with an item that the blocks name.
     pub fn last_named(&self, count: usize, blocks: &[GapAckBlock]) -> Option<usize>
         requires { count ≤ length self.now.items }
-        ensures { IsLastPlace (λ place item. NamesItem count blocks.now place) self.now.items result }
+        ensures { IsLastPlace (λ place item. NamesItem count blocks.now place) self.now.items
+            result }
     {
         let _ = self.len();
         let mut last = None;

@@ -16,7 +16,8 @@ fn mark_under_way(
     stream_id: StreamId,
     under_way: Option<UnderWay>,
 )
-    ensures { map queued_part parts.new.items ≡ with_progress under_way stream_id.0 (map queued_part parts.old.items) }
+    ensures { map queued_part parts.new.items
+        ≡ with_progress under_way stream_id.0 (map queued_part parts.old.items) }
 {
     let Some(under_way) = under_way else {
         return;
@@ -54,7 +55,9 @@ impl Backlog {
         &self,
         now: SocketTime,
     ) -> Result<Vec<HandoverStreamMessage>, AllocError>
-        ensures { IfOk result (λ parts. map queued_part parts.items ≡ flat_map (messages_given now self.now.under_way) self.now.streams) }
+        ensures { IfOk result
+            (λ parts. map queued_part parts.items
+            ≡ flat_map (messages_given now self.now.under_way) self.now.streams) }
     {
         let mut all = Vec::new(self.alloc);
         for place in 0..self.streams.len() {

@@ -22,7 +22,9 @@ impl Backlog {
     /// The oldest message of the stream as it is begun, before its first fragment.
     pub fn begun(&self, place: usize) -> UnderWay
         requires { place < length self.now.streams }
-        ensures { (message : Waiting) → front_of (stream_at self.now.streams place).messages ≡ Some message → result ≡ begun message (stream_at self.now.streams place) }
+        ensures { (message : Waiting)
+            → front_of (stream_at self.now.streams place).messages ≡ Some message
+            → result ≡ begun message (stream_at self.now.streams place) }
     {
         let stream = self.streams.at(place);
         let is_unordered = self.is_front_unordered(place);
@@ -63,7 +65,9 @@ impl Backlog {
     // Has other numbers count from now on. The message under way takes the next one of its stream.
     fn number_anew(&mut self, is_interleaved: bool)
         requires { CanGoOn self.old.streams self.old.under_way }
-        ensures whole { queue_of self.new ≡ numbered_anew self.old.under_way (record (queue_of self.old) { is_interleaved = is_interleaved }) }
+        ensures whole { queue_of self.new
+            ≡ numbered_anew self.old.under_way
+            (record (queue_of self.old) { is_interleaved = is_interleaved }) }
         ensures can { CanGoOn self.new.streams self.new.under_way }
     {
         self.is_interleaved = is_interleaved;
@@ -87,7 +91,9 @@ impl Backlog {
     // Is the oldest message of the stream too old to be started?
     fn is_front_expired(&self, place: usize, now: SocketTime) -> bool
         requires { place < length self.now.streams }
-        ensures { (message : Waiting) → front_of (stream_at self.now.streams place).messages ≡ Some message → result ≡ is_expired now message }
+        ensures { (message : Waiting)
+            → front_of (stream_at self.now.streams place).messages ≡ Some message
+            → result ≡ is_expired now message }
     {
         match self.streams.at(place).front() {
             None => false,
@@ -103,9 +109,14 @@ impl Backlog {
         now: SocketTime,
     ) -> Result<Option<usize>, AllocError>
         ensures ok { IfOk result (NextUnexpired now self.new.streams) }
-        ensures told { OnOk result (DropsAll now (queue_of self.old) (contents events.old) (queue_of self.new) (contents events.new)) }
+        ensures told { OnOk result
+            (DropsAll now (queue_of self.old) (contents events.old) (queue_of self.new)
+            (contents events.new)) }
         ensures err { OnErr result (DropsSome now (queue_of self.old) (queue_of self.new)) }
-        ensures front { (max : ℕ) → self.old.under_way ≡ None → OnErr result (StopsTaking now max (queue_of self.old) (contents events.old) (queue_of self.new) (contents events.new)) }
+        ensures front { (max : ℕ) → self.old.under_way ≡ None
+            → OnErr result
+            (StopsTaking now max (queue_of self.old) (contents events.old) (queue_of self.new)
+            (contents events.new)) }
     {
         while let Some(place) = self.streams.next_place() {
             if !self.is_front_expired(place, now) {
@@ -126,12 +137,30 @@ impl Backlog {
         max: usize,
     ) -> Result<DataToSend, AllocError>
         requires { HasUnsentBytes self.old.streams place under_way.sent }
-        ensures ok { (message : Waiting) → front_of (stream_at self.old.streams place).messages ≡ Some message → IfOk result (λ part. part ≡ fragment under_way message (size_produced max message under_way)) }
-        ensures some { (message : Waiting) → front_of (stream_at self.old.streams place).messages ≡ Some message → 0 < length message.payload }
-        ensures left { (message : Waiting) → front_of (stream_at self.old.streams place).messages ≡ Some message → OnOk result (queue_of self.new ≡ produced place max message under_way (queue_of self.old)) }
-        ensures told { (message : Waiting) → front_of (stream_at self.old.streams place).messages ≡ Some message → OnOk result (contents events.new ≡ contents events.old ++ produced_events place max message under_way (queue_of self.old)) }
+        ensures ok { (message : Waiting)
+            → front_of (stream_at self.old.streams place).messages ≡ Some message
+            → IfOk result
+            (λ part. part ≡ fragment under_way message (size_produced max message under_way)) }
+        ensures some { (message : Waiting)
+            → front_of (stream_at self.old.streams place).messages ≡ Some message
+            → 0 < length message.payload }
+        ensures left { (message : Waiting)
+            → front_of (stream_at self.old.streams place).messages ≡ Some message
+            → OnOk result
+            (queue_of self.new ≡ produced place max message under_way (queue_of self.old)) }
+        ensures told { (message : Waiting)
+            → front_of (stream_at self.old.streams place).messages ≡ Some message
+            → OnOk result
+            (contents events.new
+            ≡ contents events.old
+            ++ produced_events place max message under_way (queue_of self.old)) }
         ensures err { OnErr result (self.new ≡ self.old) }
-        ensures front { (message : Waiting) → front_of (stream_at self.old.streams place).messages ≡ Some message → OnErr result (TellsFront (contents events.old) (produced_events place max message under_way (queue_of self.old)) (contents events.new)) }
+        ensures front { (message : Waiting)
+            → front_of (stream_at self.old.streams place).messages ≡ Some message
+            → OnErr result
+            (TellsFront (contents events.old)
+            (produced_events place max message under_way (queue_of self.old))
+            (contents events.new)) }
     {
         let message = self.streams.at(place).front().unwrap();
         let left = message.size().saturating_sub(under_way.sent);
@@ -145,7 +174,9 @@ impl Backlog {
     // Is this the name of the oldest message of the stream?
     fn is_front_named(&self, place: usize, message_id: u64) -> bool
         requires { place < length self.now.streams }
-        ensures { (message : Waiting) → front_of (stream_at self.now.streams place).messages ≡ Some message → result ≡ (message.message_id == message_id) }
+        ensures { (message : Waiting)
+            → front_of (stream_at self.now.streams place).messages ≡ Some message
+            → result ≡ (message.message_id == message_id) }
     {
         match self.streams.at(place).front() {
             None => false,
@@ -162,10 +193,14 @@ impl Backlog {
         message_id: u64,
     ) -> Result<bool, AllocError>
         requires { CanGoOn self.old.streams self.old.under_way }
-        ensures ok { IfOk result (λ is_dropped. DiscardsNamed (queue_of self.old) stream_id.0 message_id (contents events.old) is_dropped (queue_of self.new) (contents events.new)) }
+        ensures ok { IfOk result
+            (λ is_dropped. DiscardsNamed (queue_of self.old) stream_id.0 message_id
+            (contents events.old) is_dropped (queue_of self.new) (contents events.new)) }
         ensures can { CanGoOn self.new.streams self.new.under_way }
         ensures err { OnErr result (self.new ≡ self.old) }
-        ensures front { OnErr result (StopsDiscarding (queue_of self.old) stream_id.0 message_id (contents events.old) (contents events.new)) }
+        ensures front { OnErr result
+            (StopsDiscarding (queue_of self.old) stream_id.0 message_id (contents events.old)
+            (contents events.new)) }
     {
         let under_way = match self.under_way {
             Some(under_way) => under_way,
@@ -194,11 +229,17 @@ impl Backlog {
         requires goes_on { self.old.under_way ≡ Some under_way }
         requires can { IsUnderWay self.old.streams under_way }
         requires some { 0 < max }
-        ensures ok { (now : ℕ) → IfOk result (λ next. TakesNextFragment now max (queue_of self.old) (contents events.old) next (queue_of self.new) (contents events.new)) }
+        ensures ok { (now : ℕ)
+            → IfOk result
+            (λ next. TakesNextFragment now max (queue_of self.old) (contents events.old) next
+            (queue_of self.new) (contents events.new)) }
         ensures size { IfOk result (λ next. IfSome next (HasSize max)) }
         ensures can { CanGoOn self.new.streams self.new.under_way }
         ensures err { OnErr result (self.new ≡ self.old) }
-        ensures front { (now : ℕ) → OnErr result (StopsTaking now max (queue_of self.old) (contents events.old) (queue_of self.new) (contents events.new)) }
+        ensures front { (now : ℕ)
+            → OnErr result
+            (StopsTaking now max (queue_of self.old) (contents events.old) (queue_of self.new)
+            (contents events.new)) }
     {
         let place = self.place_of(under_way);
         let data = self.produce(events, place, under_way, max)?;
@@ -216,11 +257,15 @@ impl Backlog {
     ) -> Result<Option<DataToSend>, AllocError>
         requires idle { self.old.under_way ≡ None }
         requires some { 0 < max }
-        ensures ok { IfOk result (λ next. TakesNextFragment now max (queue_of self.old) (contents events.old) next (queue_of self.new) (contents events.new)) }
+        ensures ok { IfOk result
+            (λ next. TakesNextFragment now max (queue_of self.old) (contents events.old) next
+            (queue_of self.new) (contents events.new)) }
         ensures size { IfOk result (λ next. IfSome next (HasSize max)) }
         ensures can { CanGoOn self.new.streams self.new.under_way }
         ensures err { OnErr result (DropsSome now (queue_of self.old) (queue_of self.new)) }
-        ensures front { OnErr result (StopsTaking now max (queue_of self.old) (contents events.old) (queue_of self.new) (contents events.new)) }
+        ensures front { OnErr result
+            (StopsTaking now max (queue_of self.old) (contents events.old) (queue_of self.new)
+            (contents events.new)) }
     {
         let Some(place) = self.next_unexpired(events, now)? else {
             return Ok(None);
@@ -265,11 +310,20 @@ impl Backlog {
         size: usize,
     ) -> Result<DataToSend, AllocError>
         requires { HasMore self.old.streams place (under_way.sent + size) }
-        ensures ok { (message : Waiting) → front_of (stream_at self.old.streams place).messages ≡ Some message → IfOk result (λ part. part ≡ fragment under_way message size) }
-        ensures left { (message : Waiting) → front_of (stream_at self.old.streams place).messages ≡ Some message → OnOk result (queue_of self.new ≡ after_part place size message under_way (queue_of self.old)) }
-        ensures told { OnOk result (contents events.new ≡ contents events.old ++ part_events place size (queue_of self.old)) }
+        ensures ok { (message : Waiting)
+            → front_of (stream_at self.old.streams place).messages ≡ Some message
+            → IfOk result (λ part. part ≡ fragment under_way message size) }
+        ensures left { (message : Waiting)
+            → front_of (stream_at self.old.streams place).messages ≡ Some message
+            → OnOk result
+            (queue_of self.new ≡ after_part place size message under_way (queue_of self.old)) }
+        ensures told { OnOk result
+            (contents events.new
+            ≡ contents events.old ++ part_events place size (queue_of self.old)) }
         ensures err { OnErr result (self.new ≡ self.old) }
-        ensures front { OnErr result (TellsFront (contents events.old) (part_events place size (queue_of self.old)) (contents events.new)) }
+        ensures front { OnErr result
+            (TellsFront (contents events.old) (part_events place size (queue_of self.old))
+            (contents events.new)) }
     {
         let message = self.streams.at(place).front().unwrap();
         let data = message.part(self.alloc, under_way, size)?;
@@ -298,11 +352,25 @@ impl Backlog {
         under_way: UnderWay,
     ) -> Result<DataToSend, AllocError>
         requires { HasUnsentBytes self.old.streams place under_way.sent }
-        ensures ok { (message : Waiting) → front_of (stream_at self.old.streams place).messages ≡ Some message → IfOk result (λ part. part ≡ fragment under_way message (length message.payload - under_way.sent)) }
-        ensures left { (message : Waiting) → front_of (stream_at self.old.streams place).messages ≡ Some message → OnOk result (queue_of self.new ≡ after_last place message under_way (queue_of self.old)) }
-        ensures told { (message : Waiting) → front_of (stream_at self.old.streams place).messages ≡ Some message → OnOk result (contents events.new ≡ contents events.old ++ last_events place message under_way (queue_of self.old)) }
+        ensures ok { (message : Waiting)
+            → front_of (stream_at self.old.streams place).messages ≡ Some message
+            → IfOk result
+            (λ part. part ≡ fragment under_way message (length message.payload - under_way.sent)) }
+        ensures left { (message : Waiting)
+            → front_of (stream_at self.old.streams place).messages ≡ Some message
+            → OnOk result
+            (queue_of self.new ≡ after_last place message under_way (queue_of self.old)) }
+        ensures told { (message : Waiting)
+            → front_of (stream_at self.old.streams place).messages ≡ Some message
+            → OnOk result
+            (contents events.new
+            ≡ contents events.old ++ last_events place message under_way (queue_of self.old)) }
         ensures err { OnErr result (self.new ≡ self.old) }
-        ensures front { (message : Waiting) → front_of (stream_at self.old.streams place).messages ≡ Some message → OnErr result (TellsFront (contents events.old) (last_events place message under_way (queue_of self.old)) (contents events.new)) }
+        ensures front { (message : Waiting)
+            → front_of (stream_at self.old.streams place).messages ≡ Some message
+            → OnErr result
+            (TellsFront (contents events.old)
+            (last_events place message under_way (queue_of self.old)) (contents events.new)) }
     {
         let message = self.streams.at(place).front().unwrap();
         let rest = message.copied_rest(self.alloc, under_way.sent)?;

@@ -25,9 +25,12 @@ impl Backlog {
     pub fn pause(&mut self, events: &mut Events, place: usize) -> Result<(), AllocError>
         requires { place < length self.old.streams }
         ensures ok { OnOk result (queue_of self.new ≡ after_pause place (queue_of self.old)) }
-        ensures told { OnOk result (contents events.new ≡ contents events.old ++ pause_events place (queue_of self.old)) }
+        ensures told { OnOk result
+            (contents events.new ≡ contents events.old ++ pause_events place (queue_of self.old)) }
         ensures err { OnErr result (self.new ≡ self.old) }
-        ensures front { OnErr result (TellsFront (contents events.old) (pause_events place (queue_of self.old)) (contents events.new)) }
+        ensures front { OnErr result
+            (TellsFront (contents events.old) (pause_events place (queue_of self.old))
+            (contents events.new)) }
     {
         let kept = self.count_under_way(self.streams.at(place).id());
         let size = self.streams.at(place).size_from(kept);
@@ -41,11 +44,17 @@ impl Backlog {
     /// Drops the messages of the stream that haven't been started, and pauses it, if it isn't paused yet.
     pub fn prepare(&mut self, events: &mut Events, stream_id: StreamId) -> Result<(), AllocError>
         ensures ok { OnOk result (queue_of self.new ≡ prepared stream_id.0 (queue_of self.old)) }
-        ensures told { OnOk result (contents events.new ≡ contents events.old ++ prepare_events stream_id.0 (queue_of self.old)) }
-        ensures can { CanGoOn self.old.streams self.old.under_way → CanGoOn self.new.streams self.new.under_way }
+        ensures told { OnOk result
+            (contents events.new
+            ≡ contents events.old ++ prepare_events stream_id.0 (queue_of self.old)) }
+        ensures can { CanGoOn self.old.streams self.old.under_way
+            → CanGoOn self.new.streams self.new.under_way }
         ensures was_ascending { IsAscending self.old.streams }
-        ensures err { OnErr result (IsUsedAtMost stream_id.0 (queue_of self.old) (queue_of self.new)) }
-        ensures front { OnErr result (TellsFront (contents events.old) (prepare_events stream_id.0 (queue_of self.old)) (contents events.new)) }
+        ensures err { OnErr result
+            (IsUsedAtMost stream_id.0 (queue_of self.old) (queue_of self.new)) }
+        ensures front { OnErr result
+            (TellsFront (contents events.old) (prepare_events stream_id.0 (queue_of self.old))
+            (contents events.new)) }
     {
         let place = self.use_stream(stream_id)?;
         match self.streams.at(place).pause_state() {
@@ -66,7 +75,8 @@ impl Backlog {
 
     /// The numbers of at most `max` of the streams that can be handed out, the least first.
     pub fn ready_ids(&self, max: usize) -> Result<Vec<StreamId>, AllocError>
-        ensures ids { IfOk result (λ ids. stream_numbers ids.items ≡ take max (ready_streams (queue_of self.now))) }
+        ensures ids { IfOk result
+            (λ ids. stream_numbers ids.items ≡ take max (ready_streams (queue_of self.now))) }
         ensures ascending { IsAscending self.now.streams }
     {
         let mut ids = Vec::new(self.alloc);
@@ -80,8 +90,13 @@ impl Backlog {
 
     /// Hands these streams out to be reset.
     pub fn hand_out(&mut self, ids: &[StreamId])
-        ensures left { queue_of self.new ≡ record (queue_of self.old) { streams = handing_out (stream_numbers ids.now) self.old.streams } }
-        ensures can { CanGoOn self.old.streams self.old.under_way → CanGoOn self.new.streams self.new.under_way }
+        ensures left { queue_of self.new
+            ≡ record (queue_of self.old) {
+              streams = handing_out (stream_numbers ids.now)
+                  self.old.streams;
+            } }
+        ensures can { CanGoOn self.old.streams self.old.under_way
+            → CanGoOn self.new.streams self.new.under_way }
     {
         for id in ids {
             self.hand_out_one(*id);
@@ -90,7 +105,11 @@ impl Backlog {
 
     // Hands this stream out to be reset.
     fn hand_out_one(&mut self, id: StreamId)
-        ensures { queue_of self.new ≡ record (queue_of self.old) { streams = stream_changed id.0 handed_out self.old.streams } }
+        ensures { queue_of self.new
+            ≡ record (queue_of self.old) {
+              streams = stream_changed id.0 handed_out
+                  self.old.streams;
+            } }
     {
         match self.streams.find(id) {
             Ok(place) => self.streams.hand_out(place),
@@ -108,7 +127,8 @@ impl Backlog {
     // How many of the streams that are to be reset can't be handed out yet: none, or that of the message
     // under way.
     fn count_not_ready(&self) -> usize
-        ensures { length (ready_streams (queue_of self.now)) + result ≡ count_pausing self.now.streams }
+        ensures { length (ready_streams (queue_of self.now)) + result
+            ≡ count_pausing self.now.streams }
     {
         let Some(under_way) = self.under_way else {
             return 0;

@@ -46,8 +46,10 @@ impl Backlog {
 
     // Gives a stream the numbers and the priority that the snapshot has. `Err`: an allocation failed.
     fn restore_stream(&mut self, named: &HandoverOutgoingStream) -> Result<(), AllocError>
-        ensures ok { OnOk result (queue_of self.new ≡ streams_restored (named.now ∷ []) (queue_of self.old)) }
-        ensures can { CanGoOn self.old.streams self.old.under_way → CanGoOn self.new.streams self.new.under_way }
+        ensures ok { OnOk result
+            (queue_of self.new ≡ streams_restored (named.now ∷ []) (queue_of self.old)) }
+        ensures can { CanGoOn self.old.streams self.old.under_way
+            → CanGoOn self.new.streams self.new.under_way }
     {
         let place = self.use_stream(StreamId(named.id))?;
         self.streams.restore(place, named);
@@ -56,8 +58,10 @@ impl Backlog {
 
     /// Gives the streams the numbers and the priorities that the snapshot has. `Err`: an allocation failed.
     pub fn restore_streams(&mut self, list: &[HandoverOutgoingStream]) -> Result<(), AllocError>
-        ensures ok { OnOk result (queue_of self.new ≡ streams_restored list.now (queue_of self.old)) }
-        ensures can { CanGoOn self.old.streams self.old.under_way → CanGoOn self.new.streams self.new.under_way }
+        ensures ok { OnOk result
+            (queue_of self.new ≡ streams_restored list.now (queue_of self.old)) }
+        ensures can { CanGoOn self.old.streams self.old.under_way
+            → CanGoOn self.new.streams self.new.under_way }
     {
         for named in list {
             self.restore_stream(named)?;
@@ -67,7 +71,8 @@ impl Backlog {
 
     // Does a message wait on the stream?
     fn has_message(&self, stream_id: StreamId) -> bool
-        ensures { result ≡ is_some (front_of (queue_stream (queue_of self.now) stream_id.0).messages) }
+        ensures { result
+            ≡ is_some (front_of (queue_stream (queue_of self.now) stream_id.0).messages) }
     {
         match self.streams.find(stream_id) {
             Ok(place) => self.streams.at(place).front().is_some(),
@@ -92,11 +97,14 @@ impl Backlog {
         message: QueuedMessage,
         rest: usize,
     ) -> Result<(), AllocError>
-        ensures ok { OnOk result (queue_of self.new ≡ record (with_used stream_id.0 (queue_of self.old)) {
-          streams = stream_changed stream_id.0 (with_rest message rest) (with_used stream_id.0 (queue_of self.old)).streams;
-          total_amount = min (self.old.total_amount + rest) (2 ^ 64 - 1);
-        }) }
-        ensures can { CanGoOn self.old.streams self.old.under_way → CanGoOn self.new.streams self.new.under_way }
+        ensures ok { OnOk result
+            (queue_of self.new ≡ record (with_used stream_id.0 (queue_of self.old)) {
+              streams = stream_changed stream_id.0 (with_rest message rest)
+                  (with_used stream_id.0 (queue_of self.old)).streams;
+              total_amount = min (self.old.total_amount + rest) (2 ^ 64 - 1);
+            }) }
+        ensures can { CanGoOn self.old.streams self.old.under_way
+            → CanGoOn self.new.streams self.new.under_way }
     {
         let place = self.use_stream(stream_id)?;
         self.streams.push_rest(place, message, rest)?;
@@ -111,8 +119,10 @@ impl Backlog {
         part: &HandoverStreamMessage,
     ) -> Result<(), AllocError>
         requires { part.now.remaining_offset < length part.now.payload.items }
-        ensures ok { OnOk result (queue_of self.new ≡ message_restored now (queued_part part.now) (queue_of self.old)) }
-        ensures can { CanGoOn self.old.streams self.old.under_way → CanGoOn self.new.streams self.new.under_way }
+        ensures ok { OnOk result
+            (queue_of self.new ≡ message_restored now (queued_part part.now) (queue_of self.old)) }
+        ensures can { CanGoOn self.old.streams self.old.under_way
+            → CanGoOn self.new.streams self.new.under_way }
     {
         let stream_id = StreamId(part.stream_id);
         let goes_on = self.goes_on(part);
@@ -134,8 +144,11 @@ impl Backlog {
         parts: &[HandoverStreamMessage],
     ) -> Result<(), AllocError>
         requires { list_all is_valid_queued (map queued_part parts.now) ≡ true }
-        ensures ok { OnOk result (queue_of self.new ≡ messages_restored now (map queued_part parts.now) (queue_of self.old)) }
-        ensures can { CanGoOn self.old.streams self.old.under_way → CanGoOn self.new.streams self.new.under_way }
+        ensures ok { OnOk result
+            (queue_of self.new
+            ≡ messages_restored now (map queued_part parts.now) (queue_of self.old)) }
+        ensures can { CanGoOn self.old.streams self.old.under_way
+            → CanGoOn self.new.streams self.new.under_way }
     {
         for part in parts {
             self.restore_message(now, part)?;

@@ -28,7 +28,8 @@ impl RetransmissionQueue {
     // Is the message of the item at the place to be abandoned instead of being sent again?
     pub(super) fn is_to_be_given_up(&self, place: usize, now: SocketTime) -> bool
         requires { place < length self.now.outstanding.items }
-        ensures { AtPlace self.now.outstanding.items place (λ item. result ≡ is_abandonment_due now self.now.partial_reliability item) }
+        ensures { AtPlace self.now.outstanding.items place
+            (λ item. result ≡ is_abandonment_due now self.now.partial_reliability item) }
     {
         self.partial_reliability && is_lost_for_good(self.outstanding.item(place), now)
     }
@@ -43,9 +44,14 @@ impl RetransmissionQueue {
     ) -> Result<(), AllocError>
         requires { place < length self.old.outstanding.items }
         ensures ok { OnOk result (AbandonsItems place self.old self.new) }
-        ensures whole { OnOk result ((tsns : List ℕ) (room : ℕ) → GivesUpAt now place (stage self.old queue.old events.old tsns room) (stage self.new queue.new events.new tsns room)) }
+        ensures whole { OnOk result
+            ((tsns : List ℕ) (room : ℕ)
+            → GivesUpAt now place (stage self.old queue.old events.old tsns room)
+            (stage self.new queue.new events.new tsns room)) }
         ensures err { OnErr result ((self.new ≡ self.old) × (queue.new ≡ queue.old)) }
-        ensures front { OnErr result (RefusesUpAt place self.old.outstanding.items queue.old (contents events.old) (contents events.new)) }
+        ensures front { OnErr result
+            (RefusesUpAt place self.old.outstanding.items queue.old (contents events.old)
+            (contents events.new)) }
     {
         let (start, end) = self.outstanding.message_places(place);
         self.close_message(events, queue, now, end - 1)?;
@@ -64,9 +70,16 @@ impl RetransmissionQueue {
     ) -> Result<(), AllocError>
         requires { place < length self.old.outstanding.items }
         ensures may { MayGrow self.old self.new }
-        ensures ok { AtPlace self.old.outstanding.items place (λ last. OnOk result ((tsns : List ℕ) (room : ℕ) → ClosesMessage now last (stage self.old queue.old events.old tsns room) (stage self.new queue.new events.new tsns room) last.fragment.is_end)) }
+        ensures ok { AtPlace self.old.outstanding.items place
+            (λ last. OnOk result
+            ((tsns : List ℕ) (room : ℕ)
+            → ClosesMessage now last (stage self.old queue.old events.old tsns room)
+            (stage self.new queue.new events.new tsns room) last.fragment.is_end)) }
         ensures err { OnErr result ((self.new ≡ self.old) × (queue.new ≡ queue.old)) }
-        ensures front { AtPlace self.old.outstanding.items place (λ last. OnErr result (RefusesClosing self.old.outstanding.items last queue.old (contents events.old) (contents events.new) last.fragment.is_end)) }
+        ensures front { AtPlace self.old.outstanding.items place
+            (λ last. OnErr result
+            (RefusesClosing self.old.outstanding.items last queue.old (contents events.old)
+            (contents events.new) last.fragment.is_end)) }
     {
         let last = &self.outstanding.item(place).fragment;
         if last.is_end {
@@ -90,8 +103,11 @@ impl RetransmissionQueue {
         queue: &mut SendQueue,
         now: SocketTime,
     ) -> Result<bool, AllocError>
-        ensures due { IfOk result (λ due. due ≡ (self.old.partial_reliability && is_first_abandoned self.new.outstanding.items)) }
-        ensures gives_up { GivesUpDue now (stage self.old queue.old events.old [] 0) (stage self.new queue.new events.new [] 0) result }
+        ensures due { IfOk result
+            (λ due. due
+            ≡ (self.old.partial_reliability && is_first_abandoned self.new.outstanding.items)) }
+        ensures gives_up { GivesUpDue now (stage self.old queue.old events.old [] 0)
+            (stage self.new queue.new events.new [] 0) result }
     {
         if !self.partial_reliability {
             return Ok(false);
@@ -107,7 +123,8 @@ impl RetransmissionQueue {
         queue: &mut SendQueue,
         now: SocketTime,
     ) -> Result<(), AllocError>
-        ensures { GivesUpDue now (stage self.old queue.old events.old [] 0) (stage self.new queue.new events.new [] 0) result }
+        ensures { GivesUpDue now (stage self.old queue.old events.old [] 0)
+            (stage self.new queue.new events.new [] 0) result }
     {
         for place in 0..self.outstanding.len() {
             self.give_up_if_due(events, queue, now, place)?;
@@ -127,7 +144,10 @@ impl RetransmissionQueue {
         place: usize,
     ) -> Result<(), AllocError>
         requires { place < length self.old.outstanding.items }
-        ensures { AtPlace self.old.outstanding.items place (λ item. GivesUpIf now place (stage self.old queue.old events.old [] 0) (stage self.new queue.new events.new [] 0) (is_abandonment_due now self.old.partial_reliability item) result) }
+        ensures { AtPlace self.old.outstanding.items place
+            (λ item. GivesUpIf now place (stage self.old queue.old events.old [] 0)
+            (stage self.new queue.new events.new [] 0)
+            (is_abandonment_due now self.old.partial_reliability item) result) }
     {
         if !self.is_to_be_given_up(place, now) {
             return Ok(());
@@ -138,7 +158,8 @@ impl RetransmissionQueue {
     // Was the item at the place neither acknowledged nor abandoned?
     fn is_awaited(&self, place: usize) -> bool
         requires { place < length self.now.outstanding.items }
-        ensures { AtPlace self.now.outstanding.items place (λ item. result ≡ is_unacknowledged item.progress.state) }
+        ensures { AtPlace self.now.outstanding.items place
+            (λ item. result ≡ is_unacknowledged item.progress.state) }
     {
         let item = self.outstanding.item(place);
         item.progress.state.is_unacknowledged()
@@ -189,8 +210,12 @@ fn is_over(moment: Option<SocketTime>, now: SocketTime) -> bool
 
 // Reports that the peer may have a message or not, if the message has a lifecycle id.
 fn tell_maybe_expired(events: &mut Events, id: Option<LifecycleId>) -> Result<(), AllocError>
-    ensures ok { OnOk result (contents events.new ≡ contents events.old ++ maybe_expired (option_map lifecycle_number id)) }
-    ensures err { OnErr result (TellsFront (contents events.old) (maybe_expired (option_map lifecycle_number id)) (contents events.new)) }
+    ensures ok { OnOk result
+        (contents events.new
+        ≡ contents events.old ++ maybe_expired (option_map lifecycle_number id)) }
+    ensures err { OnErr result
+        (TellsFront (contents events.old) (maybe_expired (option_map lifecycle_number id))
+        (contents events.new)) }
 {
     if let Some(id) = id {
         events.add(SocketEvent::OnLifecycleMessageMaybeExpired(id))?;

@@ -51,7 +51,8 @@ impl RetransmissionQueue {
         a_rwnd: u32,
         blocks: &[GapAckBlock],
     ) -> Result<HandleSackResult, AllocError>
-        ensures turn { HandlesSackInQueue now cumulative_tsn_ack a_rwnd blocks.now self.old (contents events.old) self.new (contents events.new) result }
+        ensures turn { HandlesSackInQueue now cumulative_tsn_ack a_rwnd blocks.now self.old
+            (contents events.old) self.new (contents events.new) result }
         ensures start { self.old.outstanding.first_tsn < 2 ^ 32 }
     {
         let count = self
@@ -98,8 +99,12 @@ impl RetransmissionQueue {
     // Reports which messages the peer has, once that many first items are acknowledged.
     fn tell_delivered(&self, events: &mut Events, count: usize) -> Result<(), AllocError>
         requires { count ≤ length self.now.outstanding.items }
-        ensures ok { OnOk result (contents events.new ≡ contents events.old ++ delivered_events (take count self.now.outstanding.items)) }
-        ensures err { OnErr result (TellsFront (contents events.old) (delivered_events (take count self.now.outstanding.items)) (contents events.new)) }
+        ensures ok { OnOk result
+            (contents events.new
+            ≡ contents events.old ++ delivered_events (take count self.now.outstanding.items)) }
+        ensures err { OnErr result
+            (TellsFront (contents events.old)
+            (delivered_events (take count self.now.outstanding.items)) (contents events.new)) }
     {
         for place in 0..count {
             tell_of(events, self.outstanding.item(place))?;
@@ -187,8 +192,10 @@ impl RetransmissionQueue {
     // block names (RFC 9260, section 7.2.4).
     fn miss_limit(&self, count: usize, blocks: &[GapAckBlock], newest: Option<usize>) -> usize
         requires count { count ≤ length self.now.outstanding.items }
-        requires newest { IsLastPlace (IsNewlyAcknowledged count blocks.now) self.now.outstanding.items newest }
-        ensures { MissesUntil (is_recovering count self.now) count blocks.now self.now.outstanding.items result }
+        requires newest { IsLastPlace (IsNewlyAcknowledged count blocks.now)
+            self.now.outstanding.items newest }
+        ensures { MissesUntil (is_recovering count self.now) count blocks.now
+            self.now.outstanding.items result }
     {
         if self.is_recovering(count) {
             self.outstanding.last_named(count, blocks).unwrap_or(0)
@@ -200,8 +207,14 @@ impl RetransmissionQueue {
 
 // Reports on an item that the cumulative TSN passes.
 fn tell_of(events: &mut Events, item: &Item) -> Result<(), AllocError>
-    ensures ok { OnOk result (contents events.new ≡ contents events.old ++ lifecycle_events_by item.now.fragment.lifecycle (ends_delivery item.now)) }
-    ensures err { OnErr result (TellsFront (contents events.old) (lifecycle_events_by item.now.fragment.lifecycle (ends_delivery item.now)) (contents events.new)) }
+    ensures ok { OnOk result
+        (contents events.new
+        ≡ contents events.old
+        ++ lifecycle_events_by item.now.fragment.lifecycle (ends_delivery item.now)) }
+    ensures err { OnErr result
+        (TellsFront (contents events.old)
+        (lifecycle_events_by item.now.fragment.lifecycle (ends_delivery item.now))
+        (contents events.new)) }
 {
     match item.fragment.lifecycle_id {
         None => Ok(()),
@@ -217,8 +230,12 @@ fn tell_of(events: &mut Events, item: &Item) -> Result<(), AllocError>
 
 // Reports that the peer has a message.
 fn tell_delivered(events: &mut Events, id: LifecycleId) -> Result<(), AllocError>
-    ensures ok { OnOk result (contents events.new ≡ contents events.old ++ lifecycle_events_by (Some (lifecycle_number id)) true) }
-    ensures err { OnErr result (TellsFront (contents events.old) (lifecycle_events_by (Some (lifecycle_number id)) true) (contents events.new)) }
+    ensures ok { OnOk result
+        (contents events.new
+        ≡ contents events.old ++ lifecycle_events_by (Some (lifecycle_number id)) true) }
+    ensures err { OnErr result
+        (TellsFront (contents events.old) (lifecycle_events_by (Some (lifecycle_number id)) true)
+        (contents events.new)) }
 {
     events.add(SocketEvent::OnLifecycleMessageDelivered(id))?;
     events.add(SocketEvent::OnLifecycleEnd(id))

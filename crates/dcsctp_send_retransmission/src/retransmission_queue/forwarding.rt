@@ -66,7 +66,8 @@ impl RetransmissionQueue {
     // Does the row continue with the item at the place?
     fn goes_on(&self, place: usize) -> bool
         requires { place < length self.now.outstanding.items }
-        ensures { (item : Item) → slice_get self.now.outstanding.items place ≡ Some item → result ≡ is_row_continued place item }
+        ensures { (item : Item) → slice_get self.now.outstanding.items place ≡ Some item
+            → result ≡ is_row_continued place item }
     {
         let item = self.outstanding.item(place);
         item.progress.state.is_abandoned() && (place == 0 || !item.begins_after_reset)
@@ -94,8 +95,10 @@ impl RetransmissionQueue {
         place: usize,
     ) -> Result<bool, AllocError>
         requires place { place < length self.now.outstanding.items }
-        requires row { CollectsLastNumbers self.now (take place self.now.outstanding.items) numbers.old.entries }
-        ensures { IfOk result (λ taken. TakesItemIn self.now place numbers.old.entries numbers.new.entries taken) }
+        requires row { CollectsLastNumbers self.now (take place self.now.outstanding.items)
+            numbers.old.entries }
+        ensures { IfOk result
+            (λ taken. TakesItemIn self.now place numbers.old.entries numbers.new.entries taken) }
     {
         let fragment = &self.outstanding.item(place).fragment;
         if !self.is_listed(fragment) {
@@ -121,7 +124,9 @@ fn streams_of(
     alloc: Global,
     numbers: &BTreeMap<(u16, bool), LastNumbers>,
 ) -> Result<Vec<SkippedStream>, AllocError>
-    ensures { IfOk result (λ streams. (map stream_entry streams.items ≡ map ssn_entry numbers.now.entries) × NoneTwice numbers.now.entries) }
+    ensures { IfOk result
+        (λ streams. (map stream_entry streams.items ≡ map ssn_entry numbers.now.entries)
+        × NoneTwice numbers.now.entries) }
 {
     let mut streams = Vec::with_capacity(alloc, numbers.len())?;
     for (key, last) in numbers {
@@ -138,7 +143,9 @@ fn messages_of(
     alloc: Global,
     numbers: &BTreeMap<(u16, bool), LastNumbers>,
 ) -> Result<Vec<SkippedMessages>, AllocError>
-    ensures { IfOk result (λ messages. (map messages_entry messages.items ≡ map mid_entry numbers.now.entries) × NoneTwice numbers.now.entries) }
+    ensures { IfOk result
+        (λ messages. (map messages_entry messages.items ≡ map mid_entry numbers.now.entries)
+        × NoneTwice numbers.now.entries) }
 {
     let mut messages = Vec::with_capacity(alloc, numbers.len())?;
     for (key, last) in numbers {

@@ -31,7 +31,9 @@ impl RetransmissionQueue {
         with_outstanding_data: bool,
         tx: &mut HandoverTransmission,
     ) -> Result<(), AllocError>
-        ensures ok { OnOk result (send_part tx.new ≡ with_retransmission now with_outstanding_data self.now (send_part tx.old)) }
+        ensures ok { OnOk result
+            (send_part tx.new
+            ≡ with_retransmission now with_outstanding_data self.now (send_part tx.old)) }
         ensures err { OnErr result (send_part tx.new ≡ send_part tx.old) }
     {
         let data = if with_outstanding_data {
@@ -60,7 +62,8 @@ impl RetransmissionQueue {
         tx: &HandoverTransmission,
     ) -> Result<(), AllocError>
         requires { list_all has_bytes_or_is_abandoned (send_part tx.now).outstanding_data ≡ true }
-        ensures { OnOk result (self.new ≡ retransmission_restored now was_reset (send_part tx.now) self.old) }
+        ensures { OnOk result
+            (self.new ≡ retransmission_restored now was_reset (send_part tx.now) self.old) }
     {
         let first_tsn = tx.last_cumulative_tsn_ack.wrapping_add(1);
         self.outstanding

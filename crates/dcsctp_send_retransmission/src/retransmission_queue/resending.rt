@@ -30,8 +30,12 @@ impl RetransmissionQueue {
     ) -> Result<(), AllocError>
         ensures fills { ContinuesPacket self.old packet.old self.new packet.new }
         ensures halts { OnOk result (HaltsAgain now packet.new.room self.new) }
-        ensures few { OnOk result (length packet.new.tsns.items + marked_items self.new.outstanding.items ≤ length packet.old.tsns.items + marked_items self.old.outstanding.items) }
-        ensures steps { Goes now (StepAgain now) (stage self.old queue.old events.old packet.old.tsns.items packet.old.room) (stage self.new queue.new events.new packet.new.tsns.items packet.new.room) result }
+        ensures few { OnOk result
+            (length packet.new.tsns.items + marked_items self.new.outstanding.items
+            ≤ length packet.old.tsns.items + marked_items self.old.outstanding.items) }
+        ensures steps { Goes now (StepAgain now)
+            (stage self.old queue.old events.old packet.old.tsns.items packet.old.room)
+            (stage self.new queue.new events.new packet.new.tsns.items packet.new.room) result }
     {
         while self.outstanding.marked_items() != 0 {
             if !self.send_one_again(events, queue, now, packet)? {
@@ -50,9 +54,13 @@ impl RetransmissionQueue {
         packet: &mut Packet,
     ) -> Result<bool, AllocError>
         ensures fills { ContinuesPacket self.old packet.old self.new packet.new }
-        ensures one { IfOk result (λ sent. length packet.new.tsns.items ≡ length packet.old.tsns.items + (if sent then 1 else 0)) }
+        ensures one { IfOk result
+            (λ sent. length packet.new.tsns.items
+            ≡ length packet.old.tsns.items + (if sent then 1 else 0)) }
         ensures again { IfOk result (GoesAgain now self.old self.new packet.new.room) }
-        ensures steps { Goes now (StepAgain now) (stage self.old queue.old events.old packet.old.tsns.items packet.old.room) (stage self.new queue.new events.new packet.new.tsns.items packet.new.room) result }
+        ensures steps { Goes now (StepAgain now)
+            (stage self.old queue.old events.old packet.old.tsns.items packet.old.room)
+            (stage self.new queue.new events.new packet.new.tsns.items packet.new.room) result }
     {
         match self.next_to_send_again(events, queue, now)? {
             None => Ok(false),
@@ -69,9 +77,14 @@ impl RetransmissionQueue {
     fn send_again_at(&mut self, place: usize, packet: &mut Packet) -> Result<bool, AllocError>
         requires { IsMarkedAt place self.old.outstanding.items }
         ensures fills { ContinuesPacket self.old packet.old self.new packet.new }
-        ensures one { IfOk result (λ sent. length packet.new.tsns.items ≡ length packet.old.tsns.items + (if sent then 1 else 0)) }
-        ensures again { IfOk result (SendsAgain place self.old.outstanding packet.old.room self.new.outstanding packet.new.room) }
-        ensures sends { AtPlace self.old.outstanding.items place (λ item. IfOk result (SendsAt place item self.old packet.old self.new packet.new)) }
+        ensures one { IfOk result
+            (λ sent. length packet.new.tsns.items
+            ≡ length packet.old.tsns.items + (if sent then 1 else 0)) }
+        ensures again { IfOk result
+            (SendsAgain place self.old.outstanding packet.old.room self.new.outstanding
+            packet.new.room) }
+        ensures sends { AtPlace self.old.outstanding.items place
+            (λ item. IfOk result (SendsAt place item self.old packet.old self.new packet.new)) }
         ensures err { OnErr result (self.new ≡ self.old) }
     {
         let item = self.outstanding.item(place);
@@ -105,11 +118,19 @@ impl RetransmissionQueue {
         now: SocketTime,
     ) -> Result<Option<usize>, AllocError>
         ensures keeps { KeepsAllFragments self.old self.new }
-        ensures found { IfOk result (λ found. IfSome found (λ place. IsNextMarked place self.new.outstanding.items)) }
-        ensures none { IfOk result (λ found. IfNone found (marked_items self.new.outstanding.items ≡ 0)) }
-        ensures fewer { OnOk result (marked_items self.new.outstanding.items ≤ marked_items self.old.outstanding.items) }
-        ensures stays { IfOk result (λ found. IfSome found (λ place. AtPlace self.new.outstanding.items place (λ item. is_abandonment_due now self.new.partial_reliability item ≡ false))) }
-        ensures steps { (tsns : List ℕ) (room : ℕ) → Goes now (StepAgain now) (stage self.old queue.old events.old tsns room) (stage self.new queue.new events.new tsns room) result }
+        ensures found { IfOk result
+            (λ found. IfSome found (λ place. IsNextMarked place self.new.outstanding.items)) }
+        ensures none { IfOk result
+            (λ found. IfNone found (marked_items self.new.outstanding.items ≡ 0)) }
+        ensures fewer { OnOk result
+            (marked_items self.new.outstanding.items ≤ marked_items self.old.outstanding.items) }
+        ensures stays { IfOk result
+            (λ found. IfSome found
+            (λ place. AtPlace self.new.outstanding.items place
+            (λ item. is_abandonment_due now self.new.partial_reliability item ≡ false))) }
+        ensures steps { (tsns : List ℕ) (room : ℕ)
+            → Goes now (StepAgain now) (stage self.old queue.old events.old tsns room)
+            (stage self.new queue.new events.new tsns room) result }
     {
         while let Some(place) = self.next_marked() {
             if !self.is_to_be_given_up(place, now) {
@@ -156,7 +177,11 @@ impl RetransmissionQueue {
 
     // Restarts the timer if the first item was sent again.
     fn time_again(&mut self, now: SocketTime, restarts: bool)
-        ensures { self.new ≡ record self.old { timer = timer_with now self.old.outstanding.items (timer_restarted restarts self.old.timer) } }
+        ensures { self.new
+            ≡ record self.old {
+              timer = timer_with now self.old.outstanding.items
+                  (timer_restarted restarts self.old.timer);
+            } }
     {
         if restarts {
             self.timer.stop();
@@ -172,9 +197,13 @@ impl RetransmissionQueue {
         packet: &mut Packet,
     ) -> Result<bool, AllocError>
         ensures fills { ContinuesPacket self.old packet.old self.new packet.new }
-        ensures steps { (waiting : SendQueueState) (events : List SocketEvent) → Goes now (SendsMarked now) (stage self.old waiting events packet.old.tsns.items packet.old.room) (stage self.new waiting events packet.new.tsns.items packet.new.room) result }
+        ensures steps { (waiting : SendQueueState) (events : List SocketEvent)
+            → Goes now (SendsMarked now)
+            (stage self.old waiting events packet.old.tsns.items packet.old.room)
+            (stage self.new waiting events packet.new.tsns.items packet.new.room) result }
         ensures halts { OnOk result (HaltsAtOnce now packet.new.room self.new) }
-        ensures first { IfOk result (SendsFirst self.old.outstanding.items self.new.outstanding.items) }
+        ensures first { IfOk result
+            (SendsFirst self.old.outstanding.items self.new.outstanding.items) }
     {
         let mut restarts = false;
         while let Some(place) = self.next_marked() {

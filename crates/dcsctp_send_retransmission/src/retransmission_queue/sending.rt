@@ -39,8 +39,10 @@ impl RetransmissionQueue {
     ) -> Result<Vec<u32>, AllocError>
         ensures sends { SendsItems now self.old self.new }
         ensures fills { IfOk result (λ tsns. FillsUp now bytes self.new queue.new tsns.items) }
-        ensures fresh { IfOk result (λ tsns. EndsFresh now self.old.outstanding self.new.outstanding tsns.items) }
-        ensures steps { SendsPacket now bytes self.old queue.old events.old self.new queue.new events.new result }
+        ensures fresh { IfOk result
+            (λ tsns. EndsFresh now self.old.outstanding self.new.outstanding tsns.items) }
+        ensures steps { SendsPacket now bytes self.old queue.old events.old self.new queue.new
+            events.new result }
     {
         let tsns = self.empty_list();
         let filled = self.fill_packet(events, queue, now, Packet { tsns, room: bytes });
@@ -68,9 +70,12 @@ impl RetransmissionQueue {
     ) -> Result<Vec<u32>, AllocError>
         requires { packet.tsns.items ≡ [] }
         ensures keeps { KeepsAllFragments self.old self.new }
-        ensures fills { IfOk result (λ tsns. FillsUp now packet.room self.new queue.new tsns.items) }
-        ensures fresh { IfOk result (λ tsns. EndsFresh now self.old.outstanding self.new.outstanding tsns.items) }
-        ensures steps { TriesPacket now packet.room self.old queue.old events.old self.new queue.new events.new result }
+        ensures fills { IfOk result
+            (λ tsns. FillsUp now packet.room self.new queue.new tsns.items) }
+        ensures fresh { IfOk result
+            (λ tsns. EndsFresh now self.old.outstanding self.new.outstanding tsns.items) }
+        ensures steps { TriesPacket now packet.room self.old queue.old events.old self.new
+            queue.new events.new result }
     {
         let mut packet = packet;
         self.fill(events, queue, now, &mut packet)?;
@@ -87,8 +92,12 @@ impl RetransmissionQueue {
     ) -> Result<(), AllocError>
         ensures fills { ContinuesPacket self.old packet.old self.new packet.new }
         ensures halts { OnOk result (Halts now packet.new.room self.new queue.new) }
-        ensures fresh { packet.old.tsns.items ≡ [] → OnOk result (EndsFresh now self.old.outstanding self.new.outstanding packet.new.tsns.items) }
-        ensures steps { GoesFilling now (stage self.old queue.old events.old packet.old.tsns.items packet.old.room) (stage self.new queue.new events.new packet.new.tsns.items packet.new.room) result }
+        ensures fresh { packet.old.tsns.items ≡ []
+            → OnOk result
+            (EndsFresh now self.old.outstanding self.new.outstanding packet.new.tsns.items) }
+        ensures steps { GoesFilling now
+            (stage self.old queue.old events.old packet.old.tsns.items packet.old.room)
+            (stage self.new queue.new events.new packet.new.tsns.items packet.new.room) result }
     {
         let room = packet.room;
         self.send_again(events, queue, now, packet)?;
@@ -108,10 +117,16 @@ impl RetransmissionQueue {
         packet: &mut Packet,
     ) -> Result<(), AllocError>
         ensures fills { ContinuesPacket self.old packet.old self.new packet.new }
-        ensures fresh { OnOk result (SendsFresh now self.old.outstanding self.new.outstanding packet.old.tsns.items packet.new.tsns.items) }
+        ensures fresh { OnOk result
+            (SendsFresh now self.old.outstanding self.new.outstanding packet.old.tsns.items
+            packet.new.tsns.items) }
         ensures halts { OnOk result (HaltsNew packet.new.room self.new queue.new) }
-        ensures marks { marked_items self.new.outstanding.items ≡ marked_items self.old.outstanding.items }
-        ensures steps { marked_items self.old.outstanding.items ≡ 0 → Goes now (StepNew now) (stage self.old queue.old events.old packet.old.tsns.items packet.old.room) (stage self.new queue.new events.new packet.new.tsns.items packet.new.room) result }
+        ensures marks { marked_items self.new.outstanding.items
+            ≡ marked_items self.old.outstanding.items }
+        ensures steps { marked_items self.old.outstanding.items ≡ 0
+            → Goes now (StepNew now)
+            (stage self.old queue.old events.old packet.old.tsns.items packet.old.room)
+            (stage self.new queue.new events.new packet.new.tsns.items packet.new.room) result }
     {
         while self.can_send_data() {
             let max = self.payload_room(packet.room);
@@ -139,13 +154,20 @@ impl RetransmissionQueue {
         max: usize,
     ) -> Result<bool, AllocError>
         requires few { length self.old.outstanding.items + 1 < 2 ^ 31 }
-        requires max { (0 < max) × (max ≡ (min packet.old.room 65532 - header self.old.outstanding) / 4 * 4) }
+        requires max { (0 < max)
+            × (max ≡ (min packet.old.room 65532 - header self.old.outstanding) / 4 * 4) }
         ensures fills { ContinuesPacket self.old packet.old self.new packet.new }
         ensures less { IfOk result (λ sent. IsTrue sent → packet.new.room < packet.old.room) }
-        ensures fresh { OnOk result (SendsFresh now self.old.outstanding self.new.outstanding packet.old.tsns.items packet.new.tsns.items) }
+        ensures fresh { OnOk result
+            (SendsFresh now self.old.outstanding self.new.outstanding packet.old.tsns.items
+            packet.new.tsns.items) }
         ensures none { IfOk result (λ sent. sent ≡ false → HasNone queue.new) }
-        ensures marks { marked_items self.new.outstanding.items ≡ marked_items self.old.outstanding.items }
-        ensures steps { marked_items self.old.outstanding.items ≡ 0 → can_send self.old ≡ true → Goes now (StepNew now) (stage self.old queue.old events.old packet.old.tsns.items packet.old.room) (stage self.new queue.new events.new packet.new.tsns.items packet.new.room) result }
+        ensures marks { marked_items self.new.outstanding.items
+            ≡ marked_items self.old.outstanding.items }
+        ensures steps { marked_items self.old.outstanding.items ≡ 0 → can_send self.old ≡ true
+            → Goes now (StepNew now)
+            (stage self.old queue.old events.old packet.old.tsns.items packet.old.room)
+            (stage self.new queue.new events.new packet.new.tsns.items packet.new.room) result }
     {
         packet.tsns.reserve(1)?;
         let begins_after_reset = self.reset_begun;

@@ -27,7 +27,8 @@ fn add_range(blocks: &mut Vec<GapAckBlock>, block: GapAckBlock) -> Result<(), Al
 
 // The blocks that are ranges, as they come.
 fn read_blocks(alloc: Global, sack: &SackChunk<'_>) -> Result<Vec<GapAckBlock>, AllocError>
-    ensures { IfOk result (λ blocks. blocks.items ≡ filter is_range (blocks_in sack.now.gap_ack_blocks.now)) }
+    ensures { IfOk result
+        (λ blocks. blocks.items ≡ filter is_range (blocks_in sack.now.gap_ack_blocks.now)) }
 {
     let mut blocks = Vec::new(alloc);
     for index in 0..sack.gap_ack_block_count() {
@@ -51,7 +52,9 @@ fn add_block(
     block: GapAckBlock,
 ) -> Result<GapAckBlock, AllocError>
     requires { BeginsBefore current block }
-    ensures added { IfOk result (λ last. AddsGapBlock (joined.old.items ++ current ∷ []) block (joined.new.items ++ last ∷ [])) }
+    ensures added { IfOk result
+        (λ last. AddsGapBlock (joined.old.items ++ current ∷ []) block
+        (joined.new.items ++ last ∷ [])) }
     ensures range { IfOk result IsRange }
     ensures start { IfOk result (λ last. last.start ≤ block.start) }
 {
@@ -89,7 +92,8 @@ fn join_blocks(alloc: Global, ascending: &[GapAckBlock]) -> Result<Vec<GapAckBlo
 /// A block that begins at 0, or ends before it begins, is left out. For a SACK without blocks nothing is
 /// allocated.
 pub fn clean_sack(alloc: Global, sack: &SackChunk<'_>) -> Result<Vec<GapAckBlock>, AllocError>
-    ensures { IfOk result (λ blocks. AreCleaned (blocks_in sack.now.gap_ack_blocks.now) blocks.items) }
+    ensures { IfOk result
+        (λ blocks. AreCleaned (blocks_in sack.now.gap_ack_blocks.now) blocks.items) }
 {
     let mut blocks = read_blocks(alloc, sack)?;
     blocks.sort_unstable_by_key(|block: &GapAckBlock| block.start);
