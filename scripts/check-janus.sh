@@ -7,10 +7,11 @@ set -euo pipefail
 shopt -s inherit_errexit
 [ $# = 2 ] || { sed -n '/^# *scripts/s/^# *//p' "$0" >&2; exit 2; }
 cd "$(dirname "$0")/.."
+. scripts/usrsctp.bash
 missing=''
 command -v janus >/dev/null || missing+=' janus'
 command -v curl >/dev/null || missing+=' curl'
-echo '#include <usrsctp.h>' | "${CC:-cc}" -E -x c - >/dev/null 2>&1 || missing+=' libusrsctp-dev'
+has_header || missing+=' libusrsctp-dev'
 # (Debian's packages are its own Python's, which may not be the first one)
 python=python3
 "$python" -c 'import aiortc' 2>/dev/null || python=/usr/bin/python3

@@ -8,17 +8,14 @@ set -euo pipefail
 shopt -s inherit_errexit
 [ $# = 2 ] || { sed -n '/^# *scripts/s/^# *//p' "$0" >&2; exit 2; }
 cd "$(dirname "$0")/.."
-library=$(realpath "$1")
-mkdir -p "$2"
-folder=$(realpath "$2")
-cc=${CC:-cc}
-if ! echo '#include <usrsctp.h>' | "$cc" -E -x c - >/dev/null 2>&1; then
+. scripts/usrsctp.bash
+if ! has_header; then
     echo "skipped: programs for usrsctp: no usrsctp.h (apt install libusrsctp-dev)"
     exit 0
 fi
+set_up "$1" "$2"
 bash scripts/usrsctp.sh "$library" "$folder"
 echo "check: libusrsctp.so.2 and libusrsctp.a"
-compile=("$cc" -std=c11 -D_DEFAULT_SOURCE -Wall -Wextra -Wshadow -pedantic -Werror -O2 -g -Iinclude)
 
 # Each call of libusrsctp is there.
 names() { "${NM:-nm}" -D --defined-only "$1" | awk '{ print $3 }' | grep '^usrsctp_' | sort; }

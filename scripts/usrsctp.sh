@@ -6,11 +6,8 @@ set -euo pipefail
 shopt -s inherit_errexit
 [ $# = 2 ] || { sed -n '/^# *scripts/s/^# *//p' "$0" >&2; exit 2; }
 cd "$(dirname "$0")/.."
-library=$(realpath "$1")
-mkdir -p "$2"
-folder=$(realpath "$2")
-cc=${CC:-cc}
-compile=("$cc" -std=c11 -D_DEFAULT_SOURCE -Wall -Wextra -Wshadow -pedantic -Werror -O2 -g -Iinclude)
+. scripts/usrsctp.bash
+set_up "$1" "$2"
 
 # What users link: the same objects, with the library in them.
 objects=()

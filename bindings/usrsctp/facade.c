@@ -149,9 +149,7 @@ static void hand_over(struct socket *s, struct item *item) {
     receive_call *receive = s->receive;
     void *user = s->user;
     union sctp_sockstore from = {0};
-    from.sconn.sconn_family = AF_CONN;
-    from.sconn.sconn_port = htons(s->options.remote_port);
-    from.sconn.sconn_addr = s->address;
+    from.sconn = facade_peer(s);
     pthread_mutex_unlock(&facade_lock);
     receive(s, from, item->bytes, item->length, item->info, item->flags, user);
     pthread_mutex_lock(&facade_lock);

@@ -135,9 +135,13 @@ void facade_put(struct queue *queue, uint8_t *bytes, size_t length, struct sctp_
 struct item *facade_take(struct queue *queue);
 void facade_settle(struct socket *s);
 void facade_keep(struct socket *s, int32_t result);
-void facade_notify(struct socket *s, unsigned type, const void *bytes, size_t length);
+void facade_notify(struct socket *s, uint16_t type, const void *bytes, size_t length);
 void facade_notify_if_dry(struct socket *s);
 void facade_end_association(struct socket *s, uint16_t state, uint16_t error);
+
+/* sockets.c */
+struct sockaddr_conn facade_peer(const struct socket *s);
+void facade_write_peer(const struct socket *s, struct sockaddr *name, socklen_t *length);
 
 /* messages.c */
 void facade_end_message(struct socket *s, struct sent *sent);

@@ -24,9 +24,7 @@ static void notify_failed(struct socket *s, const struct sent *sent) {
     struct sctp_send_failed_event *event = calloc(1, length);
     if (!event)
         abort();
-    event->ssfe_type = SCTP_SEND_FAILED_EVENT;
     event->ssfe_flags = sent->was_sent ? SCTP_DATA_SENT : SCTP_DATA_UNSENT;
-    event->ssfe_length = (uint32_t)length;
     event->ssfe_info = sent->info;
     event->ssfe_info.snd_flags |= SCTP_DATA_NOT_FRAG;
     event->ssfe_info.snd_assoc_id = s->id;
@@ -306,18 +304,6 @@ struct reading {
     int *flags;
 };
 
-static void write_address(const struct socket *s, const struct reading *to) {
-    struct sockaddr_conn from = {0};
-    if (!to->from || !to->from_length)
-        return;
-    from.sconn_family = AF_CONN;
-    from.sconn_port = htons(s->options.remote_port);
-    from.sconn_addr = s->address;
-    if (*to->from_length > sizeof from)
-        *to->from_length = sizeof from;
-    memcpy(to->from, &from, *to->from_length);
-}
-
 static void write_info(const struct socket *s, const struct item *item, const struct reading *to) {
     const int wants = s->wants_info && !(item->flags & MSG_NOTIFICATION) && to->info &&
                       to->info_length && *to->info_length >= sizeof item->info;
@@ -338,7 +324,7 @@ static ssize_t read_first(struct socket *s, const struct reading *to) {
         count = to->capacity;
     memcpy(to->buffer, item->bytes + item->read, count);
     item->read += count;
-    write_address(s, to);
+    facade_write_peer(s, to->from, to->from_length);
     write_info(s, item, to);
     if (to->flags)
         *to->flags = item->read == item->length ? item->flags : item->flags & ~MSG_EOR;

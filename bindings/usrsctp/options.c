@@ -331,15 +331,12 @@ static int32_t state_of(const struct socket *s) {
 
 static int get_path_info(struct socket *s, union value *value) {
     struct sctp_paddrinfo *path = &value->path_info;
-    struct sockaddr_conn at = {0};
+    const struct sockaddr_conn peer = facade_peer(s);
     dcsctp_metrics metrics = {.size = sizeof metrics};
     if (dcsctp_get_metrics(&s->it, &metrics) != 1)
         return ENOENT;
-    at.sconn_family = AF_CONN;
-    at.sconn_port = htons(s->options.remote_port);
-    at.sconn_addr = s->address;
     memset(path, 0, sizeof *path);
-    memcpy(&path->spinfo_address, &at, sizeof at);
+    memcpy(&path->spinfo_address, &peer, sizeof peer);
     path->spinfo_assoc_id = s->id;
     path->spinfo_state = SCTP_ACTIVE;
     path->spinfo_cwnd = (uint32_t)metrics.cwnd_bytes;

@@ -56,10 +56,16 @@ static void report(struct socket *s, uint8_t *bytes, size_t length, struct sctp_
     s->is_awake = 1;
 }
 
-void facade_notify(struct socket *s, unsigned type, const void *bytes, size_t length) {
+/* Reports a notification, whose type and length are filled in here. */
+void facade_notify(struct socket *s, uint16_t type, const void *bytes, size_t length) {
     const struct sctp_rcvinfo none = {0};
-    if (s->events & 1u << type)
-        report(s, copy_of(bytes, length), length, none, MSG_NOTIFICATION | MSG_EOR);
+    struct sctp_tlv *head;
+    if (!(s->events & 1u << type))
+        return;
+    head = (struct sctp_tlv *)copy_of(bytes, length);
+    head->sn_type = type;
+    head->sn_length = (uint32_t)length;
+    report(s, (uint8_t *)head, length, none, MSG_NOTIFICATION | MSG_EOR);
 }
 
 static void notify_change(struct socket *s, uint16_t state, uint16_t error) {
@@ -69,7 +75,6 @@ static void notify_change(struct socket *s, uint16_t state, uint16_t error) {
     } it = {0};
     uint8_t *info = it.bytes + sizeof it.change;
     dcsctp_metrics metrics = {.size = sizeof metrics};
-    it.change.sac_type = SCTP_ASSOC_CHANGE;
     it.change.sac_state = state;
     it.change.sac_error = error;
     it.change.sac_assoc_id = s->id;
@@ -84,8 +89,7 @@ static void notify_change(struct socket *s, uint16_t state, uint16_t error) {
         if (metrics.uses_message_interleaving)
             *info++ = SCTP_ASSOC_SUPPORTS_INTERLEAVING;
     }
-    it.change.sac_length = (uint32_t)(info - it.bytes);
-    facade_notify(s, SCTP_ASSOC_CHANGE, it.bytes, it.change.sac_length);
+    facade_notify(s, SCTP_ASSOC_CHANGE, &it, (size_t)(info - it.bytes));
 }
 
 static void notify_reset(struct socket *s, uint16_t flags, size_t count) {
@@ -95,9 +99,7 @@ static void notify_reset(struct socket *s, uint16_t flags, size_t count) {
     if (!event)
         abort();
     facade_keep(s, dcsctp_event_streams(&s->it, event->strreset_stream_list, count, &written));
-    event->strreset_type = SCTP_STREAM_RESET_EVENT;
     event->strreset_flags = flags;
-    event->strreset_length = (uint32_t)length;
     event->strreset_assoc_id = s->id;
     facade_notify(s, SCTP_STREAM_RESET_EVENT, event, length);
     free(event);
@@ -105,24 +107,18 @@ static void notify_reset(struct socket *s, uint16_t flags, size_t count) {
 
 static void notify_shutdown(struct socket *s) {
     struct sctp_shutdown_event event = {0};
-    event.sse_type = SCTP_SHUTDOWN_EVENT;
-    event.sse_length = sizeof event;
     event.sse_assoc_id = s->id;
     facade_notify(s, SCTP_SHUTDOWN_EVENT, &event, sizeof event);
 }
 
 static void notify_error(struct socket *s) {
     struct sctp_remote_error event = {0};
-    event.sre_type = SCTP_REMOTE_ERROR;
-    event.sre_length = sizeof event;
     event.sre_assoc_id = s->id;
     facade_notify(s, SCTP_REMOTE_ERROR, &event, sizeof event);
 }
 
 void facade_notify_if_dry(struct socket *s) {
     struct sctp_sender_dry_event event = {0};
-    event.sender_dry_type = SCTP_SENDER_DRY_EVENT;
-    event.sender_dry_length = sizeof event;
     event.sender_dry_assoc_id = s->id;
     if (!s->sent && s->phase == CONNECTED && dcsctp_state(&s->it) != DCSCTP_STATE_CLOSED)
         facade_notify(s, SCTP_SENDER_DRY_EVENT, &event, sizeof event);
@@ -147,6 +143,13 @@ static void take_messages(struct socket *s, int all) {
     }
 }
 
+static void forget_resets(struct socket *s) {
+    free(s->resets);
+    s->resets = NULL;
+    s->reset_count = 0;
+    s->reset_since = 0;
+}
+
 /* Reports the end of the association, and the messages that it hasn't delivered. */
 void facade_end_association(struct socket *s, uint16_t state, uint16_t error) {
     const struct sctp_rcvinfo none = {0};
@@ -154,10 +157,7 @@ void facade_end_association(struct socket *s, uint16_t state, uint16_t error) {
         return;
     take_messages(s, 1);
     facade_drop_messages(s);
-    free(s->resets);
-    s->resets = NULL;
-    s->reset_count = 0;
-    s->reset_since = 0;
+    forget_resets(s);
     s->phase = ENDED;
     s->forget_at = state == SCTP_SHUTDOWN_COMP ? facade_now() + 4000 * (uint64_t)MILLISECOND : 0;
     notify_change(s, state, error);
@@ -284,10 +284,7 @@ static void begin_reset(struct socket *s) {
     result = dcsctp_reset_streams(&s->it, s->resets, s->reset_count);
     s->is_resetting = result == DCSCTP_OK;
     facade_keep(s, result);
-    free(s->resets);
-    s->resets = NULL;
-    s->reset_count = 0;
-    s->reset_since = 0;
+    forget_resets(s);
 }
 
 static void begin_shutdown(struct socket *s) {

@@ -158,6 +158,25 @@ int usrsctp_listen(struct socket *s, int backlog) {
     return error ? facade_fail(error) : 0;
 }
 
+/* The peer's name. */
+struct sockaddr_conn facade_peer(const struct socket *s) {
+    struct sockaddr_conn peer = {0};
+    peer.sconn_family = AF_CONN;
+    peer.sconn_port = htons(s->options.remote_port);
+    peer.sconn_addr = s->address;
+    return peer;
+}
+
+/* Writes what fits of the peer's name, if the user wants it. */
+void facade_write_peer(const struct socket *s, struct sockaddr *name, socklen_t *length) {
+    const struct sockaddr_conn peer = facade_peer(s);
+    if (!name || !length)
+        return;
+    if (*length > sizeof peer)
+        *length = sizeof peer;
+    memcpy(name, &peer, *length);
+}
+
 /* A socket that a peer has connected to a listening one. */
 static struct socket *find_connected(const struct socket *listener) {
     struct socket *oldest = NULL;
@@ -170,7 +189,6 @@ static struct socket *find_connected(const struct socket *listener) {
 struct socket *usrsctp_accept(struct socket *s, struct sockaddr *name, socklen_t *length) {
     struct socket *it = NULL;
     int error = 0;
-    struct sockaddr_conn at = {0};
     if (!s) {
         errno = EBADF;
         return NULL;
@@ -186,13 +204,7 @@ struct socket *usrsctp_accept(struct socket *s, struct sockaddr *name, socklen_t
     }
     if (it) {
         it->listener = NULL;
-        at.sconn_family = AF_CONN;
-        at.sconn_port = htons(it->options.remote_port);
-        at.sconn_addr = it->address;
-        if (name && length) {
-            *length = *length < sizeof at ? *length : sizeof at;
-            memcpy(name, &at, *length);
-        }
+        facade_write_peer(it, name, length);
     }
     facade_leave(s);
     if (error)

@@ -82,32 +82,25 @@
     X(sctp_rttvar_eqret, 0)                                                                        \
     X(sctp_steady_step, 20)
 
-#define GETTER(name)                                                                               \
+/* A setting. usrsctp_FAMILY_set_NAME sets it, and usrsctp_sysctl_get_NAME returns it. */
+#define DEFINE_SET_BY(family, name, value)                                                         \
+    static _Atomic uint32_t name = value;                                                          \
     uint32_t usrsctp_sysctl_get_##name(void) {                                                     \
         return name;                                                                               \
-    }
-
-#define DEFINE(name, value)                                                                        \
-    static _Atomic uint32_t name = value;                                                          \
-    GETTER(name)                                                                                   \
-    int usrsctp_sysctl_set_##name(uint32_t number) {                                               \
+    }                                                                                              \
+    int usrsctp_##family##_set_##name(uint32_t number) {                                           \
         name = number;                                                                             \
         return 0;                                                                                  \
     }
+
+#define DEFINE(name, value) DEFINE_SET_BY(sysctl, name, value)
+#define DEFINE_TUNABLE(name, value) DEFINE_SET_BY(tunable, name, value)
 
 #define DEFINE_ABSENT(name)                                                                        \
     int usrsctp_sysctl_set_##name(uint32_t number) {                                               \
         return number ? facade_fail(ENOTSUP) : 0;                                                  \
     }                                                                                              \
     uint32_t usrsctp_sysctl_get_##name(void) {                                                     \
-        return 0;                                                                                  \
-    }
-
-#define DEFINE_TUNABLE(name, value)                                                                \
-    static _Atomic uint32_t name = value;                                                          \
-    GETTER(name)                                                                                   \
-    int usrsctp_tunable_set_##name(uint32_t number) {                                              \
-        name = number;                                                                             \
         return 0;                                                                                  \
     }
 

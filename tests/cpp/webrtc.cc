@@ -21,26 +21,10 @@ std::unique_ptr<DcSctpSocketInterface> Theirs(DcSctpSocketCallbacks &callbacks,
 End::Maker make_a = Theirs, make_z = Theirs;
 int loss = 0;
 
-// Two ends and what is between them.
-struct Pair {
-    World world;
-    End a, z;
-
+// Ends with the chosen sockets, over a link that loses so many packets.
+struct Pair : Ends {
     explicit Pair(const DcSctpOptions &options = {}) : Pair(options, options) {}
-    Pair(const DcSctpOptions &of_a, const DcSctpOptions &of_z) : a(world, make_a, of_a), z(world, make_z, of_z) {
-        world.loss = loss;
-        a.peer = &z;
-        z.peer = &a;
-    }
-    bool Connect() {
-        a.Connect();
-        return world.RunUntil([&] { return a.IsConnected() && z.IsConnected(); });
-    }
-    // Until nothing is queued or in flight: then a socket is ready for a handover.
-    bool Settle() {
-        return world.RunUntil(
-            [&] { return a.socket->GetHandoverReadiness().IsReady() && z.socket->GetHandoverReadiness().IsReady(); });
-    }
+    Pair(const DcSctpOptions &of_a, const DcSctpOptions &of_z) : Ends(make_a, make_z, of_a, of_z) { world.loss = loss; }
 };
 
 // Bytes that no other message has.

@@ -276,6 +276,27 @@ private:
     bool may_call_back_ = true;
 };
 
+// Two ends, and what is between them.
+struct Ends {
+    World world;
+    End a, z;
+
+    Ends(const End::Maker &make_a, const End::Maker &make_z, const DcSctpOptions &of_a, const DcSctpOptions &of_z)
+        : a(world, make_a, of_a), z(world, make_z, of_z) {
+        a.peer = &z;
+        z.peer = &a;
+    }
+    bool Connect() {
+        a.Connect();
+        return world.RunUntil([&] { return a.IsConnected() && z.IsConnected(); });
+    }
+    // Until nothing is queued or in flight: then a socket is ready for a handover.
+    bool Settle() {
+        return world.RunUntil(
+            [&] { return a.socket->GetHandoverReadiness().IsReady() && z.socket->GetHandoverReadiness().IsReady(); });
+    }
+};
+
 inline bool World::RunUntil(const std::function<bool()> &fact, int64_t most) {
     const int64_t end = now + most;
     while (!fact())

@@ -36,17 +36,8 @@ std::unique_ptr<DcSctpSocketInterface> Ours(DcSctpSocketCallbacks &callbacks, st
     return CreateRattleSocket(callbacks, std::move(observer), options);
 }
 
-struct Pair {
-    World world;
-    End a, z;
-    explicit Pair(const DcSctpOptions &options = {}) : a(world, Ours, options), z(world, Ours) {
-        a.peer = &z;
-        z.peer = &a;
-    }
-    bool Connect() {
-        a.Connect();
-        return world.RunUntil([&] { return a.IsConnected() && z.IsConnected(); }, 60000);
-    }
+struct Pair : Ends {
+    explicit Pair(const DcSctpOptions &of_a = {}) : Ends(Ours, Ours, of_a, {}) {}
 };
 
 // ---- Options
@@ -175,7 +166,7 @@ void HandOverInCallback() {
     setting = "a handover in a callback";
     Pair it;
     it.Connect();
-    it.world.RunUntil([&] { return it.z.socket->GetHandoverReadiness().IsReady(); });
+    it.Settle();
     it.z.on_message = [&](const DcSctpMessage &) {
         Expect(it.z.socket->GetHandoverStateAndClose().has_value(), "there is a state");
         Expect(it.z.closed == 1, "OnClosed comes before it is returned");
@@ -191,7 +182,7 @@ void StatesRefused() {
     setting = "states";
     Pair it;
     it.Connect();
-    it.world.RunUntil([&] { return it.a.socket->GetHandoverReadiness().IsReady(); });
+    it.Settle();
     const auto taken = it.a.socket->GetHandoverStateAndClose();
     Expect(taken.has_value(), "there is a state");
     if (!taken)
@@ -227,7 +218,7 @@ void StateOfOtherOptions() {
     setting = "the state of a socket with other options";
     Pair it;
     it.Connect();
-    it.world.RunUntil([&] { return it.a.socket->GetHandoverReadiness().IsReady(); });
+    it.Settle();
     const auto taken = it.a.socket->GetHandoverStateAndClose();
     DcSctpOptions options;
     options.local_port = 1;
@@ -275,18 +266,19 @@ bool Live(Pair &it) {
     return it.world.RunUntil([&] { return it.a.closed == 2 && it.z.closed == 1; }, 10000);
 }
 
+bool HasExhaustion(const decltype(End::errors) &reports) {
+    return std::any_of(reports.begin(), reports.end(),
+                       [](const auto &it) { return it.first == ErrorKind::kResourceExhaustion; });
+}
+
 bool IsReported(const End &end) {
-    const auto is_exhaustion = [](const auto &it) { return it.first == ErrorKind::kResourceExhaustion; };
-    return std::any_of(end.aborts.begin(), end.aborts.end(), is_exhaustion) ||
-           std::any_of(end.errors.begin(), end.errors.end(), is_exhaustion);
+    return HasExhaustion(end.aborts) || HasExhaustion(end.errors);
 }
 
 // What can still be called of a socket that has failed.
 void CallAfterFailure(End &end) {
     const size_t aborts = end.aborts.size();
-    const bool has_failed = std::any_of(end.aborts.begin(), end.aborts.end(),
-                                        [](auto &it) { return it.first == ErrorKind::kResourceExhaustion; });
-    if (!has_failed)
+    if (!HasExhaustion(end.aborts))
         return;
     Expect(end.socket->state() == SocketState::kClosed && !end.socket->GetMetrics(), "a failed socket is closed");
     Expect(end.Send(1, Bytes(5)) == SendStatus::kErrorResourceExhaustion, "it sends nothing");

@@ -1,18 +1,14 @@
 /* Calls of usrsctp, two sockets in one process, over a link that this program is. It is written for
  * usrsctp.h alone, and passes over libusrsctp and over bindings/usrsctp. The clock is
  * usrsctp_handle_timers. */
+#include "sockets.h"
+
 #include <errno.h>
-#include <stdint.h>
-#include <stdio.h>
 #include <stdlib.h>
-#include <string.h>
 #include <unistd.h>
-#include <usrsctp.h>
 
-enum { PORT = 5000, LONGEST = 262144, STREAMS = 64, MOST_RECEIVED = 64 };
+enum { STREAMS = 64, MOST_RECEIVED = 64 };
 
-/* Counts a check, and prints it if it fails. */
-#define CHECK(name, number, expected) check(__LINE__, name, (long)(number), (long)(expected))
 /* A call that fails with an error. */
 #define FAILS(name, call, error)                                                                   \
     do {                                                                                           \
@@ -54,21 +50,11 @@ struct end {
     unsigned rooms; /* callbacks that there is room */
 };
 
-static unsigned passed, failed;
 static struct end a, b;
 static struct packet *first, **last = &first;
 static unsigned to_lose; /* so many packets are lost from now on */
 static int in_real_time; /* usrsctp repeats data by the clock of the system */
 static uint8_t payload[LONGEST + 1];
-
-static void check(int line, const char *name, long number, long expected) {
-    if (number == expected) {
-        passed++;
-        return;
-    }
-    failed++;
-    printf("calls.c:%d: %s: %ld, not %ld\n", line, name, number, expected);
-}
 
 /* ---- The link ------------------------------------------------------------------------------- */
 
@@ -186,56 +172,13 @@ static int may_send(struct socket *socket, uint32_t room, void *user) {
 
 /* ---- Sockets -------------------------------------------------------------------------------- */
 
-static struct sockaddr_conn at(void *address, uint16_t port) {
-    struct sockaddr_conn name;
-    memset(&name, 0, sizeof name);
-    name.sconn_family = AF_CONN;
-    name.sconn_port = htons(port);
-    name.sconn_addr = address;
-    return name;
-}
-
-static int set_number(struct socket *socket, int level, int name, int number) {
-    return usrsctp_setsockopt(socket, level, name, &number, sizeof number);
-}
-
-static void subscribe(struct socket *socket) {
+static void subscribe_to_events(struct socket *socket) {
     static const uint16_t types[] = {SCTP_ASSOC_CHANGE,         SCTP_STREAM_RESET_EVENT,
                                      SCTP_SEND_FAILED_EVENT,    SCTP_SHUTDOWN_EVENT,
                                      SCTP_PEER_ADDR_CHANGE,     SCTP_REMOTE_ERROR,
                                      SCTP_ADAPTATION_INDICATION};
-    for (size_t i = 0; i < sizeof types / sizeof *types; i++) {
-        struct sctp_event event;
-        memset(&event, 0, sizeof event);
-        event.se_assoc_id = SCTP_ALL_ASSOC;
-        event.se_type = types[i];
-        event.se_on = 1;
-        CHECK("SCTP_EVENT",
-              usrsctp_setsockopt(socket, IPPROTO_SCTP, SCTP_EVENT, &event, sizeof event), 0);
-    }
-}
-
-static void set_options(struct socket *socket) {
-    struct sctp_initmsg init;
-    struct sctp_assoc_value reset;
-    struct sctp_paddrparams path;
-    memset(&init, 0, sizeof init);
-    memset(&reset, 0, sizeof reset);
-    memset(&path, 0, sizeof path);
-    init.sinit_num_ostreams = init.sinit_max_instreams = STREAMS;
-    reset.assoc_id = SCTP_ALL_ASSOC;
-    reset.assoc_value = SCTP_ENABLE_RESET_STREAM_REQ;
-    path.spp_flags = SPP_PMTUD_DISABLE;
-    path.spp_pathmtu = 1188;
-    path.spp_address.ss_family = AF_CONN;
-    CHECK("SCTP_NODELAY", set_number(socket, IPPROTO_SCTP, SCTP_NODELAY, 1), 0);
-    CHECK("SCTP_INITMSG",
-          usrsctp_setsockopt(socket, IPPROTO_SCTP, SCTP_INITMSG, &init, sizeof init), 0);
-    CHECK("SCTP_ENABLE_STREAM_RESET",
-          usrsctp_setsockopt(socket, IPPROTO_SCTP, SCTP_ENABLE_STREAM_RESET, &reset, sizeof reset),
-          0);
-    CHECK("SO_SNDBUF", set_number(socket, SOL_SOCKET, SO_SNDBUF, LONGEST), 0);
-    CHECK("SO_RCVBUF", set_number(socket, SOL_SOCKET, SO_RCVBUF, LONGEST), 0);
+    for (size_t i = 0; i < sizeof types / sizeof *types; i++)
+        CHECK("SCTP_EVENT", subscribe(socket, types[i]), 0);
 }
 
 /* Makes a socket that doesn't block, and binds it. */
@@ -246,8 +189,8 @@ static struct socket *open_socket(struct end *end) {
     CHECK("a socket", socket != NULL, 1);
     CHECK("usrsctp_set_non_blocking", usrsctp_set_non_blocking(socket, 1), 0);
     CHECK("usrsctp_get_non_blocking", usrsctp_get_non_blocking(socket), 1);
-    set_options(socket);
-    subscribe(socket);
+    set_options(socket, STREAMS, LONGEST);
+    subscribe_to_events(socket);
     CHECK("usrsctp_bind", usrsctp_bind(socket, (struct sockaddr *)&name, sizeof name), 0);
     return socket;
 }
@@ -307,19 +250,6 @@ static unsigned sum_of(size_t length) {
     return sum;
 }
 
-static int reset_stream(struct end *end, uint16_t flags, uint16_t count, uint16_t stream_id) {
-    union {
-        struct sctp_reset_streams streams;
-        uint8_t bytes[sizeof(struct sctp_reset_streams) + 2];
-    } it;
-    memset(&it, 0, sizeof it);
-    it.streams.srs_flags = flags;
-    it.streams.srs_number_streams = count;
-    memcpy(it.bytes + sizeof it.streams, &stream_id, 2);
-    return usrsctp_setsockopt(end->socket, IPPROTO_SCTP, SCTP_RESET_STREAMS, &it,
-                              (socklen_t)(sizeof it.streams + 2u * count));
-}
-
 /* ---- Tests ---------------------------------------------------------------------------------- */
 
 static void test_socket_errors(void) {
@@ -350,7 +280,7 @@ static void test_socket_errors(void) {
     FAILS("shutdown in no way", usrsctp_shutdown(socket, 77), EINVAL);
     a.socket = socket;
     FAILS("send", send_to(&a, 0, 51, 10, 0, 0, 0), ENOENT);
-    FAILS("reset", reset_stream(&a, SCTP_STREAM_RESET_OUTGOING, 1, 1), ENOENT);
+    FAILS("reset", reset_stream(a.socket, 1), ENOENT);
     FAILS("no option", set_number(socket, IPPROTO_SCTP, 0x7777, 1), ENOPROTOOPT);
     FAILS("a short value", usrsctp_setsockopt(socket, IPPROTO_SCTP, SCTP_INITMSG, &name, 2),
           EINVAL);
@@ -414,6 +344,13 @@ static void test_full_buffer(void) {
 }
 
 static void test_partial_reliability(void) {
+    static const struct {
+        const char *name;
+        size_t length;
+        uint16_t policy;
+        uint32_t value;
+    } lost[] = {{"no retransmission", 200, SCTP_PR_SCTP_RTX, 0},
+                {"20 ms", 300, SCTP_PR_SCTP_TTL, 20}};
     usrsctp_sysctl_set_sctp_rto_min_default(100);
     usrsctp_sysctl_set_sctp_rto_initial_default(100);
     connect_ends();
@@ -421,19 +358,17 @@ static void test_partial_reliability(void) {
     CHECK("first", send_to(&a, 1, 51, 100, 0, 0, 0), 100);
     run(300);
     CHECK("it came", b.count, 1);
-    to_lose = 1;
-    CHECK("no retransmission", send_to(&a, 1, 61, 200, 0, SCTP_PR_SCTP_RTX, 0), 200);
-    run(1000);
-    CHECK("it was lost", b.count, 1);
-    CHECK("send failed", a.seen[SCTP_SEND_FAILED_EVENT], 1);
-    CHECK("its length", a.failed_length, 200);
-    CHECK("its ppid", a.failed_ppid, 61);
-    to_lose = 1;
-    CHECK("20 ms", send_to(&a, 1, 62, 300, 0, SCTP_PR_SCTP_TTL, 20), 300);
-    run(1500);
-    CHECK("it was lost", b.count, 1);
-    CHECK("send failed", a.seen[SCTP_SEND_FAILED_EVENT], 2);
-    CHECK("its length", a.failed_length, 300);
+    for (unsigned i = 0; i < sizeof lost / sizeof *lost; i++) {
+        const char *name = lost[i].name;
+        const size_t length = lost[i].length;
+        to_lose = 1;
+        CHECK(name, send_to(&a, 1, 61 + i, length, 0, lost[i].policy, lost[i].value), length);
+        run(1500);
+        CHECK(name, b.count, 1);
+        CHECK(name, a.seen[SCTP_SEND_FAILED_EVENT], i + 1);
+        CHECK(name, a.failed_length, length);
+        CHECK(name, a.failed_ppid, 61 + i);
+    }
     to_lose = 1;
     CHECK("retransmitted", send_to(&a, 1, 63, 400, 0, SCTP_PR_SCTP_RTX, 5), 400);
     run(2000);
@@ -450,14 +385,14 @@ static void test_resets(void) {
     for (unsigned round = 1; round <= 3; round++) {
         CHECK("send", send_to(&a, 5, 51, 20000, 0, 0, 0), 20000);
         CHECK("send", send_to(&b, 5, 51, 10, 0, 0, 0), 10);
-        CHECK("reset", reset_stream(&a, SCTP_STREAM_RESET_OUTGOING, 1, 5), 0);
+        CHECK("reset", reset_stream(a.socket, 5), 0);
         run_until(&a.resets_out, round);
         run_until(&b.resets_in, round);
         CHECK("B has the message", b.count, 2 * round - 1);
         CHECK("A: outgoing", a.resets_out, round);
         CHECK("B: incoming", b.resets_in, round);
         CHECK("the stream", b.last_reset, 5);
-        CHECK("B resets, too", reset_stream(&b, SCTP_STREAM_RESET_OUTGOING, 1, 5), 0);
+        CHECK("B resets, too", reset_stream(b.socket, 5), 0);
         run_until(&b.resets_out, round);
         run_until(&a.resets_in, round);
         CHECK("B: outgoing", b.resets_out, round);
@@ -466,10 +401,10 @@ static void test_resets(void) {
         run(1000);
         CHECK("it came", b.count, 2 * round);
     }
-    FAILS("no such stream", reset_stream(&a, SCTP_STREAM_RESET_OUTGOING, 1, STREAMS), EINVAL);
+    FAILS("no such stream", reset_stream(a.socket, STREAMS), EINVAL);
     CHECK("send", send_to(&a, 7, 51, 1000, 0, 0, 0), 1000);
-    CHECK("two resets", reset_stream(&a, SCTP_STREAM_RESET_OUTGOING, 1, 7), 0);
-    CHECK("at once", reset_stream(&a, SCTP_STREAM_RESET_OUTGOING, 1, 8), 0);
+    CHECK("two resets", reset_stream(a.socket, 7), 0);
+    CHECK("at once", reset_stream(a.socket, 8), 0);
     run_until(&b.resets_in, 5);
     CHECK("both were reset", b.resets_in, 5);
     abort_ends();
@@ -704,14 +639,8 @@ static void test_explicit_end(void) {
 }
 
 static void test_sender_dry(void) {
-    struct sctp_event event;
     connect_ends();
-    memset(&event, 0, sizeof event);
-    event.se_assoc_id = SCTP_ALL_ASSOC;
-    event.se_type = SCTP_SENDER_DRY_EVENT;
-    event.se_on = 1;
-    CHECK("SCTP_SENDER_DRY_EVENT",
-          usrsctp_setsockopt(a.socket, IPPROTO_SCTP, SCTP_EVENT, &event, sizeof event), 0);
+    CHECK("SCTP_SENDER_DRY_EVENT", subscribe(a.socket, SCTP_SENDER_DRY_EVENT), 0);
     run(100);
     CHECK("it is dry", a.seen[SCTP_SENDER_DRY_EVENT], 1);
     CHECK("send", send_to(&a, 0, 51, 20000, 0, 0, 0), 20000);
@@ -757,8 +686,7 @@ static void test_dump(void) {
 }
 
 int main(void) {
-    for (size_t i = 0; i < sizeof payload; i++)
-        payload[i] = (uint8_t)(i * 7 + i / 251);
+    fill(payload, sizeof payload);
     usrsctp_init_nothreads(0, output, NULL);
     usrsctp_sysctl_set_sctp_ecn_enable(0);
     usrsctp_sysctl_set_sctp_asconf_enable(0);

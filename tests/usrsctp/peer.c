@@ -3,21 +3,17 @@
  *
  *     peer PROGRAM [LOSS]      every LOSS-th packet of each process is lost
  */
+#include "sockets.h"
+
 #include <errno.h>
 #include <poll.h>
 #include <pthread.h>
-#include <stdint.h>
-#include <stdio.h>
 #include <stdlib.h>
-#include <string.h>
 #include <sys/wait.h>
 #include <time.h>
 #include <unistd.h>
-#include <usrsctp.h>
 
-enum { PORT = 5000, STREAMS = 32, BUFFER = 1 << 20, LONGEST = 262144, BURST = 100, WAIT = 15 };
-
-static unsigned passed, failed;
+enum { STREAMS = 32, BUFFER = 1 << 20, BURST = 100, WAIT = 15 };
 
 static int fd, is_over;
 static unsigned loss, packets;
@@ -32,16 +28,6 @@ static struct {
 } seen;
 static uint8_t payload[LONGEST];
 static int is_echo;
-
-static void check(int line, const char *name, long number, long expected) {
-    if (number == expected) {
-        passed++;
-        return;
-    }
-    failed++;
-    printf("peer.c:%d: %s: %ld, not %ld\n", line, name, number, expected);
-}
-#define CHECK(name, number, expected) check(__LINE__, name, (long)(number), (long)(expected))
 
 /* ---- The link ------------------------------------------------------------------------------- */
 
@@ -95,18 +81,6 @@ static ssize_t send_message(struct socket *socket, uint16_t stream_id, uint32_t 
             break;
     } while (1);
     return result;
-}
-
-static int reset_stream(struct socket *socket, uint16_t stream_id) {
-    union {
-        struct sctp_reset_streams streams;
-        uint8_t bytes[sizeof(struct sctp_reset_streams) + 2];
-    } it;
-    memset(&it, 0, sizeof it);
-    it.streams.srs_flags = SCTP_STREAM_RESET_OUTGOING;
-    it.streams.srs_number_streams = 1;
-    memcpy(it.bytes + sizeof it.streams, &stream_id, 2);
-    return usrsctp_setsockopt(socket, IPPROTO_SCTP, SCTP_RESET_STREAMS, &it, sizeof it.streams + 2);
 }
 
 static void note_reset(struct socket *socket, const struct sctp_stream_reset_event *event) {
@@ -203,53 +177,24 @@ static unsigned wait_for(const unsigned *number, unsigned expected) {
 
 /* ---- Both ends ------------------------------------------------------------------------------ */
 
-static void set_options(struct socket *socket) {
+static void subscribe_to_events(struct socket *socket) {
     static const uint16_t types[] = {SCTP_ASSOC_CHANGE, SCTP_STREAM_RESET_EVENT,
                                      SCTP_SHUTDOWN_EVENT};
-    const int on = 1, buffer = BUFFER;
-    struct sctp_initmsg init;
-    struct sctp_assoc_value reset;
-    memset(&init, 0, sizeof init);
-    memset(&reset, 0, sizeof reset);
-    init.sinit_num_ostreams = init.sinit_max_instreams = STREAMS;
-    reset.assoc_id = SCTP_ALL_ASSOC;
-    reset.assoc_value = SCTP_ENABLE_RESET_STREAM_REQ;
-    CHECK("SCTP_NODELAY", usrsctp_setsockopt(socket, IPPROTO_SCTP, SCTP_NODELAY, &on, sizeof on),
-          0);
-    CHECK("SO_SNDBUF", usrsctp_setsockopt(socket, SOL_SOCKET, SO_SNDBUF, &buffer, sizeof buffer),
-          0);
-    CHECK("SO_RCVBUF", usrsctp_setsockopt(socket, SOL_SOCKET, SO_RCVBUF, &buffer, sizeof buffer),
-          0);
-    CHECK("SCTP_INITMSG",
-          usrsctp_setsockopt(socket, IPPROTO_SCTP, SCTP_INITMSG, &init, sizeof init), 0);
-    CHECK("SCTP_ENABLE_STREAM_RESET",
-          usrsctp_setsockopt(socket, IPPROTO_SCTP, SCTP_ENABLE_STREAM_RESET, &reset, sizeof reset),
-          0);
-    for (size_t i = 0; i < sizeof types / sizeof *types; i++) {
-        struct sctp_event event;
-        memset(&event, 0, sizeof event);
-        event.se_assoc_id = SCTP_ALL_ASSOC;
-        event.se_type = types[i];
-        event.se_on = 1;
-        CHECK("SCTP_EVENT",
-              usrsctp_setsockopt(socket, IPPROTO_SCTP, SCTP_EVENT, &event, sizeof event), 0);
-    }
+    for (size_t i = 0; i < sizeof types / sizeof *types; i++)
+        CHECK("SCTP_EVENT", subscribe(socket, types[i]), 0);
 }
 
 static struct socket *open_socket(void) {
-    struct sockaddr_conn name;
+    struct sockaddr_conn name = at(&fd, PORT);
     struct socket *socket;
-    memset(&name, 0, sizeof name);
-    name.sconn_family = AF_CONN;
-    name.sconn_port = htons(PORT);
-    name.sconn_addr = &fd;
     usrsctp_init(0, output, NULL);
     usrsctp_sysctl_set_sctp_rto_min_default(100);
     usrsctp_sysctl_set_sctp_rto_initial_default(300);
     usrsctp_register_address(&fd);
     socket = usrsctp_socket(AF_CONN, SOCK_STREAM, IPPROTO_SCTP, receive, NULL, 0, NULL);
     CHECK("a socket", socket != NULL, 1);
-    set_options(socket);
+    set_options(socket, STREAMS, BUFFER);
+    subscribe_to_events(socket);
     CHECK("bind", usrsctp_bind(socket, (struct sockaddr *)&name, sizeof name), 0);
     return socket;
 }
@@ -257,12 +202,8 @@ static struct socket *open_socket(void) {
 /* Begins to connect. Packets are read only after that: usrsctp aborts what it doesn't expect yet.
  */
 static int connect_socket(struct socket *socket, pthread_t *carrier) {
-    struct sockaddr_conn name;
+    struct sockaddr_conn name = at(&fd, PORT);
     int result;
-    memset(&name, 0, sizeof name);
-    name.sconn_family = AF_CONN;
-    name.sconn_port = htons(PORT);
-    name.sconn_addr = &fd;
     CHECK("usrsctp_set_non_blocking", usrsctp_set_non_blocking(socket, 1), 0);
     result = usrsctp_connect(socket, (struct sockaddr *)&name, sizeof name);
     CHECK("it is under way", result == -1 && errno == EINPROGRESS, 1);
@@ -270,8 +211,15 @@ static int connect_socket(struct socket *socket, pthread_t *carrier) {
     return wait_for(&seen.ups, 1) == 1 ? 0 : -1;
 }
 
-static void finish(void) {
+/* Closes the socket, carries packets for half a second more, and ends usrsctp. */
+static void finish(struct socket *socket, pthread_t carrier) {
     int left = -1;
+    usrsctp_close(socket);
+    usleep(500000);
+    pthread_mutex_lock(&lock);
+    is_over = 1;
+    pthread_mutex_unlock(&lock);
+    pthread_join(carrier, NULL);
     usrsctp_deregister_address(&fd);
     for (int i = 0; i < 200 && left != 0; i++) {
         left = usrsctp_finish();
@@ -293,13 +241,7 @@ static int echo(void) {
     CHECK("all was right", seen.wrong, 0);
     CHECK("the peer shut down", seen.shutdowns, 1);
     CHECK("the end", seen.state, SCTP_SHUTDOWN_COMP);
-    usrsctp_close(socket);
-    usleep(500000);
-    pthread_mutex_lock(&lock);
-    is_over = 1;
-    pthread_mutex_unlock(&lock);
-    pthread_join(carrier, NULL);
-    finish();
+    finish(socket, carrier);
     return failed != 0;
 }
 
@@ -318,9 +260,8 @@ static void test_lengths(struct socket *socket) {
         }
 }
 
-static void *send_burst(void *at) {
+static void *send_burst(void *socket) {
     static uint8_t filled[1000];
-    struct socket *socket = at;
     static unsigned last_stream = 2;
     uint8_t message[1000];
     unsigned stream_id;
@@ -370,21 +311,14 @@ static void run(void) {
     CHECK("the end", wait_for(&seen.ends, 1), 1);
     CHECK("by a shutdown", seen.state, SCTP_SHUTDOWN_COMP);
     CHECK("all was right", seen.wrong, 0);
-    usrsctp_close(socket);
-    usleep(500000);
-    pthread_mutex_lock(&lock);
-    is_over = 1;
-    pthread_mutex_unlock(&lock);
-    pthread_join(carrier, NULL);
-    finish();
+    finish(socket, carrier);
 }
 
 int main(int count, char **arguments) {
     int fds[2], status = -1;
     pid_t child;
     char number[16];
-    for (size_t i = 0; i < sizeof payload; i++)
-        payload[i] = (uint8_t)(i * 7 + i / 251);
+    fill(payload, sizeof payload);
     if (count == 4 && strcmp(arguments[1], "--echo") == 0) {
         fd = atoi(arguments[2]);
         loss = (unsigned)atoi(arguments[3]);
