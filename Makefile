@@ -376,13 +376,18 @@ check-bindings: dist
 check-webrtc: $(LIBRARY)
 	@CXX='$(CXX)' bash scripts/check-webrtc.sh $(LIBRARY) $(OUT)/webrtc
 
-check-rust: $(LIBRARY)
+# C writes lines of packets in which bytes were changed, and Rust must write the same.
+check-rust: $(LIBRARY) $(OUT)/tests/trace
+	@$(OUT)/tests/trace 20000 $(OUT)/trace.txt >/dev/null
 	@if command -v cargo >/dev/null; then set -e; cd examples/rust; \
 	export DCSCTP_LIB_DIR=$(abspath $(OUT)) DCSCTP_LIB_NAME=$(NAME) \
 	    CARGO_TARGET_DIR=$(abspath $(OUT)/cargo); \
+	TRACE_ROWS=$(abspath $(OUT)/trace.txt) timeout 300 cargo test --offline --quiet \
+	    --manifest-path ../../bindings/rust/Cargo.toml --package dcsctp-socket --test trace -- --include-ignored; \
+	echo "check: lines of packets by C and by Rust"; \
 	timeout 120 cargo run --offline --quiet --release 2>/dev/null; \
 	timeout 120 cargo run --offline --quiet --release -- --loss 20 2>/dev/null; echo "check: examples/rust"; \
-	else echo "skipped: examples/rust: no cargo (apt install cargo)"; fi
+	else echo "skipped: examples/rust, lines of packets in Rust: no cargo (apt install cargo)"; fi
 
 check-browser: $(SHARED)
 	CC='$(CC)' bash scripts/browser.sh $(SHARED) $(OUT)/browser

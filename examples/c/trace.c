@@ -1,6 +1,7 @@
 /* SCTP packets as text, and as a file for Wireshark: see trace.h. */
 #include "trace.h"
 
+#include <inttypes.h>
 #include <stdarg.h>
 
 /* ---- Text and bytes ------------------------------------------------------------------------- */
@@ -494,6 +495,17 @@ size_t dcsctp_trace_packet(char *to, size_t size, const uint8_t *packet, size_t 
     else if (length % 4 != 0)
         put(&text, " malformed: no padding");
     return text.length;
+}
+
+size_t dcsctp_trace_line(char *to, size_t size, enum dcsctp_trace_direction direction,
+                         uint64_t moment, const uint8_t *packet, size_t length) {
+    const uint64_t second = 1000000000;
+    struct text text = {to, size, 0};
+    put(&text, "%" PRIu64 ".%09" PRIu64 " %s ", moment / second, moment % second,
+        direction == DCSCTP_TRACE_SENT ? "sent" : "received");
+    const int has_room = text.length < size;
+    return text.length + dcsctp_trace_packet(has_room ? to + text.length : NULL,
+                                             has_room ? size - text.length : 0, packet, length);
 }
 
 /* ---- A file for Wireshark ------------------------------------------------------------------- */

@@ -1,15 +1,18 @@
 /*
  * SCTP packets as text, and as a file for Wireshark. Copy this file and trace.c into your program.
- * They need the C library alone. demo.c shows how they are used.
+ * They need the C library alone. To log all packets, do this with each that a socket sends; and
+ * with each that you hand in, as DCSCTP_TRACE_RECEIVED:
  *
  *     char text[1000];
- *     dcsctp_trace_packet(text, sizeof text, packet, length);
+ *     dcsctp_trace_line(text, sizeof text, DCSCTP_TRACE_SENT, now, packet, length);
  *     puts(text);
  *
  * prints, for example, this as one line:
  *
- *     5000>5000 tag=0x5d3a9b12 SACK cumulative=17 window=5242880 gaps=19-20; DATA tsn=8 stream=1
- *     ssn=0 ppid=51 length=5 flags=BE
+ *     12.045000000 sent 5000>5000 tag=0x5d3a9b12 SACK cumulative=17 window=5242880 gaps=19-20;
+ *     DATA tsn=8 stream=1 ssn=0 ppid=51 length=5 flags=BE
+ *
+ * demo.c shows how the other functions are used.
  */
 #ifndef TRACE_H
 #define TRACE_H
@@ -40,6 +43,15 @@ extern "C" {
  *   if unordered.
  * - Parameters and causes are in brackets. */
 size_t dcsctp_trace_packet(char *text, size_t size, const uint8_t *packet, size_t length);
+
+/* Which way a packet goes. */
+enum dcsctp_trace_direction { DCSCTP_TRACE_SENT, DCSCTP_TRACE_RECEIVED };
+
+/* Writes a line of a log, without a newline: the moment in seconds, with nine decimals; `sent` or
+ * `received`; and the text of dcsctp_trace_packet, which says what `text` and `size` are. `moment`
+ * is in nanoseconds, by any clock. */
+size_t dcsctp_trace_line(char *text, size_t size, enum dcsctp_trace_direction direction,
+                         uint64_t moment, const uint8_t *packet, size_t length);
 
 /* Creates a file of packets, or empties one. Wireshark, tshark and tcpdump read it: it is pcap with
  * nanoseconds, of packets that begin with the SCTP header (LINKTYPE_SCTP, 248). Write what goes

@@ -57,6 +57,7 @@ mod message;
 mod options;
 mod query;
 mod socket;
+pub mod trace;
 mod version;
 
 pub use error::Error;

@@ -49,7 +49,7 @@
 //! |---|---|---|
 //! | target | any that Rust has | Linux with glibc on x86-64-v2 |
 //! | `Socket::new` | can't fail | panics if `/dev/urandom` can't be read, or if the library has another version |
-//! | the name of a socket | is logged, as events and packets are | has no effect: nothing is logged |
+//! | the name of a socket | is logged, as events and packets are | has no effect: nothing is logged; `trace` makes lines of packets for your log |
 //! | out of memory | ends the process | ends it by `handle_alloc_error`, also where the library can't allocate |
 //! | `mtu` below 32 or above 65,535 | is taken | counts as 32 or 65,535 |
 //! | `max_receiver_window_buffer_size` and `max_send_buffer_size` above 2^32 - 1 | are taken | count as 2^32 - 1 |
@@ -69,3 +69,6 @@ pub mod api;
 mod convert;
 mod snapshot;
 mod socket;
+
+/// Packets as lines of a log. Upstream has no such module.
+pub use dcsctp_socket::trace;
