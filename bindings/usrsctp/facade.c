@@ -1,13 +1,8 @@
 /*
  * The part of usrsctp's API that data-channel stacks use, over dcsctp.h: sockets of AF_CONN, whose
  * packets your program carries. A program for libusrsctp links libusrsctp.a in its place, or finds
- * libusrsctp.so.2 by LD_LIBRARY_PATH:
- *
- *     cd bindings/usrsctp
- *     cc -shared -fPIC -D_DEFAULT_SOURCE -Wl,-soname,libusrsctp.so.2 *.c \
- *         $(pkg-config --cflags --libs dcsctp) -pthread -o libusrsctp.so.2
- *
- * `make check-usrsctp` makes both in out/usrsctp or out/unproved/usrsctp, and tests them.
+ * libusrsctp.so.2 by LD_LIBRARY_PATH: docs/guide/from-usrsctp.md shows how. `make check-usrsctp`
+ * makes both in out/usrsctp or out/unproved/usrsctp, and tests them.
  *
  * It is compiled with the usrsctp.h of libusrsctp 0.9.5. It is tested, not proved. The library
  * below it is proved, unless it is dcsctp-unproved.

@@ -1,8 +1,6 @@
 // WebRTC's interface of a socket (net/dcsctp/public/dcsctp_socket.h) over dcsctp.h. Programs for WebRTC's own sockets
-// use these without a change.
+// use these without a change: docs/guide/from-webrtc.md shows how.
 //
-// Copy this folder into a WebRTC tree, and dcsctp.h beside it. dcsctp_socket_factory.cc replaces WebRTC's file of that
-// name: then each DcSctpSocketFactory creates these sockets. To have both, leave it out, and call CreateRattleSocket.
 // It is written for the interface of January 2023, as Debian's libtgowt-dev has it. There a program is built by:
 //
 //     c++ -std=c++17 -DNDEBUG -DWEBRTC_POSIX -DWEBRTC_LINUX -isystem /usr/include/tg_owt program.cc rattle_socket.cc

@@ -24,18 +24,7 @@
 //! assert_eq!(b.get_next_message().unwrap().payload, b"hello");
 //! ```
 //!
-//! # How a program gets it
-//!
-//! By path, as any crate; or in place of upstream, also below other crates, by these lines in its `Cargo.toml` and then
-//! `cargo update dcsctp`:
-//!
-//! ```toml
-//! [patch.crates-io]
-//! dcsctp = { path = ".../bindings/rust/port" }
-//! ```
-//!
-//! Or from a folder of vendored crates. `make crate` packs three for it, one with the library inside: unpack them there,
-//! and write `{"files":{}}` to the file `.cargo-checksum.json` of each.
+//! `docs/guide/from-rust-dcsctp.md` shows how a program gets it, and gives reasons for what differs.
 //!
 //! # The feature `follow_rfc`
 //!
