@@ -16,6 +16,7 @@ class Edit:
     folder: str  # a crate, or one of HIGHEST
     refused_by: str
     changes: list[tuple[str, str, str]]  # the file, the old text and the new one
+    unread: list[int]  # the lines that begin with no word of an edit
 
     @property
     def anchor(self) -> str:
@@ -32,24 +33,28 @@ def read_edits() -> list[Edit]:
 
 def read_edit(path: str) -> Edit:
     folder = path.split('/')[1]
-    edit = Edit(path, path.rpartition('/')[2][:-5], folder, '', [])
+    edit = Edit(path, path.rpartition('/')[2][:-5], folder, '', [], [])
     file = old = ''
-    for line in tree.lines_of(path):
-        word, _, rest = line.partition(':')
+    for number, line in enumerate(tree.text_of(path).splitlines(), 1):
+        word, _, rest = line.partition(': ')
         if word == 'refused by':
             edit.refused_by = rest.strip()
         elif word == 'file':
-            file = rest[1:] if folder in HIGHEST else f'crates/{folder}/{rest[1:]}'
+            file = rest if folder in HIGHEST else f'crates/{folder}/{rest}'
         elif word == 'old':
-            old = rest[1:]
-        elif word == 'new':
-            edit.changes.append((file, old, rest[1:]))
+            old = rest
+        elif word in ('new', 'new:'):
+            edit.changes.append((file, old, rest))
+        else:
+            edit.unread.append(number)
     return edit
 
 
 def faults_of(edit: Edit) -> list[str]:
-    """Why it would be tried on nothing: each old text must be in its file exactly once, after the changes before it."""
-    found, texts = [], {}
+    """Why it would be tried on nothing, or on less than it says: each line must begin with a word of an edit, each old text
+    must be in its file exactly once, after the changes before it, and something must change."""
+    found = [f'{edit.path}:{number}: it begins with none of file, old, new and refused by' for number in edit.unread]
+    texts: dict[str, str] = {}
     for file, old, new in edit.changes:
         if file not in tree.files():
             found.append(f'{edit.path}:1: there is no file {file}')
@@ -58,7 +63,8 @@ def faults_of(edit: Edit) -> list[str]:
         if text.count(old) != 1:
             found.append(f'{edit.path}:1: {text.count(old)} times in {file}: {old}')
         texts[file] = text.replace(old, new, 1)
-    return found or ([] if edit.changes else [f'{edit.path}:1: it changes nothing'])
+    changes_something = any(text != tree.text_of(file) for file, text in texts.items())
+    return found or ([] if changes_something else [f'{edit.path}:1: it changes nothing'])
 
 
 class Record:
