@@ -23,9 +23,10 @@ port=$((20000 + RANDOM % 10000))
 configs=$folder/janus
 rm -rf "$configs"
 mkdir -p "$configs"
-plugins=$(dirname "$(find /usr/lib -name libjanus_textroom.so -print -quit)")
+plugin=$(find /usr/lib -name libjanus_textroom.so -print -quit)
+[ -n "$plugin" ] || { echo "check-janus: below /usr/lib there is no libjanus_textroom.so" >&2; exit 1; }
 mkdir "$configs/plugins" "$configs/events"
-ln -s "$plugins/libjanus_textroom.so" "$configs/plugins/"
+ln -s "$plugin" "$configs/plugins/"
 cat >"$configs/janus.jcfg" <<END
 general: {
     configs_folder = "$configs"
@@ -43,14 +44,22 @@ echo 'room-1234: { description = "a room" }' >"$configs/janus.plugin.textroom.jc
 LD_LIBRARY_PATH=$folder janus -F "$configs" --disable-colors >"$folder/janus.log" 2>&1 &
 janus=$!
 trap 'kill "$janus" 2>/dev/null || true' EXIT
+# refuse WHY: prints what Janus said, and ends.
+refuse() {
+    cat "$folder/janus.log"
+    echo "check-janus: $1" >&2
+    exit 1
+}
+answers() { curl -s -o /dev/null "http://127.0.0.1:$port/janus/info" 2>/dev/null; }
 for ((i = 0; i < 50; i++)); do
-    if curl -s -o /dev/null "http://127.0.0.1:$port/janus/info" 2>/dev/null; then break; fi
+    if answers || ! kill -0 "$janus" 2>/dev/null; then break; fi
     sleep 0.2
 done
-grep -q "$folder/libusrsctp.so.2" "/proc/$janus/maps"
-PYTHONDONTWRITEBYTECODE=1 timeout 120 "$python" tests/usrsctp/janus.py "$port"
+answers || refuse "Janus didn't start"
+grep -q "$folder/libusrsctp.so.2" "/proc/$janus/maps" || refuse "Janus has another libusrsctp.so.2"
+PYTHONDONTWRITEBYTECODE=1 timeout 120 "$python" tests/usrsctp/janus.py "$port" || refuse "the client failed"
 kill -INT "$janus"
 wait "$janus" || true
 trap - EXIT
-grep -q 'Bye!' "$folder/janus.log"
+grep -q 'Bye!' "$folder/janus.log" || refuse "Janus didn't end by itself"
 echo "check: Janus' text room over bindings/usrsctp"

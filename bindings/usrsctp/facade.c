@@ -123,9 +123,10 @@ static void send_packets(struct socket *s) {
     while ((item = facade_take(&s->packets)) != NULL) {
         if (!s->is_cut_off) {
             void *address = s->address;
+            output_call *output = facade_output;
             facade_statistics.sctps_outpackets++;
             pthread_mutex_unlock(&facade_lock);
-            facade_output(address, item->bytes, item->length, 0, 0);
+            output(address, item->bytes, item->length, 0, 0);
             pthread_mutex_lock(&facade_lock);
         }
         free(item->bytes);
@@ -369,8 +370,10 @@ int usrsctp_finish(void) {
     pthread_mutex_unlock(&facade_lock);
     if (had_timers) {
         pthread_join(timers, NULL);
+        pthread_mutex_lock(&facade_lock);
         pthread_cond_destroy(&timers_changed);
         has_timers = 0;
+        pthread_mutex_unlock(&facade_lock);
     }
     return 0;
 }
@@ -435,12 +438,18 @@ void usrsctp_deregister_address(void *at) {
     pthread_mutex_unlock(&facade_lock);
 }
 
+static void skip_checksums(int skips) {
+    pthread_mutex_lock(&facade_lock);
+    facade_skips_checksums = skips;
+    pthread_mutex_unlock(&facade_lock);
+}
+
 void usrsctp_enable_crc32c_offload(void) {
-    facade_skips_checksums = 1;
+    skip_checksums(1);
 }
 
 void usrsctp_disable_crc32c_offload(void) {
-    facade_skips_checksums = 0;
+    skip_checksums(0);
 }
 
 void usrsctp_get_stat(struct sctpstat *to) {

@@ -12,7 +12,7 @@ typedef int send_call(struct socket *, uint32_t, void *);
 typedef int output_call(void *, void *, size_t, uint8_t, uint8_t);
 typedef void wake_call(struct socket *, void *, int);
 
-enum { MILLISECOND = 1000000, ALL_EVENTS = 15, MAX_RESETS = 1024 };
+enum { MILLISECOND = 1000000, MAX_RESETS = 1024, COMMON_HEADER = 12, DATA_HEADER = 16 };
 
 /* How far the association of a socket is. A socket has at most one in its life. */
 enum phase { UNCONNECTED, LISTENING, CONNECTING, CONNECTED, ENDED };

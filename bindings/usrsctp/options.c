@@ -174,13 +174,18 @@ static int get_association(struct socket *s, union value *value) {
     return 0;
 }
 
+/* The library's `mtu` may have these values (dcsctp_options). */
+enum { LEAST_MTU = 32, GREATEST_MTU = 65535 };
+
 /* spp_pathmtu is without the common header, and dcsctp's mtu has it. */
 static int set_path(struct socket *s, const union value *value) {
     const struct sctp_paddrparams *path = &value->path;
-    const size_t mtu = path->spp_pathmtu + 12;
+    const size_t mtu = (size_t)path->spp_pathmtu + COMMON_HEADER;
     const uint64_t none = 0;
     if (path->spp_flags & (SPP_HB_DEMAND | SPP_IPV6_FLOWLABEL | SPP_DSCP))
         return ENOTSUP;
+    if (path->spp_pathmtu && (mtu < LEAST_MTU || GREATEST_MTU < mtu))
+        return EINVAL;
     if (path->spp_pathmtu && mtu < s->options.mtu && is_begun(s))
         return ENOTSUP;
     if (path->spp_flags & SPP_HB_DISABLE && s->options.heartbeat_interval != none && is_begun(s))
@@ -198,7 +203,7 @@ static int set_path(struct socket *s, const union value *value) {
 static int get_path(struct socket *s, union value *value) {
     value->path.spp_assoc_id = s->id;
     value->path.spp_hbinterval = (uint32_t)(s->options.heartbeat_interval / MILLISECOND);
-    value->path.spp_pathmtu = (uint32_t)s->options.mtu - 12;
+    value->path.spp_pathmtu = (uint32_t)s->options.mtu - COMMON_HEADER;
     value->path.spp_pathmaxrxt = (uint16_t)s->options.max_retransmissions;
     value->path.spp_flags = SPP_PMTUD_DISABLE;
     value->path.spp_flags |= s->options.heartbeat_interval ? SPP_HB_ENABLE : SPP_HB_DISABLE;
@@ -357,7 +362,7 @@ static int get_status(struct socket *s, union value *value) {
     status.sstat_unackdata = (uint16_t)metrics.unack_data_count;
     status.sstat_instrms = metrics.negotiated_maximum_incoming_streams;
     status.sstat_outstrms = metrics.negotiated_maximum_outgoing_streams;
-    status.sstat_fragmentation_point = (uint32_t)s->options.mtu - 28;
+    status.sstat_fragmentation_point = (uint32_t)s->options.mtu - COMMON_HEADER - DATA_HEADER;
     status.sstat_primary = path.path_info;
     value->status = status;
     return 0;

@@ -7,6 +7,9 @@
 /* A reset waits for acknowledgements of other streams no longer than this. */
 static const uint64_t LONGEST_WAIT = 1000 * (uint64_t)MILLISECOND;
 
+/* For so long after a shutdown a peer may repeat its SHUTDOWN ACK (dcsctp.h, THE END). */
+static const uint64_t REPEATED_ACKS = 4000 * (uint64_t)MILLISECOND;
+
 /* ---- Queues --------------------------------------------------------------------------------- */
 
 /* Adds an item, which owns `bytes`. Without memory the process ends, as it does in usrsctp. */
@@ -159,7 +162,7 @@ void facade_end_association(struct socket *s, uint16_t state, uint16_t error) {
     facade_drop_messages(s);
     forget_resets(s);
     s->phase = ENDED;
-    s->forget_at = state == SCTP_SHUTDOWN_COMP ? facade_now() + 4000 * (uint64_t)MILLISECOND : 0;
+    s->forget_at = state == SCTP_SHUTDOWN_COMP ? facade_now() + REPEATED_ACKS : 0;
     notify_change(s, state, error);
     s->is_awake = 1;
     if (state == SCTP_SHUTDOWN_COMP && s->receive)

@@ -28,23 +28,22 @@ struct socket *usrsctp_socket(int domain, int type, int protocol, receive_call *
                               send_call *may_send, uint32_t threshold, void *user) {
     struct socket *s = NULL;
     int error = 0;
+    pthread_mutex_lock(&facade_lock);
     if (domain == AF_INET || domain == AF_INET6 || (domain == AF_CONN && !facade_output))
         error = EAFNOSUPPORT;
     else if (domain != AF_CONN || protocol != IPPROTO_SCTP ||
              (type != SOCK_STREAM && type != SOCK_SEQPACKET) ||
              (!receive && (may_send || threshold)))
         error = EINVAL;
-    if (error) {
-        errno = error;
-        return NULL;
-    }
-    pthread_mutex_lock(&facade_lock);
-    s = new_socket(type, receive, user);
+    else if ((s = new_socket(type, receive, user)) == NULL)
+        error = ENOMEM;
     if (s) {
         s->may_send = may_send;
         s->send_threshold = threshold;
     }
     pthread_mutex_unlock(&facade_lock);
+    if (error)
+        errno = error;
     return s;
 }
 
@@ -221,7 +220,7 @@ static unsigned u16_at(const uint8_t *bytes) {
 /* The socket of a packet: one that has an association; else one that had it, for a peer that
  * repeats its SHUTDOWN ACK; else one that listens, for an INIT. */
 static struct socket *find_socket(void *address, const uint8_t *packet) {
-    const unsigned chunk = packet[12];
+    const unsigned chunk = packet[COMMON_HEADER];
     struct socket *late = NULL, *listener = NULL;
     for (struct socket *s = facade_sockets; s; s = s->next) {
         if (s->is_cut_off || s->options.local_port != u16_at(packet + 2))
@@ -357,7 +356,13 @@ int usrsctp_set_non_blocking(struct socket *s, int on) {
 }
 
 int usrsctp_get_non_blocking(struct socket *s) {
-    return s ? s->is_non_blocking : facade_fail(EBADF);
+    int on;
+    if (!s)
+        return facade_fail(EBADF);
+    facade_enter(s);
+    on = s->is_non_blocking;
+    facade_leave(s);
+    return on;
 }
 
 int usrsctp_set_ulpinfo(struct socket *s, void *user) {
@@ -372,7 +377,9 @@ int usrsctp_set_ulpinfo(struct socket *s, void *user) {
 int usrsctp_get_ulpinfo(struct socket *s, void **user) {
     if (!s || !user)
         return facade_fail(s ? EINVAL : EBADF);
+    facade_enter(s);
     *user = s->user;
+    facade_leave(s);
     return 1;
 }
 

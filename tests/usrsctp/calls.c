@@ -61,6 +61,8 @@ static uint8_t payload[LONGEST + 1];
 static int output(void *address, void *bytes, size_t length, uint8_t tos, uint8_t set_df) {
     struct packet *packet = malloc(sizeof *packet + length);
     (void)tos, (void)set_df;
+    if (!packet)
+        abort();
     packet->next = NULL;
     packet->from = address;
     packet->length = length;
@@ -544,6 +546,11 @@ static void test_options(void) {
     length = sizeof path;
     CHECK("SCTP_PEER_ADDR_PARAMS",
           usrsctp_getsockopt(a.socket, IPPROTO_SCTP, SCTP_PEER_ADDR_PARAMS, &path, &length), 0);
+    path.spp_flags = SPP_PMTUD_DISABLE;
+    path.spp_pathmtu = UINT32_MAX; /* (with the common header more than 32 bits) */
+    FAILS("a path MTU that is too large",
+          usrsctp_setsockopt(a.socket, IPPROTO_SCTP, SCTP_PEER_ADDR_PARAMS, &path, sizeof path),
+          EINVAL);
     FAILS("connect again", usrsctp_connect(a.socket, (struct sockaddr *)&name, sizeof name),
           EADDRINUSE);
     FAILS("listen", usrsctp_listen(a.socket, 1), EINVAL);

@@ -199,6 +199,14 @@ static struct socket *open_socket(void) {
     return socket;
 }
 
+/* Starts a thread, or ends the program. */
+static void start(pthread_t *thread, void *(*run_it)(void *), void *argument) {
+    if (pthread_create(thread, NULL, run_it, argument) != 0) {
+        fputs("peer: a thread can't be started\n", stderr);
+        exit(2);
+    }
+}
+
 /* Begins to connect. Packets are read only after that: usrsctp aborts what it doesn't expect yet.
  */
 static int connect_socket(struct socket *socket, pthread_t *carrier) {
@@ -207,7 +215,7 @@ static int connect_socket(struct socket *socket, pthread_t *carrier) {
     CHECK("usrsctp_set_non_blocking", usrsctp_set_non_blocking(socket, 1), 0);
     result = usrsctp_connect(socket, (struct sockaddr *)&name, sizeof name);
     CHECK("it is under way", result == -1 && errno == EINPROGRESS, 1);
-    pthread_create(carrier, NULL, carry, NULL);
+    start(carrier, carry, NULL);
     return wait_for(&seen.ups, 1) == 1 ? 0 : -1;
 }
 
@@ -281,7 +289,7 @@ static void *send_burst(void *socket) {
 static void test_threads(struct socket *socket) {
     pthread_t threads[3];
     for (int i = 0; i < 3; i++)
-        pthread_create(&threads[i], NULL, send_burst, socket);
+        start(&threads[i], send_burst, socket);
     for (int i = 0; i < 3; i++)
         pthread_join(threads[i], NULL);
     for (int i = 0; i < 3; i++)
@@ -328,6 +336,10 @@ int main(int count, char **arguments) {
         return 2;
     loss = count == 3 ? (unsigned)atoi(arguments[2]) : 0;
     child = fork();
+    if (child < 0) {
+        perror("peer: fork");
+        return 2;
+    }
     if (child == 0) {
         close(fds[0]);
         snprintf(number, sizeof number, "%d", fds[1]);
