@@ -1,6 +1,7 @@
 -- What the case of a COOKIE ECHO is to the machine, the peer that its cookie shows, and whether what was sent goes to it.
 use Rattle.std.specs.Prelude.{Bool, false, Option, None, Some}
 use Rattle.dcsctp_core.specs.types.declared.association.Pair.{Pair}
+use Rattle.dcsctp_core.specs.types.declared.association.Held.{Held}
 use Rattle.dcsctp_core.specs.types.declared.options.Options.{Options}
 use Rattle.dcsctp_core.specs.types.Offer.{offer_of, negotiated}
 use Rattle.dcsctp_core.specs.spec.Cookie.{Cookie}
@@ -28,11 +29,11 @@ peer_by_cookie options cookie =
     record { pair = cookie.addressee; a_rwnd = window_by_cookie options cookie; capabilities = negotiated (offer_of options) cookie.offer }
 
 -- Does what was sent outlast the peer, by this cookie?
-abbrev pub outlasts_in : Endpoint → Pair → Cookie → Option Transfer → Bool
-outlasts_in e mine cookie None = false
-outlasts_in e mine cookie (Some transfer) = outlasts e mine cookie transfer
+abbrev pub outlasts_in : Endpoint → Pair → Held → Cookie → Option Transfer → Bool
+outlasts_in e mine held cookie None = false
+outlasts_in e mine held cookie (Some transfer) = outlasts e mine held cookie transfer
 
 -- It does only while a COOKIE ACK is awaited.
 abbrev pub outlasts_at : Endpoint → Core → Cookie → Bool
-outlasts_at e (cookie_echoed mine held echoed) cookie = outlasts_in e mine cookie e.queues.transfer
+outlasts_at e (cookie_echoed mine held echoed) cookie = outlasts_in e mine held cookie e.queues.transfer
 outlasts_at e core cookie = false

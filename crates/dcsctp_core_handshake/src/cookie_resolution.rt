@@ -102,8 +102,8 @@ pub fn resolve(state: &State, header_tag: u32, cookie: &StateCookie) -> CookieRe
 }
 
 /// Does what was sent while a COOKIE ACK is awaited go on in the association that a cookie makes? With
-/// `Options::follow_rfc` it does if the cookie's peer has read none of it: nothing was acknowledged, and our own pair
-/// is the same (RFC 9260, section 5.2.4, action B). A request to reset streams would be an old one. Allocates nothing.
+/// `Options::follow_rfc` it does if nothing was acknowledged, no request to reset streams was begun, and our own pair is
+/// the same (RFC 9260, section 5.2.4, action B). Allocates nothing.
 pub fn outlasts<R: Rng>(context: &Context<R>, cookie: &StateCookie) -> bool
     ensures { result ≡ outlasts_at (endpoint_of context.now) (core_of context.now.state)
         (cookie_of cookie.now) }
@@ -115,14 +115,12 @@ pub fn outlasts<R: Rng>(context: &Context<R>, cookie: &StateCookie) -> bool
     if !context.options.follow_rfc || tcb.my.tag != cookie.my_tag {
         return false;
     }
-    match &tcb.reset_request {
-        Some(_) => false,
-        None => {
-            let peer = peer_by_cookie(&context.options, cookie);
-            tcb.transfer
-                .outlasts_peer(cookie.my_initial_tsn, &peer.capabilities)
-        }
-    }
+    let peer = peer_by_cookie(&context.options, cookie);
+    tcb.next_outgoing_reset_req_seq_nbr == tcb.my.first_tsn
+        && tcb.capabilities.reconfig == peer.capabilities.reconfig
+        && tcb
+            .transfer
+            .outlasts_peer(cookie.my_initial_tsn, &peer.capabilities)
 }
 
 /// The pair that is our own by a cookie.

@@ -194,18 +194,18 @@ module _ (came : Option Content) (calm : IsCalm came) (to : ℕ) where
       (flushed came cookie.addressee.tag (established_by e cookie queues tie) (cookie_ack_emission after cookie) answers refl refl (tt, tt) tt allowed)
 
   by_goes : IsOpening came → (b : Bool) (e : Endpoint) (mine : Pair) (held : Held) (echoed : List ℕ) (cookie : Cookie) (tie : ℕ) (transfer : Transfer) (answers : List Answer) → e.core ≡ cookie_echoed mine held echoed → e.queues.transfer ≡ Some transfer
-      → outlasts e mine cookie transfer ≡ b → EstablishAnswers e cookie (queues_by b e cookie transfer) tie answers
+      → outlasts e mine held cookie transfer ≡ b → EstablishAnswers e cookie (queues_by b e cookie transfer) tie answers
       → Goes came to e (establish_by (flush_answered answers) e cookie (queues_by b e cookie transfer) tie (connected ∷ []))
   by_goes opening true e mine held echoed cookie tie transfer answers same there is allowed =
       other_goes opening e mine held echoed cookie tie transfer answers same there (eqb-true mine.tag cookie.maker.tag (second_holds e.options.follow_rfc _ _ is)) allowed
   by_goes opening false e mine held echoed cookie tie transfer answers same there is allowed = anew_goes opening e cookie tie (connected ∷ []) answers refl allowed
 
   by_transfer_goes : IsOpening came → (e : Endpoint) (mine : Pair) (held : Held) (echoed : List ℕ) (cookie : Cookie) (tie : ℕ) (transfer : Option Transfer) (answers : List Answer) → e.core ≡ cookie_echoed mine held echoed → e.queues.transfer ≡ transfer
-      → EstablishAnswers e cookie (queues_for_other e mine cookie transfer) tie answers
-      → Goes came to e (establish_by (flush_answered answers) e cookie (queues_for_other e mine cookie transfer) tie (connected ∷ []))
+      → EstablishAnswers e cookie (queues_for_other e mine held cookie transfer) tie answers
+      → Goes came to e (establish_by (flush_answered answers) e cookie (queues_for_other e mine held cookie transfer) tie (connected ∷ []))
   by_transfer_goes opening e mine held echoed cookie tie None answers same there allowed = anew_goes opening e cookie tie (connected ∷ []) answers refl allowed
   by_transfer_goes opening e mine held echoed cookie tie (Some transfer) answers same there allowed =
-      by_goes opening (outlasts e mine cookie transfer) e mine held echoed cookie tie transfer answers same there refl allowed
+      by_goes opening (outlasts e mine held cookie transfer) e mine held echoed cookie tie transfer answers same there refl allowed
 
   collided_goes : IsOpening came → (e : Endpoint) (core : Core) (cookie : Cookie) (tie : ℕ) (answers : List Answer) → e.core ≡ core → EstablishAnswers e cookie (queues_collided e core cookie) tie answers
       → Goes came to e (collide_by (flush_answered answers) e core cookie tie)

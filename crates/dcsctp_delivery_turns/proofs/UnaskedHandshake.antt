@@ -146,17 +146,17 @@ module _ (came : Option Content) (opening : IsOpening came) (e : Endpoint) where
         kept_is = (e.moment, e.options, cookie.addressee.first_tsn, window_by_cookie e.options cookie, refl);
       }) (record { none = last.none; waits = last.waits })
 
-  by_calm : (b : Bool) (mine : Pair) (held : Held) (echoed : List ℕ) (cookie : Cookie) (tie : ℕ) (transfer : Transfer) (answers : List Answer) → e.core ≡ cookie_echoed mine held echoed → e.queues.transfer ≡ Some transfer → outlasts e mine cookie transfer ≡ b
+  by_calm : (b : Bool) (mine : Pair) (held : Held) (echoed : List ℕ) (cookie : Cookie) (tie : ℕ) (transfer : Transfer) (answers : List Answer) → e.core ≡ cookie_echoed mine held echoed → e.queues.transfer ≡ Some transfer → outlasts e mine held cookie transfer ≡ b
       → EstablishAnswers e cookie (queues_by b e cookie transfer) tie answers → CalmTurns came e (establish_by (flush_answered answers) e cookie (queues_by b e cookie transfer) tie (connected ∷ []))
   by_calm true mine held echoed cookie tie transfer answers same there is allowed =
       other_calm mine held echoed cookie tie transfer answers same there (eqb-true mine.tag cookie.maker.tag (second_holds e.options.follow_rfc _ _ is)) allowed
   by_calm false mine held echoed cookie tie transfer answers same there is allowed = anew_calm cookie tie (connected ∷ []) answers allowed
 
   by_transfer_calm : (mine : Pair) (held : Held) (echoed : List ℕ) (cookie : Cookie) (tie : ℕ) (transfer : Option Transfer) (answers : List Answer) → e.core ≡ cookie_echoed mine held echoed → e.queues.transfer ≡ transfer
-      → EstablishAnswers e cookie (queues_for_other e mine cookie transfer) tie answers → CalmTurns came e (establish_by (flush_answered answers) e cookie (queues_for_other e mine cookie transfer) tie (connected ∷ []))
+      → EstablishAnswers e cookie (queues_for_other e mine held cookie transfer) tie answers → CalmTurns came e (establish_by (flush_answered answers) e cookie (queues_for_other e mine held cookie transfer) tie (connected ∷ []))
   by_transfer_calm mine held echoed cookie tie None answers same there allowed = anew_calm cookie tie (connected ∷ []) answers allowed
   by_transfer_calm mine held echoed cookie tie (Some transfer) answers same there allowed =
-      by_calm (outlasts e mine cookie transfer) mine held echoed cookie tie transfer answers same there refl allowed
+      by_calm (outlasts e mine held cookie transfer) mine held echoed cookie tie transfer answers same there refl allowed
 
   collided_calm : (core : Core) (cookie : Cookie) (tie : ℕ) (answers : List Answer) → e.core ≡ core → EstablishAnswers e cookie (queues_collided e core cookie) tie answers
       → CalmTurns came e (collide_by (flush_answered answers) e core cookie tie)

@@ -108,14 +108,14 @@ by_there : (b : Bool) (e : Endpoint) (cookie : Cookie) (transfer : Transfer) →
 by_there true e cookie transfer = refl
 by_there false e cookie transfer = refl
 
-other_there : (e : Endpoint) (mine : Pair) (cookie : Cookie) (transfer : Option Transfer) → is_there (queues_for_other e mine cookie transfer).transfer ≡ true
-other_there e mine cookie None = refl
-other_there e mine cookie (Some transfer) = by_there (outlasts e mine cookie transfer) e cookie transfer
+other_there : (e : Endpoint) (mine : Pair) (held : Held) (cookie : Cookie) (transfer : Option Transfer) → is_there (queues_for_other e mine held cookie transfer).transfer ≡ true
+other_there e mine held cookie None = refl
+other_there e mine held cookie (Some transfer) = by_there (outlasts e mine held cookie transfer) e cookie transfer
 
 collided_there : (e : Endpoint) (core : Core) (cookie : Cookie) → is_there (queues_collided e core cookie).transfer ≡ true
 collided_there e closed cookie = refl
 collided_there e (cookie_wait mine) cookie = refl
-collided_there e (cookie_echoed mine held echoed) cookie = other_there e mine cookie e.queues.transfer
+collided_there e (cookie_echoed mine held echoed) cookie = other_there e mine held cookie e.queues.transfer
 collided_there e (open_in phase mine held) cookie = refl
 
 resolved_leaves : (e : Endpoint) (cookie : Cookie) (core : Core) (word : ℕ) (resolution : Resolution) (answers : List Answer) → ResolvedAnswers e cookie core word resolution answers

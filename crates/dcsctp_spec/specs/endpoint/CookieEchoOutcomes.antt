@@ -1,15 +1,16 @@
 -- The turn of a COOKIE ECHO (RFC 9260, sections 5.1 and 5.2.4). association/CookieEchoChanges says which case it is.
-use Rattle.std.specs.Prelude.{◌≡◌, ◌==◌, ◌&&◌, ◌||◌, not, is_some, ℕ, min, Bool, true, false, if◌then◌else◌, Option, None, Some, List, [], ◌∷◌, codes, Result, Ok, Err}
+use Rattle.std.specs.Prelude.{◌≡◌, ◌==◌, ◌&&◌, ◌||◌, not, ℕ, min, Bool, true, false, if◌then◌else◌, Option, None, Some, List, [], ◌∷◌, codes, Result, Ok, Err}
 use Rattle.std.specs.Duration.{as_nanos}
 use Rattle.dcsctp_types.specs.declared.association.Pair.{Pair}
 use Rattle.dcsctp_types.specs.declared.association.Held.{Held}
+use Rattle.dcsctp_types.specs.declared.capabilities.Capabilities.{Capabilities}
 use Rattle.dcsctp_types.specs.declared.options.Options.{Options}
 use Rattle.dcsctp_types.specs.declared.word.Word.TheVariants.{U64}
 use Rattle.dcsctp_types.specs.declared.kinds.ErrorKind.TheVariants.{ParseFailed, WrongSequence}
 use Rattle.dcsctp_spec.specs.Cookie.{Cookie, cookie_at, is_stale}
 use Rattle.dcsctp_spec.specs.endpoint.Event.{Event, sent, connected, connection_restarted, error}
 use Rattle.dcsctp_spec.specs.Packet.{cookie_ack, shutdown_ack, Emission}
-use Rattle.dcsctp_spec.specs.queues.SendQueue.{SendQueueState, numbered_for}
+use Rattle.dcsctp_spec.specs.queues.SendQueue.{SendQueueState, numbered_for, is_other}
 use Rattle.dcsctp_spec.specs.queues.Transfer.{Transfer, EndpointQueues, new_transfer, outlasts_peer, transfer_kept}
 use Rattle.dcsctp_spec.specs.endpoint.Endpoint.{Endpoint, Core, cookie_echoed, open_in, OpenPhase, established, shutdown_ack_sent, stopped_timers, heartbeats_begun, errors_begun}
 use Rattle.dcsctp_spec.specs.endpoint.Outcome.{Outcome, noting, still, packet_counted, behind, emits}
@@ -125,25 +126,31 @@ queue_where false e cookie = numbered_for (interleaves e cookie) e.queues.queue
 abbrev pub queues_kept : Endpoint → Cookie → EndpointQueues
 queues_kept e cookie = queues_with e cookie (queue_where e.options.follow_rfc e cookie)
 
--- Does what was sent to the one peer go to the other? By the RFC it does if the other has read none of it (RFC 9260, section 5.2.4,
--- B): nothing was acknowledged, and our own pair is the same. A request to reset streams would be an old one.
-abbrev pub outlasts : Endpoint → Pair → Cookie → Transfer → Bool
-outlasts e mine cookie transfer =
+-- Was no request to reset streams begun yet, and can the other peer reset them if the one could? What was sent after a reset is
+-- numbered by it, and the other peer knows of none.
+abbrev pub asks_alike : Pair → Held → Capabilities → Bool
+asks_alike mine held capabilities = held.own_next == mine.first_tsn && not (is_other held.capabilities.reconfig capabilities.reconfig)
+
+-- Does what was sent to the one peer go to the other? By the RFC it does (RFC 9260, section 5.2.4, B), if nothing was
+-- acknowledged and our own pair is the same. What the one has read without acknowledging it is sent again, too.
+abbrev pub outlasts : Endpoint → Pair → Held → Cookie → Transfer → Bool
+outlasts e mine held cookie transfer =
     (e.options.follow_rfc && mine.tag == cookie.maker.tag)
-    && (not (is_some e.outstanding) && outlasts_peer cookie.maker.first_tsn (held_by_cookie e.options cookie).capabilities transfer)
+    && (asks_alike mine held (held_by_cookie e.options cookie).capabilities
+    && outlasts_peer cookie.maker.first_tsn (held_by_cookie e.options cookie).capabilities transfer)
 
 abbrev pub queues_by : Bool → Endpoint → Cookie → Transfer → EndpointQueues
 queues_by true e cookie transfer =
     record e.queues { transfer = Some (transfer_kept e.moment e.options cookie.addressee.first_tsn (window_by_cookie e.options cookie) transfer) }
 queues_by false e cookie transfer = queues_begun e cookie
 
-abbrev pub queues_for_other : Endpoint → Pair → Cookie → Option Transfer → EndpointQueues
-queues_for_other e mine cookie None = queues_begun e cookie
-queues_for_other e mine cookie (Some transfer) = queues_by (outlasts e mine cookie transfer) e cookie transfer
+abbrev pub queues_for_other : Endpoint → Pair → Held → Cookie → Option Transfer → EndpointQueues
+queues_for_other e mine held cookie None = queues_begun e cookie
+queues_for_other e mine held cookie (Some transfer) = queues_by (outlasts e mine held cookie transfer) e cookie transfer
 
 -- Both sides began at the same time. What was sent may outlast the one peer while its COOKIE ACK is awaited.
 abbrev pub queues_collided : Endpoint → Core → Cookie → EndpointQueues
-queues_collided e (cookie_echoed mine held echoed) cookie = queues_for_other e mine cookie e.queues.transfer
+queues_collided e (cookie_echoed mine held echoed) cookie = queues_for_other e mine held cookie e.queues.transfer
 queues_collided e core cookie = queues_begun e cookie
 
 abbrev pub establish_new_by : FlushKind → Endpoint → Cookie → ℕ → Outcome
