@@ -31,7 +31,7 @@ shown() {
             printf '%s; ' "$(values seconds <<<"$runs" | spread %.2f 1)"
             values twice <<<"$runs" | spread %g 1
             ;;
-        aborts) values seconds <<<"$runs" | spread %.2f 1 ;;
+        aborts | stale) values seconds <<<"$runs" | spread %.2f 1 ;;
         *) values count <<<"$runs" | sum ;;
     esac
 }
@@ -59,6 +59,7 @@ table() {
     row abandoned '5 %' 50
     row aborts '50 ms' 50
     row missing '10,000' 10000
+    row stale '40 ms' 40
     row cookies '10 s' 10
 }
 

@@ -385,6 +385,19 @@ static void aborts(const uint64_t *given) {
     finish();
 }
 
+/* A's cookie may be given[0] ms old, and the way to B and back takes 50. When does A give up? */
+static void stale(const uint64_t *given) {
+    options.cookie_lifetime = given[0] * MILLISECONDS;
+    begin(50 * MILLISECONDS);
+    const uint64_t start = link.now;
+    EQUAL("connect", dcsctp_connect(&ends[A].socket), 0);
+    serve(A);
+    while (abort_count() == 0)
+        run(10 * MILLISECONDS);
+    printf("seconds %.2f\n", (double)(link.now - start) / SECONDS);
+    finish();
+}
+
 /* The first of 20 messages is lost, and B has a window of given[0] bytes. Are they still not there
  * after ten minutes? */
 static void missing(const uint64_t *given) {
@@ -420,7 +433,7 @@ static const struct {
     void (*try)(const uint64_t *given);
 } tried[] = {{"reports", reports}, {"trips", trips},         {"bottleneck", bottleneck},
              {"next", next},       {"abandoned", abandoned}, {"aborts", aborts},
-             {"missing", missing}, {"cookies", cookies}};
+             {"missing", missing}, {"cookies", cookies},     {"stale", stale}};
 
 int main(int count, char **words) {
     uint64_t given[2] = {0, 0};

@@ -17,6 +17,7 @@ use dcsctp_core::api::{ErrorKind, SocketEvent, StateCookie};
 use dcsctp_core::transfer::Transfer;
 use dcsctp_core::wire::{Chunk, CookieEchoChunk, ErrorCause, ErrorChunk};
 use dcsctp_core::{Context, Following, OpenPhase, OpenState, State, TransmissionControlBlock};
+use dcsctp_core_ends::STALE_COOKIE;
 use rand_core::Rng;
 use std::alloc::{AllocError, Global};
 use std::collections::VecDeque;
@@ -325,9 +326,6 @@ fn refuse<R: Rng>(context: &mut Context<R>, text: &str) -> Result<(), AllocError
     context.report(ErrorKind::ParseFailed, text)?;
     Ok(())
 }
-
-// The code of the cause Stale Cookie (RFC 9260, section 3.3.10.3).
-const STALE_COOKIE: u16 = 3;
 
 // The cause Stale Cookie. It doesn't say for how long the cookie has been stale.
 fn stale_cookie() -> ErrorCause<'static>

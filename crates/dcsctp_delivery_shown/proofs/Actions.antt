@@ -21,7 +21,7 @@ use Rattle.dcsctp_delivery_turns.specs.Actions as actions
 use Rattle.dcsctp_delivery_turns.proofs.Received.{data_where}
 use Rattle.dcsctp_delivery_sending.proofs.Packets.{out_below}
 use Rattle.dcsctp_delivery_shown.proofs.InFlight.{IsOf, fills_where_is, begun_is, at_once_is, sack_is, timed_is}
-use Rattle.dcsctp_delivery_shown.proofs.Allowed.{MayGo, AllAllowed, AreAllowed, all_append, no_data_goes, plain_go, request_goes, sacks_go, data_goes, forwards_go}
+use Rattle.dcsctp_delivery_shown.proofs.Allowed.{MayGo, AllAllowed, AreAllowed, all_append, no_data_goes, plain_go, request_goes, sacks_go, data_goes, forwards_go, ContentsAllowed, spoken_goes, behind_goes}
 
 -- This holds for what is in flight, if there is an association.
 abbrev pub TransferIs : Capabilities → Option Transfer → Type 0
@@ -79,7 +79,7 @@ module _ (kinds : Capabilities) where
   out_says e told with_checksum tag [] are =
       subst (AreAllowed kinds) (sym (ap (λ (l : List (Event Emission)). packets_in l) (sym (append-nil (map filling_event told))) ∙ told_none told [])) tt
   out_says e told with_checksum tag (content ∷ contents) are =
-      subst (AreAllowed kinds) (sym (told_none told (sent (record { with_checksum = with_checksum; packet = record { tag = tag; contents = content ∷ contents } }) ∷ []))) (are, tt)
+      subst (AreAllowed kinds) (sym (told_none told (sent (record { with_checksum = with_checksum; packet = record { tag = tag; contents = content ∷ contents } }) ∷ []))) (are.1, tt)
 
   asked_keeps : (ask : Ask) (e : Endpoint) (draft : Emission) (answer : Answer) → TransferIs kinds e.queues.transfer → AllAllowed kinds draft.packet.contents → IsFlushAnswer ask e draft answer
       → Keeps (asked e draft answer).after.queues (asked e draft answer).events
@@ -135,20 +135,20 @@ module _ (kinds : Capabilities) where
   action_is : (came : Option Content) (to : ℕ) (old new : Ledger) → LedgerIs old → Action came to old new → LedgerIs new
   action_is came to old _ h (actions.queues now sending fits some) = record { left = h.left; says = h.says }
   action_is came to old _ h (actions.sets setting small) = record { left = h.left; says = h.says }
-  action_is came to old _ h (actions.flushes e draft answers below at same no_data no_end allowed) =
-      let keeps = flush_keeps e draft answers (subst (λ (b : EndpointQueues). TransferIs kinds b.transfer) (sym below) h.left) (no_data_goes kinds draft.packet.contents no_data) allowed in
+  action_is came to old _ h (actions.flushes e draft answers below at same no_data no_end stale allowed) =
+      let keeps = flush_keeps e draft answers (subst (λ (b : EndpointQueues). TransferIs kinds b.transfer) (sym below) h.left) (no_data_goes kinds draft.packet.contents no_data stale) allowed in
       record { left = keeps.left; says = all_append _ old.sent (packets_in (flush_of e draft answers).events) h.says keeps.says }
   action_is came to old _ h (actions.resends now room transfer left tsns chunks emission tag known sends are contents) =
       let is : IsOf kinds left = at_once_is kinds now room old.queues.queue transfer.retransmission left tsns (of_known transfer old.queues.transfer known h.left) sends in
       record {
         left = is;
-        says = all_append _ old.sent (emission ∷ []) h.says (subst (AllAllowed kinds) (sym contents) (plain_go kinds chunks (data_goes kinds left.outstanding tsns chunks is.0 are)), tt);
+        says = all_append _ old.sent (emission ∷ []) h.says (subst (ContentsAllowed kinds) (sym contents) (behind_goes kinds (plain_contents chunks) (plain_go kinds chunks (data_goes kinds left.outstanding tsns chunks is.0 are))), tt);
       }
   action_is came to old _ h (actions.resends_nothing now room transfer left tsns known sends) =
       record { left = at_once_is kinds now room old.queues.queue transfer.retransmission left tsns (of_known transfer old.queues.transfer known h.left) sends; says = h.says }
-  action_is came to old _ h (actions.speaks emission no_data) = record { left = h.left; says = all_append _ old.sent (emission ∷ []) h.says (no_data_goes kinds emission.packet.contents no_data, tt) }
+  action_is came to old _ h (actions.speaks emission no_data stale) = record { left = h.left; says = all_append _ old.sent (emission ∷ []) h.says (spoken_goes kinds emission.packet.contents no_data stale, tt) }
   action_is came to old _ h (actions.asks_again emission begun tag has contents) =
-      record { left = h.left; says = all_append _ old.sent (emission ∷ []) h.says (subst (AllAllowed kinds) (sym contents) (tt, tt), tt) }
+      record { left = h.left; says = all_append _ old.sent (emission ∷ []) h.says (subst (ContentsAllowed kinds) (sym contents) tt, tt) }
   action_is came to old _ h (actions.acknowledges now sack transfer new known valid takes) =
       record { left = sack_is kinds now sack transfer new (of_known transfer old.queues.transfer known h.left) takes; says = h.says }
   action_is came to old _ h (actions.loses now transfer known) = record { left = of_known transfer old.queues.transfer known h.left; says = h.says }

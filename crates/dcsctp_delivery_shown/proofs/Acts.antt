@@ -28,7 +28,7 @@ use Rattle.dcsctp_delivery_sockets.specs.Echoes.{MayFollow, AllMayFollow}
 use Rattle.dcsctp_delivery_sockets.proofs.Calls.{of_turns, MayCall, MaySend, of_call}
 use Rattle.dcsctp_delivery_sockets.proofs.NewLinks.{OpensFitting, AllOpenFitting}
 use Rattle.dcsctp_delivery_sockets.proofs.PacketTurns.{begin_core}
-use Rattle.dcsctp_delivery_shown.proofs.Allowed.{AllAllowed}
+use Rattle.dcsctp_delivery_shown.proofs.Allowed.{AllAllowed, ContentsAllowed}
 use Rattle.dcsctp_delivery_shown.proofs.Actions.{events_both}
 use Rattle.dcsctp_delivery_shown.proofs.Turns.{EndpointIs, IsCalm, MovesLink, link_stays, link_ends, link_begins, TurnIs, turn_is}
 use Rattle.dcsctp_delivery_shown.proofs.Stays.{after_link, rest_link}
@@ -144,11 +144,11 @@ module _ (law : ChunksAreControlled) (kinds : Capabilities) where
         says = events_both kinds t.outcome.events (events_of rest) so.says left.says;
       }
 
-  whole_act : (e : Endpoint) (tag : ℕ) (contents : List Content) (turns : List Transition) → ContentsAre kinds (offer_of e.options) contents → AllAllowed kinds contents → EndpointIs kinds e → AllOpenFitting turns → AlongTurns Known e turns
+  whole_act : (e : Endpoint) (tag : ℕ) (contents : List Content) (turns : List Transition) → ContentsAre kinds (offer_of e.options) contents → ContentsAllowed kinds contents → EndpointIs kinds e → AllOpenFitting turns → AlongTurns Known e turns
       → ChunkTurns e tag contents (packet_ends ∷ []) turns → ActIs kinds e turns
   whole_act e tag [] turns are allowed h fit known taken = calm_act e turns (of_turns IsCalm e (packet_ends ∷ []) turns (tt, tt) taken) known h
   whole_act e tag (content ∷ contents) [] are allowed h fit known taken = absurd taken
-  whole_act e tag (content ∷ contents) (t ∷ turns) are allowed h fit known taken = front_act e tag content contents t turns are.0 are.1 allowed.1 h fit.0 known.0 known.1 taken
+  whole_act e tag (content ∷ contents) (t ∷ turns) are allowed h fit known taken = front_act e tag content contents t turns are.0 are.1 allowed h fit.0 known.0 known.1 taken
 
   same_offer : (mine own : Options) → SameOptions mine own → offer_of own ≡ offer_of mine
   same_offer mine own same = ap offer_of same
@@ -156,7 +156,7 @@ module _ (law : ChunksAreControlled) (kinds : Capabilities) where
   contents_of : (mine own : Options) (contents : List Content) → SameOptions mine own → ContentsAre kinds (offer_of mine) contents → ContentsAre kinds (offer_of own) contents
   contents_of mine own contents same are = subst (λ (o : Offer). ContentsAre kinds o contents) (sym (same_offer mine own same)) are
 
-  admitted_act : (mine : Options) (e : Endpoint) (packet : Packet) (admission : Admission) (turns : List Transition) → SameOptions mine e.options → ContentsAre kinds (offer_of mine) packet.contents → AllAllowed kinds packet.contents
+  admitted_act : (mine : Options) (e : Endpoint) (packet : Packet) (admission : Admission) (turns : List Transition) → SameOptions mine e.options → ContentsAre kinds (offer_of mine) packet.contents → ContentsAllowed kinds packet.contents
       → EndpointIs kinds e → AllOpenFitting turns → AlongTurns Known e turns → AdmittedTurns e packet admission turns → ActIs kinds e turns
   admitted_act mine e packet all_chunks [] own are allowed h fit known taken = absurd taken
   admitted_act mine e packet all_chunks (t ∷ turns) own are allowed h fit known taken =
@@ -169,7 +169,7 @@ module _ (law : ChunksAreControlled) (kinds : Capabilities) where
 
   -- This holds for the bytes of a packet that the other socket sent.
   pub packet_acts : (mine : Options) (e : Endpoint) (bytes : List ℕ) (was : Packet) (turns : List Transition) → SameOptions mine e.options → ContentsAre kinds (offer_of mine) was.contents
-      → AllAllowed kinds was.contents → ((packet : PacketContent) → IsPacket (wire_options e.options) packet bytes → packet_in packet ≡ was) → EndpointIs kinds e → AllOpenFitting turns → AlongTurns Known e turns
+      → ContentsAllowed kinds was.contents → ((packet : PacketContent) → IsPacket (wire_options e.options) packet bytes → packet_in packet ≡ was) → EndpointIs kinds e → AllOpenFitting turns → AlongTurns Known e turns
       → HandleInput e bytes turns → ActIs kinds e turns
   packet_acts mine e bytes was turns own are allowed is h fit known (unreadable _ none taken) =
       calm_act e turns (of_turns IsCalm e (arrival ∷ refusal unreadable_text ∷ []) turns (tt, (tt, tt)) taken) known h

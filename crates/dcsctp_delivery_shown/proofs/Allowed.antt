@@ -1,5 +1,5 @@
 -- A flush sends chunks of the kinds that were negotiated, and no others (RFC 8260, section 2.2.1;
--- RFC 3758, section 3.3.1).
+-- RFC 3758, section 3.3.1). None but the first of a packet ends a handshake.
 use Rattle.std.proofs.Common.{◌≡◌, ℕ, Bool, true, false, Option, None, Some, List, [], ◌∷◌, ◌++◌, length, refl, sym, ◌∙◌, subst}
 use Rattle.std.specs.Prelude.{if◌then◌else◌, nat_lt, nat_le, ◌&&◌}
 use Rattle.std.specs.List.{AllByRecursion}
@@ -22,11 +22,12 @@ use Rattle.dcsctp_spec_lemmas.specs.spec.endpoint.BegunResets.{BegunReset, reque
 use Rattle.dcsctp_spec_lemmas.specs.spec.endpoint.FlushOutcomes.{own_sack, where_fits, Ask, first_ask, later_ask, may_abandon, may_forward, Acknowledges, ForwardsWhere, GivesUpWhere}
 use Rattle.dcsctp_spec_lemmas.specs.spec.endpoint.PlainOutcomes.{data_violation, i_data_violation, forward_tsn_violation, i_forward_tsn_violation, violation_by}
 use Rattle.dcsctp_delivery_sending.specs.Flushes.{NoPlain, NoContent, NoData}
+use Rattle.dcsctp_delivery_turns.specs.Actions.{NotStale, NoneStale, IsStaleFirst}
 use Rattle.dcsctp_delivery_shown.proofs.InFlight.{IsOf, gives_all_is}
 
--- The chunk breaks nothing that was negotiated.
+-- The chunk breaks nothing that was negotiated, and ends no handshake.
 abbrev pub MayGo : Capabilities → Plain → Type 0
-MayGo kinds chunk = violation_by kinds chunk ≡ None
+MayGo kinds chunk = (violation_by kinds chunk ≡ None) × NotStale (plain chunk)
 
 abbrev pub Allowed : Capabilities → Content → Type 0
 Allowed kinds (plain chunk) = MayGo kinds chunk
@@ -35,8 +36,13 @@ Allowed kinds content = Unit {0}
 abbrev pub AllAllowed : Capabilities → List Content → Type 0
 AllAllowed kinds contents = AllByRecursion (Allowed kinds) contents
 
+-- Of a packet it is said of each chunk but the first.
+abbrev pub ContentsAllowed : Capabilities → List Content → Type 0
+ContentsAllowed kinds [] = Unit {0}
+ContentsAllowed kinds (content ∷ contents) = AllAllowed kinds contents
+
 abbrev pub IsAllowed : Capabilities → Emission → Type 0
-IsAllowed kinds emission = AllAllowed kinds emission.packet.contents
+IsAllowed kinds emission = ContentsAllowed kinds emission.packet.contents
 
 abbrev pub AreAllowed : Capabilities → List Emission → Type 0
 AreAllowed kinds emissions = AllByRecursion (IsAllowed kinds) emissions
@@ -48,20 +54,28 @@ all_append P (x ∷ xs) ys xs_are ys_are = (xs_are.0, all_append P xs ys xs_are.
 module _ (kinds : Capabilities) where
   -- ---- chunks without data
 
-  no_plain : (chunk : Plain) → NoPlain chunk → MayGo kinds chunk
-  no_plain (unworked (data_chunk chunk)) none = absurd none
-  no_plain (unworked (i_data_chunk chunk)) none = absurd none
-  no_plain (unworked (forward_tsn_chunk tsn streams)) none = absurd none
-  no_plain (unworked (i_forward_tsn_chunk tsn streams)) none = absurd none
-  no_plain chunk none = refl
+  no_plain : (chunk : Plain) → NoPlain chunk → NotStale (plain chunk) → MayGo kinds chunk
+  no_plain (unworked (data_chunk chunk)) none stale = absurd none
+  no_plain (unworked (i_data_chunk chunk)) none stale = absurd none
+  no_plain (unworked (forward_tsn_chunk tsn streams)) none stale = absurd none
+  no_plain (unworked (i_forward_tsn_chunk tsn streams)) none stale = absurd none
+  no_plain chunk none stale = (refl, stale)
 
-  no_content : (content : Content) → NoContent content → Allowed kinds content
-  no_content (plain chunk) none = no_plain chunk none
-  no_content content none = tt
+  no_content : (content : Content) → NoContent content → NotStale content → Allowed kinds content
+  no_content (plain chunk) none stale = no_plain chunk none stale
+  no_content content none stale = tt
 
-  pub no_data_goes : (contents : List Content) → NoData contents → AllAllowed kinds contents
-  no_data_goes [] none = tt
-  no_data_goes (content ∷ contents) none = (no_content content none.0, no_data_goes contents none.1)
+  pub no_data_goes : (contents : List Content) → NoData contents → NoneStale contents → AllAllowed kinds contents
+  no_data_goes [] none stale = tt
+  no_data_goes (content ∷ contents) none stale = (no_content content none.0 stale.0, no_data_goes contents none.1 stale.1)
+
+  pub spoken_goes : (contents : List Content) → NoData contents → IsStaleFirst contents → ContentsAllowed kinds contents
+  spoken_goes [] none stale = tt
+  spoken_goes (content ∷ contents) none stale = no_data_goes contents none.1 stale
+
+  pub behind_goes : (contents : List Content) → AllAllowed kinds contents → ContentsAllowed kinds contents
+  behind_goes [] are = tt
+  behind_goes (content ∷ contents) are = are.1
 
   pub plain_go : (chunks : List Plain) → AllByRecursion (MayGo kinds) chunks → AllAllowed kinds (plain_contents chunks)
   plain_go [] are = tt
@@ -80,13 +94,13 @@ module _ (kinds : Capabilities) where
 
   pub sacks_go : (b : Bool) (room : ℕ) (transfer : Transfer) (after : TrackerState) (chunks : List Plain) → Acknowledges b room transfer after chunks → AllByRecursion (MayGo kinds) chunks
   sacks_go false room transfer after chunks does = subst (AllByRecursion (MayGo kinds)) (sym does.1) tt
-  sacks_go true room transfer after chunks does = subst (AllByRecursion (MayGo kinds)) (sym does.1) (where_go room (own_sack room transfer) refl)
+  sacks_go true room transfer after chunks does = subst (AllByRecursion (MayGo kinds)) (sym does.1) (where_go room (own_sack room transfer) (refl, tt))
 
   -- ---- data
 
   said_goes : (b : Bool) (tsn : ℕ) (part : Fragment) → b ≡ kinds.message_interleaving → MayGo kinds (unworked (chunk_said b tsn part))
-  said_goes true tsn part is = subst (λ (b : Bool). i_data_violation b ≡ None) is refl
-  said_goes false tsn part is = subst (λ (b : Bool). data_violation b ≡ None) is refl
+  said_goes true tsn part is = (subst (λ (b : Bool). i_data_violation b ≡ None) is refl, tt)
+  said_goes false tsn part is = (subst (λ (b : Bool). data_violation b ≡ None) is refl, tt)
 
   pub data_goes : (outstanding : OutstandingState) (tsns : List ℕ) (chunks : List Plain) → outstanding.is_interleaved ≡ kinds.message_interleaving → AreChunksOfTsns outstanding tsns chunks
       → AllByRecursion (MayGo kinds) chunks
@@ -99,8 +113,8 @@ module _ (kinds : Capabilities) where
   -- ---- FORWARD-TSN
 
   forward_goes : (b : Bool) (tsn : ℕ) (entries : List ((ℕ × Bool) × ℕ)) → b ≡ kinds.message_interleaving → true ≡ kinds.partial_reliability → MayGo kinds (unworked (forward_chunk b tsn entries))
-  forward_goes true tsn entries is partial = subst (λ (b : Bool). i_forward_tsn_violation b kinds.partial_reliability ≡ None) is (subst (λ (b : Bool). i_forward_tsn_violation true b ≡ None) partial refl)
-  forward_goes false tsn entries is partial = subst (λ (b : Bool). forward_tsn_violation b kinds.partial_reliability ≡ None) is (subst (λ (b : Bool). forward_tsn_violation false b ≡ None) partial refl)
+  forward_goes true tsn entries is partial = (subst (λ (b : Bool). i_forward_tsn_violation b kinds.partial_reliability ≡ None) is (subst (λ (b : Bool). i_forward_tsn_violation true b ≡ None) partial refl), tt)
+  forward_goes false tsn entries is partial = (subst (λ (b : Bool). forward_tsn_violation b kinds.partial_reliability ≡ None) is (subst (λ (b : Bool). forward_tsn_violation false b ≡ None) partial refl), tt)
 
   forwards_where : (b : Bool) (now room : ℕ) (transfer : Transfer) (state : RetransmissionState) (next : Option ℕ) (chunks : List Plain) → IsOf kinds state → true ≡ kinds.partial_reliability
       → ForwardsWhere b now transfer room state next chunks → AllByRecursion (MayGo kinds) chunks

@@ -1,10 +1,11 @@
 -- The association that a packet begins with is there when the packet is over: what follows the
 -- first chunk ends none.
 use Rattle.std.proofs.Common.{◌≡◌, ◌==◌, ℕ, Bool, true, false, cond, Option, None, Some, List, [], ◌∷◌, refl, sym, ap, ◌∙◌, subst}
+use Rattle.std.specs.Prelude.{◌&&◌}
 use Rattle.dcsctp_spec_lemmas.specs.wire.Content.{ParameterContent, data_chunk, i_data_chunk, sack_chunk, error_chunk, forward_tsn_chunk, i_forward_tsn_chunk}
 use Rattle.dcsctp_spec_lemmas.specs.types.declared.capabilities.Capabilities.{Capabilities}
 use Rattle.dcsctp_spec_lemmas.specs.types.declared.ends.Violation.{Violation}
-use Rattle.dcsctp_spec_lemmas.specs.spec.endpoint.Cause.{Cause}
+use Rattle.dcsctp_spec_lemmas.specs.spec.endpoint.Cause.{Cause, has_stale_cookie}
 use Rattle.dcsctp_spec_lemmas.specs.spec.association.Controlled.{IsControlled, ControlledChunk}
 use Rattle.dcsctp_spec_lemmas.specs.spec.endpoint.CallTurns.{Transition, IsTurn, Turns, AfterChunk, ChunkTurns, after_all}
 use Rattle.dcsctp_spec_lemmas.specs.spec.endpoint.Endpoint.{Endpoint, Core, closed, cookie_wait, cookie_echoed, open_in, shutdown_pending, shutdown_received}
@@ -21,14 +22,14 @@ use Rattle.dcsctp_spec_lemmas.specs.spec.association.ResetChanges.{re_config_cha
 use Rattle.dcsctp_spec_lemmas.specs.spec.association.ShutdownChanges.{shutdown_step_change}
 use Rattle.dcsctp_spec_lemmas.specs.spec.queues.Arrivals.{data_arrival, i_data_arrival, skipped_in, messages_skipped_in}
 use Rattle.dcsctp_spec_lemmas.specs.spec.endpoint.HeartbeatOutcomes.{heartbeat_outcome, heartbeat_ack_outcome, answered, info_in, counter_of}
-use Rattle.dcsctp_spec_lemmas.specs.spec.endpoint.PlainOutcomes.{violation_by, violation_at, PlainTurnBy, is_reported, after_unknown, unknown_bytes, unknown_chunk_outcome, unknown_outcome, error_outcome}
+use Rattle.dcsctp_spec_lemmas.specs.spec.endpoint.PlainOutcomes.{violation_by, violation_at, PlainTurnBy, is_reported, after_unknown, unknown_bytes, unknown_chunk_outcome, unknown_outcome, ends_handshake, echoed_error_outcome, error_outcome}
 use Rattle.dcsctp_spec_laws.proofs.DataLemmas.{chosen, FlushedAt, data_at, forward_at, end_at}
 use Rattle.dcsctp_spec_laws.proofs.SackLemmas.{SteppedAt, sack_at}
 use Rattle.dcsctp_spec_lemmas.proofs.OneAnswerLemmas.{answered_by}
 use Rattle.dcsctp_theorem_sockets.proofs.Bursts.{emits_core}
-use Rattle.dcsctp_delivery_turns.specs.Actions.{IsOpening}
+use Rattle.dcsctp_delivery_turns.specs.Actions.{IsOpening, NotStale}
 use Rattle.dcsctp_delivery_sockets.specs.Echoes.{MayFollow, AllMayFollow}
-use Rattle.dcsctp_delivery_shown.proofs.Allowed.{MayGo, Allowed, AllAllowed}
+use Rattle.dcsctp_delivery_shown.proofs.Allowed.{Allowed, AllAllowed}
 use Rattle.dcsctp_delivery_shown.proofs.Turns.{SameKinds, LinkIs, EndpointIs, MovesLink, link_stays, link_ends, link_begins, TurnIs, turn_is}
 
 -- The peer is known.
@@ -114,25 +115,29 @@ ack_core : (e : Endpoint) (counter : Option ℕ) → (heartbeat_ack_outcome e co
 ack_core e None = refl
 ack_core e (Some counter) = counted_core (counter == e.heartbeat_counter) e
 
-error_core : (e : Endpoint) (core : Core) (causes : List Cause) → (error_outcome e core causes).after.core ≡ e.core
-error_core e closed causes = refl
-error_core e (cookie_wait my) causes = refl
-error_core e (cookie_echoed my held cookie) causes = refl
-error_core e (open_in phase my held) causes = refl
+told_core : (b : Bool) (e : Endpoint) (causes : List Cause) → b ≡ false → (echoed_error_outcome b e causes).after.core ≡ e.core
+told_core true e causes is = absurd (cc)
+told_core false e causes is = refl
+
+error_core : (e : Endpoint) (core : Core) (causes : List Cause) → has_stale_cookie causes ≡ false → (error_outcome e core causes).after.core ≡ e.core
+error_core e closed causes fresh = refl
+error_core e (cookie_wait my) causes fresh = refl
+error_core e (cookie_echoed my held cookie) causes fresh = told_core (ends_handshake e causes) e causes (ap (λ (b : Bool). b && e.options.follow_rfc) fresh)
+error_core e (open_in phase my held) causes fresh = refl
 
 -- ---- a chunk that breaks nothing
 
-plain_held : (e : Endpoint) (chunk : Plain) (o : Outcome) → PlainTurnBy e chunk None o → IsHeldIn e.core → IsHeldIn o.after.core
-plain_held e (unknown type flags value) o turn = same_core e o (unknown_outcome e e.core type flags value) turn (unknown_core e e.core type (unknown_bytes type flags value) (is_reported type))
-plain_held e (heartbeat parameters) o turn = same_core e o (heartbeat_outcome e e.core parameters) turn (heartbeat_core e e.core parameters)
-plain_held e (heartbeat_ack parameters) o turn = same_core e o (heartbeat_ack_outcome e (counter_of (info_in parameters))) turn (ack_core e (counter_of (info_in parameters)))
-plain_held e (unworked (data_chunk chunk)) o turn = flushed_at e o (data_at e (data_arrival chunk) o turn)
-plain_held e (unworked (i_data_chunk chunk)) o turn = flushed_at e o (data_at e (i_data_arrival chunk) o turn)
-plain_held e (unworked (sack_chunk chunk)) o turn = stepped_at e o (sack_at e e.queues.transfer chunk o turn)
-plain_held e (unworked (forward_tsn_chunk tsn streams)) o turn = flushed_at e o (forward_at e e.queues.transfer tsn (skipped_in streams) o turn)
-plain_held e (unworked (i_forward_tsn_chunk tsn streams)) o turn = flushed_at e o (forward_at e e.queues.transfer tsn (messages_skipped_in streams) o turn)
-plain_held e (unworked (error_chunk causes)) o turn = same_core e o (error_outcome e e.core causes) turn (error_core e e.core causes)
-plain_held e (unworked chunk) o turn = same_core e o (still e) turn refl
+plain_held : (e : Endpoint) (chunk : Plain) (o : Outcome) → NotStale (plain chunk) → PlainTurnBy e chunk None o → IsHeldIn e.core → IsHeldIn o.after.core
+plain_held e (unknown type flags value) o fresh turn = same_core e o (unknown_outcome e e.core type flags value) turn (unknown_core e e.core type (unknown_bytes type flags value) (is_reported type))
+plain_held e (heartbeat parameters) o fresh turn = same_core e o (heartbeat_outcome e e.core parameters) turn (heartbeat_core e e.core parameters)
+plain_held e (heartbeat_ack parameters) o fresh turn = same_core e o (heartbeat_ack_outcome e (counter_of (info_in parameters))) turn (ack_core e (counter_of (info_in parameters)))
+plain_held e (unworked (data_chunk chunk)) o fresh turn = flushed_at e o (data_at e (data_arrival chunk) o turn)
+plain_held e (unworked (i_data_chunk chunk)) o fresh turn = flushed_at e o (data_at e (i_data_arrival chunk) o turn)
+plain_held e (unworked (sack_chunk chunk)) o fresh turn = stepped_at e o (sack_at e e.queues.transfer chunk o turn)
+plain_held e (unworked (forward_tsn_chunk tsn streams)) o fresh turn = flushed_at e o (forward_at e e.queues.transfer tsn (skipped_in streams) o turn)
+plain_held e (unworked (i_forward_tsn_chunk tsn streams)) o fresh turn = flushed_at e o (forward_at e e.queues.transfer tsn (messages_skipped_in streams) o turn)
+plain_held e (unworked (error_chunk causes)) o fresh turn = same_core e o (error_outcome e e.core causes) turn (error_core e e.core causes fresh)
+plain_held e (unworked chunk) o fresh turn = same_core e o (still e) turn refl
 
 reset_held : (core : Core) (parameters : List ResetParameter) (choices : Choices) → IsHeldIn core → IsHeldIn (re_config_change core parameters choices).core
 reset_held closed parameters choices held = held
@@ -149,7 +154,7 @@ module _ (kinds : Capabilities) where
   same_violation own (unworked (i_forward_tsn_chunk tsn streams)) same may = cc
   same_violation own chunk same may = refl
 
-  breaks_nothing : (core : Core) (chunk : Plain) → LinkIs kinds (identity_in core) → MayGo kinds chunk → violation_at core chunk ≡ None
+  breaks_nothing : (core : Core) (chunk : Plain) → LinkIs kinds (identity_in core) → violation_by kinds chunk ≡ None → violation_at core chunk ≡ None
   breaks_nothing closed chunk linked may = refl
   breaks_nothing (cookie_wait my) chunk linked may = refl
   breaks_nothing (cookie_echoed my held cookie) chunk linked may = same_violation held.capabilities chunk linked may
@@ -157,7 +162,7 @@ module _ (kinds : Capabilities) where
 
   module _ (law : ChunksAreControlled) where
     follows_held : (e : Endpoint) (tag : ℕ) (content : Content) (o : Outcome) → MayFollow content → Allowed kinds content → EndpointIs kinds e → ContentTurn e tag content o → IsHeldIn e.core → IsHeldIn o.after.core
-    follows_held e tag (plain chunk) o may allowed h turn held = plain_held e chunk o (subst (λ (v : Option Violation). PlainTurnBy e chunk v o) (breaks_nothing e.core chunk h.linked allowed) turn) held
+    follows_held e tag (plain chunk) o may allowed h turn held = plain_held e chunk o allowed.1 (subst (λ (v : Option Violation). PlainTurnBy e chunk v o) (breaks_nothing e.core chunk h.linked allowed.0) turn) held
     follows_held e tag (re_config parameters) o may allowed h turn held =
         let controlled : ControlledChunk e tag (re_config parameters) o = law e tag (re_config parameters) o turn tt in
         subst IsHeldIn (sym (controlled.2.core ∙ ap (λ c. c.core) controlled.1.2)) (reset_held e.core parameters controlled.1.0 held)

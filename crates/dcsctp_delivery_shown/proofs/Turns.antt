@@ -24,7 +24,7 @@ use Rattle.dcsctp_delivery_turns.proofs.Turns.{own_peer, none_calm, turns_are_ac
 use Rattle.dcsctp_delivery_turns.proofs.Data.{turn_link, flush_makes}
 use Rattle.dcsctp_spec_lemmas.specs.spec.endpoint.PreparedResets.{ResetRefusal, endpoint_with_queue, reset_refusal, OwnResetsWhere}
 use Rattle.dcsctp_spec_lemmas.specs.spec.queues.OwnResets.{prepared_all, prepare_all_events}
-use Rattle.dcsctp_delivery_shown.proofs.Allowed.{AllAllowed, AreAllowed}
+use Rattle.dcsctp_delivery_shown.proofs.Allowed.{ContentsAllowed, AreAllowed}
 use Rattle.dcsctp_delivery_shown.proofs.Actions.{TransferIs, events_both, LedgerIs, of_known, actions_are}
 
 -- ---- an endpoint
@@ -180,7 +180,7 @@ module _ (kinds : Capabilities) where
           left = subst (λ (i : Inside). TransferIs kinds i.queues.transfer) (sym is) h.left;
           asks = renewed_fit (own_of e) (own_of o.after) own number kept out (ap (λ (i : Inside). i.own) is) h.asks;
         };
-        says = subst (AreAllowed kinds) (sym packets) (subst (AllAllowed kinds) (sym contents) (tt, tt), tt);
+        says = subst (AreAllowed kinds) (sym packets) (subst (ContentsAllowed kinds) (sym contents) tt, tt);
       })
   becomes_is came to adds taken e o h so (ends none unread last own makes is) =
       let made : MadeIs last (packets_in o.events) = makes_is came to adds taken (inside e) last (packets_in o.events) (record { left = h.left; asks = h.asks }) makes in

@@ -17,7 +17,7 @@ use Rattle.dcsctp_delivery_sending.specs.Log.{Message}
 use Rattle.dcsctp_delivery_sending.specs.Flushes.{NoData, reset_begun_by}
 use Rattle.dcsctp_delivery_directions.specs.Directions.{Asking, asking_with}
 use Rattle.dcsctp_delivery_turns.specs.Asking.{own_of, AsksFit}
-use Rattle.dcsctp_delivery_turns.specs.Actions.{Ledger, ledger_of, Action, flushes, speaks, Actions, nothing, further, NoEnd, Inside, inside, Made, MakesPackets, Becomes, ends}
+use Rattle.dcsctp_delivery_turns.specs.Actions.{Ledger, ledger_of, Action, flushes, speaks, Actions, nothing, further, IsStaleFirst, NoneStale, NoEnd, Inside, inside, Made, MakesPackets, Becomes, ends}
 use Rattle.dcsctp_spec_lemmas.specs.spec.association.Effect.{identity_in}
 use Rattle.dcsctp_delivery_turns.specs.Tags.{IsPeerTag}
 use Rattle.dcsctp_delivery_turns.proofs.Begun.{grows_then, grows_not, grows_by, flush_fits}
@@ -98,11 +98,11 @@ module _ (came : Option Content) (to : ℕ) where
   pub silent : (old : Inside) (packets : List Emission) → packets ≡ [] → MakesPackets came to old packets old
   silent old packets none = subst (λ (l : List Emission). MakesPackets came to old l old) (sym none) (rests old)
 
-  pub spoken : (old : Inside) (emission : Emission) → NoData emission.packet.contents → MakesPackets came to old (emission ∷ []) old
-  spoken old emission no_data = emission_of old old.queues emission (λ queued sent read tsn asking fit. speaks emission no_data)
+  pub spoken : (old : Inside) (emission : Emission) → NoData emission.packet.contents → IsStaleFirst emission.packet.contents → MakesPackets came to old (emission ∷ []) old
+  spoken old emission no_data stale = emission_of old old.queues emission (λ queued sent read tsn asking fit. speaks emission no_data stale)
 
-  pub flushed : (e : Endpoint) (draft : Emission) (answers : List Answer) → IsPeerTag e.core to → draft.packet.tag ≡ to → NoData draft.packet.contents → NoEnd draft.packet.contents → FlushAnswers e draft answers → MakesTo came to (inside e) (flush_of e draft answers)
-  flushed e draft answers at same no_data no_end allowed = λ queued sent read tsn asking fit.
+  pub flushed : (e : Endpoint) (draft : Emission) (answers : List Answer) → IsPeerTag e.core to → draft.packet.tag ≡ to → NoData draft.packet.contents → NoEnd draft.packet.contents → NoneStale draft.packet.contents → FlushAnswers e draft answers → MakesTo came to (inside e) (flush_of e draft answers)
+  flushed e draft answers at same no_data no_end stale allowed = λ queued sent read tsn asking fit.
       record {
         asking = asking_with (reset_begun_by answers) asking;
         grows = grows_by (reset_begun_by answers) asking;
@@ -110,7 +110,7 @@ module _ (came : Option Content) (to : ℕ) where
         actions =
             further (ledger_of queued e.queues sent read asking)
             (ledger_of queued (flush_of e draft answers).after.queues (sent ++ packets_in (flush_of e draft answers).events) read (asking_with (reset_begun_by answers) asking)) nothing
-            (flushes e draft answers refl at same no_data no_end allowed);
+            (flushes e draft answers refl at same no_data no_end stale allowed);
       }
 
   -- a packet, if it fits
@@ -118,8 +118,8 @@ module _ (came : Option Content) (to : ℕ) where
   packet_if true e words emission makes = makes
   packet_if false e words emission makes = rests (inside e)
 
-  pub emitted : (e : Endpoint) (words : List Word) (emission : Emission) → NoData emission.packet.contents → MakesTo came to (inside e) (emits e words emission)
-  emitted e words emission no_data = packet_if (fits e emission) e words emission (spoken (inside e) emission no_data)
+  pub emitted : (e : Endpoint) (words : List Word) (emission : Emission) → NoData emission.packet.contents → IsStaleFirst emission.packet.contents → MakesTo came to (inside e) (emits e words emission)
+  emitted e words emission no_data stale = packet_if (fits e emission) e words emission (spoken (inside e) emission no_data stale)
 
   -- after events without a packet
   pub makes_behind : (old : Inside) (words : List Word) (events : List (Event Emission)) (o : Outcome) → packets_in events ≡ [] → MakesTo came to old o → MakesTo came to old (behind words events o)

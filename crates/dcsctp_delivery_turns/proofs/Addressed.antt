@@ -93,7 +93,7 @@ flushed_addressed to (emission ∷ emissions) there free = (inr (there.0, free.0
 action_addressed : (came : Option Content) (to : ℕ) (old new : Ledger) → AreAddressed to old.sent → Action came to old new → AreAddressed to new.sent
 action_addressed came to old _ addressed (queues now sending fits some) = addressed
 action_addressed came to old _ addressed (sets setting small) = addressed
-action_addressed came to old _ addressed (flushes e draft answers same at tag no_data no_end allowed) =
+action_addressed came to old _ addressed (flushes e draft answers same at tag no_data no_end stale allowed) =
     both_addressed to old.sent (packets_in (flush_of e draft answers).events) addressed
     (flushed_addressed to (packets_in (flush_of e draft answers).events)
     (subst (λ (t : ℕ). AllTo t (packets_in (flush_of e draft answers).events)) tag (flushes_to e draft answers (subst (λ (t : ℕ). IsPeerTag e.core t) (sym tag) at) allowed))
@@ -101,7 +101,7 @@ action_addressed came to old _ addressed (flushes e draft answers same at tag no
 action_addressed came to old _ addressed (resends now room transfer left tsns chunks emission tag known sends are contents) =
     both_addressed to old.sent (emission ∷ []) addressed (inr (tag, subst NoEnd (sym contents) (plain_no_end chunks)), tt)
 action_addressed came to old _ addressed (resends_nothing now room transfer left tsns known sends) = addressed
-action_addressed came to old _ addressed (speaks emission no_data) = both_addressed to old.sent (emission ∷ []) addressed (inl no_data, tt)
+action_addressed came to old _ addressed (speaks emission no_data stale) = both_addressed to old.sent (emission ∷ []) addressed (inl no_data, tt)
 action_addressed came to old _ addressed (asks_again emission begun tag known contents) =
     both_addressed to old.sent (emission ∷ []) addressed (inr (tag, subst NoEnd (sym contents) tt), tt)
 action_addressed came to old _ addressed (acknowledges now sack transfer new known valid does) = addressed

@@ -26,7 +26,7 @@ use Rattle.dcsctp_delivery_turns.proofs.Tags.{flush_link}
 use Rattle.dcsctp_delivery_turns.specs.Tags.{IsPeerTag}
 use Rattle.dcsctp_delivery_turns.proofs.Actions.{emits_link, Goes, MakesTo, both, action_of, emission_of, rests, emitted, flushed, makes_behind}
 use Rattle.dcsctp_delivery_turns.proofs.Shutdown.{step_link, step_makes, step_below, step_peer}
-use Rattle.dcsctp_delivery_turns.proofs.Fixed.{held_tag, sack_no_data, delivered_none, fast_core, Alike, sack_no_end, delayed_alike}
+use Rattle.dcsctp_delivery_turns.proofs.Fixed.{held_tag, sack_no_data, delivered_none, fast_core, Alike, sack_no_end, sack_not_stale, delayed_alike}
 
 pub to_link : (e : Endpoint) (peer : Option Held) (answers : List Answer) → AnswersTo e peer answers → identity_in (flush_by e peer answers).after.core ≡ identity_in e.core
 to_link e None answers allowed = refl
@@ -40,7 +40,7 @@ module _ (came : Option Content) (calm : IsCalm came) (to : ℕ) where
 
   pub to_makes : (e : Endpoint) (peer : Option Held) (answers : List Answer) → IsPeerTag e.core to → held_in e.core ≡ peer → AnswersTo e peer answers → MakesTo came to (inside e) (flush_by e peer answers)
   to_makes e None answers at holds allowed = rests came to (inside e)
-  to_makes e (Some held) answers at holds allowed = flushed came to e (draft_to held) answers at (held_tag e.core held to holds at) tt tt allowed
+  to_makes e (Some held) answers at holds allowed = flushed came to e (draft_to held) answers at (held_tag e.core held to holds at) tt tt tt allowed
 
   pub flush_makes : (e : Endpoint) (o : Outcome) → IsPeerTag e.core to → FlushTurn e o → MakesTo came to (inside e) o
   flush_makes e o at turn = subst (MakesTo came to (inside e)) (sym turn.2) (to_makes e (held_in e.core) turn.0 at refl turn.1)
@@ -52,7 +52,7 @@ module _ (came : Option Content) (calm : IsCalm came) (to : ℕ) where
   no_data_goes e (Some held) tsn =
       goes_on calm (emits_link e [] (to_peer held (plain (error_of (no_user_data tsn ∷ [])))))
       (makes_behind came to (inside e) [] (error ProtocolViolation no_user_data_text ∷ []) (emits e [] (to_peer held (plain (error_of (no_user_data tsn ∷ []))))) refl
-      (emitted came to e [] (to_peer held (plain (error_of (no_user_data tsn ∷ [])))) (tt, tt)))
+      (emitted came to e [] (to_peer held (plain (error_of (no_user_data tsn ∷ [])))) (tt, tt) tt))
 
   receive_goes : (e : Endpoint) (transfer : Option Transfer) (arrived : Arrival) (o : Outcome)
       → ((old new : Transfer) → transfer ≡ Some old → ReceivesData arrived old new → MakesPackets came to (inside e) [] (inside (with_transfer e new)))
@@ -127,7 +127,7 @@ module _ (came : Option Content) (calm : IsCalm came) (to : ℕ) where
       let same : turn.stepped.after.queues ≡ taken.queues = ap (λ (x : Outcome). x.after.queues) turn.steps ∙ step_below taken e.core in
       let fast : MakesTo came to (inside turn.stepped.after) turn.fast =
       fast_makes (has_fast_retransmit turn.left.retransmission) turn.stepped.after held turn.left turn.fast tag (ap (λ (b : EndpointQueues). b.transfer) same) turn.resends in
-      let last : MakesTo came to (inside turn.fast.after) (flush_of turn.fast.after (draft_to held) turn.answers) = flushed came to turn.fast.after (draft_to held) turn.answers last_at tag tt tt turn.allowed in
+      let last : MakesTo came to (inside turn.fast.after) (flush_of turn.fast.after (draft_to held) turn.answers) = flushed came to turn.fast.after (draft_to held) turn.answers last_at tag tt tt tt turn.allowed in
       let flush : Outcome = flush_of turn.fast.after (draft_to held) turn.answers in
       let told : List (Event Emission) = delivered_by sack.cumulative_tsn_ack transfer.retransmission in
       let none : packets_in told ≡ [] = delivered_none (take (acknowledged_count transfer.retransmission.outstanding sack.cumulative_tsn_ack) transfer.retransmission.outstanding.items) in
@@ -175,7 +175,7 @@ module _ (came : Option Content) (calm : IsCalm came) (to : ℕ) where
       subst (Goes came to e) (sym turn.is)
       (goes_on calm (flush_link base draft turn.answers turn.allowed) (both came to (inside e) (inside base) (inside (flush_of base draft turn.answers).after) [] (packets_in (flush_of base draft turn.answers).events)
       (tracked e transfer (sacked tracker) known (record { cumulative = alike.cumulative; ranges = alike.ranges }))
-      (flushed came to base draft turn.answers at (held_tag e.core held to holds at) (sack_no_data _ _) (sack_no_end _ _) turn.allowed)))
+      (flushed came to base draft turn.answers at (held_tag e.core held to holds at) (sack_no_data _ _) (sack_no_end _ _) (sack_not_stale _ _) turn.allowed)))
   end_where_goes true e None transfer tracker o at holds known alike turn = subst (Goes came to e) (sym turn) (goes_on calm refl (tracked e transfer tracker known alike))
   end_where_goes false e peer transfer tracker o at holds known alike turn = subst (Goes came to e) (sym turn) (goes_on calm refl (tracked e transfer tracker known alike))
 

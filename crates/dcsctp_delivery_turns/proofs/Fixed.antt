@@ -21,7 +21,7 @@ use Rattle.dcsctp_spec_lemmas.specs.spec.endpoint.FlushOutcomes.{goes_out, draft
 use Rattle.dcsctp_spec_lemmas.specs.spec.endpoint.MessageOutcomes.{MessageRefusal, refusal_events, sending_refusal, Sending, queue_by, queue_one, queue_all}
 use Rattle.dcsctp_spec_lemmas.proofs.SendEventLemmas.{told_prepared}
 use Rattle.dcsctp_theorem_sockets.proofs.Bursts.{packets_in-append, told_none}
-use Rattle.dcsctp_delivery_turns.specs.Actions.{NoEnd}
+use Rattle.dcsctp_delivery_turns.specs.Actions.{NoEnd, NoneStale}
 use Rattle.dcsctp_delivery_turns.specs.Asking.{own_of}
 use Rattle.dcsctp_delivery_turns.specs.Tags.{IsPeerTag}
 use Rattle.dcsctp_delivery_sending.specs.Flushes.{NoData}
@@ -101,3 +101,7 @@ queue_all_own e (sending ∷ sendings) = queue_all_own (queue_one e sending).aft
 pub sack_no_end : (b : Bool) (sack : SackContent) → NoEnd (plain_contents (if b then unworked (sack_chunk sack) ∷ [] else []))
 sack_no_end true sack = tt
 sack_no_end false sack = tt
+
+pub sack_not_stale : (b : Bool) (sack : SackContent) → NoneStale (plain_contents (if b then unworked (sack_chunk sack) ∷ [] else []))
+sack_not_stale true sack = (tt, tt)
+sack_not_stale false sack = tt

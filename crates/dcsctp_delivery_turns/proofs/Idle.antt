@@ -30,10 +30,10 @@ flush_none _ _ _ _ _ none (after_packet ask more e draft answer answers does som
 action_none : (came : Option Content) (to : ℕ) (old new : Ledger) → Action came to old new → old.queues.transfer ≡ None → new.queues.transfer ≡ None
 action_none came to old _ (queues now sending fit some) none = none
 action_none came to old _ (sets setting small) none = none
-action_none came to old _ (flushes e draft answers same at tag no_data no_end allowed) none = flush_none first_ask (packets_allowed e.options.max_burst e.core) e draft answers (ap (λ (b : EndpointQueues). b.transfer) same ∙ none) allowed
+action_none came to old _ (flushes e draft answers same at tag no_data no_end stale allowed) none = flush_none first_ask (packets_allowed e.options.max_burst e.core) e draft answers (ap (λ (b : EndpointQueues). b.transfer) same ∙ none) allowed
 action_none came to old _ (resends now room transfer left tsns chunks emission tag known does are contents) none = absurd (cc)
 action_none came to old _ (resends_nothing now room transfer left tsns known does) none = absurd (cc)
-action_none came to old _ (speaks emission no_data) none = none
+action_none came to old _ (speaks emission no_data stale) none = none
 action_none came to old _ (asks_again emission begun tag was contents) none = none
 action_none came to old _ (acknowledges now sack transfer new known valid does) none = absurd (cc)
 action_none came to old _ (loses now transfer known) none = absurd (cc)

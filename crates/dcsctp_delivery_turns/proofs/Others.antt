@@ -18,11 +18,12 @@ use Rattle.dcsctp_spec_lemmas.specs.spec.endpoint.OwnTimers.{OwnTimer, acknowled
 use Rattle.dcsctp_spec_lemmas.specs.spec.endpoint.PlainOutcomes.{PlainTurn, PlainTurnBy, violation_at, is_reported, after_unknown, unknown_bytes, unknown_chunk_outcome, unknown_report, error_outcome}
 use Rattle.dcsctp_spec_lemmas.specs.spec.endpoint.ReconfigurationOutcomes.{reset_again, request_emitted, renewed_request_where, request_renewed, is_renewed, request_repeated, request_unless, request_errors, request_expired, reconfiguration_outcome}
 use Rattle.dcsctp_spec_lemmas.specs.wire.Content.{ParameterContent, data_chunk, sack_chunk, error_chunk, i_data_chunk, forward_tsn_chunk, i_forward_tsn_chunk}
-use Rattle.dcsctp_delivery_turns.specs.Actions.{IsCalm, Inside, inside, MakesPackets, goes_on, renews}
+use Rattle.dcsctp_delivery_turns.specs.Actions.{IsCalm, Inside, inside, MakesPackets, goes_on, renews, ends, IsStaleFirst}
 use Rattle.dcsctp_delivery_turns.specs.Asking.{own_with, own_in, own_of, renewed_own, IsAsking, AsksFit, IsOut, OutIs, Own}
 use Rattle.dcsctp_delivery_sending.specs.Places.{HasEntry}
 use Rattle.dcsctp_spec_lemmas.specs.spec.endpoint.BegunResets.{BegunReset, core_asking}
 use Rattle.dcsctp_spec_lemmas.specs.spec.association.Effect.{identity_in}
+use Rattle.dcsctp_spec_lemmas.proofs.AbortLemmas.{by_error_outcome}
 use Rattle.dcsctp_spec_lemmas.proofs.OneAnswerLemmas.{answered_by}
 use Rattle.dcsctp_delivery_turns.specs.Tags.{IsPeerTag}
 use Rattle.dcsctp_delivery_turns.proofs.Actions.{action_of, with_inside, emits_link, Goes, MakesTo, rests, spoken, emitted, emission_of, packet_if}
@@ -40,25 +41,24 @@ module _ (came : Option Content) (calm : IsCalm came) (to : ℕ) where
   unknown_goes e core type chunk false = goes_on calm refl (rests came to (inside e))
   unknown_goes e closed type chunk true = goes_on calm refl (rests came to (inside e))
   unknown_goes e (cookie_wait my) type chunk true = goes_on calm refl (rests came to (inside e))
-  unknown_goes e (cookie_echoed my held cookie) type chunk true = goes_on calm refl (spoken came to (inside e) (unknown_report e held chunk) (tt, tt))
-  unknown_goes e (open_in phase my held) type chunk true = goes_on calm refl (spoken came to (inside e) (unknown_report e held chunk) (tt, tt))
+  unknown_goes e (cookie_echoed my held cookie) type chunk true = goes_on calm refl (spoken came to (inside e) (unknown_report e held chunk) (tt, tt) tt)
+  unknown_goes e (open_in phase my held) type chunk true = goes_on calm refl (spoken came to (inside e) (unknown_report e held chunk) (tt, tt) tt)
 
   error_goes : (e : Endpoint) (core : Core) (causes : List Cause) → Goes came to e (error_outcome e core causes)
-  error_goes e closed causes = goes_on calm refl (rests came to (inside e))
-  error_goes e (cookie_wait my) causes = goes_on calm refl (rests came to (inside e))
-  error_goes e (cookie_echoed my held cookie) causes = goes_on calm refl (rests came to (inside e))
-  error_goes e (open_in phase my held) causes = goes_on calm refl (rests came to (inside e))
+  error_goes e core causes =
+      by_error_outcome (Goes came to e) e core causes (ends refl (λ read. refl) (inside e) refl (rests came to (inside e)) refl)
+      (goes_on calm refl (rests came to (inside e))) (goes_on calm refl (rests came to (inside e)))
 
-  answer_goes : (e : Endpoint) (emission : Emission) → NoData emission.packet.contents → Goes came to e (answers_with e emission)
-  answer_goes e emission no_data =
+  answer_goes : (e : Endpoint) (emission : Emission) → NoData emission.packet.contents → IsStaleFirst emission.packet.contents → Goes came to e (answers_with e emission)
+  answer_goes e emission no_data stale =
       answered_by (Goes came to e) e emission (goes_on calm refl (rests came to (inside e)))
-      (goes_on calm (emits_link e [] emission) (emitted came to e [] emission no_data))
+      (goes_on calm (emits_link e [] emission) (emitted came to e [] emission no_data stale))
 
   heartbeat_goes : (e : Endpoint) (core : Core) (parameters : List ParameterContent) → Goes came to e (heartbeat_outcome e core parameters)
   heartbeat_goes e closed parameters = goes_on calm refl (rests came to (inside e))
   heartbeat_goes e (cookie_wait my) parameters = goes_on calm refl (rests came to (inside e))
-  heartbeat_goes e (cookie_echoed my held cookie) parameters = answer_goes e (to_peer held (plain (heartbeat_ack parameters))) (tt, tt)
-  heartbeat_goes e (open_in phase my held) parameters = answer_goes e (to_peer held (plain (heartbeat_ack parameters))) (tt, tt)
+  heartbeat_goes e (cookie_echoed my held cookie) parameters = answer_goes e (to_peer held (plain (heartbeat_ack parameters))) (tt, tt) tt
+  heartbeat_goes e (open_in phase my held) parameters = answer_goes e (to_peer held (plain (heartbeat_ack parameters))) (tt, tt) tt
 
   -- The answer to a HEARTBEAT may measure a round trip.
   measured_makes : (e : Endpoint) (round_trip : Option ℕ) (transfer : Option Transfer) → e.queues.transfer ≡ transfer
@@ -79,9 +79,9 @@ module _ (came : Option Content) (calm : IsCalm came) (to : ℕ) where
   interval_goes e closed = goes_on calm refl (rests came to (inside e))
   interval_goes e (cookie_wait my) = goes_on calm refl (rests came to (inside e))
   interval_goes e (cookie_echoed my held cookie) =
-      let base : Endpoint = beating (interval_expired e) in goes_on calm (emits_link base [] (heartbeat_emission held base.heartbeat_counter)) (emitted came to base [] (heartbeat_emission held base.heartbeat_counter) (tt, tt))
+      let base : Endpoint = beating (interval_expired e) in goes_on calm (emits_link base [] (heartbeat_emission held base.heartbeat_counter)) (emitted came to base [] (heartbeat_emission held base.heartbeat_counter) (tt, tt) tt)
   interval_goes e (open_in phase my held) =
-      let base : Endpoint = beating (interval_expired e) in goes_on calm (emits_link base [] (heartbeat_emission held base.heartbeat_counter)) (emitted came to base [] (heartbeat_emission held base.heartbeat_counter) (tt, tt))
+      let base : Endpoint = beating (interval_expired e) in goes_on calm (emits_link base [] (heartbeat_emission held base.heartbeat_counter)) (emitted came to base [] (heartbeat_emission held base.heartbeat_counter) (tt, tt) tt)
 
   -- The request that has no end is sent again.
   request_makes : (e : Endpoint) (held : Held) (number : Option ℕ) → held.peer.tag ≡ to → own_of e ≡ Some (own_with held e.outstanding) → held.own_outstanding ≡ number

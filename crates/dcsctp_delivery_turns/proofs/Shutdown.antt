@@ -65,10 +65,10 @@ step_link e (open_in phase my held) at = step_by_link (may_go_on e) e phase my h
 
 module _ (came : Option Content) (calm : IsCalm came) (to : ℕ) where
   says_shutdown : (old : Inside) (e : Endpoint) (held : Held) → MakesPackets came to old (to_peer held (shutdown (received_tsn e.queues.transfer)) ∷ []) old
-  says_shutdown old e held = spoken came to old (to_peer held (shutdown (received_tsn e.queues.transfer))) (tt, tt)
+  says_shutdown old e held = spoken came to old (to_peer held (shutdown (received_tsn e.queues.transfer))) (tt, tt) tt
 
   says_ack : (old : Inside) (held : Held) → MakesPackets came to old (to_peer held shutdown_ack ∷ []) old
-  says_ack old held = spoken came to old (to_peer held shutdown_ack) (tt, tt)
+  says_ack old held = spoken came to old (to_peer held shutdown_ack) (tt, tt) tt
 
   -- ---- a step of it
 
@@ -128,10 +128,10 @@ module _ (came : Option Content) (calm : IsCalm came) (to : ℕ) where
   shutdown_goes e (open_in shutdown_ack_sent my held) at = goes_on calm (sym (ap identity_in at)) (phase_makes e _ _ (ap (λ (c : Core). own_in c e.outstanding) at) (says_ack (inside e) held))
 
   completed_goes : (e : Endpoint) (held : Held) → Goes came to e (completed_outcome e held)
-  completed_goes e held = ended came to e (sends e [] [] (to_peer held (shutdown_complete false))) events.closed refl refl (spoken came to (inside e) (to_peer held (shutdown_complete false)) (tt, tt))
+  completed_goes e held = ended came to e (sends e [] [] (to_peer held (shutdown_complete false))) events.closed refl refl (spoken came to (inside e) (to_peer held (shutdown_complete false)) (tt, tt) tt)
 
   reflected_goes : (e : Endpoint) (tag : ℕ) → Goes came to e (reflected_outcome e tag)
-  reflected_goes e tag = goes_on calm refl (spoken came to (inside e) (record { with_checksum = true; packet = record { tag = tag; contents = shutdown_complete true ∷ [] } }) (tt, tt))
+  reflected_goes e tag = goes_on calm refl (spoken came to (inside e) (record { with_checksum = true; packet = record { tag = tag; contents = shutdown_complete true ∷ [] } }) (tt, tt) tt)
 
   pub shutdown_ack_goes : (e : Endpoint) (core : Core) (tag : ℕ) → Goes came to e (shutdown_ack_outcome e core tag)
   shutdown_ack_goes e closed tag = reflected_goes e tag

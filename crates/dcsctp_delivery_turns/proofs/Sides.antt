@@ -46,11 +46,11 @@ module _ (came : Option Content) (to : ℕ) (tracker : TrackerState) (reassembly
   action_sends : (old new : Ledger) (acknowledged : ℕ) → Action came to old new → SendingSteps old new acknowledged tracker reassembly read beginning
   action_sends old _ acknowledged (queues now message fits some) = by old _ acknowledged acknowledged (directions.queues now message fits some)
   action_sends old _ acknowledged (sets setting small) = by old _ acknowledged acknowledged (directions.sets setting small)
-  action_sends old _ acknowledged (flushes e draft answers same at tag no_data no_end allowed) = by old _ acknowledged acknowledged (directions.flushes e draft answers same no_data allowed)
+  action_sends old _ acknowledged (flushes e draft answers same at tag no_data no_end stale allowed) = by old _ acknowledged acknowledged (directions.flushes e draft answers same no_data allowed)
   action_sends old _ acknowledged (resends now room transfer left tsns chunks emission tag known sends are contents) =
       by old _ acknowledged acknowledged (directions.resends now room transfer left tsns chunks emission known sends are contents)
   action_sends old _ acknowledged (resends_nothing now room transfer left tsns known sends) = by old _ acknowledged acknowledged (directions.resends_nothing now room transfer left tsns known sends)
-  action_sends old _ acknowledged (speaks emission no_data) = by old _ acknowledged acknowledged (directions.speaks emission no_data)
+  action_sends old _ acknowledged (speaks emission no_data stale) = by old _ acknowledged acknowledged (directions.speaks emission no_data)
   action_sends old _ acknowledged (asks_again emission begun tag was contents) = by old _ acknowledged acknowledged (directions.asks_again emission begun was contents)
   action_sends old _ acknowledged (acknowledges now sack transfer new known valid does) =
       by old _ acknowledged (acknowledged + acknowledged_count transfer.retransmission.outstanding sack.cumulative_tsn_ack) (directions.acknowledges now sack transfer new known valid does)
@@ -104,9 +104,9 @@ module _ (came : Option Content) (to : ℕ) (direction : Direction) (was : WasSe
   action_receives : (old new : Ledger) (transfer : Transfer) → old.queues.transfer ≡ Some transfer → Action came to old new → ReceivingSteps direction transfer old new
   action_receives old _ transfer is (queues now message fits some) = alike_receives old _ transfer transfer is refl (alike transfer)
   action_receives old _ transfer is (sets setting small) = alike_receives old _ transfer transfer is refl (alike transfer)
-  action_receives old _ transfer is (speaks emission no_data) = alike_receives old _ transfer transfer is refl (alike transfer)
+  action_receives old _ transfer is (speaks emission no_data stale) = alike_receives old _ transfer transfer is refl (alike transfer)
   action_receives old _ transfer is (asks_again emission begun tag has contents) = alike_receives old _ transfer transfer is refl (alike transfer)
-  action_receives old _ transfer is (flushes e draft answers same at tag no_data no_end allowed) =
+  action_receives old _ transfer is (flushes e draft answers same at tag no_data no_end stale allowed) =
       let left = flush_left first_ask (packets_allowed e.options.max_burst e.core) e draft answers transfer (ap (λ (b : EndpointQueues). b.transfer) same ∙ is) allowed in
       alike_receives old _ transfer left.left left.is refl left.same
   action_receives old _ transfer is (resends now room found left tsns chunks emission tag known sends are contents) =

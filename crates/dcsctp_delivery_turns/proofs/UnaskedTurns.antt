@@ -8,7 +8,7 @@ use Rattle.dcsctp_spec_lemmas.specs.spec.Cookie.{cookie_at}
 use Rattle.dcsctp_spec_lemmas.specs.types.declared.association.Held.{Held}
 use Rattle.dcsctp_spec_lemmas.specs.types.declared.ends.Violation.{Violation}
 use Rattle.dcsctp_spec_lemmas.specs.spec.endpoint.Endpoint.{Endpoint, Core, closed, cookie_wait, cookie_echoed, open_in, OutstandingRequest, held_in}
-use Rattle.dcsctp_spec_lemmas.specs.spec.endpoint.Outcome.{Outcome, still, fits, emits, answering, answers_with, to_peer}
+use Rattle.dcsctp_spec_lemmas.specs.spec.endpoint.Outcome.{Outcome, still, fits, emits, answering, answers_with, to_peer, quiet}
 use Rattle.dcsctp_spec_lemmas.specs.spec.Packet.{Content, init, init_ack, cookie_echo, cookie_ack, re_config, abort, shutdown, shutdown_ack, shutdown_complete, Plain, plain, unknown, heartbeat, heartbeat_ack, unworked, Emission}
 use Rattle.dcsctp_spec_lemmas.specs.spec.Reconfiguration.{RequestedReset}
 use Rattle.dcsctp_spec_lemmas.specs.spec.endpoint.Turn.{Input, arrival, refusal, packet_begins, chunk_input, packet_ends, act_input, user_sets, user_sends, user_resets, user_takes, timer_expires, time_passes, restores, has_data_chunk, ContentTurn, ActTurn, Turn}
@@ -26,9 +26,10 @@ use Rattle.dcsctp_delivery_turns.specs.Actions.{IsCalm, IsCall, came_by}
 use Rattle.dcsctp_delivery_turns.proofs.Unasked.{flush_asks, data_asks, forward_asks, sack_asks, end_asks, take_asks, delay_asks, loss_asks, send_asks, own_resets_ask}
 use Rattle.dcsctp_spec_lemmas.specs.spec.endpoint.TransferMoves.{timed_by}
 use Rattle.dcsctp_spec_lemmas.specs.spec.queues.Transfer.{Transfer}
+use Rattle.dcsctp_spec_lemmas.proofs.AbortLemmas.{by_error_outcome}
 use Rattle.dcsctp_spec_lemmas.proofs.OneAnswerLemmas.{answered_by, init_by}
 use Rattle.dcsctp_delivery_turns.specs.PeerRequests.{SameWaits}
-use Rattle.dcsctp_delivery_turns.proofs.Waiting.{StillWaits, same_waits, some_wait, all_wait, AsksNothing, as_this, rests, said, emitted}
+use Rattle.dcsctp_delivery_turns.proofs.Waiting.{StillWaits, same_waits, some_wait, all_wait, AsksNothing, as_this, rests, said, emitted, ended}
 use Rattle.dcsctp_delivery_turns.proofs.UnaskedEnds.{step_asks, shut_down_asks, heard_asks, shutdown_ack_asks, shutdown_complete_asks, repeats_ask, begin_asks, abort_asks, aborting_asks, gives_up_asks, hand_over_asks}
 use Rattle.dcsctp_delivery_turns.proofs.UnaskedHandshake.{CalmTurns, goes_on, init_asks, connect_asks, again_asks, cookie_ack_asks, init_ack_calm, echo_calm}
 
@@ -43,10 +44,8 @@ unknown_asks e (cookie_echoed my held cookie) type chunk true = said e _ tt refl
 unknown_asks e (open_in phase my held) type chunk true = said e _ tt refl
 
 error_asks : (e : Endpoint) (core : Core) (causes : List Cause) → AsksNothing e.queues.transfer (error_outcome e core causes)
-error_asks e closed causes = rests e
-error_asks e (cookie_wait my) causes = rests e
-error_asks e (cookie_echoed my held cookie) causes = said e _ tt refl
-error_asks e (open_in phase my held) causes = said e _ tt refl
+error_asks e core causes =
+    by_error_outcome (AsksNothing e.queues.transfer) e core causes (ended e.queues.transfer (quiet e [] []) _ tt) (said e _ tt refl) (rests e)
 
 counted_asks : (found : Option Transfer) (o : Outcome) → AsksNothing found o → AsksNothing found (answering o)
 counted_asks found o h = record { none = h.none; waits = h.waits }

@@ -163,11 +163,11 @@ clash below transfer known unbegun = absurd (let both : Some transfer ≡ None =
 action_unbegun : {kept : Type 0} (came : Option Content) (to : ℕ) (old new : Ledger) → Action came to old new → IsUnbegun kept old.queues → IsUnbegun kept new.queues
 action_unbegun came to old _ (queues now sending fit some) u = record { none = u.none; zero = zero_queued now sending old.queues.queue u.zero; all = λ k. all_queued now sending old.queues.queue (u.all k) }
 action_unbegun came to old _ (sets setting small) u = record { none = u.none; zero = zero_set setting old.queues.queue u.zero; all = λ k. all_set setting old.queues.queue (u.all k) }
-action_unbegun came to old _ (flushes e draft answers same at tag no_data no_end allowed) u =
+action_unbegun came to old _ (flushes e draft answers same at tag no_data no_end stale allowed) u =
     subst (IsUnbegun _) (sym (flush_still first_ask (packets_allowed e.options.max_burst e.core) e draft answers (ap (λ (b : EndpointQueues). b.transfer) same ∙ u.none) allowed ∙ same)) u
 action_unbegun came to old _ (resends now room transfer left tsns chunks emission tag known does are contents) u = clash old.queues transfer known u
 action_unbegun came to old _ (resends_nothing now room transfer left tsns known does) u = clash old.queues transfer known u
-action_unbegun came to old _ (speaks emission no_data) u = u
+action_unbegun came to old _ (speaks emission no_data stale) u = u
 action_unbegun came to old _ (asks_again emission begun tag was contents) u = u
 action_unbegun came to old _ (acknowledges now sack transfer new known valid does) u = clash old.queues transfer known u
 action_unbegun came to old _ (loses now transfer known) u = clash old.queues transfer known u

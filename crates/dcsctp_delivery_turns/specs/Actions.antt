@@ -2,13 +2,14 @@
 -- direction on which the socket sends, and of the one on which it receives (specs/Sides).
 use Rattle.std.specs.Prelude.{◌≡◌, ◌≢◌, ◌<◌, ◌⊎◌, ◌^◌, ℕ, Bool, true, false, Option, None, Some, List, [], ◌∷◌, ◌++◌, length}
 use Rattle.std.specs.List.{AllByRecursion}
-use Rattle.dcsctp_spec_lemmas.specs.wire.Content.{DataContent, IDataContent, SackContent, data_chunk, i_data_chunk, forward_tsn_chunk, i_forward_tsn_chunk}
+use Rattle.dcsctp_spec_lemmas.specs.wire.Content.{DataContent, IDataContent, SackContent, data_chunk, i_data_chunk, error_chunk, forward_tsn_chunk, i_forward_tsn_chunk}
 use Rattle.dcsctp_spec_lemmas.specs.types.declared.association.Held.{Held}
 use Rattle.dcsctp_spec_lemmas.specs.types.declared.association.Pair.{Pair}
 use Rattle.dcsctp_spec_lemmas.specs.types.declared.options.Options.{Options}
 use Rattle.dcsctp_spec_lemmas.specs.spec.endpoint.Endpoint.{Endpoint, Core, closed, cookie_wait, cookie_echoed, open_in}
 use Rattle.dcsctp_spec_lemmas.specs.spec.endpoint.Event.{packets_in}
 use Rattle.dcsctp_spec_lemmas.specs.spec.endpoint.Outcome.{Outcome}
+use Rattle.dcsctp_spec_lemmas.specs.spec.endpoint.Cause.{has_stale_cookie}
 use Rattle.dcsctp_spec_lemmas.specs.spec.Packet.{Content, re_config, init, init_ack, cookie_echo, abort, shutdown_complete, Plain, unworked, plain, Emission}
 use Rattle.dcsctp_spec_lemmas.specs.spec.endpoint.Turn.{Input, chunk_input, act_input, user_sets, user_sends, user_resets, user_takes, restores, Turn}
 use Rattle.dcsctp_spec_lemmas.specs.spec.association.Acts.{request_again, request_renewed}
@@ -59,6 +60,20 @@ ledger_of queued sender_queues sent read asking = record { queued = queued; queu
 abbrev pub queues_with_transfer : Transfer → EndpointQueues → EndpointQueues
 queues_with_transfer transfer sender_queues = record sender_queues { transfer = Some transfer }
 
+-- It isn't an ERROR that says that a cookie was too old.
+abbrev pub NotStale : Content → Type 0
+NotStale (plain (unworked (error_chunk causes))) = has_stale_cookie causes ≡ false
+NotStale content = Unit {0}
+
+abbrev pub NoneStale : List Content → Type 0
+NoneStale [] = Unit {0}
+NoneStale (content ∷ contents) = NotStale content × NoneStale contents
+
+-- Such an ERROR is the first chunk, if there is one.
+abbrev pub IsStaleFirst : List Content → Type 0
+IsStaleFirst [] = Unit {0}
+IsStaleFirst (content ∷ contents) = NoneStale contents
+
 -- None of these is an ABORT, a SHUTDOWN COMPLETE or an INIT.
 abbrev pub NoEnd : List Content → Type 0
 NoEnd [] = Unit {0}
@@ -72,14 +87,14 @@ pub data Action (came : Option Content) (to : ℕ) (old : Ledger) : Ledger → T
   queues : (now : ℕ) (sending : Sending) → Fits (message_of sending) → 0 < length sending.message.payload
       → Action came to old (record old { queued = message_of sending ∷ old.queued; queues = record old.queues { queue = sending_queued now sending old.queues.queue } })
   sets : (setting : Setting) → SettingFits setting → Action came to old (record old { queues = record old.queues { queue = set_in_queue setting old.queues.queue } })
-  flushes : (e : Endpoint) (draft : Emission) (answers : List Answer) → e.queues ≡ old.queues → IsPeerTag e.core to → draft.packet.tag ≡ to → NoData draft.packet.contents → NoEnd draft.packet.contents → FlushAnswers e draft answers
+  flushes : (e : Endpoint) (draft : Emission) (answers : List Answer) → e.queues ≡ old.queues → IsPeerTag e.core to → draft.packet.tag ≡ to → NoData draft.packet.contents → NoEnd draft.packet.contents → NoneStale draft.packet.contents → FlushAnswers e draft answers
       → Action came to old (record old { queues = (flush_of e draft answers).after.queues; sent = old.sent ++ packets_in (flush_of e draft answers).events; asking = asking_with (reset_begun_by answers) old.asking })
   resends : (now room : ℕ) (transfer : Transfer) (left : RetransmissionState) (tsns : List ℕ) (chunks : List Plain) (emission : Emission) → emission.packet.tag ≡ to → old.queues.transfer ≡ Some transfer
       → SendsAtOnce now room old.queues.queue transfer.retransmission left tsns → AreChunksOfTsns left.outstanding tsns chunks → emission.packet.contents ≡ plain_contents chunks
       → Action came to old (record old { queues = queues_with_transfer (record transfer { retransmission = left }) old.queues; sent = old.sent ++ emission ∷ [] })
   resends_nothing : (now room : ℕ) (transfer : Transfer) (left : RetransmissionState) (tsns : List ℕ) → old.queues.transfer ≡ Some transfer
       → SendsAtOnce now room old.queues.queue transfer.retransmission left tsns → Action came to old (record old { queues = queues_with_transfer (record transfer { retransmission = left }) old.queues })
-  speaks : (emission : Emission) → NoData emission.packet.contents → Action came to old (record old { sent = old.sent ++ emission ∷ [] })
+  speaks : (emission : Emission) → NoData emission.packet.contents → IsStaleFirst emission.packet.contents → Action came to old (record old { sent = old.sent ++ emission ∷ [] })
   asks_again : (emission : Emission) (begun : BegunReset) → emission.packet.tag ≡ to → HasEntry begun old.asking.requests → emission.packet.contents ≡ reset_request begun.number begun.reset ∷ []
       → Action came to old (record old { sent = old.sent ++ emission ∷ [] })
   acknowledges : (now : ℕ) (sack : SackContent) (transfer new : Transfer) → old.queues.transfer ≡ Some transfer → is_sack_valid transfer.retransmission sack.cumulative_tsn_ack ≡ true

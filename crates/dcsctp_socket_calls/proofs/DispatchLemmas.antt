@@ -23,7 +23,7 @@ use Rattle.dcsctp_core.specs.types.declared.association.Pair.{Pair}
 use Rattle.dcsctp_core.specs.types.declared.association.Held.{Held}
 use Rattle.dcsctp_core.specs.spec.endpoint.EndOutcomes.{aborting_outcome, reflected_outcome}
 use Rattle.dcsctp_core.specs.spec.endpoint.ShutdownOutcomes.{shutdown_ack_outcome}
-use Rattle.dcsctp_core.specs.spec.endpoint.PlainOutcomes.{violation_at, PlainTurnBy, PlainTurn, error_outcome}
+use Rattle.dcsctp_core.specs.spec.endpoint.PlainOutcomes.{violation_at, PlainTurnBy, PlainTurn}
 use Rattle.dcsctp_core.specs.declared.context.Context.{Context}
 use Rattle.dcsctp_core.specs.declared.following.Following.TheVariants.{NextChunk, PacketEnd, DroppedRest}
 use Rattle.dcsctp_core.specs.declared.following.Following.{Following}
@@ -199,12 +199,6 @@ pub heartbeat_ack_is : {R : Type 0} (context : Context R) (tag : ℕ) (parameter
 heartbeat_ack_is context tag parameters none = plain_at (endpoint_of context) (heartbeat_ack parameters) (heartbeat_ack_turn parameters (view_of context)) none refl
 
 -- ---- an ERROR
-
-pub error_follows : (e : Endpoint) (core : Core) (causes : List Cause) → (error_outcome e core causes).following ≡ next_chunk
-error_follows e closed causes = refl
-error_follows e (cookie_wait my) causes = refl
-error_follows e (cookie_echoed my held cookie) causes = refl
-error_follows e (open_in phase my held) causes = refl
 
 pub error_is : {R : Type 0} (context : Context R) (tag : ℕ) (causes : List Cause) → violation_at (core_of context.state) (unworked (error_chunk causes)) ≡ None
     → ContentTurn (endpoint_of context) tag (plain (unworked (error_chunk causes))) (error_turn causes (view_of context))

@@ -75,10 +75,7 @@ fn dispatch_chunk<R: Rng>(
             handle_heartbeat_ack(context, ack)?;
             Ok(Following::NextChunk)
         }
-        Chunk::Error(error) => {
-            handle_error(context, error)?;
-            Ok(Following::NextChunk)
-        }
+        Chunk::Error(error) => handle_error(context, error),
         Chunk::Unknown(unknown) => handle_unknown(context, unknown),
         Chunk::ShutdownComplete(_) => handle_shutdown_complete(context),
         Chunk::Data(data) => {

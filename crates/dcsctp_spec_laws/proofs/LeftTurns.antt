@@ -19,6 +19,7 @@ use Rattle.dcsctp_spec_laws.specs.LeftLaws.{IsOwnInput, MessagesLeftStay}
 use Rattle.dcsctp_spec_lemmas.specs.spec.endpoint.TransferMoves.{timed_by}
 use Rattle.dcsctp_spec_lemmas.specs.spec.queues.Transfer.{Transfer}
 use Rattle.dcsctp_spec_laws.proofs.LeftLemmas.{is_there, StaysIn, LeavesIn, unmoved, answer_stays, left_where}
+use Rattle.dcsctp_spec_lemmas.proofs.AbortLemmas.{by_error_outcome}
 use Rattle.dcsctp_spec_laws.proofs.LeftActs.{aborting_leaves, act_leaves, timer_stays}
 use Rattle.dcsctp_spec_laws.proofs.LeftChunks.{init_leaves, init_ack_leaves, cookie_echo_leaves, cookie_ack_leaves, reset_leaves, abort_leaves, shutdown_ack_leaves, shutdown_complete_leaves}
 use Rattle.dcsctp_spec_laws.proofs.LeftData.{data_stays, forward_stays, sack_stays, shutdown_stays, end_stays, send_stays, own_resets_stay, take_leaves}
@@ -54,11 +55,9 @@ heartbeat_ack_stays : (e : Endpoint) (counter : Option ℕ) → StaysIn e (heart
 heartbeat_ack_stays e None = unmoved e
 heartbeat_ack_stays e (Some counter) = ack_where (counter == e.heartbeat_counter) e
 
-error_stays : (e : Endpoint) (core : Core) (causes : List Cause) → StaysIn e (error_outcome e core causes)
-error_stays e closed causes = unmoved e
-error_stays e (cookie_wait my) causes = unmoved e
-error_stays e (cookie_echoed my held cookie) causes = unmoved e
-error_stays e (open_in phase my held) causes = unmoved e
+error_leaves : (e : Endpoint) (core : Core) (causes : List Cause) → LeavesIn e (error_outcome e core causes)
+error_leaves e core causes =
+    by_error_outcome (LeavesIn e) e core causes (inr (inr (record { left = refl; none = refl; last = refl }))) (inl (unmoved e)) (inl (unmoved e))
 
 rests : (e : Endpoint) (o : Outcome) → o ≡ still e → LeavesIn e o
 rests e o turn = subst (LeavesIn e) (sym turn) (inl (unmoved e))
@@ -73,7 +72,7 @@ plain_by e (unworked (i_data_chunk chunk)) None o turn = inl (data_stays e (i_da
 plain_by e (unworked (sack_chunk chunk)) None o turn = inl (sack_stays e chunk o turn)
 plain_by e (unworked (forward_tsn_chunk tsn streams)) None o turn = inl (forward_stays e tsn (skipped_in streams) o turn)
 plain_by e (unworked (i_forward_tsn_chunk tsn streams)) None o turn = inl (forward_stays e tsn (messages_skipped_in streams) o turn)
-plain_by e (unworked (error_chunk causes)) None o turn = subst (LeavesIn e) (sym turn) (inl (error_stays e e.core causes))
+plain_by e (unworked (error_chunk causes)) None o turn = subst (LeavesIn e) (sym turn) (error_leaves e e.core causes)
 plain_by e (unworked (init_chunk chunk)) None o turn = rests e o turn
 plain_by e (unworked (init_ack_chunk chunk)) None o turn = rests e o turn
 plain_by e (unworked (heartbeat_chunk parameters)) None o turn = rests e o turn

@@ -11,7 +11,7 @@ use Rattle.dcsctp_spec_lemmas.specs.spec.Packet.{Plain, plain, unknown, heartbea
 use Rattle.dcsctp_spec_lemmas.specs.spec.endpoint.Endpoint.{Endpoint, Core, closed, cookie_wait, cookie_echoed, open_in, OpenPhase, established, shutdown_pending, shutdown_sent, shutdown_received, shutdown_ack_sent}
 use Rattle.dcsctp_spec_lemmas.specs.spec.endpoint.Outcome.{Outcome, still, reports, quiet, sends, fits, answering as counted, answers_with as answered_once, to_peer}
 use Rattle.dcsctp_spec_lemmas.specs.spec.endpoint.EndOutcomes.{abort_to, aborting_outcome}
-use Rattle.dcsctp_spec_lemmas.specs.spec.endpoint.PlainOutcomes.{PlainTurn, PlainTurnBy, violation_at, is_reported, after_unknown, unknown_text, unknown_bytes, unknown_error, unknown_report, unknown_chunk_outcome, error_outcome}
+use Rattle.dcsctp_spec_lemmas.specs.spec.endpoint.PlainOutcomes.{PlainTurn, PlainTurnBy, violation_at, is_reported, after_unknown, unknown_text, unknown_bytes, unknown_error, unknown_report, unknown_chunk_outcome, ends_handshake, echoed_error_outcome, error_outcome}
 use Rattle.dcsctp_spec_lemmas.specs.spec.association.Effect.{Change, unchanged}
 use Rattle.dcsctp_spec_lemmas.specs.spec.association.Effect as effects
 use Rattle.dcsctp_spec_lemmas.specs.spec.association.Choices.{Choices}
@@ -163,10 +163,17 @@ heartbeat_ack_at e core tag chunk (Some counter) is = counted_at (counter == e.h
 told_of : (e : Endpoint) (core : Core) (tag : ℕ) (chunk : Plain) (text : List ℕ) → e.core ≡ core → ControlledAt e core tag (plain chunk) (reports e PeerReported text)
 told_of e core tag chunk text is = quietly e core tag chunk (reports e PeerReported text) (record { core = is; options = refl; observations = refl; effects = refl; following = refl })
 
+-- One that ends the handshake chooses as a violation does, without an ABORT.
+echoed_at : (b : Bool) (e : Endpoint) (my : Pair) (held : Held) (cookie : List ℕ) (tag : ℕ) (chunk : Plain) (causes : List Cause) → e.core ≡ cookie_echoed my held cookie
+    → ControlledAt e (cookie_echoed my held cookie) tag (plain chunk) (echoed_error_outcome b e causes)
+echoed_at true e my held cookie tag chunk causes is =
+    (_, (record (no_choices e false) { is_violation = true }, tt, refl), record { core = refl; options = refl; observations = refl; effects = refl; following = refl })
+echoed_at false e my held cookie tag chunk causes is = told_of e (cookie_echoed my held cookie) tag chunk (causes_text causes) is
+
 error_at : (e : Endpoint) (core : Core) (tag : ℕ) (chunk : Plain) (causes : List Cause) → e.core ≡ core → ControlledAt e core tag (plain chunk) (error_outcome e core causes)
 error_at e closed tag chunk causes is = rests_at e closed tag chunk is
 error_at e (cookie_wait my) tag chunk causes is = rests_at e (cookie_wait my) tag chunk is
-error_at e (cookie_echoed my held cookie) tag chunk causes is = told_of e (cookie_echoed my held cookie) tag chunk (causes_text causes) is
+error_at e (cookie_echoed my held cookie) tag chunk causes is = echoed_at (ends_handshake e causes) e my held cookie tag chunk causes is
 error_at e (open_in phase my held) tag chunk causes is = told_of e (open_in phase my held) tag chunk (causes_text causes) is
 
 -- ---- one that breaks the protocol

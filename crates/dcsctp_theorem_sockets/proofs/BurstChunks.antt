@@ -24,6 +24,7 @@ use Rattle.dcsctp_spec_lemmas.specs.spec.endpoint.PlainOutcomes.{PlainTurn, Plai
 use Rattle.dcsctp_spec_lemmas.specs.spec.endpoint.ReconfigurationOutcomes.{reset_again, request_emitted, renewed_request_where, request_renewed, request_unless, is_renewed, request_errors, request_expired, reconfiguration_outcome}
 use Rattle.dcsctp_spec_lemmas.specs.spec.endpoint.ResetOutcomes.{request_state, renewable_left, parameters_handled_in, OwnAnswer, answered_in, reset_events, reset_events_of, reset_refusal_text, resets_handled, responses_outcome, core_with, responses_by, ResponseAnswers, WorksResets, ResetTurn, requested_in, is_request_reached}
 use Rattle.dcsctp_spec_laws.proofs.ResetLemmas.{AreResets, nothing, acceptance, performance, renewal, completion, failure, chunk_brings}
+use Rattle.dcsctp_spec_lemmas.proofs.AbortLemmas.{by_error_outcome}
 use Rattle.dcsctp_spec_lemmas.proofs.OneAnswerLemmas.{answered_by}
 use Rattle.dcsctp_theorem_sockets.specs.Bursts.{packets_of_plain, packets_of_timer}
 use Rattle.dcsctp_theorem_sockets.proofs.Bursts.{count, append_few, none_in_front, Few, none, one, emits_core, emits_few, HasPeer, allowed_after, flush_is_burst}
@@ -41,10 +42,7 @@ unknown_few e (cookie_echoed my held cookie) type chunk true = one 0
 unknown_few e (open_in phase my held) type chunk true = one 0
 
 error_few : (e : Endpoint) (core : Core) (causes : List Cause) → Few 0 (error_outcome e core causes)
-error_few e closed causes = none 0
-error_few e (cookie_wait my) causes = none 0
-error_few e (cookie_echoed my held cookie) causes = none 0
-error_few e (open_in phase my held) causes = none 0
+error_few e core causes = by_error_outcome (Few 0) e core causes (none 0) (none 0) (none 0)
 
 -- ---- heartbeats
 

@@ -25,6 +25,7 @@ use Rattle.dcsctp_spec_runs.specs.Fitting.{FitsHeld, FitsCore, FitsEndpoint, Sen
 use Rattle.dcsctp_theorem_sockets.proofs.Aborting.{aborting_fits}
 use Rattle.dcsctp_theorem_sockets.proofs.Bytes.{both, in_two}
 use Rattle.dcsctp_spec_lemmas.specs.spec.queues.Arrivals.{data_arrival, i_data_arrival, skipped_in, messages_skipped_in}
+use Rattle.dcsctp_spec_lemmas.proofs.AbortLemmas.{by_error_outcome}
 use Rattle.dcsctp_spec_lemmas.proofs.OneAnswerLemmas.{answered_by}
 use Rattle.dcsctp_theorem_sockets.proofs.DataFits.{data_fits, sack_fits, forward_fits}
 use Rattle.dcsctp_theorem_sockets.proofs.FlushFits.{still_fits, answering_fits}
@@ -67,10 +68,9 @@ unknown_fits e (open_in phase my held) type chunk true h own each = report_fits 
 -- ---- an ERROR
 
 error_fits : (e : Endpoint) (core : Core) (causes : List Cause) → FitsEndpoint e → TurnFits (error_outcome e core causes)
-error_fits e closed causes h = still_fits e h
-error_fits e (cookie_wait my) causes h = still_fits e h
-error_fits e (cookie_echoed my held cookie) causes h = record { after = h; sends = (tt, tt) }
-error_fits e (open_in phase my held) causes h = record { after = h; sends = (tt, tt) }
+error_fits e core causes h =
+    by_error_outcome TurnFits e core causes (record { after = record { valid = h.valid; options = h.options; core = tt; t1 = tt }; sends = (tt, tt) })
+    (record { after = h; sends = (tt, tt) }) (still_fits e h)
 
 -- ---- heartbeats
 

@@ -27,6 +27,7 @@ use Rattle.dcsctp_spec_lemmas.specs.spec.endpoint.PlainOutcomes.{PlainTurn, Plai
 use Rattle.dcsctp_spec_lemmas.specs.spec.endpoint.ReconfigurationOutcomes.{reset_again, request_emitted, renewed_request_where, request_renewed, request_unless, is_renewed, request_errors, request_expired, reconfiguration_outcome}
 use Rattle.dcsctp_spec_lemmas.specs.spec.endpoint.ResetOutcomes.{request_state, renewable_left, parameters_handled_in, OwnAnswer, answered_in, reset_events, reset_events_of, resets_handled, responses_outcome, responses_by, ResponseAnswers, WorksResets, ResetTurn, requested_in, is_request_reached}
 use Rattle.dcsctp_spec_laws.proofs.ResetLemmas.{AreResets, nothing, acceptance, performance, renewal, completion, failure, chunk_brings, worked_keeps}
+use Rattle.dcsctp_spec_lemmas.proofs.AbortLemmas.{by_error_outcome}
 use Rattle.dcsctp_spec_lemmas.proofs.OneAnswerLemmas.{answered_by}
 use Rattle.dcsctp_theorem_sockets.proofs.Sizes.{AtLimit, AllShort, TurnSizes, short_append, packet_sizes, emits_sizes, flush_sizes}
 use Rattle.dcsctp_theorem_sockets.proofs.SizesData.{data_sizes, forward_sizes, sack_sizes, delay_sizes, loss_sizes}
@@ -64,10 +65,7 @@ unknown_sizes limit e (open_in phase my held) type chunk true h = (h, (report_fi
 -- ---- an ERROR
 
 error_sizes : (limit : ℕ) (e : Endpoint) (core : Core) (causes : List Cause) → AtLimit limit e → TurnSizes limit (error_outcome e core causes)
-error_sizes limit e closed causes h = (h, tt)
-error_sizes limit e (cookie_wait my) causes h = (h, tt)
-error_sizes limit e (cookie_echoed my held cookie) causes h = (h, tt)
-error_sizes limit e (open_in phase my held) causes h = (h, tt)
+error_sizes limit e core causes h = by_error_outcome (TurnSizes limit) e core causes (h, tt) (h, tt) (h, tt)
 
 -- ---- heartbeats
 

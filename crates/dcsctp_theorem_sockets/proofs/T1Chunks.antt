@@ -15,6 +15,7 @@ use Rattle.dcsctp_spec_lemmas.specs.spec.Reconfiguration.{RequestedReset}
 use Rattle.dcsctp_spec_lemmas.specs.spec.association.FlushChanges.{reset_request}
 use Rattle.dcsctp_spec_lemmas.specs.spec.endpoint.PlainOutcomes.{PlainTurn, PlainTurnBy, violation_at, is_reported, after_unknown, unknown_bytes, unknown_chunk_outcome, error_outcome}
 use Rattle.dcsctp_spec_lemmas.specs.spec.queues.Arrivals.{data_arrival, i_data_arrival, skipped_in, messages_skipped_in}
+use Rattle.dcsctp_spec_lemmas.proofs.AbortLemmas.{by_error_outcome}
 use Rattle.dcsctp_spec_lemmas.proofs.OneAnswerLemmas.{answered_by}
 use Rattle.dcsctp_theorem_sockets.proofs.BegunSends.{asking_runs}
 use Rattle.dcsctp_theorem_sockets.proofs.T1Data.{data_up, forward_up, sack_up, delay_up, loss_up}
@@ -31,10 +32,7 @@ unknown_up e (open_in phase my held) type chunk true h = h
 -- ---- an ERROR
 
 error_up : (e : Endpoint) (core : Core) (causes : List Cause) → Up e → UpAfter (error_outcome e core causes)
-error_up e closed causes h = h
-error_up e (cookie_wait my) causes h = h
-error_up e (cookie_echoed my held cookie) causes h = h
-error_up e (open_in phase my held) causes h = h
+error_up e core causes h = by_error_outcome UpAfter e core causes tt h h
 
 -- ---- heartbeats
 

@@ -124,8 +124,8 @@ violation_change closed choices = unchanged closed
 violation_change (cookie_wait my) choices = unchanged (cookie_wait my)
 violation_change core choices = abort_call_change core choices.causes choices.fits
 
--- A chunk that doesn't concern the association. If it breaks the negotiated protocol, the association is aborted. Else it may
--- acknowledge the last data that a shutdown waits for, be answered, and let data be sent.
+-- A chunk that doesn't concern the association. If it breaks the negotiated protocol, the association is aborted; so it is,
+-- without an ABORT, where the peer says that our cookie was too old. Else the chunk may acknowledge the last data that a shutdown waits for, be answered, and let data be sent.
 abbrev pub plain_change : Core → Bool → Choices → Change
 plain_change core true choices = violation_change core choices
 plain_change core false choices =

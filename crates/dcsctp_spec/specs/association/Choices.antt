@@ -40,7 +40,7 @@ pub record Choices : Type 0 where
   pub is_acknowledged : Bool
   -- what an Outgoing SSN Reset Request finds
   pub state : RequestState
-  -- Does the chunk break the negotiated protocol, and with which text?
+  -- Does the chunk break the negotiated protocol, and with which text? Or does it say that our cookie was too old?
   pub is_violation : Bool
   pub causes : List Cause
   -- the cumulative TSN ack of a SHUTDOWN that is sent

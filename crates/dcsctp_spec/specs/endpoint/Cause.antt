@@ -1,6 +1,6 @@
 -- Why an association is aborted, or what was wrong with a packet: error causes (RFC 9260, section 3.3.10).
-use Rattle.std.specs.Prelude.{ℕ, List, [], ◌∷◌, codes}
-use Rattle.std.specs.List.{flat_map}
+use Rattle.std.specs.Prelude.{◌==◌, ℕ, Bool, false, List, [], ◌∷◌, codes}
+use Rattle.std.specs.List.{flat_map, list_any}
 use Rattle.std.specs.Int.{w16, to_be_bytes}
 use Rattle.dcsctp_types.specs.wire.Content.{CauseContent}
 use Rattle.dcsctp_types.specs.wire.Content as wire
@@ -35,6 +35,14 @@ stale_cookie_code = 3
 -- It doesn't say for how long the cookie has been stale.
 abbrev pub stale_cookie : Cause
 stale_cookie = wire.unknown_cause stale_cookie_code (0 ∷ 0 ∷ 0 ∷ 0 ∷ [])
+
+abbrev pub is_stale_cookie : Cause → Bool
+is_stale_cookie (wire.unknown_cause code value) = code == stale_cookie_code
+is_stale_cookie cause = false
+
+-- Does the peer say that the cookie which it got was too old?
+abbrev pub has_stale_cookie : List Cause → Bool
+has_stale_cookie causes = list_any is_stale_cookie causes
 
 -- ---- why a socket aborts its association
 

@@ -1,5 +1,5 @@
 -- The turns of chunks that don't concern the association: one line for each kind.
-use Rattle.std.specs.Prelude.{◌≡◌, ◌==◌, ℕ, ◌+◌, ◌-◌, ◌/◌, ◌%◌, Bool, true, false, Option, None, Some, List, [], ◌∷◌, ◌++◌, length, take, nat_le, codes, if◌then◌else◌}
+use Rattle.std.specs.Prelude.{◌≡◌, ◌==◌, ℕ, ◌+◌, ◌-◌, ◌/◌, ◌%◌, Bool, true, false, Option, None, Some, List, [], ◌∷◌, ◌++◌, ◌&&◌, length, take, nat_le, codes, if◌then◌else◌}
 use Rattle.std.specs.Int.{w16, to_be_bytes}
 use Rattle.std.specs.Fmt.{decimal}
 use Rattle.dcsctp_types.specs.wire.Content.{data_chunk, i_data_chunk, sack_chunk, error_chunk, forward_tsn_chunk, i_forward_tsn_chunk, unrecognized_chunk_type}
@@ -12,13 +12,13 @@ use Rattle.dcsctp_types.specs.declared.ends.AbortReason.TheVariants as reasons
 use Rattle.dcsctp_types.specs.declared.kinds.ErrorKind.TheVariants.{ParseFailed, PeerReported}
 use Rattle.dcsctp_types.specs.Settings.{packet_size_limit}
 use Rattle.dcsctp_types.specs.Sizes.{common_header_size, chunk_header_size, parameter_header_size}
-use Rattle.dcsctp_spec.specs.endpoint.Cause.{Cause}
-use Rattle.dcsctp_spec.specs.endpoint.Event.{error}
+use Rattle.dcsctp_spec.specs.endpoint.Cause.{Cause, has_stale_cookie}
+use Rattle.dcsctp_spec.specs.endpoint.Event.{error, aborted}
 use Rattle.dcsctp_spec.specs.Packet.{Plain, unknown, heartbeat, heartbeat_ack, unworked, plain, error_of, Emission}
 use Rattle.dcsctp_spec.specs.endpoint.Endpoint.{Endpoint, Core, cookie_echoed, open_in}
 use Rattle.dcsctp_spec.specs.endpoint.Following.{Following, next_chunk, packet_end}
-use Rattle.dcsctp_spec.specs.endpoint.Outcome.{Outcome, still, reports, sends, to_peer}
-use Rattle.dcsctp_spec.specs.endpoint.EndOutcomes.{aborting_outcome}
+use Rattle.dcsctp_spec.specs.endpoint.Outcome.{Outcome, still, reports, quiet, sends, to_peer}
+use Rattle.dcsctp_spec.specs.endpoint.EndOutcomes.{aborting_outcome, ended_outcome}
 use Rattle.dcsctp_spec.specs.queues.Arrivals.{data_arrival, i_data_arrival, skipped_in, messages_skipped_in}
 use Rattle.dcsctp_spec.specs.endpoint.DataOutcomes.{DataTurn, ForwardTurn, SackTurn}
 use Rattle.dcsctp_spec.specs.endpoint.HeartbeatOutcomes.{heartbeat_outcome, info_in, counter_of, heartbeat_ack_outcome}
@@ -98,9 +98,18 @@ unknown_outcome e core type flags value =
 
 -- ---- an ERROR (RFC 9260, section 3.3.10)
 
+-- Does an ERROR end a handshake? By the RFC it does where the peer found our cookie too old: sent again, it would be older still
+-- (RFC 9260, section 5.2.6).
+abbrev pub ends_handshake : Endpoint → List Cause → Bool
+ends_handshake e causes = has_stale_cookie causes && e.options.follow_rfc
+
+abbrev pub echoed_error_outcome : Bool → Endpoint → List Cause → Outcome
+echoed_error_outcome true e causes = ended_outcome (quiet e [] []) (aborted PeerReported (causes_text causes))
+echoed_error_outcome false e causes = reports e PeerReported (causes_text causes)
+
 -- The texts of its causes are reported to the user, if the peer is known.
 abbrev pub error_outcome : Endpoint → Core → List Cause → Outcome
-error_outcome e (cookie_echoed my held cookie) causes = reports e PeerReported (causes_text causes)
+error_outcome e (cookie_echoed my held cookie) causes = echoed_error_outcome (ends_handshake e causes) e causes
 error_outcome e (open_in phase my held) causes = reports e PeerReported (causes_text causes)
 error_outcome e core causes = still e
 

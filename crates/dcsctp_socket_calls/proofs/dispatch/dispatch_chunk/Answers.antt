@@ -20,7 +20,7 @@ use Rattle.dcsctp_core_data.specs.Shutdown.{ShutdownAt}
 use Rattle.dcsctp_core_resets.specs.Requests.{reset_parameters}
 use Rattle.dcsctp_core_resets.specs.Resets.{ReConfigAt}
 use Rattle.dcsctp_socket_calls.proofs.DataTurns.{data_goes, forward_goes, sack_goes, shutdown_goes, cookie_ack_goes, reset_goes}
-use Rattle.dcsctp_socket_calls.proofs.DispatchLemmas.{none_for, unknown_is, tries_worked, tries_cut, heartbeat_follows, heartbeat_ack_follows, heartbeat_is, heartbeat_ack_is, error_follows, error_is, plain_at, takes_worked, takes_cut}
+use Rattle.dcsctp_socket_calls.proofs.DispatchLemmas.{none_for, unknown_is, tries_worked, tries_cut, heartbeat_follows, heartbeat_ack_follows, heartbeat_is, heartbeat_ack_is, error_is, plain_at, takes_worked, takes_cut}
 use Rattle.dcsctp_socket_calls.proofs.dispatch.dispatch_chunk.Goals as goal
 
 pub returns-in_ok-handle_init-in-Init : goal.returns-in_ok-handle_init-in-Init
@@ -97,22 +97,13 @@ returns-in-ShutdownAck g c =
     (works_chunk g.R.Rng.stream c.args.header_tag shutdown_ack (ack_turn c.args.header_tag) c.args.context.now c.handle_shutdown_ack.result c.handle_shutdown_ack.new.context
     refl c.handle_shutdown_ack.ensures)
 
-pub returns-in_ok-handle_error-in-Error : goal.returns-in_ok-handle_error-in-Error
-returns-in_ok-handle_error-in-Error g c =
+pub returns-in-Error : goal.returns-in-Error
+returns-in-Error g c =
     let old = c.args.context.now in
     let causes = map cause_content c.in-Error.error.error_causes.items in
     rw c.in-Error.is
-    (tries_worked g.R.Rng.stream old c.handle_error.new.context c.args.header_tag _ (error_turn causes (view_of old))
-    (error_is old c.args.header_tag causes (none_for (core_of old.state) _ _ c.in-Error.is c.requires)) (error_follows (endpoint_of old) (core_of old.state) causes) c.in_ok-handle_error-in-Error.ensures)
-
-pub returns-in_err-handle_error-in-Error : goal.returns-in_err-handle_error-in-Error
-returns-in_err-handle_error-in-Error g c =
-    let old = c.args.context.now in
-    let causes = map cause_content c.in-Error.error.error_causes.items in
-    rw c.in-Error.is
-    (rw (err_from_is_err_and c.from_residual-in_err-handle_error-in-Error.result c.from_residual-in_err-handle_error-in-Error.ensures.1).1
-    (tries_cut old (view_of c.handle_error.new.context) c.args.header_tag _ (error_turn causes (view_of old))
-    (error_is old c.args.header_tag causes (none_for (core_of old.state) _ _ c.in-Error.is c.requires)) c.in_err-handle_error-in-Error.ensures))
+    (works_whole g.R.Rng.stream c.args.header_tag _ (error_turn causes) old c.handle_error.result c.handle_error.new.context
+    (error_is old c.args.header_tag causes (none_for (core_of old.state) _ _ c.in-Error.is c.requires)) c.handle_error.ensures)
 
 pub returns-in-ShutdownComplete : goal.returns-in-ShutdownComplete
 returns-in-ShutdownComplete g c =
