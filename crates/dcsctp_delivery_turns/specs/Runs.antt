@@ -94,7 +94,8 @@ HasNewTag e input o = Collides (came_by input) e o → ⊥
 abbrev pub OpensSmall : Endpoint → Input → Outcome → Type 0
 OpensSmall e input o = (begun : Begun e o) → IsOpening (came_by input) → identity_in o.after.core ≡ Some (identity_of begun.my begun.held) → begun.my.first_tsn < 2 ^ 32
 
--- This holds for each turn, also of a closed socket, with a direction on which nothing is in flight.
+-- This holds for each turn, also of a closed socket, with a direction on which nothing is in flight, if no association begins
+-- under the own tag of the one before.
 abbrev pub SendersGoOn : Type 0
 SendersGoOn =
     (options : Options) (first size : ℕ) (direction : Direction) (e : Endpoint) (input : Input) (o : Outcome) → DirectionRun options first size direction → first < 2 ^ 32 → direction.queues ≡ e.queues
@@ -167,7 +168,7 @@ pub data ReceiverTurns (is_known : Bool) (options : Options) (first size : ℕ) 
   receiver_ends : identity_in o.after.core ≡ None → o.after.queues.transfer ≡ None → ((read : List MessageContent) → read_after e input read ≡ read) → ReceiverTurns is_known options first size direction transfer e input o
   receiver_begins : OpensAssociation e input o → ReceiverTurns is_known options first size direction transfer e input o
 
--- This holds for each turn.
+-- This holds for each turn, if no association begins under the own tag of the one before.
 abbrev pub ReceiversGoOn : Type 0
 ReceiversGoOn =
     (is_known : Bool) (options : Options) (first size : ℕ) (direction : Direction) (transfer : Transfer) (e : Endpoint) (input : Input) (o : Outcome) → DirectionRun options first size (receiving direction transfer direction.read)

@@ -12,7 +12,7 @@ use Rattle.dcsctp_spec_lemmas.proofs.RefusalLemmas.{by_stale_outcome}
 use Rattle.dcsctp_spec_lemmas.specs.spec.endpoint.Turn.{arrival, refusal, packet_begins, chunk_input, packet_ends, act_input, user_sets, user_sends, user_resets, user_takes, timer_expires, time_passes, restores}
 use Rattle.dcsctp_spec_lemmas.specs.spec.queues.Transfer.{Transfer}
 use Rattle.dcsctp_spec_lemmas.specs.types.queues.Messages.{MessageContent}
-use Rattle.dcsctp_spec_laws.specs.LastTagLaws.{LastTagWhere, LastTagStays, LastTagIsSpent}
+use Rattle.dcsctp_spec_laws.specs.LastTagLaws.{LastTagWhere, LastTagStays, LastTagIsSpent, TellsStaleAtMost}
 use Rattle.dcsctp_spec_laws.proofs.LeftLemmas.{is_there, Begins, Ends, Leaves}
 use Rattle.dcsctp_spec_laws.proofs.LeftTurns.{turn_leaves}
 
@@ -93,18 +93,18 @@ spent_at b e tag old follows last is =
 
 -- Nothing has changed, but for a packet that may have gone out.
 abbrev IsRefused : Endpoint → Outcome → Type 0
-IsRefused e o = ((o.after ≡ e) ⊎ (o.after ≡ packet_counted e)) × (o.effects ≡ [])
+IsRefused e o = ((o.after ≡ e) ⊎ (o.after ≡ packet_counted e)) × (o.effects ≡ []) × TellsStaleAtMost o
 
 -- Without a peer a cookie that is spent makes nothing.
 spent_rests : (flush : FlushKind) (e : Endpoint) (core : Core) (word : ℕ) (cookie : Cookie) (same spent : Bool) → spent ≡ true
     → let o : Outcome = resolved_by flush e cookie core word (aged spent (case_without_peer same)) in IsRefused e o
-spent_rests flush e core word cookie true true is = by_stale_outcome (IsRefused e) e cookie (inr refl, refl) (inl refl, refl)
-spent_rests flush e core word cookie false true is = (inl refl, refl)
+spent_rests flush e core word cookie true true is = by_stale_outcome (IsRefused e) e cookie (inr refl, refl, inr (cookie, refl)) (inl refl, refl, inl refl)
+spent_rests flush e core word cookie false true is = (inl refl, refl, inl refl)
 spent_rests flush e core word cookie same false is = absurd (cc)
 
 echo_rests : (flush : FlushKind) (e : Endpoint) (core : Core) (tag word : ℕ) (read : Result Cookie (List ℕ)) → e.options.follow_rfc ≡ true → e.last_tag ≡ Some tag → held_in core ≡ None
     → let o : Outcome = cookie_echo_by flush e core tag read word in IsRefused e o
-echo_rests flush e core tag word (Err text) follows last none = (inl refl, refl)
+echo_rests flush e core tag word (Err text) follows last none = (inl refl, refl, inl refl)
 echo_rests flush e closed tag word (Ok cookie) follows last none =
     spent_rests flush e closed word cookie (tag == cookie.maker.tag) (is_spent e closed tag cookie) (spent_at _ e tag _ follows last refl)
 echo_rests flush e (cookie_wait my) tag word (Ok cookie) follows last none =

@@ -1,4 +1,5 @@
 pub mod AlongLemmas
+pub mod AnswerLemmas
 pub mod ControlEnds
 pub mod ControlLemmas
 pub mod ControlRestores

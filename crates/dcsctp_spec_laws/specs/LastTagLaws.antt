@@ -1,8 +1,10 @@
 -- Our verification tag in the last association serves no other one (RFC 9260, section 5.3.1).
-use Rattle.std.specs.Prelude.{◌≡◌, ◌⊎◌, ℕ, true, Option, None, Some, List, []}
-use Rattle.dcsctp_spec_lemmas.specs.spec.endpoint.CookieEchoOutcomes.{CookieEchoTurn}
+use Rattle.std.specs.Prelude.{◌≡◌, ◌⊎◌, ℕ, true, Option, None, Some, List, [], ◌∷◌}
+use Rattle.dcsctp_spec_lemmas.specs.spec.Cookie.{Cookie}
+use Rattle.dcsctp_spec_lemmas.specs.spec.endpoint.CookieEchoOutcomes.{CookieEchoTurn, stale_emission}
 use Rattle.dcsctp_spec_lemmas.specs.spec.endpoint.EndOutcomes.{ended_tag}
 use Rattle.dcsctp_spec_lemmas.specs.spec.endpoint.Endpoint.{Endpoint, held_in}
+use Rattle.dcsctp_spec_lemmas.specs.spec.endpoint.Event.{packets_in}
 use Rattle.dcsctp_spec_lemmas.specs.spec.endpoint.Outcome.{Outcome, packet_counted}
 use Rattle.dcsctp_spec_lemmas.specs.spec.endpoint.Turn.{Input, Turn}
 use Rattle.dcsctp_spec_lemmas.specs.spec.queues.Transfer.{Transfer}
@@ -21,8 +23,12 @@ LastTagWhere e before (Some new) last = last ≡ e.last_tag
 abbrev pub LastTagStays : Type 0
 LastTagStays = (e : Endpoint) (input : Input) (o : Outcome) → IsOwnInput input → Turn e input o → LastTagWhere e e.queues.transfer o.after.queues.transfer o.after.last_tag
 
+-- No packet goes out, or an ERROR that says that a cookie was too old.
+abbrev pub TellsStaleAtMost : Outcome → Type 0
+TellsStaleAtMost o = (packets_in o.events ≡ []) ⊎ ((cookie : Cookie) × (packets_in o.events ≡ stale_emission cookie ∷ []))
+
 -- By the RFC a COOKIE ECHO under it makes nothing where there is no association: at most a packet says so.
 abbrev pub LastTagIsSpent : Type 0
 LastTagIsSpent =
     (e : Endpoint) (tag : ℕ) (bytes : List ℕ) (o : Outcome) → e.options.follow_rfc ≡ true → e.last_tag ≡ Some tag → held_in e.core ≡ None
-    → CookieEchoTurn e tag bytes o → ((o.after ≡ e) ⊎ (o.after ≡ packet_counted e)) × (o.effects ≡ [])
+    → CookieEchoTurn e tag bytes o → ((o.after ≡ e) ⊎ (o.after ≡ packet_counted e)) × (o.effects ≡ []) × TellsStaleAtMost o

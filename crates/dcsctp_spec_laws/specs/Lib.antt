@@ -1,3 +1,4 @@
+pub mod AnswerLaws
 pub mod CongestionLaws
 pub mod LastTagLaws
 pub mod LeftLaws

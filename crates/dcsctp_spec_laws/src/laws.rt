@@ -2,6 +2,7 @@
 
 ghost use Rattle.std.specs.Prelude.{◌^◌};
 ghost use Rattle.dcsctp_spec_laws.specs.TurnLaws.{InitLeavesAssociation, ChunksAreControlled, ActsAreControlled, TimersAreControlled};
+ghost use Rattle.dcsctp_spec_laws.specs.AnswerLaws.{OneIsAnswered};
 ghost use Rattle.dcsctp_spec_laws.specs.LastTagLaws.{LastTagIsSpent, LastTagStays};
 ghost use Rattle.dcsctp_spec_laws.specs.LeftLaws.{MessagesLeftStay};
 ghost use Rattle.dcsctp_spec_laws.specs.PartLaws.{WindowCountsParts};
@@ -61,6 +62,12 @@ pub fn messages_left_stay()
     ensures { MessagesLeftStay }
 {}
 
+/// With `Options::follow_rfc` a packet of which a HEARTBEAT, an INIT or a RE-CONFIG was answered brings no other such
+/// answer.
+pub fn one_is_answered()
+    ensures { OneIsAnswered }
+{}
+
 /// Each turn leaves our verification tag of the last association as it is, or ends an association with a peer and
 /// records its tag. With `Options::follow_rfc` a COOKIE ECHO under that tag makes nothing where there is no
 /// association (RFC 9260, section 5.3.1): a copy that comes late doesn't deliver its messages again.
@@ -94,8 +101,7 @@ pub fn trackers_stay_tracked()
 {}
 
 /// What is in use of the receive window is the bytes of all that is held, and the overhead of the queue for each part
-/// and for each whole message that waits. So with `Options::follow_rfc` the window bounds their number (RFC 9260,
-/// section 6.2).
+/// and for each whole message that waits. With `Options::follow_rfc` a new queue has 256 bytes (RFC 9260, section 6.2).
 pub fn window_counts_parts()
     ensures { WindowCountsParts }
 {}

@@ -7,7 +7,8 @@ mod laws;
 
 pub use laws::{
     acts_are_controlled, calls_keep_soundness, chunks_are_controlled, flushes_keep_window,
-    init_leaves_association, last_tag_is_spent, messages_left_stay, packets_keep_window,
-    sacks_cover_received, sacks_fit, sets_follow_rule, snapshots_are_valid, time_passes_quietly,
-    timers_are_controlled, trackers_stay_tracked, window_counts_parts, window_is_bounded,
+    init_leaves_association, last_tag_is_spent, messages_left_stay, one_is_answered,
+    packets_keep_window, sacks_cover_received, sacks_fit, sets_follow_rule, snapshots_are_valid,
+    time_passes_quietly, timers_are_controlled, trackers_stay_tracked, window_counts_parts,
+    window_is_bounded,
 };

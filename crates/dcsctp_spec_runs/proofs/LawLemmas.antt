@@ -1,5 +1,5 @@
 -- The laws of specs/Laws.
-use Rattle.std.proofs.Common.{◌≡◌, ℕ, Bool, true, false, cond, eqb, ◌&&◌, List, [], ◌∷◌, refl, sym, subst, ap, arith}
+use Rattle.std.proofs.Common.{◌≡◌, ℕ, Bool, true, false, cond, eqb, ◌&&◌, List, [], ◌∷◌, refl, sym, subst, ap, arith, inl, inr}
 use Rattle.std.proofs.lemmas.Bool.Decides.{nat_tests}
 use Rattle.dcsctp_spec_lemmas.specs.types.Offer.{negotiated}
 use Rattle.dcsctp_spec_lemmas.specs.types.declared.word.Word.{Word}
@@ -52,8 +52,8 @@ small_where : (b : Bool) (e : Endpoint) (words : List Word) (emission : Emission
   events = sent emission ∷ [];
   following = next_chunk;
 }) (record { words = words; effects = []; after = e; events = []; following = next_chunk }))
-small_where true e words emission = (refl, one_packet emission)
-small_where false e words emission = (refl, no_packet)
+small_where true e words emission = ((inl refl, refl), one_packet emission)
+small_where false e words emission = ((inl refl, refl), no_packet)
 
 emits_small : (e : Endpoint) (words : List Word) (emission : Emission) → IsSmall e (emits e words emission)
 emits_small e words emission = small_where (fits e emission) e words emission
@@ -72,4 +72,4 @@ pub init_brings_one_packet : InitBringsOnePacket
 init_brings_one_packet e theirs o turn =
     let small : IsSmall e (init_outcome e theirs e.core turn.0 turn.1) = init_small e theirs e.core turn.0 turn.1 in
     subst (IsSmall e) (sym turn.2)
-    (init_by (IsSmall e) e theirs turn.0 turn.1 (refl, no_packet) (ap (λ (x : Endpoint). record x { has_answered = true }) small.0, small.1))
+    (init_by (IsSmall e) e theirs turn.0 turn.1 ((inl refl, refl), no_packet) ((inr refl, ap (λ (x : Endpoint). record x { has_answered = true }) small.0.1), small.1))

@@ -1,5 +1,5 @@
 -- Laws of the definitions, in other words than theirs.
-use Rattle.std.specs.Prelude.{◌≡◌, ℕ, Bool, true, false, Option, None, Some, List, [], ◌∷◌, ◌++◌}
+use Rattle.std.specs.Prelude.{◌≡◌, ◌⊎◌, ℕ, Bool, true, false, Option, None, Some, List, [], ◌∷◌, ◌++◌}
 use Rattle.dcsctp_spec_lemmas.specs.types.declared.capabilities.Capabilities.{Capabilities}
 use Rattle.dcsctp_spec_lemmas.specs.types.declared.kinds.ErrorKind.TheVariants.{ParseFailed}
 use Rattle.dcsctp_spec_lemmas.specs.types.declared.options.Options.{Options}
@@ -46,9 +46,11 @@ NegotiationIsMutual = (a b : Offer) → IsMirrored (negotiated a b) (negotiated 
 abbrev pub AnswerKeepsAgreement : Type 0
 AnswerKeepsAgreement = (mine theirs : Offer) → negotiated mine (answering_offer mine theirs) ≡ negotiated mine theirs
 
--- Nothing but the count of packets sent differs, and whether a chunk of the packet was answered.
+-- Nothing but the count of packets sent differs, and that a chunk of the packet was answered.
 abbrev pub CountsSentOnly : Endpoint → Endpoint → Type 0
-CountsSentOnly old new = new ≡ record old { counts = record old.counts { packets_sent = new.counts.packets_sent }; has_answered = new.has_answered }
+CountsSentOnly old new =
+    ((new.has_answered ≡ old.has_answered) ⊎ (new.has_answered ≡ true))
+    × (new ≡ record old { counts = record old.counts { packets_sent = new.counts.packets_sent }; has_answered = new.has_answered })
 
 -- no event, or a packet
 pub data AtMostOnePacket : List (Event Emission) → Type 0 where
