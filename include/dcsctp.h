@@ -368,12 +368,13 @@ typedef struct dcsctp_socket {
  *   trip of 50 ms. Raise it for such peers.
  * `max_receiver_window_buffer_size`: above nine tenths of it, new data is dropped. Retransmitted
  *   data that fills a gap is accepted until it is full, and the first that is missing until twice
- *   that is held. Each part of a message that is held, and each whole one that waits, counts 256
- *   bytes more, so that small parts can't take much more memory than this. Without `follow_rfc`
- *   payloads alone count, these chunks are dropped, too, and no dropped data is answered: if the
- *   window is full of parts whose missing parts are dropped, nothing is delivered any more, though
- *   both ends stay connected. So make it far more than a peer has in flight, and more than its
- *   longest message with 256 bytes for each packet that carries a part of it.
+ *   that is held. Each part of a message that is held, and each whole one that waits for an earlier
+ *   one, counts 256 bytes more, so that they take at most some ten times this in memory. A message
+ *   that is ready counts its bytes alone: many small ones take far more, until you take them.
+ *   Without `follow_rfc` payloads alone count, these chunks are dropped, too, and no dropped data
+ *   is answered: if the window is full of parts whose missing parts are dropped, nothing is
+ *   delivered any more, though both ends stay connected. So make it far more than a peer has in
+ *   flight, and more than its longest message with 256 bytes for each packet of it.
  * `total_buffered_amount_low_threshold`: DCSCTP_EVENT_TOTAL_BUFFERED_AMOUNT_LOW comes only after
  *   more than this was queued. So keep it below `max_send_buffer_size`, also if you lower that.
  * `rto_initial`: make it longer than any round trip. Otherwise the first flight is sent twice or
@@ -383,16 +384,18 @@ typedef struct dcsctp_socket {
  *   shutdown first sends queued messages. Data without room, or that fills a gap, is acknowledged
  *   at once. A full receive window that opens is reported to the peer. A peer's SHUTDOWN
  *   acknowledges data. Streams of equal priority take turns. A repeated request to reset a stream
- *   that is in progress gets the next number, and is reported once; so are two with nothing sent
- *   between them. Messages that are ready can be taken after their
- *   association has ended. A timeout that was doubled stays so until a round trip is measured, and
- *   a HEARTBEAT's first answer measures one. Data that a full window had no room for is sent again
- *   once it opens. Errors are counted for each association. A shutdown also waits until the peer
- *   knows what was abandoned. A SACK lists as many gaps as fit. An ABORT ends an attempt to
- *   connect. A late COOKIE ECHO of the last association begins none, and a stale cookie is answered
- *   by an ERROR. What is in flight where both ends connect is sent again. Parts of messages count
- *   256 bytes more in the receive window. A packet brings one answer to its HEARTBEATs, INITs and
- *   RE-CONFIGs. A shutdown also waits for a message behind a reset of its stream, if it has no
+ *   that is in progress gets the next number, and is reported once, except across a handover; so
+ *   are two with nothing sent between them, if the first was in progress. Messages that are ready
+ *   can be taken after their association has ended. A timeout that was doubled stays so until a
+ *   round trip is measured, and a HEARTBEAT's first answer measures one. Data that a full window
+ *   had no room for is sent again once it opens. Errors are counted for each association. A
+ *   shutdown also waits until the peer knows what was abandoned. A SACK lists as many gaps as fit.
+ *   An ABORT ends an attempt to connect. A late COOKIE ECHO of the last association begins none. A
+ *   stale cookie is answered by an ERROR, and such an answer ends an attempt to connect. Where both
+ *   ends connect, what is in flight is sent again, and may be read twice, if none was acknowledged,
+ *   no reset was begun, and our pair and what both ends support stay. Parts of messages count 256
+ *   bytes more in the receive window. Of a packet's HEARTBEATs, INITs and RE-CONFIG requests one is
+ *   answered. A shutdown also waits for a message behind a reset of its stream, if it has no
  *   lifetime. At 0, and with upstream's limits (above), the socket behaves as upstream, but for a
  *   few differences: docs/design/differences.md has a row for each, and for each rule. */
 typedef struct dcsctp_options {
@@ -480,7 +483,7 @@ void dcsctp_destroy(dcsctp_socket *socket) DCSCTP_CALL;
 
 /* Begins an association: DCSCTP_EVENT_CONNECTED follows, or DCSCTP_EVENT_ABORTED, by default after
  * 511 s if nobody answers (see dcsctp_options), and with `follow_rfc` at once if the peer answers
- * by an ABORT. If the socket isn't closed, it does nothing.
+ * by an ABORT, or that its cookie is stale. If the socket isn't closed, it does nothing.
  * Errors: NO_SOCKET, FAILED, OUT_OF_MEMORY. */
 int32_t dcsctp_connect(dcsctp_socket *socket) DCSCTP_CHECKED_CALL;
 
@@ -491,9 +494,9 @@ int32_t dcsctp_connect(dcsctp_socket *socket) DCSCTP_CHECKED_CALL;
  *
  * It ends the association in an orderly way. All data that was sent is acknowledged first. With
  * `follow_rfc` queued messages are sent before that, and the peer acknowledges what was abandoned,
- * so that it delivers all that came after it. From now on dcsctp_send fails. Messages that
- * are queued behind a reset of their stream may be lost, and without `follow_rfc` all queued ones:
- * wait until dcsctp_buffered_amount is 0, then shut down.
+ * so that it delivers all that came after it. From now on dcsctp_send fails. Messages with a
+ * lifetime that are queued behind a reset of their stream may be lost, and without `follow_rfc` all
+ * queued ones: wait until dcsctp_buffered_amount is 0, then shut down.
  *
  * DCSCTP_EVENT_CLOSED follows when the peer has answered: continue the loop after it (THE END).
  * DCSCTP_EVENT_ABORTED comes instead if the peer aborts or is silent. Without `follow_rfc` a peer's
@@ -511,9 +514,9 @@ int32_t dcsctp_close(dcsctp_socket *socket) DCSCTP_CHECKED_CALL;
 
 /* Handles a packet from the peer, of any bytes. One that can't be read, or has a wrong verification
  * tag, adds a DCSCTP_EVENT_ERROR. It is counted, and changes nothing else. Each chunk may cause a
- * packet: 290 HEARTBEATs in a packet of 1,172 bytes cause 290. Without `follow_rfc` so do 290
- * SHUTDOWN ACKs, even from a closed socket, whatever the tag; with it they cause one. So hand in
- * only what your peer has sent, as DTLS ensures.
+ * packet: 290 of an unknown type in a packet of 1,172 bytes cause 290. Without `follow_rfc` so do
+ * 290 HEARTBEATs or SHUTDOWN ACKs (these even from a closed socket, whatever the tag); with it they
+ * cause one. So hand in only what your peer has sent, as DTLS ensures.
  * Errors: NO_SOCKET, FAILED, OUT_OF_MEMORY. */
 int32_t dcsctp_handle_input(dcsctp_socket *socket, const uint8_t *packet, size_t length)
     DCSCTP_CHECKED_CALL;
@@ -761,8 +764,8 @@ int32_t dcsctp_send_many(dcsctp_socket *socket, const dcsctp_outgoing_message *m
  * request comes doesn't perform it yet, and without `follow_rfc` some peers never do: then neither
  * event comes. If it lacks data because its user takes no messages, the request is sent again and
  * again. Each one that is lost counts as an error, and without `follow_rfc` no answer clears that
- * count: a live association can be aborted within three minutes. With `follow_rfc` the peer's user
- * may get the event of one reset twice.
+ * count: a live association can be aborted within three minutes. With `follow_rfc` the user of a
+ * peer without it may get the event of one reset twice.
  *
  * Errors: NO_SOCKET, NOT_CONNECTED, NOT_SUPPORTED, FAILED, OUT_OF_MEMORY. OUT_OF_MEMORY: if the
  * numbers can't be copied, nothing has changed, and the call may be tried again. */

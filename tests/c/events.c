@@ -236,8 +236,8 @@ static void inits_answered(void) {
     }
 }
 
-/* 290 chunks of 4 bytes in one packet: HEARTBEAT (4) to an open socket, or SHUTDOWN ACK (8) to a
- * closed one, under any tag. */
+/* 290 chunks of 4 bytes in one packet: HEARTBEAT (4) or of an unknown type (193) to an open socket,
+ * or SHUTDOWN ACK (8) to a closed one, under any tag. */
 static void many_answers(void) {
     const struct {
         const char *name;
@@ -249,6 +249,8 @@ static void many_answers(void) {
         {"HEARTBEAT, follow_rfc", 4, 1, 1},
         {"SHUTDOWN ACK", 8, 0, 290},
         {"SHUTDOWN ACK, follow_rfc", 8, 1, 1},
+        {"unknown", 193, 0, 290},
+        {"unknown, follow_rfc", 193, 1, 290},
     };
     static const uint8_t any_tag[12] = {19, 136, 19, 136, 1, 2, 3, 4};
     for (size_t i = 0; i < sizeof rows / sizeof rows[0]; i++) {
@@ -256,11 +258,11 @@ static void many_answers(void) {
         uint8_t header[12], chunks[290 * 4] = {0};
         options.follow_rfc = rows[i].follow_rfc;
         memcpy(header, any_tag, 12);
-        if (rows[i].type == 4) {
+        if (rows[i].type == 8) {
+            create_pair(&pair, &options, &options);
+        } else {
             connect_pair(&pair, &options, &options);
             memcpy(header, pair.b.packet, 12);
-        } else {
-            create_pair(&pair, &options, &options);
         }
         for (size_t at = 0; at < sizeof chunks; at += 4) {
             chunks[at] = rows[i].type;

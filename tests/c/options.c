@@ -522,7 +522,8 @@ static void handshake_timers(void) {
     destroy_pair(&pair);
 }
 
-/* B makes a cookie, and finds it that old when the COOKIE ECHO comes. With follow_rfc A gets to know. */
+/* B makes a cookie, and finds it that old when the COOKIE ECHO comes. With follow_rfc A is told by
+ * an ERROR. */
 static void cookies(void) {
     const struct {
         const char *name;
@@ -540,26 +541,28 @@ static void cookies(void) {
     of_a.cookie_lifetime = 0; /* the peer's option doesn't count */
     for (size_t run = 0; run < 2 * (sizeof rows / sizeof rows[0]); run++) {
         size_t length = 0, i = run / 2;
+        char name[80];
         of_b.follow_rfc = run % 2;
         of_b.cookie_lifetime = rows[i].lifetime;
+        snprintf(name, sizeof name, "%s, follow_rfc %" PRIu32, rows[i].name, of_b.follow_rfc);
         create_pair(&pair, &of_a, &of_b);
-        EQUAL("connect", dcsctp_connect(&pair.a.socket), DCSCTP_OK);
-        EQUAL("INIT", carry(&pair.a, &pair.b), 1);
-        EQUAL("INIT ACK", carry(&pair.b, &pair.a), 1);
+        EQUAL(name, dcsctp_connect(&pair.a.socket), DCSCTP_OK);
+        EQUAL(name, carry(&pair.a, &pair.b), 1); /* INIT */
+        EQUAL(name, carry(&pair.b, &pair.a), 1); /* INIT ACK */
         /* the cookie ends with the moment of its making */
         size_t at = find_parameter(pair.b.packet, pair.b.length, 7, &length);
-        EQUAL("a cookie", at != 0 && length == 56, 1);
-        EQUAL("its moment", (uint64_t)u32_at(pair.b.packet + at + 48) << 32 |
+        EQUAL(name, at != 0 && length == 56, 1);
+        EQUAL(name, (uint64_t)u32_at(pair.b.packet + at + 48) << 32 |
               u32_at(pair.b.packet + at + 52), BEGIN);
-        EQUAL("the time at B", dcsctp_advance_time(&pair.b.socket, BEGIN + rows[i].age), 0);
-        EQUAL("COOKIE ECHO", carry(&pair.a, &pair.b), 1);
-        EQUAL(rows[i].name, carry(&pair.b, NULL), rows[i].connects || of_b.follow_rfc);
-        EQUAL(rows[i].name, pair.b.seen[DCSCTP_EVENT_CONNECTED], rows[i].connects);
-        EQUAL("an error", pair.b.seen[DCSCTP_EVENT_ERROR], !rows[i].connects);
+        EQUAL(name, dcsctp_advance_time(&pair.b.socket, BEGIN + rows[i].age), 0);
+        EQUAL(name, carry(&pair.a, &pair.b), 1); /* COOKIE ECHO */
+        EQUAL(name, carry(&pair.b, NULL), rows[i].connects || of_b.follow_rfc);
+        EQUAL(name, pair.b.seen[DCSCTP_EVENT_CONNECTED], rows[i].connects);
+        EQUAL(name, pair.b.seen[DCSCTP_EVENT_ERROR], !rows[i].connects);
         if (!rows[i].connects) {
-            EQUAL("kind", pair.b.last[DCSCTP_EVENT_ERROR].error_kind, DCSCTP_KIND_PARSE_FAILED);
-            EQUAL("text", strcmp(pair.b.text, "Stale state cookie"), 0);
-            EQUAL("state", dcsctp_state(&pair.b.socket), DCSCTP_STATE_CLOSED);
+            EQUAL(name, pair.b.last[DCSCTP_EVENT_ERROR].error_kind, DCSCTP_KIND_PARSE_FAILED);
+            EQUAL(name, strcmp(pair.b.text, "Stale state cookie"), 0);
+            EQUAL(name, dcsctp_state(&pair.b.socket), DCSCTP_STATE_CLOSED);
         }
         destroy_pair(&pair);
     }
