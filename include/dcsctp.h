@@ -813,6 +813,12 @@ int32_t dcsctp_state(const dcsctp_socket *socket) DCSCTP_CALL;
  * Error: NO_SOCKET. */
 int32_t dcsctp_has_failed(const dcsctp_socket *socket) DCSCTP_CALL;
 
+/* Writes our verification tag, which the peer's packets carry (RFC 9260, sections 3.1 and 5.3.1),
+ * but for an INIT, and an ABORT or a SHUTDOWN COMPLETE with the T bit. It is 0 if the socket is
+ * closed, and in no other state. Each association draws a new one, also when the peer restarts. If
+ * the peer connects, it is known once the COOKIE ECHO was handed in. Error: NO_SOCKET. */
+int32_t dcsctp_verification_tag(const dcsctp_socket *socket, uint32_t *tag) DCSCTP_CALL;
+
 /* Sets `max_message_size`, for messages sent from now on. Error: NO_SOCKET. */
 int32_t dcsctp_set_max_message_size(dcsctp_socket *socket, size_t bytes) DCSCTP_CALL;
 

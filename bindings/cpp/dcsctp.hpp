@@ -430,6 +430,14 @@ public:
     socket_state state() const { return static_cast<socket_state>(dcsctp_state(&it_)); }
     bool is_empty() const { return state() == socket_state::no_socket; }
     bool has_failed() const { return dcsctp_has_failed(&it_) == 1; }
+
+    // Our verification tag, which the peer's packets carry; 0 if the socket is closed or empty.
+    std::uint32_t verification_tag() const {
+        std::uint32_t tag = 0;
+        dcsctp_verification_tag(&it_, &tag);
+        return tag;
+    }
+
     error set_max_message_size(std::size_t bytes) { return done(dcsctp_set_max_message_size(&it_, bytes)); }
 
     // The options; the defaults for an empty socket.

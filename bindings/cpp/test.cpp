@@ -69,7 +69,7 @@ void calls_without_socket(dcsctp::socket &it) {
     EXPECT(!it.get_next_message(message, payload) && payload.empty() && it.message_view().empty());
     const dcsctp_counts counts = it.counts();
     EXPECT(counts.rx_packets_count == 0 && counts.tx_packets_count == 0 && counts.tx_messages_count == 0);
-    EXPECT(!it.poll_timeout() && !it.metrics() && !it.has_failed());
+    EXPECT(!it.poll_timeout() && !it.metrics() && !it.has_failed() && it.verification_tag() == 0);
     EXPECT(it.messages_ready_count() == 0 && it.buffered_amount(1) == 0 && it.buffered_amount_low_threshold(1) == 0);
     EXPECT(it.stream_priority(1) == 0 && it.handover_readiness() == 0 && results.empty());
     EXPECT(it.state() == socket_state::no_socket && it.is_empty());
@@ -209,6 +209,27 @@ void counts_after_an_end() {
         EXPECT(pair.a.send(1, 51, "hello") == error::ok);
     pair.close();
     EXPECT(is_counted(pair.a, pair.of_a, pair.of_b, 3) && is_counted(pair.b, pair.of_b, pair.of_a, 0));
+}
+
+// The tag that the next packet of a socket has (RFC 9260, section 3.1).
+std::uint32_t tag_sent(dcsctp::socket &from) {
+    dcsctp::event event;
+    dcsctp::bytes_view packet;
+    EXPECT(from.send(1, 51, "hello") == error::ok);
+    while (packet.empty())
+        EXPECT(from.poll_event(event, packet));
+    std::uint32_t tag = 0;
+    for (std::size_t at = 4; at < 8; at++)
+        tag = tag << 8 | packet[at];
+    return tag;
+}
+
+void tag_of_the_packets() {
+    couple pair;
+    const std::uint32_t of_a = pair.a.verification_tag(), of_b = pair.b.verification_tag();
+    EXPECT(of_a != 0 && of_b != 0 && tag_sent(pair.a) == of_b && tag_sent(pair.b) == of_a);
+    pair.close();
+    EXPECT(pair.a.verification_tag() == 0 && pair.b.verification_tag() == 0 && create().verification_tag() == 0);
 }
 
 void message_after_an_end(bool follow_rfc) {
@@ -442,6 +463,7 @@ int main() {
     errors();
     long_message();
     counts_after_an_end();
+    tag_of_the_packets();
     message_after_an_end(true);
     message_after_an_end(false);
     message_until_the_next();

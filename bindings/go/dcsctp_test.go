@@ -2,6 +2,7 @@ package dcsctp
 
 import (
 	"bytes"
+	"encoding/binary"
 	"math/rand"
 	"reflect"
 	"runtime"
@@ -59,7 +60,7 @@ func callsWithoutSocket(t *testing.T, s *Socket) {
 	if hasDeadline || s.PollEvent() != nil || s.GetNextMessage() != nil || s.MessagesReadyCount() != 0 {
 		t.Error("a poll has something")
 	}
-	if s.Metrics() != nil || s.HasFailed() || s.State() != NoSocket || s.HandoverReadiness() != 0 {
+	if s.Metrics() != nil || s.HasFailed() || s.State() != NoSocket || s.HandoverReadiness()+s.VerificationTag() != 0 {
 		t.Error("a query answers")
 	}
 	if s.BufferedAmount(1) != 0 || s.BufferedAmountLowThreshold(1) != 0 || s.StreamPriority(1) != 0 {
@@ -297,6 +298,33 @@ func TestCountsOutlastTheirAssociation(t *testing.T) {
 	}
 	if expected := (Counts{ofA, ofB, 0}); b.Counts() != expected {
 		t.Errorf("B has counted %+v, not %+v", b.Counts(), expected)
+	}
+}
+
+func TestVerificationTagIsThatOfThePacketsOfThePeer(t *testing.T) {
+	if s := socket(t); s.VerificationTag() != 0 {
+		t.Error("a new socket has a tag")
+	}
+	a, b := connected(t, func(*Options) {})
+	for _, it := range [][2]*Socket{{a, b}, {b, a}} {
+		expect(t, "send", it[0].Send(1, 51, []byte("hello"), SendOptions{}), nil)
+		tag, packets := it[1].VerificationTag(), 0
+		for event := it[0].PollEvent(); event != nil; event = it[0].PollEvent() {
+			if it, ok := event.(SendPacket); ok {
+				packets++
+				// (RFC 9260, section 3.1)
+				if binary.BigEndian.Uint32(it.Packet[4:]) != tag {
+					t.Errorf("%v hasn't the tag %d", it.Packet, tag)
+				}
+			}
+		}
+		if tag == 0 || packets != 1 {
+			t.Errorf("tag %d, %d packets", tag, packets)
+		}
+	}
+	expect(t, "close", a.Close(), nil)
+	if a.VerificationTag() != 0 {
+		t.Error("a closed socket has a tag")
 	}
 }
 

@@ -325,6 +325,13 @@ func (s *Socket) HasFailed() bool {
 	return s.do(func(at *C.dcsctp_socket) C.int32_t { return C.dcsctp_has_failed(at) }) == 1
 }
 
+// VerificationTag returns our verification tag, which the peer's packets carry. If the socket is closed, it is 0.
+func (s *Socket) VerificationTag() uint32 {
+	var tag C.uint32_t
+	s.do(func(at *C.dcsctp_socket) C.int32_t { return C.dcsctp_verification_tag(at, &tag) })
+	return uint32(tag)
+}
+
 // SetMaxMessageSize sets MaxMessageSize, for messages sent from now on. Error: ErrNoSocket.
 func (s *Socket) SetMaxMessageSize(bytes uint) error {
 	return check(s.do(func(at *C.dcsctp_socket) C.int32_t {

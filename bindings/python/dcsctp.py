@@ -714,6 +714,7 @@ _CALLS = {
     "dcsctp_set_stream_priority": [_AT, _U16, _U16],
     "dcsctp_state": [_AT],
     "dcsctp_has_failed": [_AT],
+    "dcsctp_verification_tag": [_AT, ctypes.POINTER(ctypes.c_uint32)],
     "dcsctp_set_max_message_size": [_AT, _SIZE],
     "dcsctp_get_options": [_AT, ctypes.POINTER(_Options)],
     "dcsctp_get_metrics": [_AT, ctypes.POINTER(_Metrics)],
@@ -1085,6 +1086,10 @@ class Socket:
     def has_failed(self) -> bool:
         """Whether an allocation has failed, so that the socket can't be used any more. Raises `NoSocket`."""
         return self._do(_library.dcsctp_has_failed) == 1
+
+    def verification_tag(self) -> int:
+        """Our verification tag, which the peer's packets carry; 0 if the socket is closed. Raises `NoSocket`."""
+        return self._number(_library.dcsctp_verification_tag, ctypes.c_uint32())
 
     def set_max_message_size(self, size: int) -> None:
         """Sets `max_message_size`, for messages sent from now on. Raises `NoSocket`."""

@@ -223,6 +223,7 @@ CALLS = {
     "set_stream_priority": (1, 5),
     "state": (),
     "has_failed": (),
+    "verification_tag": (),
     "set_max_message_size": (5000,),
     "options": (),
     "metrics": (),
@@ -404,6 +405,18 @@ class Ends(unittest.TestCase):
         self.assertEqual((a.metrics(), b.metrics(), b.state()), (None, None, dcsctp.State.CLOSED))
         self.assertEqual(a.counts(), dcsctp.Counts(of_b, of_a, 3))
         self.assertEqual(b.counts(), dcsctp.Counts(of_a, of_b, 0))
+
+    def test_verification_tag_is_that_of_the_packets_of_the_peer(self):
+        self.assertEqual(self.socket().verification_tag(), 0)
+        a, b = self.connected()
+        for source, target in ((a, b), (b, a)):
+            source.send(1, 51, b"hello")
+            packet = next(it.packet for it in source.events() if isinstance(it, dcsctp.SendPacket))
+            tag = target.verification_tag()
+            self.assertEqual(packet[4:8], tag.to_bytes(4, "big"))  # RFC 9260, section 3.1
+            self.assertNotEqual(tag, 0)
+        a.close()
+        self.assertEqual(a.verification_tag(), 0)
 
     def test_message_outlasts_its_association_by_follow_rfc(self):
         for follow_rfc in (True, False):

@@ -19,7 +19,7 @@ static void calls_without_socket(const char *name, dcsctp_socket *socket) {
     size_t size = 77;
     uint64_t moment = 77;
     uint16_t priority = 77;
-    uint32_t reasons = 77;
+    uint32_t reasons = 77, tag = 77;
     memset(bytes, 77, sizeof bytes);
     memset(before, 77, sizeof before);
     memset(&event, 77, sizeof event);
@@ -53,6 +53,7 @@ static void calls_without_socket(const char *name, dcsctp_socket *socket) {
         dcsctp_reset_streams(socket, &one_stream, 1),
         dcsctp_state(socket),
         dcsctp_has_failed(socket),
+        dcsctp_verification_tag(socket, &tag),
         dcsctp_buffered_amount(socket, 1, &size),
         dcsctp_buffered_amount_low_threshold(socket, 1, &size),
         dcsctp_set_buffered_amount_low_threshold(socket, 1, 5),
@@ -67,8 +68,8 @@ static void calls_without_socket(const char *name, dcsctp_socket *socket) {
         dcsctp_handover_bytes(socket, bytes, sizeof bytes, &size),
         dcsctp_restore_from_state(socket, before, sizeof before),
     };
-    /* All 36, but for version, get_default_options, create and destroy. */
-    EQUAL(name, sizeof results / sizeof results[0], 32);
+    /* All 37, but for version, get_default_options, create and destroy. */
+    EQUAL(name, sizeof results / sizeof results[0], 33);
     for (size_t i = 0; i < sizeof results / sizeof results[0]; i++)
         EQUAL(name, results[i], DCSCTP_ERROR_NO_SOCKET);
     EQUAL(name, size, 77);
@@ -76,6 +77,7 @@ static void calls_without_socket(const char *name, dcsctp_socket *socket) {
     EQUAL(name, moment, 77);
     EQUAL(name, priority, 77);
     EQUAL(name, reasons, 77);
+    EQUAL(name, tag, 77);
     EQUAL(name, streams[0], 77);
     EQUAL(name, streams[1], 77);
     EQUAL(name, memcmp(bytes, before, sizeof bytes), 0);

@@ -594,6 +594,7 @@ static void query(struct side *side) {
     const uint16_t stream_id = ONE_OF(numbers);
     size_t bytes;
     uint16_t priority;
+    uint32_t tag;
     uint64_t deadline;
     EXPECT("metrics",
            CALL_TO(1, side, 0, dcsctp_get_metrics, &metrics) == 0 || metrics.reserved == 0);
@@ -607,6 +608,9 @@ static void query(struct side *side) {
     CALL(side, 0, dcsctp_get_stream_priority, stream_id, &priority);
     CALL(side, 0, dcsctp_poll_timeout, &deadline);
     EXPECT("a deadline", side->has_failed || deadline >= now);
+    CALL(side, 0, dcsctp_verification_tag, &tag);
+    EXPECT("a tag", side->has_failed ||
+                        (tag == 0) == (dcsctp_state(&side->socket) == DCSCTP_STATE_CLOSED));
     metrics.size = counts.size = options.size = 1;
     CALL(side, MAY(WRONG_SIZE), dcsctp_get_metrics, &metrics);
     CALL(side, MAY(WRONG_SIZE), dcsctp_get_counts, &counts);

@@ -1,5 +1,5 @@
 /* Queries: they change nothing of a socket, even where it can't be written, and what was taken is shown where
- * it lies. What a socket has counted outlasts its association. */
+ * it lies. What a socket has counted outlasts its association. Its verification tag is that of the packets. */
 #define _GNU_SOURCE
 #include "pair.h"
 
@@ -11,7 +11,7 @@ static struct pair pair;
 
 /* What all queries of a socket return and write. */
 struct answers {
-    int32_t results[17];
+    int32_t results[18];
     uint64_t deadline;
     size_t ready, amount, threshold, bytes_length, streams_length, message_length, snapshot_length;
     size_t packet_length, payload_length;
@@ -19,7 +19,7 @@ struct answers {
     dcsctp_options options;
     dcsctp_metrics metrics;
     dcsctp_counts counts;
-    uint32_t reasons;
+    uint32_t reasons, tag;
     uint16_t priority, streams[4];
     uint8_t bytes[1500], message[1500], snapshot[5000];
 };
@@ -33,6 +33,7 @@ static struct answers ask(const dcsctp_socket *socket) {
     const int32_t results[] = {
         dcsctp_state(socket),
         dcsctp_has_failed(socket),
+        dcsctp_verification_tag(socket, &all.tag),
         dcsctp_poll_timeout(socket, &all.deadline),
         dcsctp_messages_ready_count(socket, &all.ready),
         dcsctp_buffered_amount(socket, 1, &all.amount),
@@ -217,10 +218,150 @@ static void counts(void) {
     destroy_pair(&pair);
 }
 
+/* ---- The verification tag ------------------------------------------------------------------- */
+
+enum { TAG = 4, FIRST_CHUNK = 12, INITIATE_TAG = 16 }; /* where a packet has them (RFC 9260, section 3) */
+enum { INIT = 1, INIT_ACK = 2, ABORT = 6, COOKIE_ECHO = 10 };
+
+/* The tag of an end: 0 where there is no association, and only there (RFC 9260, section 5.3.1). */
+static uint32_t tag_of(const struct end *end) {
+    uint32_t tag = 77;
+    EQUAL("a tag", dcsctp_verification_tag(&end->socket, &tag), DCSCTP_OK);
+    EQUAL("0 if closed", tag == 0, dcsctp_state(&end->socket) == DCSCTP_STATE_CLOSED);
+    return tag;
+}
+
+/* Takes the next packet of an end, which begins with this chunk and has this tag, and hands it to the other. */
+static void carry_one(const char *name, struct end *from, struct end *to, uint32_t chunk, uint32_t tag) {
+    take_packet(from);
+    EQUAL(name, from->packet[FIRST_CHUNK], chunk);
+    EQUAL(name, u32_at(from->packet + TAG), tag);
+    EQUAL(name, dcsctp_handle_input(&to->socket, from->packet, from->length), DCSCTP_OK);
+}
+
+/* Takes all events of an end. Each packet but an INIT has the tag of the other end, and is handed to it. Returns how
+ * many there were. */
+static size_t carry_tagged(struct end *from, struct end *to) {
+    size_t count = 0;
+    uint32_t kind;
+    while ((kind = take(from)) != DCSCTP_EVENT_NONE) {
+        if (kind != DCSCTP_EVENT_SEND_PACKET)
+            continue;
+        EQUAL("the tag of a packet", u32_at(from->packet + TAG),
+              from->packet[FIRST_CHUNK] == INIT ? 0 : tag_of(to));
+        EQUAL("handled", dcsctp_handle_input(&to->socket, from->packet, from->length), DCSCTP_OK);
+        count++;
+    }
+    return count;
+}
+
+/* Messages both ways, until no packet is left. Neither tag changes. */
+static void exchange_tagged(struct end *a, struct end *b) {
+    const uint32_t of_a = tag_of(a), of_b = tag_of(b);
+    EQUAL("send", send_bytes(a, 1, 3000), DCSCTP_OK);
+    EQUAL("send", send_bytes(b, 1, 3000), DCSCTP_OK);
+    size_t packets = 0, more;
+    while ((more = carry_tagged(a, b) + carry_tagged(b, a)) > 0)
+        packets += more;
+    EQUAL("packets", packets > 6, 1);
+    EQUAL("A's tag", tag_of(a), of_a);
+    EQUAL("B's tag", tag_of(b), of_b);
+}
+
+/* `a` connects to `b`, which is closed or has an association. The tag of `a` is that of its INIT. The tag of `b` is
+ * that of its INIT ACK, once the COOKIE ECHO has come (RFC 9260, sections 3.3.2, 3.3.3, 5.1 and 5.2.4). */
+static void connect_tagged(struct end *a, struct end *b) {
+    const uint32_t before = tag_of(b);
+    EQUAL("before", tag_of(a), 0);
+    EQUAL("connect", dcsctp_connect(&a->socket), DCSCTP_OK);
+    const uint32_t of_a = tag_of(a);
+    carry_one("INIT", a, b, INIT, 0);
+    EQUAL("the tag of an INIT", u32_at(a->packet + INITIATE_TAG), of_a);
+    EQUAL("an INIT changes no tag", tag_of(b), before);
+    carry_one("INIT ACK", b, a, INIT_ACK, of_a);
+    const uint32_t of_b = u32_at(b->packet + INITIATE_TAG);
+    EQUAL("another association", of_b != before, 1);
+    EQUAL("an INIT ACK changes no tag", tag_of(a), of_a);
+    carry_one("COOKIE ECHO", a, b, COOKIE_ECHO, of_b);
+    EQUAL("the tag of an INIT ACK", tag_of(b), of_b);
+    EQUAL("two tags", of_a != of_b, 1);
+    exchange_tagged(a, b);
+    EQUAL("connected", dcsctp_state(&a->socket), DCSCTP_STATE_CONNECTED);
+}
+
+/* In an association, after it, in the next, and after a restart of the peer. */
+static void tags_of_associations(const dcsctp_options *options) {
+    static struct end again;
+    create_pair(&pair, options, options);
+    connect_tagged(&pair.a, &pair.b);
+    EQUAL("close", dcsctp_close(&pair.a.socket), DCSCTP_OK);
+    EQUAL("closed", tag_of(&pair.a), 0);
+    carry_one("ABORT", &pair.a, &pair.b, ABORT, tag_of(&pair.b));
+    EQUAL("aborted", tag_of(&pair.b), 0);
+    settle(&pair);
+    connect_tagged(&pair.b, &pair.a);
+    EQUAL("A again", create(&again, options, 3, BEGIN), DCSCTP_OK);
+    connect_tagged(&again, &pair.b);
+    EQUAL("a restart", pair.b.seen[DCSCTP_EVENT_CONNECTION_RESTARTED], 1);
+    EQUAL("shutdown", dcsctp_shutdown(&pair.b.socket), DCSCTP_OK);
+    while (carry_tagged(&pair.b, &again) + carry_tagged(&again, &pair.b) > 0)
+        ;
+    EQUAL("shut down", tag_of(&again), 0);
+    EQUAL("shut down", tag_of(&pair.b), 0);
+    dcsctp_destroy(&again.socket);
+    destroy_pair(&pair);
+}
+
+/* Both ends connect, and each keeps the tag of its INIT (RFC 9260, section 5.2.1). */
+static void tags_of_both_that_connect(const dcsctp_options *options) {
+    create_pair(&pair, options, options);
+    EQUAL("connect", dcsctp_connect(&pair.a.socket), DCSCTP_OK);
+    EQUAL("connect", dcsctp_connect(&pair.b.socket), DCSCTP_OK);
+    const uint32_t of_a = tag_of(&pair.a), of_b = tag_of(&pair.b);
+    while (carry_tagged(&pair.a, &pair.b) + carry_tagged(&pair.b, &pair.a) > 0)
+        ;
+    EQUAL("connected", dcsctp_state(&pair.b.socket), DCSCTP_STATE_CONNECTED);
+    EQUAL("A's tag", tag_of(&pair.a), of_a);
+    EQUAL("B's tag", tag_of(&pair.b), of_b);
+    exchange_tagged(&pair.a, &pair.b);
+    destroy_pair(&pair);
+}
+
+/* It is handed over with its association. */
+static void tag_of_a_handover(const dcsctp_options *options) {
+    static struct end next;
+    uint8_t snapshot[5000];
+    size_t length = 0;
+    create_pair(&pair, options, options);
+    connect_tagged(&pair.a, &pair.b);
+    pass(&pair, 1 * SECONDS);
+    settle(&pair);
+    const uint32_t of_a = tag_of(&pair.a);
+    EQUAL("handover", dcsctp_get_handover_state_and_close(&pair.a.socket), DCSCTP_OK);
+    EQUAL("bytes", dcsctp_handover_bytes(&pair.a.socket, snapshot, sizeof snapshot, &length), DCSCTP_OK);
+    EQUAL("here", tag_of(&pair.a), 0);
+    EQUAL("another process", create(&next, options, 3, pair.now), DCSCTP_OK);
+    EQUAL("restore", dcsctp_restore_from_state(&next.socket, snapshot, length), DCSCTP_OK);
+    EQUAL("there", tag_of(&next), of_a);
+    exchange_tagged(&next, &pair.b);
+    dcsctp_destroy(&next.socket);
+    destroy_pair(&pair);
+}
+
+static void tags(void) {
+    dcsctp_options options = quiet_options();
+    for (options.follow_rfc = 0; options.follow_rfc <= 1; options.follow_rfc++) {
+        tags_of_associations(&options);
+        tags_of_both_that_connect(&options);
+        tag_of_a_handover(&options);
+    }
+}
+
 int main(void) {
     sockets_that_cant_be_written();
     without_copies();
     counts();
-    puts("queries: they change nothing, show what was taken, and count");
+    tags();
+    puts("queries: they change nothing, show what was taken, count, and name the tag of packets");
     return 0;
 }

@@ -247,7 +247,7 @@ static void compare_view(struct side *side, const uint8_t *bytes, size_t size, s
 static void query(struct side *side) {
     uint64_t moment = 0;
     size_t size;
-    uint32_t reasons;
+    uint32_t reasons, tag;
     dcsctp_metrics metrics;
     dcsctp_counts counts;
     dcsctp_options options;
@@ -258,6 +258,7 @@ static void query(struct side *side) {
     const long before = refusals;
     check(side, "poll_timeout", dcsctp_poll_timeout(&side->socket, &moment), 0, 0, before);
     check(side, "state", dcsctp_state(&side->socket), 3, 0, before);
+    check(side, "tag", dcsctp_verification_tag(&side->socket, &tag), 0, 0, before);
     check(side, "ready", dcsctp_messages_ready_count(&side->socket, &size), 0, 0, before);
     check(side, "metrics", dcsctp_get_metrics(&side->socket, &metrics), 1, 0, before);
     check(side, "counts", dcsctp_get_counts(&side->socket, &counts), 0, 0, before);

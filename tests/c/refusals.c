@@ -41,7 +41,7 @@ static void check_failed(struct end *end) {
     uint64_t moment;
     size_t size;
     uint16_t priority;
-    uint32_t reasons;
+    uint32_t reasons, tag;
     dcsctp_options options;
     dcsctp_metrics metrics;
     dcsctp_counts counts;
@@ -69,6 +69,7 @@ static void check_failed(struct end *end) {
     const long before = allocations;
     EQUAL("has_failed", dcsctp_has_failed(socket), 1);
     EQUAL("state", dcsctp_state(socket) >= DCSCTP_STATE_CLOSED, 1);
+    EQUAL("tag", dcsctp_verification_tag(socket, &tag), DCSCTP_OK);
     EQUAL("deadline", dcsctp_poll_timeout(socket, &moment), DCSCTP_OK);
     EQUAL("amount", dcsctp_buffered_amount(socket, 1, &size), DCSCTP_OK);
     EQUAL("threshold", dcsctp_buffered_amount_low_threshold(socket, 1, &size), DCSCTP_OK);

@@ -8,6 +8,7 @@ static void results(dcsctp_socket *socket, const dcsctp_options *options, uint8_
     const dcsctp_outgoing_message outgoing = {bytes, 5, 51, 1, 0};
     int32_t result;
     uint64_t moment;
+    uint32_t tag;
     dcsctp_event event;
     dcsctp_message message;
     dcsctp_random_seed(bytes);                                      /* warned */
@@ -32,6 +33,7 @@ static void results(dcsctp_socket *socket, const dcsctp_options *options, uint8_
     dcsctp_restore_from_state(socket, bytes, 5);                    /* warned */
     dcsctp_set_max_message_size(socket, 5);
     dcsctp_poll_timeout(socket, &moment);
+    dcsctp_verification_tag(socket, &tag);
     dcsctp_poll_event(socket, &event);
     dcsctp_get_next_message(socket, &message);
     dcsctp_destroy(socket);

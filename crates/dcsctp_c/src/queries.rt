@@ -1,6 +1,7 @@
 //! Queries. Each leaves its handle as it was, the two words too, so the header takes the socket as `const`.
 
 ghost use Rattle.std.specs.Prelude.{◌≡◌, min, length};
+ghost use Rattle.dcsctp_api.specs.spec.endpoint.Endpoint.{own_tag};
 ghost use Rattle.dcsctp_api.specs.spec.endpoint.TimeTurns.{next_moment};
 ghost use Rattle.dcsctp_api.specs.Calls.{stream_shown};
 ghost use Rattle.dcsctp_api.specs.Messages.{ready_messages};
@@ -38,6 +39,21 @@ pub extern "C" fn dcsctp_has_failed(handle: &mut Handle) -> i32
     } else {
         0
     }
+}
+
+/// Our own verification tag; 0 in the closed state.
+#[unsafe(no_mangle)]
+pub extern "C" fn dcsctp_verification_tag(handle: &mut Handle, tag: &mut u32) -> i32
+    ensures answer { Asked
+        (WritesAnswer (λ session told. told ≡ own_tag (view session).endpoint.core))
+        handle.old.slot.value tag.old result tag.new }
+    ensures same { handle.new ≡ handle.old }
+{
+    if !handle.is_open() {
+        return Status::NoSocket.number();
+    }
+    *tag = handle.slot.session().verification_tag();
+    Status::Done.number()
 }
 
 /// The socket's next deadline.

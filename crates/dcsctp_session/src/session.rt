@@ -1,6 +1,7 @@
 //! A session: a socket, and what was taken from it last.
 
 ghost use Rattle.std.specs.Prelude.{◌≡◌, min, length, Some};
+ghost use Rattle.dcsctp_core.specs.spec.endpoint.Endpoint.{own_tag};
 ghost use Rattle.dcsctp_core.specs.spec.endpoint.TimeTurns.{next_moment};
 ghost use Rattle.dcsctp_core.specs.spec.queues.SendQueue.{IsWellFormed};
 ghost use Rattle.dcsctp_core.specs.types.Setting.{stream_priority, stream_low_threshold};
@@ -239,6 +240,14 @@ impl Session {
         ensures { result ≡ (view self.now).failed }
     {
         self.socket.has_failed()
+    }
+
+    /// Our own verification tag, which the peer's packets carry (RFC 9260, sections 3.1 and 5.3.1); 0 in the
+    /// closed state.
+    pub fn verification_tag(&self) -> u32
+        ensures { result ≡ own_tag (view self.now).endpoint.core }
+    {
+        self.socket.verification_tag()
     }
 
     /// The options of the socket.

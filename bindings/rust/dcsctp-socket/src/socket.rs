@@ -306,6 +306,13 @@ impl Socket {
         unsafe { sys::dcsctp_has_failed(&self.0) == 1 }
     }
 
+    /// Our verification tag, which the peer's packets carry; 0 if the socket is closed.
+    pub fn verification_tag(&self) -> u32 {
+        let mut tag = 0;
+        unsafe { sys::dcsctp_verification_tag(&self.0, &mut tag) };
+        tag
+    }
+
     /// Sets `max_message_size`, for messages sent from now on.
     pub fn set_max_message_size(&mut self, bytes: usize) {
         unsafe { sys::dcsctp_set_max_message_size(&mut self.0, bytes) };

@@ -1,6 +1,6 @@
 //! Calls in any order, with any bytes: each returns, and no error comes that a `Socket` rules out.
 
-use dcsctp_socket::{Error, Event, Options, OutgoingMessage, SendOptions, Socket};
+use dcsctp_socket::{Error, Event, Options, OutgoingMessage, SendOptions, Socket, State};
 use std::collections::VecDeque;
 use std::time::Duration;
 
@@ -125,6 +125,7 @@ impl World {
     fn query(&mut self, at: usize) {
         let socket = &self.sockets[at];
         assert!(!socket.has_failed());
+        assert_eq!(socket.verification_tag() == 0, socket.state() == State::Closed);
         assert!(socket.poll_timeout().is_none_or(|it| it >= self.now[at]));
         assert!(socket.buffered_amount(1) <= 9000 + 3000);
         assert_eq!(socket.stream_priority(9), 256);

@@ -1,4 +1,5 @@
-//! What is left of an association that has ended: counts, messages that are ready, and its snapshot.
+//! What is left of an association that has ended: counts, messages that are ready, and its snapshot. Also the tag of an
+//! association, which is gone then.
 
 use dcsctp_socket::{random_seed, Counts, Error, Event, Options, SendOptions, Socket, State};
 use std::time::Duration;
@@ -83,6 +84,25 @@ fn counts_outlast_their_association() {
     };
     assert_eq!(a.counts(), expected(sent.0, sent.1, 3));
     assert_eq!(b.counts(), expected(sent.1, sent.0, 0));
+}
+
+#[test]
+fn verification_tag_is_that_of_the_packets_of_the_peer() {
+    assert_eq!(socket(&Options::default()).verification_tag(), 0);
+    let mut ends = connected(&Options::default());
+    for from in [0, 1] {
+        send(&mut ends[from], "hello");
+        let packet = ends[from].events().find_map(|it| match it {
+            Event::SendPacket(packet) => Some(packet),
+            _ => None,
+        });
+        // (RFC 9260, section 3.1)
+        let tag = ends[1 - from].verification_tag();
+        assert_eq!(packet.expect("a packet")[4..8], tag.to_be_bytes());
+        assert_ne!(tag, 0);
+    }
+    ends[0].close().expect("close");
+    assert_eq!(ends[0].verification_tag(), 0);
 }
 
 #[test]

@@ -280,6 +280,7 @@ extern "C" {
         -> i32;
     pub fn dcsctp_state(socket: *const dcsctp_socket) -> i32;
     pub fn dcsctp_has_failed(socket: *const dcsctp_socket) -> i32;
+    pub fn dcsctp_verification_tag(socket: *const dcsctp_socket, tag: *mut u32) -> i32;
     pub fn dcsctp_set_max_message_size(socket: *mut dcsctp_socket, bytes: usize) -> i32;
     pub fn dcsctp_get_options(socket: *const dcsctp_socket, options: *mut dcsctp_options) -> i32;
     pub fn dcsctp_get_metrics(socket: *const dcsctp_socket, metrics: *mut dcsctp_metrics) -> i32;

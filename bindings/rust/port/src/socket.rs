@@ -6,25 +6,12 @@ use crate::convert::{self, out_of_memory};
 use crate::snapshot;
 use dcsctp_socket as inner;
 use dcsctp_socket::Error;
-use std::collections::VecDeque;
 use std::time::Duration;
-
-/// Where a packet has the type of its first chunk, and an INIT its tag. An INIT is alone in its packet.
-const FIRST_CHUNK: usize = 12;
-const INITIATE_TAG: usize = 16;
-
-/// Where a packet has the tag of its receiver.
-const VERIFICATION_TAG: usize = 4;
-const COOKIE_ECHO: u8 = 10;
 
 /// A socket. The crate's page shows the order of calls.
 pub struct Socket {
     inner: inner::Socket,
     options: Options,
-    /// Events that were taken from the library to see `own_tag`.
-    events: VecDeque<SocketEvent>,
-    /// The verification tag of the last association, or attempt.
-    own_tag: u32,
 }
 
 impl Socket {
@@ -34,10 +21,7 @@ impl Socket {
     pub fn new(_name: &str, options: &Options) -> Self {
         let seed = inner::random_seed().expect("dcsctp: random numbers of /dev/urandom");
         match inner::Socket::new(&convert::options(options), &seed, Duration::ZERO) {
-            Ok(inner) => {
-                let options = options.clone();
-                Socket { inner, options, events: VecDeque::new(), own_tag: 0 }
-            }
+            Ok(inner) => Socket { inner, options: options.clone() },
             Err(Error::OutOfMemory) => out_of_memory(),
             Err(error) => panic!("dcsctp: {error}"),
         }
@@ -45,22 +29,7 @@ impl Socket {
 
     /// The verification tag of the packets that the peer sends; 0 if the socket is closed.
     pub fn verification_tag(&self) -> u32 {
-        if self.inner.state() == inner::State::Closed {
-            return 0;
-        }
-        self.own_tag
-    }
-
-    /// Makes a call that may begin an association. Returns the events that it has added.
-    fn added(
-        &mut self,
-        call: impl FnOnce(&mut inner::Socket) -> Result<(), Error>,
-    ) -> impl Iterator<Item = &SocketEvent> {
-        self.events.extend(self.inner.events().filter_map(convert::event));
-        let before = self.events.len();
-        done(call(&mut self.inner));
-        self.events.extend(self.inner.events().filter_map(convert::event));
-        self.events.range(before..)
+        self.inner.verification_tag()
     }
 }
 
@@ -73,14 +42,9 @@ fn done(result: Result<(), Error>) {
     }
 }
 
-fn word(packet: &[u8], at: usize) -> Option<u32> {
-    packet.get(at..)?.first_chunk().copied().map(u32::from_be_bytes)
-}
-
 impl DcSctpSocket for Socket {
     fn poll_event(&mut self) -> Option<SocketEvent> {
-        let next = self.events.pop_front();
-        next.or_else(|| self.inner.events().find_map(convert::event))
+        self.inner.events().find_map(convert::event)
     }
 
     fn get_next_message(&mut self) -> Option<Message> {
@@ -89,13 +53,7 @@ impl DcSctpSocket for Socket {
     }
 
     fn handle_input(&mut self, packet: &[u8]) {
-        if packet.get(FIRST_CHUNK) != Some(&COOKIE_ECHO) {
-            return done(self.inner.handle_input(packet));
-        }
-        let is_connected = |it: &SocketEvent| matches!(it, SocketEvent::OnConnected());
-        if self.added(|inner| inner.handle_input(packet)).any(is_connected) {
-            self.own_tag = word(packet, VERIFICATION_TAG).unwrap_or(0);
-        }
+        done(self.inner.handle_input(packet))
     }
 
     fn advance_time(&mut self, now: SocketTime) {
@@ -108,11 +66,7 @@ impl DcSctpSocket for Socket {
     }
 
     fn connect(&mut self) {
-        let init = self.added(inner::Socket::connect).find_map(|it| match it {
-            SocketEvent::SendPacket(packet) => word(packet, INITIATE_TAG),
-            _ => None,
-        });
-        self.own_tag = init.unwrap_or(self.own_tag)
+        done(self.inner.connect())
     }
 
     fn restore_from_state(&mut self, state: &SocketHandoverState) -> Result<(), RestoreError> {
@@ -123,10 +77,7 @@ impl DcSctpSocket for Socket {
             return Ok(());
         }
         match self.inner.restore_from_state(&snapshot::to_bytes(state, &self.options)) {
-            Ok(()) => {
-                self.own_tag = state.my_verification_tag;
-                Ok(())
-            }
+            Ok(()) => Ok(()),
             Err(Error::OutOfMemory | Error::Failed) => out_of_memory(),
             Err(error) => panic!("dcsctp: {error}"),
         }
