@@ -344,9 +344,10 @@ typedef struct dcsctp_socket {
  *     data, at longer timeouts                     up to 4 min      up to 4 min
  *     SHUTDOWN                                     up to 4 min      up to 4 min
  *
- *   So an association outlasts 150 s without a link, and then continues within 3 s. The price: a
- *   peer that is gone is noticed late, and while nothing is sent only after half an hour. Smaller
- *   `max_init_retransmits`, `max_retransmissions`, `heartbeat_interval` or
+ *   So an association outlasts 150 s without a link, and then continues within 3 s. With data in
+ *   flight and a stream reset that isn't answered it outlasts 80 s, since both count errors. The
+ *   price: a peer that is gone is noticed late, and while nothing is sent only after half an hour.
+ *   Smaller `max_init_retransmits`, `max_retransmissions`, `heartbeat_interval` or
  *   `max_timer_backoff_duration` make it shorter. With 10 as `max_retransmissions` it takes 330.5 s
  *   for a HEARTBEAT, and 27.5 s or 26.8 s for data: then 25 s without a link may end it.
  *   If `heartbeat_interval` is above 0 but no longer than `rto_initial`, no HEARTBEAT is an error.
@@ -488,9 +489,10 @@ void dcsctp_destroy(dcsctp_socket *socket) DCSCTP_CALL;
 int32_t dcsctp_connect(dcsctp_socket *socket) DCSCTP_CHECKED_CALL;
 
 /* Wait for DCSCTP_EVENT_CONNECTED before this call. Until the peer has answered the first INIT, it
- * sends nothing: DCSCTP_EVENT_CLOSED comes at once, and queued messages are lost. Later in the
- * handshake it shuts down as below, without DCSCTP_EVENT_CONNECTED. On a closed socket it does
- * nothing.
+ * sends nothing: DCSCTP_EVENT_CLOSED comes at once, and what is queued goes out in the next
+ * association. Later in the handshake it shuts down as below, without DCSCTP_EVENT_CONNECTED; but
+ * the COOKIE ECHO isn't sent again, and if it was lost, DCSCTP_EVENT_ABORTED comes after minutes.
+ * On a closed socket it does nothing.
  *
  * It ends the association in an orderly way. All data that was sent is acknowledged first. With
  * `follow_rfc` queued messages are sent before that, and the peer acknowledges what was abandoned,
@@ -505,9 +507,10 @@ int32_t dcsctp_connect(dcsctp_socket *socket) DCSCTP_CHECKED_CALL;
 int32_t dcsctp_shutdown(dcsctp_socket *socket) DCSCTP_CHECKED_CALL;
 
 /* Ends the association at once: an ABORT goes to the peer if it is known, and the last event is
- * DCSCTP_EVENT_CLOSED. Queued messages and data in flight are lost. Messages that are ready can
- * still be taken, also at the peer if it follows this rule; without `follow_rfc` they are lost. On
- * a closed socket it does nothing. Errors: NO_SOCKET, FAILED, OUT_OF_MEMORY. */
+ * DCSCTP_EVENT_CLOSED. Data in flight is lost; what is queued goes out in the next association.
+ * Messages that are ready can still be taken, also at the peer if it follows this rule; without
+ * `follow_rfc` they are lost. On a closed socket it does nothing.
+ * Errors: NO_SOCKET, FAILED, OUT_OF_MEMORY. */
 int32_t dcsctp_close(dcsctp_socket *socket) DCSCTP_CHECKED_CALL;
 
 /* ---- Packets and time ----------------------------------------------------------------------- */

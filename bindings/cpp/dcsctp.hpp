@@ -25,7 +25,7 @@
 //     }
 //
 // After `closed` continue for 4 s: dcsctp.h says why. Wait for `connected` before you call `shutdown`: until the peer has
-// answered the first INIT it sends nothing, and queued messages are lost.
+// answered the first INIT it sends nothing, and what is queued goes out in the next association.
 //
 // Errors are codes, not exceptions, and a compiler warns if you ignore one. Each is a std::error_code, too:
 //     if (auto error = socket.connect(); error != dcsctp::error::ok)

@@ -98,8 +98,9 @@ func (s *Socket) Shutdown() error {
 	return check(s.do(func(at *C.dcsctp_socket) C.int32_t { return C.dcsctp_shutdown(at) }))
 }
 
-// Close ends the association at once, by an ABORT: the last event is Closed. Queued messages and data in flight are
-// lost. Messages that are ready can still be taken; without FollowRFC they are lost. It doesn't free the socket.
+// Close ends the association at once, by an ABORT: the last event is Closed. Data in flight is lost; what is
+// queued goes out in the next association. Messages that are ready can still be taken; without FollowRFC they are lost.
+// It doesn't free the socket.
 // Errors: ErrNoSocket, ErrFailed, ErrOutOfMemory.
 func (s *Socket) Close() error {
 	return check(s.do(func(at *C.dcsctp_socket) C.int32_t { return C.dcsctp_close(at) }))

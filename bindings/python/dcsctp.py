@@ -923,16 +923,16 @@ class Socket:
 
     def shutdown(self) -> None:
         """Wait for `Connected` before this call: until the peer has answered the first INIT it sends nothing, and
-        queued messages are lost.
+        what is queued goes out in the next association.
 
         It ends the association in an orderly way: `Closed` follows, or `Aborted`. From now on `send` fails. Raises
         `NoSocket`, `Failed` and `OutOfMemory`."""
         self._do(_library.dcsctp_shutdown)
 
     def close(self) -> None:
-        """Ends the association at once, by an ABORT: the last event is `Closed`. Queued messages and data in flight are
-        lost. Messages that are ready can still be taken; without `follow_rfc` they are lost. Raises `NoSocket`,
-        `Failed` and `OutOfMemory`."""
+        """Ends the association at once, by an ABORT: the last event is `Closed`. Data in flight is lost; what is
+        queued goes out in the next association. Messages that are ready can still be taken; without `follow_rfc` they are
+        lost. Raises `NoSocket`, `Failed` and `OutOfMemory`."""
         self._do(_library.dcsctp_close)
 
     # Packets and time

@@ -70,7 +70,7 @@ impl Socket {
     }
 
     /// Wait for `Event::Connected` before this call: until the peer has answered the first INIT it sends nothing, and
-    /// queued messages are lost.
+    /// what is queued goes out in the next association.
     ///
     /// It ends the association in an orderly way: `Event::Closed` follows, or `Event::Aborted`. From now on `send`
     /// fails. On a closed socket it does nothing. Errors: `Failed`, `OutOfMemory`.
@@ -78,9 +78,9 @@ impl Socket {
         Error::check(unsafe { sys::dcsctp_shutdown(&mut self.0) })
     }
 
-    /// Ends the association at once, by an ABORT: the last event is `Event::Closed`. Queued messages and data in flight
-    /// are lost. Messages that are ready can still be taken; without `follow_rfc` they are lost. On a closed socket it
-    /// does nothing. Errors: `Failed`, `OutOfMemory`.
+    /// Ends the association at once, by an ABORT: the last event is `Event::Closed`. Data in flight is lost; what is
+    /// queued goes out in the next association. Messages that are ready can still be taken; without `follow_rfc` they are
+    /// lost. On a closed socket it does nothing. Errors: `Failed`, `OutOfMemory`.
     pub fn close(&mut self) -> Result<(), Error> {
         Error::check(unsafe { sys::dcsctp_close(&mut self.0) })
     }
