@@ -71,7 +71,7 @@ help:
 	@echo "make bench             instructions, beside those of docs/figures.md  5 min"
 	@echo "make check-browser     a page in Chromium uses data channels          1 min"
 	@echo "make check-usrsctp     programs for usrsctp run over this library     1 min"
-	@echo "make check-janus       Debian's Janus serves a text room over it      10 s"
+	@echo "make check-janus       Debian's Janus serves a text room over it      15 s"
 	@echo "make clean             removes out/"
 	@echo
 	@echo "Targets take the proved library where 'make prove' has built it, else the other;"

@@ -12,22 +12,17 @@ judges nothing.
 
 import argparse
 import asyncio
-import http.server
-import json
 import os
-import subprocess
 import sys
-import tempfile
-import threading
 
 import aiortc.rtcpeerconnection
 from aiortc import RTCConfiguration, RTCPeerConnection, RTCSessionDescription
 from aiortc.rtcsctptransport import RTCSctpCapabilities
 
+import chromium
 import dcsctp
 
 FOLDER = os.path.dirname(os.path.abspath(__file__))
-PATIENCE = 60  # seconds
 
 # Numbers of dcsctp.h.
 CONNECTED, CLOSED, ABORTED, ERROR = 2, 3, 5, 6
@@ -188,70 +183,7 @@ class Program:
             self.fail("aborted" if kind == ABORTED else "error")
 
 
-# ---- The page and its server --------------------------------------------------------------------
-
-
-def make_handler(page, loop, answer, result, finished):
-    """Serves the page of this file. It posts its offer and what it did. /finished answers after that: since the
-    page has it as an image, Chromium waits for it before it takes the screenshot."""
-
-    class Handler(http.server.BaseHTTPRequestHandler):
-        def reply(self, kind, body):
-            self.send_response(200)
-            self.send_header("Content-Type", kind)
-            self.send_header("Content-Length", str(len(body)))
-            self.end_headers()
-            self.wfile.write(body)
-
-        def do_GET(self):
-            if self.path == "/":
-                with open(page, "rb") as file:
-                    self.reply("text/html; charset=utf-8", file.read())
-            elif self.path == "/finished":
-                finished.wait(PATIENCE)
-                self.reply("image/svg+xml", b'<svg xmlns="http://www.w3.org/2000/svg"/>')
-            else:
-                self.send_error(404)
-
-        def do_POST(self):
-            body = json.loads(self.rfile.read(int(self.headers["Content-Length"])))
-            if self.path == "/offer":
-                made = asyncio.run_coroutine_threadsafe(answer(body), loop).result(PATIENCE)
-                self.reply("application/json", json.dumps(made).encode())
-            else:
-                loop.call_soon_threadsafe(result.set_result, body)
-                self.reply("application/json", b"{}")
-
-        def log_message(self, *words):
-            pass
-
-    return Handler
-
-
-async def run_page(url, result, screenshot, finished):
-    """Runs Chromium until it has taken a screenshot, and returns what the page has reported."""
-    with tempfile.TemporaryDirectory(ignore_cleanup_errors=True) as profile, tempfile.TemporaryFile() as log:
-        browser = subprocess.Popen(
-            ["chromium", "--headless=new", "--no-sandbox", "--disable-gpu", "--hide-scrollbars"]
-            + ["--enable-logging=stderr"]
-            + [f"--user-data-dir={profile}", "--window-size=760,480", f"--screenshot={screenshot}"]
-            + [url],
-            stdout=subprocess.DEVNULL,
-            stderr=log,
-        )
-        try:
-            reported = await asyncio.wait_for(result, PATIENCE)
-            finished.set()
-            await asyncio.to_thread(browser.wait, PATIENCE)
-            return reported
-        except asyncio.TimeoutError:
-            log.seek(0)
-            said = [line for line in log.read().decode(errors="replace").split("\n") if "CONSOLE" in line]
-            sys.exit("\n".join(["browser: the page reported nothing; its script may be wrong", *said]))
-        finally:
-            finished.set()
-            browser.terminate()
-            browser.wait()
+# ---- What both did -------------------------------------------------------------------------------
 
 
 def judge(program, steps):
@@ -270,7 +202,6 @@ async def main(channels, screenshot, page, pcap):
     """Runs the page of the example and judges it, or runs another one."""
     if pcap:
         open(pcap, "wb").close()  # fails now if it can't be written
-    loop = asyncio.get_running_loop()
     library, program = dcsctp.load(os.path.abspath(channels)), Program()
     aiortc.rtcpeerconnection.RTCSctpTransport = lambda transport: Transport(
         transport, library, program, pcap
@@ -282,19 +213,10 @@ async def main(channels, screenshot, page, pcap):
         await peer.setLocalDescription(await peer.createAnswer())
         return {"type": peer.localDescription.type, "sdp": peer.localDescription.sdp}
 
-    result, finished = loop.create_future(), threading.Event()
-    handler = make_handler(page or os.path.join(FOLDER, "index.html"), loop, answer, result, finished)
-    server = http.server.ThreadingHTTPServer(("127.0.0.1", 0), handler)
-    server.daemon_threads = True
-    threading.Thread(target=server.serve_forever, daemon=True).start()
     try:
-        url = f"http://127.0.0.1:{server.server_port}/"
-        steps = await run_page(url, result, os.path.abspath(screenshot), finished)
+        steps = await chromium.show(page or os.path.join(FOLDER, "index.html"), screenshot, answer=answer)
     finally:
         await peer.close()
-        server.shutdown()
-    for name, detail, right in steps:
-        print(f"page: {'right' if right else 'WRONG'}: {name}: {detail}")
     if page:
         return bool(program.failures)
     wrong = judge(program, steps)

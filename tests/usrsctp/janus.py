@@ -4,6 +4,7 @@
 """
 import asyncio
 import json
+import os
 import sys
 import urllib.request
 
@@ -58,7 +59,7 @@ async def visit():
             if it["textroom"] == word:
                 return it
 
-    join = {"textroom": "join", "transaction": "1", "room": 1234, "username": f"guest{names}"}
+    join = {"textroom": "join", "transaction": "1", "room": 1234, "username": f"guest{names}-{os.getpid()}"}
     channel.send(json.dumps(join))
     assert (await hear("success"))["transaction"] == "1"
     for text in ("hello", LONG):
