@@ -298,9 +298,10 @@ class Misuse(unittest.TestCase):
 
     def test_calls_in_any_order_return(self):
         chance = random.Random(1)
-        connected, raised = 0, set()
-        for _ in range(10):
-            sockets, packets, snapshot = [self.socket(), self.socket()], [[], []], b""
+        raised = set()
+        for run in range(10):
+            follow_rfc = run % 2 == 0
+            sockets, packets, snapshot = [self.socket(follow_rfc), self.socket(follow_rfc)], [[], []], b""
             for _ in range(1500):
                 at = chance.randrange(2)
                 name = chance.choice(list(CALLS) + ["poll_event", "packet"] * 25 + ["send"] * 8)
@@ -315,7 +316,7 @@ class Misuse(unittest.TestCase):
                     arguments = (chance.randrange(3), 53, bytearray(payload))
                 elif name == "restore_from_state" and chance.random() < 0.5:
                     sockets[at].destroy()
-                    sockets[at] = self.socket()
+                    sockets[at] = self.socket(follow_rfc)
                     arguments = (snapshot,)
                 try:
                     result = getattr(sockets[at], name)(*arguments)
@@ -324,10 +325,9 @@ class Misuse(unittest.TestCase):
                     continue
                 if isinstance(result, dcsctp.SendPacket):
                     packets[1 - at].append(result.packet)
-                connected += isinstance(result, dcsctp.Connected)
                 if isinstance(result, bytes):
                     snapshot = result
-        self.assertGreater(connected, 10)
+            self.connect_again(*sockets)
         for error in (dcsctp.EmptyPayload, dcsctp.MessageTooLarge, dcsctp.NotConnected, dcsctp.InvalidSnapshot):
             self.assertIn(error, raised)
         self.assertNotIn(dcsctp.NoSocket, raised)
@@ -356,8 +356,18 @@ class Misuse(unittest.TestCase):
                 thread.join()
             self.assertEqual(failures, [])
 
-    def socket(self):
-        return dcsctp.Socket(dcsctp.Options(max_message_size=5000, max_send_buffer_size=20000))
+    def connect_again(self, a, b):
+        """Whatever was before, two ends that have closed connect once no packet is under way."""
+        for socket in (a, b):
+            socket.close()
+            list(socket.events())
+        a.connect()
+        settle(a, b)
+        self.assertEqual((a.state(), b.state()), (dcsctp.State.CONNECTED, dcsctp.State.CONNECTED))
+
+    def socket(self, follow_rfc=True):
+        options = dcsctp.Options(max_message_size=5000, max_send_buffer_size=20000, follow_rfc=follow_rfc)
+        return dcsctp.Socket(options)
 
 
 def carry(source, target):
