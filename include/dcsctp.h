@@ -397,7 +397,9 @@ typedef struct dcsctp_socket {
  *   no reset was begun, and our pair and what both ends support stay. Parts of messages count 256
  *   bytes more in the receive window. Of a packet's HEARTBEATs, INITs and RE-CONFIG requests one is
  *   answered. A shutdown also waits for a message behind a reset of its stream, if it has no
- *   lifetime. At 0, and with upstream's limits (above), the socket behaves as upstream, but for a
+ *   lifetime. I-DATA while a SHUTDOWN awaits its answer brings another. A closed socket takes only
+ *   its own cookies. A restored association sends HEARTBEATs at once, not only once it sends data.
+ *   At 0, and with upstream's limits (above), the socket behaves as upstream, but for a
  *   few differences: docs/design/differences.md has a row for each, and for each rule. */
 typedef struct dcsctp_options {
     size_t size;                                         /* sizeof(dcsctp_options) */

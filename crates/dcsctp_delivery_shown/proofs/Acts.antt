@@ -160,7 +160,7 @@ module _ (law : ChunksAreControlled) (kinds : Capabilities) where
       → EndpointIs kinds e → AllOpenFitting turns → AlongTurns Known e turns → AdmittedTurns e packet admission turns → ActIs kinds e turns
   admitted_act mine e packet all_chunks [] own are allowed h fit known taken = absurd taken
   admitted_act mine e packet all_chunks (t ∷ turns) own are allowed h fit known taken =
-      one_then kinds e t turns (subst IsCalm (sym taken.0.is) tt, tt) known.0 h (ap identity_in (begin_core e e.core (has_data_chunk packet.contents) t.outcome taken.0.comes))
+      one_then kinds e t turns (subst IsCalm (sym taken.0.is) tt, tt) known.0 h (ap identity_in (begin_core e e.core (has_data_chunk e.options.follow_rfc packet.contents) t.outcome taken.0.comes))
       (λ is. whole_act t.outcome.after packet.tag packet.contents turns
       (contents_of mine t.outcome.after.options packet.contents (same_after mine e.options t.outcome.after.options own known.0.1.options) are) allowed is fit.1 known.1 taken.1)
   admitted_act mine e packet shutdown_acks_alone turns own are allowed h fit known taken =

@@ -91,7 +91,7 @@ admitted_open law e packet all_chunks [] h good taken = absurd taken
 admitted_open law e packet all_chunks (t ∷ turns) h good taken = (
   input_opens e (packet_begins packet.contents) t tt taken.0,
   fit_open turns (chunk_turns_fit law t.outcome.after packet.tag packet.contents (packet_ends ∷ []) turns taken.1
-      (begun_fits e e.core (has_data_chunk packet.contents) t.outcome h taken.0.comes) good.tag good.contents packet_end_fits).turns_fit,
+      (begun_fits e e.core (has_data_chunk e.options.follow_rfc packet.contents) t.outcome h taken.0.comes) good.tag good.contents packet_end_fits).turns_fit,
 )
 admitted_open law e packet shutdown_acks_alone turns h good taken =
     fit_open turns (chunk_turns_fit law e packet.tag (shutdown_acks_in packet.contents) [] turns taken h good.tag (acks_sendable packet.contents good.contents) nothing_ends).turns_fit

@@ -204,7 +204,7 @@ module _ (never_resets : Bool) (options : Options) (e : Endpoint) (queued : List
           chunks_go emission.packet.contents begun.outcome.after (after_effects begun.outcome.effects their_past) (reading_after d begun.input begun.outcome.after reading) emission.packet.tag (packet_ends ∷ []) turns first new.4 (inr refl) (inl none) taken.1
       by_data first table (inr (free, was)) =
           tagged_go emission.packet.contents refl begun.outcome.after (after_effects begun.outcome.effects their_past) (reading_after d begun.input begun.outcome.after reading) turns first new.4 go
-          (λ front. ap own_tag (begin_core d d.core (has_data_chunk emission.packet.contents) begun.outcome taken.0.comes) ∙ sym (addressed_tags_are_own d.core emission.packet free front admitted)) taken.1
+          (λ front. ap own_tag (begin_core d d.core (has_data_chunk d.options.follow_rfc emission.packet.contents) begun.outcome taken.0.comes) ∙ sym (addressed_tags_are_own d.core emission.packet free front admitted)) taken.1
 
   refused_go : (d : Endpoint) (their_past : List Effect) (reading : Reading) (text : List ℕ) (turns : List Transition) → Have d their_past reading → AreNewTags options their_past past d turns → Turns d (refusal text ∷ []) turns
       → Leave d their_past reading turns

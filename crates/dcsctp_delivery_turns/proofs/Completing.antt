@@ -258,7 +258,7 @@ module _ (my : Pair) (number : ℕ) where
   turn_ends e arrival o may turn has = absurd (same_none o _ turn (λ h. h) has)
   turn_ends e (refusal text) o may turn has = absurd (same_none o _ turn (λ h. h) has)
   turn_ends e (packet_begins contents) o may turn has =
-      elim (begin_stands e e.core (has_data_chunk contents) o refl turn) [
+      elim (begin_stands e e.core (has_data_chunk e.options.follow_rfc contents) o refl turn) [
         | inl stays ↦ absurd (same_none o _ stays (λ h. h) has)
         | inr acts ↦ absurd (by_act e shutdown_repeats o acts has)
       ]

@@ -102,7 +102,7 @@ module _ (noted : Effect) (Is : Core → Type 0) (undrawn : (pair : Pair) → no
   turn_stays e arrival o may turn has = same_none o _ turn (λ h. h) has
   turn_stays e (refusal text) o may turn has = same_none o _ turn (λ h. h) has
   turn_stays e (packet_begins contents) o may turn has =
-      elim (begin_stands e e.core (has_data_chunk contents) o refl turn) [
+      elim (begin_stands e e.core (has_data_chunk e.options.follow_rfc contents) o refl turn) [
         | inl stays ↦ same_none o _ stays (λ h. h) has
         | inr acts ↦ by_act e shutdown_repeats o acts has
       ]

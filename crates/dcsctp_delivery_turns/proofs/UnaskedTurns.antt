@@ -161,7 +161,7 @@ act_asks e (acts.request_renewed reset) o may turn = absurd may
 pub calm_turns : (e : Endpoint) (input : Input) (o : Outcome) → IsCalm (came_by input) → IsCall input → Turn e input o → CalmTurns (came_by input) e o
 calm_turns e arrival o calm may turn = goes_on (as_this e.queues.transfer o _ turn (said e _ tt refl))
 calm_turns e (refusal text) o calm may turn = goes_on (as_this e.queues.transfer o _ turn (said e _ tt refl))
-calm_turns e (packet_begins contents) o calm may turn = goes_on (begin_asks e e.core (has_data_chunk contents) o turn)
+calm_turns e (packet_begins contents) o calm may turn = goes_on (begin_asks e e.core (has_data_chunk e.options.follow_rfc contents) o turn)
 calm_turns e (chunk_input tag content) o calm may turn = content_calm e tag content o calm turn
 calm_turns e packet_ends o calm may turn = goes_on (end_asks e e.queues.transfer o refl turn)
 calm_turns e (act_input act) o calm may turn = goes_on (act_asks e act o may turn)

@@ -51,7 +51,7 @@ abbrev begun : {R : Type 0} → PacketContent → View R → Transition
 begun packet view = transition (packet_begins (packet_in packet).contents) (begin_turn packet view)
 
 begun_is : {R : Type 0} (packet : PacketContent) (view : View R) → IsTurn view.endpoint (packet_begins (packet_in packet).contents) (begun packet view)
-begun_is packet view = record { is = refl; comes = begins view (has_data_chunk (packet_in packet).contents) }
+begun_is packet view = record { is = refl; comes = begins view (has_data_chunk view.endpoint.options.follow_rfc (packet_in packet).contents) }
 
 repeated_keeps : (e : Endpoint) (phase : OpenPhase) (my : Pair) (held : Held) → (repeated_in e phase my held).after.options ≡ e.options
 repeated_keeps e established my held = refl
@@ -71,7 +71,7 @@ begun_keeps view true = answer_keeps view.endpoint view.endpoint.core
 begun_keeps view false = refl
 
 begun_ports : {R : Type 0} (packet : PacketContent) (view : View R) → ports_of (begin_turn packet view).after.options ≡ ports_of view.endpoint.options
-begun_ports packet view = ap ports_of (begun_keeps view (has_data_chunk (packet_in packet).contents))
+begun_ports packet view = ap ports_of (begun_keeps view (has_data_chunk view.endpoint.options.follow_rfc (packet_in packet).contents))
 
 pub worked_whole : {R : Type 0} (stream : R → Stream) (a b c : View R) (packet : PacketContent) → Moves stream a (begin_turn packet a) b → ChunksMove stream packet b c → WholeMoves stream packet a c
 worked_whole stream a b c packet first rest =

@@ -55,7 +55,7 @@ packet_begun true view = shutdown_answer_turn view
 packet_begun false view = still view.endpoint
 
 abbrev pub begin_turn : {R : Type 0} → PacketContent → View R → Outcome
-begin_turn packet view = packet_begun (has_data_chunk (packet_in packet).contents) view
+begin_turn packet view = packet_begun (has_data_chunk view.endpoint.options.follow_rfc (packet_in packet).contents) view
 
 -- the turns of a packet's chunks, and of its end
 abbrev pub ChunksToEnd : Endpoint → Packet → List Transition → Type 0

@@ -59,12 +59,25 @@ fn handle_chunks<R: Rng>(
     Ok(())
 }
 
-// Is there a DATA chunk among these?
-fn has_data(chunks: &[Chunk<'_>]) -> bool
-    ensures { result ≡ has_data_chunk (map content_in (map chunk_content chunks.now)) }
+// Is this DATA, or with `Options::follow_rfc` I-DATA?
+fn is_data(follows_rfc: bool, chunk: &Chunk<'_>) -> bool
+    ensures { result ≡ has_data_chunk follows_rfc (content_in (chunk_content chunk.now) ∷ []) }
+{
+    if let Chunk::Data(_) = chunk {
+        return true;
+    }
+    if let Chunk::IData(_) = chunk {
+        return follows_rfc;
+    }
+    false
+}
+
+// Is there data among these? With `Options::follow_rfc` I-DATA counts, too.
+fn has_data(follows_rfc: bool, chunks: &[Chunk<'_>]) -> bool
+    ensures { result ≡ has_data_chunk follows_rfc (map content_in (map chunk_content chunks.now)) }
 {
     for chunk in chunks {
-        if let Chunk::Data(_) = chunk {
+        if is_data(follows_rfc, chunk) {
             return true;
         }
     }
@@ -77,7 +90,7 @@ fn begin_packet<R: Rng>(context: &mut Context<R>, packet: &SctpPacket<'_>) -> Re
     ensures { Tries R.stream (begin_turn (packet_content packet.now)) context.old result
         context.new }
 {
-    if has_data(&packet.chunks) {
+    if has_data(context.options.follow_rfc, &packet.chunks) {
         answer_data(context)?;
     }
     Ok(())

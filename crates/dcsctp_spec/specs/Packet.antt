@@ -3,7 +3,7 @@ use Rattle.std.specs.Prelude.{ℕ, Bool, true, false, Option, None, Some, List, 
 use Rattle.dcsctp_types.specs.declared.association.Pair.{Pair}
 use Rattle.dcsctp_types.specs.Settings.{Ports}
 use Rattle.dcsctp_types.specs.Offer.{Offer, offer_parameters, offer_announced}
-use Rattle.dcsctp_types.specs.wire.Content.{ParameterContent, state_cookie, InitContent, ChunkContent, data_chunk, init_chunk, init_ack_chunk, heartbeat_chunk, heartbeat_ack_chunk, abort_chunk, shutdown_chunk, shutdown_ack_chunk, error_chunk, cookie_echo_chunk, cookie_ack_chunk, shutdown_complete_chunk, re_config_chunk, unknown_chunk, PacketContent}
+use Rattle.dcsctp_types.specs.wire.Content.{ParameterContent, state_cookie, InitContent, ChunkContent, data_chunk, i_data_chunk, init_chunk, init_ack_chunk, heartbeat_chunk, heartbeat_ack_chunk, abort_chunk, shutdown_chunk, shutdown_ack_chunk, error_chunk, cookie_echo_chunk, cookie_ack_chunk, shutdown_complete_chunk, re_config_chunk, unknown_chunk, PacketContent}
 use Rattle.dcsctp_types.specs.wire.Spelling.{packet_bytes}
 use Rattle.dcsctp_spec.specs.endpoint.Cause.{Cause}
 use Rattle.dcsctp_spec.specs.Reconfiguration.{ResetParameter, reset_parameter_content, reset_parameter_in}
@@ -27,13 +27,14 @@ pub data Plain : Type 0 where
   -- any other kind, as it is in its packet: data, SACK and ERROR are recognized by it, and the others aren't handled
   unworked : ChunkContent → Plain
 
--- is it a DATA chunk?
-abbrev pub is_data : Plain → Bool
-is_data (unknown type flags value) = false
-is_data (heartbeat parameters) = false
-is_data (heartbeat_ack parameters) = false
-is_data (unworked (data_chunk chunk)) = true
-is_data (unworked chunk) = false
+-- Is it DATA? By the RFC I-DATA is data, too (RFC 8260, section 2.1).
+abbrev pub is_data : Bool → Plain → Bool
+is_data follows_rfc (unknown type flags value) = false
+is_data follows_rfc (heartbeat parameters) = false
+is_data follows_rfc (heartbeat_ack parameters) = false
+is_data follows_rfc (unworked (data_chunk chunk)) = true
+is_data follows_rfc (unworked (i_data_chunk chunk)) = follows_rfc
+is_data follows_rfc (unworked chunk) = false
 
 -- an ERROR chunk (RFC 9260, section 3.3.10)
 abbrev pub error_of : List Cause → Plain

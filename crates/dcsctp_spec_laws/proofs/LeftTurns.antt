@@ -126,7 +126,7 @@ takes input = false
 pub turn_leaves : (e : Endpoint) (input : Input) (o : Outcome) → takes input ≡ false → IsOwnInput input → Turn e input o → LeavesIn e o
 turn_leaves e arrival o other own turn = subst (LeavesIn e) (sym turn) (inl (record { left = refl; there = refl; last = refl }))
 turn_leaves e (refusal text) o other own turn = subst (LeavesIn e) (sym turn) (inl (unmoved e))
-turn_leaves e (packet_begins contents) o other own turn = inl (begin_stays e e.core (has_data_chunk contents) o turn)
+turn_leaves e (packet_begins contents) o other own turn = inl (begin_stays e e.core (has_data_chunk e.options.follow_rfc contents) o turn)
 turn_leaves e (chunk_input tag content) o other own turn = content_leaves e tag content o turn
 turn_leaves e packet_ends o other own turn = inl (end_stays e o turn)
 turn_leaves e (act_input act) o other own turn = act_leaves e act o own turn

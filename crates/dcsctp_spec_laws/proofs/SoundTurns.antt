@@ -157,7 +157,7 @@ pub turn_sound : (e : Endpoint) (input : Input) (t : Transition) → MaySound in
 turn_sound e arrival t may turn h = subst SoundAfter (sym turn.comes) h
 turn_sound e (refusal text) t may turn h = subst SoundAfter (sym turn.comes) h
 turn_sound e (packet_begins contents) t may turn h =
-    elim (begin_stands e e.core (has_data_chunk contents) t.outcome refl turn.comes) [ inl rests ↦ subst SoundAfter (sym rests) h | inr acts ↦ by_act e shutdown_repeats t.outcome tt acts h ]
+    elim (begin_stands e e.core (has_data_chunk e.options.follow_rfc contents) t.outcome refl turn.comes) [ inl rests ↦ subst SoundAfter (sym rests) h | inr acts ↦ by_act e shutdown_repeats t.outcome tt acts h ]
 turn_sound e (chunk_input tag content) t may turn h = chunk_turn_sound e tag content t.outcome may turn.comes h
 turn_sound e packet_ends t may turn h = by_act e flushes t.outcome tt (flushed_act e t.outcome (end_at e e.queues.transfer t.outcome turn.comes)) h
 turn_sound e (act_input act) t may turn h = act_turn_sound e act t.outcome turn.comes h

@@ -188,7 +188,7 @@ whole_delivered : PacketsAreControlled → AdmittedPacketsMayBeHandled → (e : 
     → WholeTurns e packet ts → FitsBehind packet.contents ts → DeliversPacket e packet ts
 whole_delivered law may e packet [] is turns fitting = absurd turns
 whole_delivered law may e packet (begun ∷ ts) is turns fitting =
-    let before : StandsBefore e begun.outcome = stands_before e (has_data_chunk packet.contents) begun.outcome turns.0.comes in
+    let before : StandsBefore e begun.outcome = stands_before e (has_data_chunk e.options.follow_rfc packet.contents) begun.outcome turns.0.comes in
     whole begun ts (record {
       before = before;
       worked = law begun.outcome.after packet.tag packet.contents (packet_ends ∷ []) ts turns.1 fitting;

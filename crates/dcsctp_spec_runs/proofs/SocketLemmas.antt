@@ -31,7 +31,7 @@ begin_keeps e has o turn = elim (begin_stands e e.core has o refl turn) [ inl re
 turn_keeps : (e : Endpoint) (input : Input) (o : Outcome) → Turn e input o → SameOptions e.options o.after.options
 turn_keeps e arrival o turn = same_of_equal e.options o.after.options (ap (λ (x : Outcome). x.after.options) turn)
 turn_keeps e (refusal text) o turn = same_of_equal e.options o.after.options (ap (λ (x : Outcome). x.after.options) turn)
-turn_keeps e (packet_begins contents) o turn = begin_keeps e (has_data_chunk contents) o turn
+turn_keeps e (packet_begins contents) o turn = begin_keeps e (has_data_chunk e.options.follow_rfc contents) o turn
 turn_keeps e (chunk_input tag content) o turn = content_keeps_options e tag content o turn
 turn_keeps e packet_ends o turn = kept_by_act e flushes o (flushed_act e o (end_at e e.queues.transfer o turn))
 turn_keeps e (act_input act) o turn = kept_by_act e act o (acts_are_controlled e act o turn)

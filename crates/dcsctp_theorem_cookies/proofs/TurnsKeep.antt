@@ -115,7 +115,7 @@ module _ (rules : Rules) where
   input_keeps chunks acts e made arrival t turn h k = same_as t.outcome _ turn.comes (record { sent = tt; core = h })
   input_keeps chunks acts e made (refusal text) t turn h k = same_as t.outcome _ turn.comes (record { sent = (tt, tt); core = h })
   input_keeps chunks acts e made (packet_begins contents) t turn h k =
-      elim (begin_stands e e.core (has_data_chunk contents) t.outcome refl turn.comes) [
+      elim (begin_stands e e.core (has_data_chunk e.options.follow_rfc contents) t.outcome refl turn.comes) [
         | inl rests ↦ same_as t.outcome (still e) rests (record { sent = tt; core = h })
         | inr begun ↦ by_act e shutdown_repeats t.outcome begun h
       ]

@@ -135,7 +135,7 @@ keeps_from e input o same few =
 turn_counts : (e : Endpoint) (input : Input) (t : Transition) → IsTurn e input t → KeepsBurst e input t.outcome
 turn_counts e arrival t turn = subst (Few 0) (sym turn.comes) (none 0)
 turn_counts e (refusal text) t turn = subst (Few 0) (sym turn.comes) (none 0)
-turn_counts e (packet_begins contents) t turn = begin_few e e.core (has_data_chunk contents) t.outcome turn.comes
+turn_counts e (packet_begins contents) t turn = begin_few e e.core (has_data_chunk e.options.follow_rfc contents) t.outcome turn.comes
 turn_counts e (chunk_input tag content) t turn =
     keeps_from e (chunk_input tag content) t.outcome (content_keeps_options e tag content t.outcome turn.comes) (chunk_counts e tag content t.outcome turn.comes)
 turn_counts e packet_ends t turn =

@@ -97,7 +97,7 @@ behind_begin : (e : Endpoint) (tag : ℕ) (content : Content) (begun : Transitio
 behind_begin e tag content begun turns is h = subst (λ (t : Transition). OneChunk t.outcome.after tag content turns) is h
 
 worked_alone : (e : Endpoint) (tag : ℕ) (content : Content) (counted : Transition) (turns : List Transition) → counted ≡ transition arrival (arrival_outcome e)
-    → ((o : Outcome) → BeginTurn counted.outcome.after counted.outcome.after.core (has_data_chunk (content ∷ [])) o → o ≡ still counted.outcome.after)
+    → ((o : Outcome) → BeginTurn counted.outcome.after counted.outcome.after.core (has_data_chunk counted.outcome.after.options.follow_rfc (content ∷ [])) o → o ≡ still counted.outcome.after)
     → WholeTurns counted.outcome.after (record { tag = tag; contents = content ∷ [] }) turns → Taken e tag content (counted ∷ turns)
 worked_alone e tag content counted [] is rests turns = absurd turns
 worked_alone e tag content counted (begun ∷ ts) is rests turns =
@@ -114,7 +114,7 @@ worked_alone e tag content counted (begun ∷ ts) is rests turns =
 
 pub taken : Wire → (e : Endpoint) (theirs : Options) (with_checksum : Bool) (tag : ℕ) (content : Content) (turns : List Transition)
     → IsTaken e.options theirs with_checksum tag content → admits e.core (record { tag = tag; contents = content ∷ [] }) ≡ all_chunks
-    → ((counted : Endpoint) (o : Outcome) → BeginTurn counted e.core (has_data_chunk (content ∷ [])) o → o ≡ still counted)
+    → ((counted : Endpoint) (o : Outcome) → BeginTurn counted e.core (has_data_chunk counted.options.follow_rfc (content ∷ [])) o → o ≡ still counted)
     → HandleInput e (emission_bytes (ports_of theirs) (alone with_checksum tag content)) turns → Taken e tag content turns
 taken law e theirs with_checksum tag content turns h admitted rests (unreadable ts none reads) = absurd (none _ (is_read law e.options theirs with_checksum tag content h))
 taken law e theirs with_checksum tag content turns h admitted rests (readable packet counted ts is_packet counting reads) =
@@ -125,4 +125,4 @@ taken law e theirs with_checksum tag content turns h admitted rests (readable pa
     let counts : counted ≡ transition arrival (arrival_outcome e) = turned_as counted arrival (arrival_outcome e) counting.is counting.comes in
     let same_core : counted.outcome.after.core ≡ e.core = ap (λ (t : Transition). t.outcome.after.core) counts in
     worked_alone e tag content counted ts counts
-    (λ o begin. rests counted.outcome.after o (subst (λ (c : Core). BeginTurn counted.outcome.after c (has_data_chunk (content ∷ [])) o) same_core begin)) worked
+    (λ o begin. rests counted.outcome.after o (subst (λ (c : Core). BeginTurn counted.outcome.after c (has_data_chunk counted.outcome.after.options.follow_rfc (content ∷ [])) o) same_core begin)) worked

@@ -158,7 +158,7 @@ turn_ends : EndLaws → (e : Endpoint) (input : Input) (t : Transition) → IsTu
 turn_ends law e arrival t h = same_ends t _ h.comes nothing_ended
 turn_ends law e (refusal text) t h = same_ends t _ h.comes nothing_ended
 turn_ends law e (packet_begins contents) t h =
-    elim (begin_stands e e.core (has_data_chunk contents) t.outcome refl h.comes) [ inl rests ↦ same_ends t _ rests nothing_ended | inr acts ↦ by_act law.answers e shutdown_repeats t acts ]
+    elim (begin_stands e e.core (has_data_chunk e.options.follow_rfc contents) t.outcome refl h.comes) [ inl rests ↦ same_ends t _ rests nothing_ended | inr acts ↦ by_act law.answers e shutdown_repeats t acts ]
 turn_ends law e (chunk_input tag content) t h = chunk_ends law.answers e tag content t h
 turn_ends law e packet_ends t h = by_act law.answers e flushes t (flushed_act e t.outcome (end_at e e.queues.transfer t.outcome h.comes))
 turn_ends law e (act_input act) t h = by_act law.answers e act t (law.acts e act t.outcome h.comes)

@@ -149,11 +149,11 @@ whole_moves : Below → (options : Options) (turns : List Transition) (side : Si
 whole_moves law options turns side theirs packet [] is h was_sent good taken = absurd taken
 whole_moves law options turns side theirs packet (begun ∷ more) is h was_sent good taken =
     let e : Endpoint = endpoint_after options turns in
-    elim (begin_stands e e.core (has_data_chunk packet.contents) begun.outcome refl taken.0.comes) [
+    elim (begin_stands e e.core (has_data_chunk e.options.follow_rfc packet.contents) begun.outcome refl taken.0.comes) [
       | inl nothing ↦ rests_then options turns side theirs (begun ∷ []) more
           (behind_begun law options turns side theirs packet begun more is (follow_nothing options turns side begun h nothing) was_sent good taken.1)
       | inr repeats ↦ begun_by_act law options turns side theirs packet begun more is h was_sent good repeats
-          (begin_fits e e.core (has_data_chunk packet.contents) begun.outcome h.fits h.fits.core taken.0.comes) taken.1
+          (begin_fits e e.core (has_data_chunk e.options.follow_rfc packet.contents) begun.outcome h.fits h.fits.core taken.0.comes) taken.1
     ]
 
 admitted_moves : Below → (options : Options) (turns : List Transition) (side : SideState) (theirs : List Effect) (packet : Packet) (admission : Admission) (more : List Transition)

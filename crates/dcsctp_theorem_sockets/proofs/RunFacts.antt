@@ -113,7 +113,7 @@ ended_in_progress e h = elim (h.completed mine 1 (inl refl)) [ inl is ↦ is.1 |
 
 -- It is a call of its turns.
 gives : Wire → (e : Endpoint) (other : Options) (with_checksum : Bool) (tag : ℕ) (content : Content) (o : Outcome) → IsTaken e.options other with_checksum tag content
-    → admits e.core (record { tag = tag; contents = content ∷ [] }) ≡ all_chunks → BeginTurn (counted_at e) e.core (has_data_chunk (content ∷ [])) (still (counted_at e))
+    → admits e.core (record { tag = tag; contents = content ∷ [] }) ≡ all_chunks → BeginTurn (counted_at e) e.core (has_data_chunk e.options.follow_rfc (content ∷ [])) (still (counted_at e))
     → ContentTurn (counted_at e) tag content o → o.following ≡ next_chunk → OwesNothing o.after.queues.transfer → HandleInput e (emission_bytes (ports_of other) (alone with_checksum tag content)) (delivered e tag content o)
 gives law e other with_checksum tag content o h admitted begun comes goes_on owes =
     let packet : Packet = record { tag = tag; contents = content ∷ [] } in

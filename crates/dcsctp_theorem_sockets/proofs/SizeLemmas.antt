@@ -62,7 +62,7 @@ KeepsSize limit e t = AtLimit limit e → TurnSizes limit t.outcome
 turn_sizes : (limit : ℕ) (e : Endpoint) (input : Input) (t : Transition) → MayBe input → IsTurn e input t → KeepsSize limit e t
 turn_sizes limit e arrival t may turn h = subst (TurnSizes limit) (sym turn.comes) (h, tt)
 turn_sizes limit e (refusal text) t may turn h = subst (TurnSizes limit) (sym turn.comes) (h, tt)
-turn_sizes limit e (packet_begins contents) t may turn h = begin_sizes limit e e.core (has_data_chunk contents) t.outcome turn.comes h
+turn_sizes limit e (packet_begins contents) t may turn h = begin_sizes limit e e.core (has_data_chunk e.options.follow_rfc contents) t.outcome turn.comes h
 turn_sizes limit e (chunk_input tag content) t may turn h = chunk_sizes limit e tag content t.outcome turn.comes h
 turn_sizes limit e packet_ends t may turn h = end_sizes limit e e.queues.transfer t.outcome turn.comes h
 turn_sizes limit e (act_input act) t may turn h = act_sizes limit e act t.outcome may turn.comes h

@@ -79,7 +79,7 @@ turn_moves : MoveLaws → (e : Endpoint) (input : Input) (t : Transition) → Is
 turn_moves law e arrival t h valid = rests_as e t _ h.comes refl refl refl refl
 turn_moves law e (refusal text) t h valid = rests_as e t _ h.comes refl refl refl refl
 turn_moves law e (packet_begins contents) t h valid =
-    elim (begin_stands e e.core (has_data_chunk contents) t.outcome refl h.comes) [ inl rests ↦ rests_as e t _ rests refl refl refl refl | inr acts ↦ moves_by_act e shutdown_repeats t acts ]
+    elim (begin_stands e e.core (has_data_chunk e.options.follow_rfc contents) t.outcome refl h.comes) [ inl rests ↦ rests_as e t _ rests refl refl refl refl | inr acts ↦ moves_by_act e shutdown_repeats t acts ]
 turn_moves law e (chunk_input tag content) t h valid = chunk_moves law.chunks e tag content t h valid
 turn_moves law e packet_ends t h valid = moves_by_act e flushes t (flushed_act e t.outcome (end_at e e.queues.transfer t.outcome h.comes))
 turn_moves law e (act_input act) t h valid = moves_by_act e act t (law.acts e act t.outcome h.comes)

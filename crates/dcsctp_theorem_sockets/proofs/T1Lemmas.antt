@@ -93,7 +93,7 @@ act_up e (request_renewed reset) o may turn h = absurd may
 turn_up : (e : Endpoint) (input : Input) (t : Transition) → MayBe input → IsTurn e input t → KeepsUp e t
 turn_up e arrival t may turn h = subst UpAfter (sym turn.comes) h
 turn_up e (refusal text) t may turn h = subst UpAfter (sym turn.comes) h
-turn_up e (packet_begins contents) t may turn h = begin_up e e.core (has_data_chunk contents) t.outcome turn.comes h
+turn_up e (packet_begins contents) t may turn h = begin_up e e.core (has_data_chunk e.options.follow_rfc contents) t.outcome turn.comes h
 turn_up e (chunk_input tag content) t may turn h = chunk_up e tag content t.outcome turn.comes h
 turn_up e packet_ends t may turn h = end_up e e.queues.transfer t.outcome turn.comes h
 turn_up e (act_input act) t may turn h = act_up e act t.outcome may turn.comes h

@@ -158,7 +158,7 @@ turn_tells : EndLaws → (e : Endpoint) (input : Input) (t : Transition) → IsT
 turn_tells law e arrival t h = rests e t _ h.comes (record { core = refl; none = refl })
 turn_tells law e (refusal text) t h = rests e t _ h.comes (record { core = refl; none = refl })
 turn_tells law e (packet_begins contents) t h =
-    elim (begin_stands e e.core (has_data_chunk contents) t.outcome refl h.comes) [ inl nothing ↦ rests e t _ nothing (still_rests e) | inr acts ↦ by_act law.once e shutdown_repeats t acts ]
+    elim (begin_stands e e.core (has_data_chunk e.options.follow_rfc contents) t.outcome refl h.comes) [ inl nothing ↦ rests e t _ nothing (still_rests e) | inr acts ↦ by_act law.once e shutdown_repeats t acts ]
 turn_tells law e (chunk_input tag content) t h = chunk_tells law.once e tag content t h
 turn_tells law e packet_ends t h = by_act law.once e flushes t (flushed_act e t.outcome (end_at e e.queues.transfer t.outcome h.comes))
 turn_tells law e (act_input act) t h = by_act law.once e act t (law.acts e act t.outcome h.comes)

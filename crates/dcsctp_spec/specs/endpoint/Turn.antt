@@ -62,11 +62,11 @@ arrival_outcome e = still (record e { has_answered = false; counts = record e.co
 abbrev pub refusal_outcome : Endpoint → List ℕ → Outcome
 refusal_outcome e text = reports e ParseFailed text
 
--- is there a DATA chunk among these?
-abbrev pub has_data_chunk : List Content → Bool
-has_data_chunk [] = false
-has_data_chunk (plain chunk ∷ contents) = if is_data chunk then true else has_data_chunk contents
-has_data_chunk (content ∷ contents) = has_data_chunk contents
+-- Is there data among these?
+abbrev pub has_data_chunk : Bool → List Content → Bool
+has_data_chunk follows_rfc [] = false
+has_data_chunk follows_rfc (plain chunk ∷ contents) = if is_data follows_rfc chunk then true else has_data_chunk follows_rfc contents
+has_data_chunk follows_rfc (content ∷ contents) = has_data_chunk follows_rfc contents
 
 -- Data that comes while a SHUTDOWN waits for its answer is answered by another, before the chunks (RFC 9260, section 9.2).
 abbrev pub BeginTurn : Endpoint → Core → Bool → Outcome → Type 0
@@ -111,7 +111,7 @@ clock_at moment e = record e { moment = moment }
 abbrev pub Turn : Endpoint → Input → Outcome → Type 0
 Turn e arrival o = o ≡ arrival_outcome e
 Turn e (refusal text) o = o ≡ refusal_outcome e text
-Turn e (packet_begins contents) o = BeginTurn e e.core (has_data_chunk contents) o
+Turn e (packet_begins contents) o = BeginTurn e e.core (has_data_chunk e.options.follow_rfc contents) o
 Turn e (chunk_input tag content) o = ContentTurn e tag content o
 Turn e packet_ends o = EndTurn e o
 Turn e (act_input act) o = ActTurn e act o
