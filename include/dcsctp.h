@@ -338,7 +338,7 @@ typedef struct dcsctp_socket {
  *     what the peer doesn't answer                 by default       heartbeat_interval 0
  *     INIT                                         511 s            511 s
  *     COOKIE ECHO                                  511 s            511 s
- *     HEARTBEAT, with nothing else to send         1,830.5 s        never
+ *     HEARTBEAT, with nothing else to send         1,846 to 1,876 s never
  *     data, before a round trip was measured       177.5 s          177.5 s
  *     data, at the least timeout (400 ms)          176.8 s          176.8 s
  *     data, at longer timeouts                     up to 4 min      up to 4 min
@@ -348,9 +348,12 @@ typedef struct dcsctp_socket {
  *   flight and a stream reset that isn't answered it outlasts 80 s, since both count errors. The
  *   price: a peer that is gone is noticed late, and while nothing is sent only after half an hour.
  *   Smaller `max_init_retransmits`, `max_retransmissions`, `heartbeat_interval` or
- *   `max_timer_backoff_duration` make it shorter. With 10 as `max_retransmissions` it takes 330.5 s
- *   for a HEARTBEAT, and 27.5 s or 26.8 s for data: then 25 s without a link may end it.
- *   If `heartbeat_interval` is above 0 but no longer than `rto_initial`, no HEARTBEAT is an error.
+ *   `max_timer_backoff_duration` make it shorter. With 10 as `max_retransmissions` it takes 333 to
+ *   339 s for a HEARTBEAT, and 27.5 s or 26.8 s for data: then 25 s without a link may end it.
+ *   With `follow_rfc` HEARTBEATs are `heartbeat_interval` and 50 to 150 % of `rto_initial` apart: the
+ *   verification tag chooses how much, so that sockets don't send them together. If the interval is
+ *   above 0 but no longer than half of `rto_initial` (without `follow_rfc`: all of it), a HEARTBEAT
+ *   may never be an error.
  *
  * `max_timer_backoff_duration`: each wait for an answer to data, to SHUTDOWN or to a request to
  *   reset streams is twice the last one, but no longer than this, nor than `rto_max`. Only the

@@ -31,6 +31,7 @@ shown() {
             printf '%s; ' "$(values seconds <<<"$runs" | spread %.2f 1)"
             values twice <<<"$runs" | spread %g 1
             ;;
+        beats) values count <<<"$runs" | spread %g 1 ;;
         aborts | stale) values seconds <<<"$runs" | spread %.2f 1 ;;
         *) values count <<<"$runs" | sum ;;
     esac
@@ -61,6 +62,8 @@ table() {
     row missing '10,000' 10000
     row stale '40 ms' 40
     row cookies '10 s' 10
+    row forged '50 ms' 50
+    row beats '50 ms' 50
 }
 
 keep_table c-rules "$(table)" "$@"

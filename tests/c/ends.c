@@ -46,20 +46,25 @@ static void no_handshake(void) {
     destroy_pair(&pair);
 }
 
-/* Nothing is sent but a HEARTBEAT each 30 s. Half a second after the 61st, which is one more than
- * `max_retransmissions`, an ABORT follows. With 10 it is the eleventh. */
+/* Nothing is sent but a HEARTBEAT each 30.25 to 30.75 s. Half a second after the 61st, which is one
+ * more than `max_retransmissions`, an ABORT follows. With 10 it is the eleventh. */
 static void idle(void) {
     const dcsctp_options quiet = quiet_options();
     dcsctp_options options = default_options();
     connect_pair(&pair, &options, &options);
     size_t before = pair.a.packets;
-    EQUAL("idle", given_up(&pair.a, BEGIN), 61 * 30 * SECONDS + 500 * MILLISECONDS);
-    EQUAL("as dcsctp.h says", 61 * 30000 + 500, 1830500);
+    uint64_t wait = heartbeat_wait(&pair.a, &options);
+    EQUAL("as dcsctp.h says", 61 * 30250 + 500, 1845750);
+    EQUAL("as dcsctp.h says", 61 * 30750 + 500, 1876250);
+    EQUAL("at the least", wait >= 30250 * MILLISECONDS, 1);
+    EQUAL("at the most", wait < 30750 * MILLISECONDS, 1);
+    EQUAL("idle", given_up(&pair.a, BEGIN), 61 * wait + 500 * MILLISECONDS);
     EQUAL("61 HEARTBEAT and an ABORT", pair.a.packets - before, 62);
     destroy_pair(&pair);
     options.max_retransmissions = 10;
     connect_pair(&pair, &options, &options);
-    EQUAL("10", given_up(&pair.a, BEGIN), 11 * 30 * SECONDS + 500 * MILLISECONDS);
+    wait = heartbeat_wait(&pair.a, &options);
+    EQUAL("10", given_up(&pair.a, BEGIN), 11 * wait + 500 * MILLISECONDS);
     destroy_pair(&pair);
     connect_pair(&pair, &quiet, &quiet);
     EQUAL("without heartbeats it waits forever",
@@ -68,9 +73,11 @@ static void idle(void) {
 }
 
 /* The next HEARTBEAT goes out before, or as, the wait for an answer to the last one ends. So none
- * counts. A nanosecond later each does. */
+ * counts. A nanosecond later each does. With `follow_rfc` the interval is half of `rto_initial` longer
+ * at the least, so each counts from there on. */
 static void too_many_heartbeats(void) {
     dcsctp_options options = default_options();
+    options.follow_rfc = 0;
     options.heartbeat_interval = options.rto_initial;
     connect_pair(&pair, &options, &options);
     for (int i = 0; i < 1000; i++) {
@@ -83,6 +90,12 @@ static void too_many_heartbeats(void) {
     options.heartbeat_interval++;
     connect_pair(&pair, &options, &options);
     EQUAL("longer", given_up(&pair.a, BEGIN), 62 * 500 * MILLISECONDS + 61);
+    destroy_pair(&pair);
+    options.follow_rfc = 1;
+    options.heartbeat_interval = options.rto_initial / 2 + 1;
+    connect_pair(&pair, &options, &options);
+    uint64_t wait = heartbeat_wait(&pair.a, &options);
+    EQUAL("by the RFC", given_up(&pair.a, BEGIN), 61 * wait + 500 * MILLISECONDS);
     destroy_pair(&pair);
 }
 
@@ -145,8 +158,8 @@ static void data_after_a_round_trip(void) {
 }
 
 /* The longest timeout there may be, 60 s. Waits after the first alone are cut, so the 61st ends
- * after 60 + 60 * 3 s. A HEARTBEAT goes out 30 s after data, and isn't answered: that is an error,
- * too, so the 60th wait is the last. A SHUTDOWN has a count of its own. */
+ * after 60 + 60 * 3 s. A HEARTBEAT would go out at least 60 s after data: the half of the timeout
+ * more than the 30 s. */
 static void at_the_longest_timeout(void) {
     dcsctp_options options = quiet_options();
     options.rto_initial = options.rto_max;
@@ -154,7 +167,7 @@ static void at_the_longest_timeout(void) {
         options.heartbeat_interval = has_heartbeats ? 30 * SECONDS : 0;
         connect_pair(&pair, &options, &options);
         EQUAL("send", send_bytes(&pair.a, 1, 10), DCSCTP_OK);
-        EQUAL("data", given_up(&pair.a, BEGIN), (has_heartbeats ? 237 : 240) * SECONDS);
+        EQUAL("data", given_up(&pair.a, BEGIN), 240 * SECONDS);
         destroy_pair(&pair);
         connect_pair(&pair, &options, &options);
         EQUAL("shutdown", dcsctp_shutdown(&pair.a.socket), DCSCTP_OK);
@@ -228,18 +241,20 @@ static void as_upstream(void) {
     }
 }
 
-/* What docs/guide/c.md has for who must know soon: a HEARTBEAT each 2 s, and the fourth error ends
- * it. The fourth HEARTBEAT goes out after 8 s. At the least timeout data goes out after 0.4, 1.2 and
- * 2.8 s, and a HEARTBEAT 2 s later. An answer is awaited for 500 ms. */
+/* What docs/guide/c.md has for who must know soon: a HEARTBEAT each 2.25 to 2.75 s, and the fourth
+ * error ends it. At the least timeout data goes out after 0.4, 1.2 and 2.8 s, and then a HEARTBEAT. An
+ * answer is awaited for 500 ms. */
 static void soon(void) {
     dcsctp_options options = default_options();
     options.heartbeat_interval = 2 * SECONDS;
     options.max_retransmissions = 3;
     connect_pair(&pair, &options, &options);
-    EQUAL("idle", given_up(&pair.a, BEGIN), 8500 * MILLISECONDS);
+    uint64_t wait = heartbeat_wait(&pair.a, &options);
+    EQUAL("idle", given_up(&pair.a, BEGIN), 4 * wait + 500 * MILLISECONDS);
     destroy_pair(&pair);
     lose_after_a_round_trip(&options);
-    EQUAL("data", given_up(&pair.a, BEGIN), 5300 * MILLISECONDS);
+    wait = heartbeat_wait(&pair.a, &options);
+    EQUAL("data", given_up(&pair.a, BEGIN), 2800 * MILLISECONDS + wait + 500 * MILLISECONDS);
     destroy_pair(&pair);
 }
 

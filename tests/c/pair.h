@@ -196,6 +196,18 @@ static inline dcsctp_metrics metrics_of(struct end *end) {
     return metrics;
 }
 
+/* How long the heartbeat interval of this end runs: with `follow_rfc` half of `rto_initial` longer, and
+ * as many 65,536ths of it as the last 16 bits of the end's own tag say. */
+static inline uint64_t heartbeat_wait(struct end *end, const dcsctp_options *options) {
+    uint32_t tag;
+    EQUAL("tag", dcsctp_verification_tag(&end->socket, &tag), DCSCTP_OK);
+    if (!options->follow_rfc) {
+        return options->heartbeat_interval;
+    }
+    return options->heartbeat_interval + options->rto_initial / 2
+           + options->rto_initial / 65536 * (tag % 65536);
+}
+
 /* ---- Packets by hand ------------------------------------------------------------------------ */
 
 static inline uint32_t u16_at(const uint8_t *bytes) {

@@ -179,8 +179,8 @@ static void run(uint64_t nanoseconds) {
 
 /* ---- Two ends ------------------------------------------------------------------------------- */
 
-/* Creates two sockets, on a link without loss. */
-static void begin(uint64_t round_trip) {
+/* Creates two sockets of these seeds, on a link without loss. */
+static void begin_seeded(uint64_t round_trip, const uint8_t seeds[2]) {
     memset(&link, 0, sizeof link);
     link.now = BEGIN;
     link.delay = round_trip / 2;
@@ -189,6 +189,12 @@ static void begin(uint64_t round_trip) {
         lanes[who].free = 0;
         EQUAL("a socket", create(&ends[who], &options, (uint8_t)(1 + below(255)), BEGIN), 0);
     }
+}
+
+/* The same with random seeds. */
+static void begin(uint64_t round_trip) {
+    const uint8_t a = (uint8_t)(1 + below(255));
+    begin_seeded(round_trip, (const uint8_t[2]){a, (uint8_t)(1 + below(255))});
 }
 
 static void finish(void) {
@@ -428,12 +434,49 @@ static void cookies(const uint64_t *given) {
     finish();
 }
 
+/* A COOKIE ECHO that nobody has a cookie for comes to a closed socket. Does it connect? */
+static void forged(const uint64_t *given) {
+    static const uint8_t echo[] = {10, 0, 0, 60, 'd', 'c', 'S', 'C', 'T', 'P', 'r', '0',
+                                   0, 0, 0, 11, 0, 0, 0, 22, 0, 0, 0, 33, 0, 0, 0, 44,
+                                   0, 1, 0, 0, 0, 0, 0, 0, 0, 0, 0, 0, 1, 0, 1, 0,
+                                   0, 0, 0, 0, 255, 255, 255, 255, 0, 0, 3, 70, 48, 184, 160, 0};
+    static const uint8_t header[12] = {19, 136, 19, 136, 0, 0, 0, 22};
+    begin(given[0] * MILLISECONDS);
+    EQUAL("a forged packet", forge(&ends[B], header, echo, sizeof echo), 0);
+    serve(B);
+    printf("count %d\n", dcsctp_state(&ends[B].socket) == DCSCTP_STATE_CONNECTED);
+    finish();
+}
+
+/* 100 associations connect at the same time. How many of their first HEARTBEATs does the fullest
+ * millisecond have? */
+static void beats(const uint64_t *given) {
+    enum { ASSOCIATIONS = 100, MOST = 60000 };
+    static unsigned together[MOST];
+    const uint64_t first = below(255);
+    unsigned most = 0;
+    for (uint64_t i = 0; i < ASSOCIATIONS; i++) {
+        const uint8_t seed = (uint8_t)(1 + (first + i) % 255);
+        uint64_t due = 0;
+        begin_seeded(given[0] * MILLISECONDS, (const uint8_t[2]){seed, (uint8_t)(256 - seed)});
+        connect_ends();
+        EQUAL("a deadline", dcsctp_poll_timeout(&ends[A].socket, &due), 0);
+        const uint64_t millisecond = (due - BEGIN) / MILLISECONDS;
+        EQUAL("within a minute", millisecond < MOST, 1);
+        if (++together[millisecond] > most)
+            most = together[millisecond];
+        finish();
+    }
+    printf("count %u\n", most);
+}
+
 static const struct {
     const char *name;
     void (*try)(const uint64_t *given);
 } tried[] = {{"reports", reports}, {"trips", trips},         {"bottleneck", bottleneck},
              {"next", next},       {"abandoned", abandoned}, {"aborts", aborts},
-             {"missing", missing}, {"cookies", cookies},     {"stale", stale}};
+             {"missing", missing}, {"cookies", cookies},     {"stale", stale},
+             {"forged", forged},   {"beats", beats}};
 
 int main(int count, char **words) {
     uint64_t given[2] = {0, 0};

@@ -15,7 +15,7 @@ use Rattle.dcsctp_transfer.specs.spec.queues.SendQueue.{SendQueueState, has_queu
 use Rattle.dcsctp_transfer.specs.spec.queues.Transfer.{Transfer, is_none_ready, may_give}
 use Rattle.dcsctp_transfer.specs.spec.queues.Items.{is_first_abandoned}
 use Rattle.dcsctp_transfer.specs.spec.queues.Retransmission.{can_send, outstanding_count}
-use Rattle.dcsctp_transfer.specs.spec.endpoint.Endpoint.{Endpoint, Timers, heartbeats_begun, held_in}
+use Rattle.dcsctp_transfer.specs.spec.endpoint.Endpoint.{Endpoint, Timers, heartbeats_begun, held_in, own_tag}
 use Rattle.dcsctp_transfer.specs.types.declared.association.Held.{Held}
 use Rattle.dcsctp_transfer.specs.spec.endpoint.Outcome.{packet_counted}
 use Rattle.dcsctp_transfer.specs.spec.endpoint.BegunResets.{BegunReset, last_assigned_tsn, begun_in, request_contents, after_begun, streams_within, queue_requesting, transfer_reset_begun}
@@ -100,7 +100,7 @@ can_queues_send (Some transfer) = can_send transfer.retransmission
 
 -- the heartbeat interval starts again if data went in
 abbrev pub timers_where : Bool → Endpoint → Timers
-timers_where true e = heartbeats_begun e e.timers
+timers_where true e = heartbeats_begun e (own_tag e.core) e.timers
 timers_where false e = e.timers
 
 -- What abandons messages was put into a packet, if that may go now, and nothing else has moved.

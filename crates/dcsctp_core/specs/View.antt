@@ -8,7 +8,8 @@ use Rattle.dcsctp_transfer.specs.spec.endpoint.Event.{Event}
 use Rattle.dcsctp_transfer.specs.types.declared.association.Held.{Held}
 use Rattle.dcsctp_transfer.specs.spec.Reconfiguration.{NumberedReset}
 use Rattle.dcsctp_transfer.specs.spec.queues.Transfer.{Transfer, new_transfer}
-use Rattle.dcsctp_transfer.specs.spec.endpoint.Endpoint.{Endpoint, Core, closed, cookie_wait, cookie_echoed, open_in, OpenPhase, established, shutdown_pending, shutdown_sent, shutdown_received, shutdown_ack_sent, OutstandingRequest, Timers, stopped_timers, heartbeats_begun, fresh_endpoint}
+use Rattle.dcsctp_transfer.specs.spec.endpoint.Endpoint.{Endpoint, Core, closed, cookie_wait, cookie_echoed, open_in, OpenPhase, established, shutdown_pending, shutdown_sent, shutdown_received, shutdown_ack_sent, OutstandingRequest, Timers, stopped_timers, heartbeats_begun, fresh_endpoint, own_tag}
+use Rattle.dcsctp_transfer.specs.spec.endpoint.RestoreOutcomes.{timers_restored}
 use Rattle.dcsctp_transfer.specs.spec.endpoint.EndOutcomes.{closed_after}
 use Rattle.dcsctp_transfer.specs.spec.endpoint.Timers.{RunningTimer}
 use Rattle.dcsctp_transfer.specs.types.Ids.{stream_numbers}
@@ -199,7 +200,11 @@ view_of context =
 
 -- the endpoint with its heartbeat interval restarted
 abbrev pub begun_heartbeats : Endpoint → Endpoint
-begun_heartbeats e = record e { timers = heartbeats_begun e e.timers }
+begun_heartbeats e = record e { timers = heartbeats_begun e (own_tag e.core) e.timers }
+
+-- the same of an association that was restored
+abbrev pub resumed_heartbeats : Endpoint → Endpoint
+resumed_heartbeats e = record e { timers = timers_restored e (own_tag e.core) }
 
 -- the endpoint once one more message was queued
 abbrev pub message_counted : Endpoint → Endpoint

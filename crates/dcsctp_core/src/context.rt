@@ -1,7 +1,8 @@
 //! The parts of a socket in one value. One function shows or draws each thing that handlers need.
 
 ghost use Rattle.std.specs.Prelude.{◌≡◌};
-ghost use Rattle.dcsctp_transfer.specs.spec.endpoint.Endpoint.{heartbeat_settings};
+ghost use Rattle.std.specs.Duration.{as_nanos};
+ghost use Rattle.dcsctp_transfer.specs.spec.endpoint.Endpoint.{heartbeat_settings, heartbeat_wait};
 ghost use Rattle.dcsctp_transfer.specs.spec.endpoint.HeartbeatOutcomes.{heartbeat_timeout_settings};
 ghost use Rattle.dcsctp_transfer.specs.spec.endpoint.CookieEchoOutcomes.{is_last_tag};
 ghost use Rattle.dcsctp_transfer.specs.types.Settings.{IsValid};
@@ -115,6 +116,21 @@ fn is_last_tag(last: Option<u32>, tag: u32) -> bool
     }
 }
 
+// How long the heartbeat interval of an association with this own tag runs. With `Options::follow_rfc` a retransmission
+// timeout is added, 50 % more or less by the low bits of the tag, so that associations that begin together don't beat
+// together (RFC 9260, section 8.3).
+fn heartbeat_wait(options: &Options, tag: u32) -> Duration
+    ensures { as_nanos result ≡ heartbeat_wait options.now tag }
+{
+    if !options.follow_rfc {
+        return options.heartbeat_interval;
+    }
+    let timeout = options.rto_initial;
+    let jitter = (timeout / 65_536).saturating_mul(tag % 65_536);
+    let added = (timeout / 2).saturating_add(jitter);
+    options.heartbeat_interval.saturating_add(added)
+}
+
 impl<R: Rng> Context<R> {
     ghost use Rattle.std.specs.Prelude.{◌≡◌, ◌+◌, Bool, ℕ, List, length, map, nat_le, string_bytes};
     ghost use Rattle.std.specs.Duration.{as_nanos};
@@ -136,7 +152,7 @@ impl<R: Rng> Context<R> {
     ghost use Rattle.dcsctp_transfer.specs.spec.endpoint.Timers.{running_deadline};
     ghost use Rattle.dcsctp_core.specs.Timing.{where_expired, is_timer_due, ExpiresAlways};
     ghost use Rattle.dcsctp_core.specs.Reconfiguring.{request_over};
-    ghost use Rattle.dcsctp_core.specs.View.{Moves, view_of, endpoint_of, outstanding_of, transfer_of, association_dropped, begun_heartbeats, message_counted, fresh_view, call_start};
+    ghost use Rattle.dcsctp_core.specs.View.{Moves, view_of, endpoint_of, outstanding_of, transfer_of, association_dropped, begun_heartbeats, resumed_heartbeats, message_counted, fresh_view, call_start};
     ghost use Rattle.dcsctp_core.specs.Drawing.{Draws, KeepsPair};
     ghost use Rattle.dcsctp_core.specs.Handling.{Tries, Emits, EmitsToPeer, AnswersPeer, answer_counted, arrival_turn, report_turn, close_turn, end_event};
 
@@ -356,7 +372,21 @@ impl<R: Rng> Context<R> {
         } }
     {
         if !self.options.heartbeat_interval.is_zero() {
-            self.heartbeat_interval.start(self.moment);
+            let wait = heartbeat_wait(&self.options, self.state.verification_tag());
+            self.heartbeat_interval.start_for(self.moment, wait);
+        }
+    }
+
+    /// Restarts the heartbeat interval of an association that was restored, with `Options::follow_rfc` (RFC 9260,
+    /// section 8.3). Otherwise it starts with the next data.
+    pub fn resume_heartbeats(&mut self)
+        ensures { view_of self.new ≡ record (view_of self.old) {
+          endpoint = resumed_heartbeats
+              (endpoint_of self.old);
+        } }
+    {
+        if self.options.follow_rfc {
+            self.start_heartbeat_interval();
         }
     }
 

@@ -17,7 +17,7 @@ use Rattle.dcsctp_core.specs.declared.state.State.{State}
 use Rattle.dcsctp_core.specs.declared.state.State.TheVariants.{Closed, CookieWait, CookieEchoed, Open}
 use Rattle.dcsctp_core.specs.declared.transmission_control_block.TransmissionControlBlock.{TransmissionControlBlock}
 use Rattle.dcsctp_core.specs.Handling.{TakesPossibleTurn}
-use Rattle.dcsctp_core.specs.View.{View, core_of, endpoint_of, view_of}
+use Rattle.dcsctp_core.specs.View.{View, core_of, endpoint_of, resumed_heartbeats, view_of}
 use Rattle.dcsctp_core_handover.specs.Handover.{IsRestoredAssociation, restore_turn}
 
 state_is_closed : (state : State) → core_of state ≡ closed → state ≡ Closed
@@ -31,18 +31,22 @@ abbrev with_association : {R : Type 0} → Context R → Context R → Transmiss
 with_association other context tcb added queue =
     record context { state = Open (record { phase = phases.Established; tcb = tcb }); events = added; send_queue = queue; left = other.left }
 
+-- what is seen of it once its heartbeats are resumed
+abbrev pub resumed : {R : Type 0} → Context R → View R
+resumed context = record (view_of context) { endpoint = resumed_heartbeats (endpoint_of context) }
+
 -- the queue with what the snapshot has
 abbrev queue_by : {R : Type 0} → Context R → Snapshot → SendQueueState
 queue_by context state = queue_restored context.moment state.tx (numbered_for state.capabilities.message_interleaving context.send_queue)
 
 endpoint_is : {R : Type 0} (other old : Context R) (state : Snapshot) (tcb : TransmissionControlBlock) (added : List SocketEvent) (queue : SendQueueState)
     → other.left.items ≡ [] → IsRestoredAssociation old.options old.moment state tcb → queue ≡ queue_by old state
-    → endpoint_of (with_association other old tcb added queue) ≡ restored_endpoint (endpoint_of (record old { state = Closed })) state tcb.transfer
+    → resumed_heartbeats (endpoint_of (with_association other old tcb added queue)) ≡ restored_endpoint (endpoint_of (record old { state = Closed })) state tcb.transfer
 endpoint_is other old state tcb added queue none h waits = simp (none, h.my, h.held, h.outstanding, h.reconfiguration, h.tie_tag, waits) refl
 
 from_closed : {R : Type 0} (stream : R → Stream) (other old : Context R) (state : Snapshot) (tcb : TransmissionControlBlock) (added : List SocketEvent) (queue : SendQueueState)
     → other.left.items ≡ [] → IsRestoredAssociation old.options old.moment state tcb → queue ≡ queue_by old state → map event_content added ≡ map event_content old.events ++ events.connected ∷ []
-    → TakesPossibleTurn stream (restore_turn state) (view_of (record old { state = Closed })) (view_of (with_association other old tcb added queue))
+    → TakesPossibleTurn stream (restore_turn state) (view_of (record old { state = Closed })) (resumed (with_association other old tcb added queue))
 from_closed stream other old state tcb added queue none h waits told =
     record {
       outcome = restored_outcome (endpoint_of (record old { state = Closed })) state tcb.transfer;
@@ -58,7 +62,7 @@ from_closed stream other old state tcb added queue none h waits told =
 
 pub restores : {R : Type 0} (stream : R → Stream) (other old : Context R) (state : Snapshot) (tcb : TransmissionControlBlock) (added : List SocketEvent) (queue : SendQueueState)
     → core_of old.state ≡ closed → other.left.items ≡ [] → IsRestoredAssociation old.options old.moment state tcb → queue ≡ queue_by old state → map event_content added ≡ map event_content old.events ++ events.connected ∷ []
-    → TakesPossibleTurn stream (restore_turn state) (view_of old) (view_of (with_association other old tcb added queue))
+    → TakesPossibleTurn stream (restore_turn state) (view_of old) (resumed (with_association other old tcb added queue))
 restores {R} stream other old state tcb added queue holds none h waits told =
-    subst (λ (s : State). TakesPossibleTurn stream (restore_turn state) (view_of (record old { state = s })) (view_of (with_association other old tcb added queue))) (sym (state_is_closed old.state holds))
+    subst (λ (s : State). TakesPossibleTurn stream (restore_turn state) (view_of (record old { state = s })) (resumed (with_association other old tcb added queue))) (sym (state_is_closed old.state holds))
     (from_closed stream other old state tcb added queue none h waits told)

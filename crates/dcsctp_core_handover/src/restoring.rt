@@ -108,5 +108,6 @@ pub fn restore<R: Rng>(
     });
     context.left = VecDeque::new(context.alloc);
     context.events.add(SocketEvent::OnConnected())?;
+    context.resume_heartbeats();
     Ok(())
 }

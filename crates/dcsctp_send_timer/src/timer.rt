@@ -167,6 +167,21 @@ impl Timer {
         });
     }
 
+    /// Starts the timer as `start` does, but for this duration, and not for its own.
+    pub fn start_for(&mut self, now: SocketTime, duration: Duration)
+        ensures { self.new
+            ≡ record self.old {
+              running = started now
+                  (record self.old.settings { duration = as_nanos duration });
+            } }
+    {
+        self.running = Some(Running {
+            deadline: now + duration,
+            wait: duration,
+            expiries: 0,
+        });
+    }
+
     /// Starts the timer so that it expires at the moment `now`, whether it runs or not.
     pub fn start_due(&mut self, now: SocketTime)
         ensures { self.new

@@ -4,7 +4,7 @@ use Rattle.std.proofs.Common.{◌≡◌, ℕ, Bool, true, false, Option, None, S
 use Rattle.dcsctp_types.specs.declared.kinds.BackoffAlgorithm.TheVariants.{Exponential}
 use Rattle.dcsctp_types.specs.declared.options.Options.{Options}
 use Rattle.dcsctp_spec.specs.endpoint.BegunResets.{reconfiguration_settings}
-use Rattle.dcsctp_spec.specs.endpoint.Endpoint.{Endpoint}
+use Rattle.dcsctp_spec.specs.endpoint.Endpoint.{Endpoint, heartbeat_wait}
 use Rattle.dcsctp_spec.specs.endpoint.HeartbeatOutcomes.{answered, beating, heartbeat_round_trip}
 use Rattle.dcsctp_spec.specs.endpoint.ShutdownOutcomes.{t2_terms}
 use Rattle.dcsctp_spec.specs.endpoint.Timers.{RunningTimer, TimerModel, backed_off, longest_backoff}
@@ -12,6 +12,30 @@ use Rattle.dcsctp_spec.specs.queues.Acknowledging.{opens}
 use Rattle.dcsctp_spec.specs.queues.Retransmission.{RetransmissionState, expired_timer}
 use Rattle.dcsctp_spec.specs.queues.Timeout.{new_timeout}
 use Rattle.dcsctp_spec.specs.queues.Transfer.{Transfer}
+
+-- ---- the heartbeat interval, of 30 s, where the first retransmission timeout is 500 ms
+
+abbrev beating_at : Bool → Options → Options
+beating_at follows options =
+    record options {
+      follow_rfc = follows;
+      heartbeat_interval = record { secs = 30; nanos = 0 };
+      rto_initial = record { secs = 0; nanos = 500_000_000 };
+    }
+
+-- half the timeout more at the least, and less than three halves: by the last 16 bits of the tag
+shortest_wait : (options : Options) → heartbeat_wait (beating_at true options) 0x7_0000 ≡ 30_250_000_000
+shortest_wait options = refl
+
+-- 7,629 ns a step
+next_wait_of_tag : (options : Options) → heartbeat_wait (beating_at true options) 0x7_0001 ≡ 30_250_007_629
+next_wait_of_tag options = refl
+
+longest_wait_of_tag : (options : Options) → heartbeat_wait (beating_at true options) 0xffff_ffff ≡ 30_749_966_515
+longest_wait_of_tag options = refl
+
+wait_by_port : (options : Options) → heartbeat_wait (beating_at false options) 0xffff_ffff ≡ 30_000_000_000
+wait_by_port options = refl
 
 -- ---- the longest backoff
 

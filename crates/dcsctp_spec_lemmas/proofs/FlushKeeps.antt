@@ -41,7 +41,7 @@ begun_keep false timers interval = refl
 
 timers_keep : (e : Endpoint) (chunks : List Plain) → (timers_with e chunks).t1 ≡ e.timers.t1
 timers_keep e [] = refl
-timers_keep e (chunk ∷ chunks) = begun_keep (as_nanos e.options.heartbeat_interval == 0) e.timers (started e.moment (heartbeat_settings e.options))
+timers_keep e (chunk ∷ chunks) = begun_keep (as_nanos e.options.heartbeat_interval == 0) e.timers _
 
 pub goes_out_keeps : (e : Endpoint) (told : List (Event Emission)) (with_checksum : Bool) (tag : ℕ) (contents : List Content) → Keeps None e (goes_out e told with_checksum tag contents)
 goes_out_keeps e told with_checksum tag [] = record { core = refl; options = refl; t1 = refl; effects = refl; words = refl; following = refl }

@@ -1,5 +1,5 @@
 -- Outside examples of what a restore does, and that a snapshot brings the association back.
-use Rattle.std.proofs.Common.{◌≡◌, ◌-◌, ◌^◌, true, None, Some, [], ◌∷◌, refl}
+use Rattle.std.proofs.Common.{◌≡◌, ◌-◌, ◌^◌, true, false, None, Some, [], ◌∷◌, refl}
 use Rattle.dcsctp_spec_lemmas.specs.wire.declared.reconfiguration.ReconfigurationResponseResult.TheVariants.{SuccessNothingToDo}
 use Rattle.dcsctp_spec_lemmas.specs.types.declared.association.Held.{Held}
 use Rattle.dcsctp_spec_lemmas.specs.types.declared.association.Pair.{Pair}
@@ -16,6 +16,7 @@ use Rattle.dcsctp_spec_lemmas.specs.types.Offer.{no_capabilities as no_offer}
 use Rattle.dcsctp_spec_runs.specs.Past.{number_to_begin, number_to_accept, InPlace}
 use Rattle.dcsctp_spec_lemmas.specs.spec.queues.Transfer.{Transfer}
 use Rattle.dcsctp_spec_lemmas.specs.spec.endpoint.RestoreOutcomes.{capabilities_restored, restored_outcome}
+use Rattle.dcsctp_spec_lemmas.specs.spec.endpoint.Timers.{running_deadline}
 
 -- a snapshot of a connected socket, of which nothing was sent or received
 abbrev state : Snapshot
@@ -58,9 +59,22 @@ tie_tag_comes_back options transfer = refl
 it_tells_connected : (options : Options) (transfer : Transfer) → (restored_outcome (fresh_endpoint options) state transfer).events ≡ events.connected ∷ []
 it_tells_connected options transfer = refl
 
--- No heartbeat interval runs.
-no_heartbeat : (options : Options) (transfer : Transfer) → (restored options transfer).timers.heartbeat_interval ≡ None
+-- No heartbeat interval runs,
+no_heartbeat : (options : Options) (transfer : Transfer) → (restored (record options { follow_rfc = false }) transfer).timers.heartbeat_interval ≡ None
 no_heartbeat options transfer = refl
+
+-- but by the RFC's rules one of 30.250053403 s: half of 500 ms is added, and 7 steps of 7,629 ns.
+abbrev by_rfc : Options → Options
+by_rfc options =
+    record options {
+      follow_rfc = true;
+      heartbeat_interval = record { secs = 30; nanos = 0 };
+      rto_initial = record { secs = 0; nanos = 500_000_000 };
+    }
+
+heartbeats_by_rfc : (options : Options) (transfer : Transfer)
+    → running_deadline (restored (by_rfc options) transfer).timers.heartbeat_interval ≡ Some 30_250_053_403
+heartbeats_by_rfc options transfer = refl
 
 -- ---- zero checksum goes by the method of the options
 

@@ -45,7 +45,7 @@ pub struct Options {
     pub cookie_lifetime: Duration,
     /// The limit of waits but the first; `None`: no limit. 3 s.
     pub max_timer_backoff_duration: Option<Duration>,
-    /// Between HEARTBEATs; zero: none are sent. 30 s.
+    /// Between HEARTBEATs, with 50 to 150 % of `rto_initial` more; zero: none are sent. 30 s.
     pub heartbeat_interval: Duration,
     /// SACKs wait up to this: 200 ms.
     pub delayed_ack_max_timeout: Duration,

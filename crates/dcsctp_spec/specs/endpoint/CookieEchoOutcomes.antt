@@ -85,7 +85,7 @@ established_by e cookie queues tie =
       renewable = None;
       error_count = errors_begun e;
       heartbeat_sent = None;
-      timers = heartbeats_begun e (record stopped_timers { heartbeat_interval = e.timers.heartbeat_interval; heartbeat_timeout = e.timers.heartbeat_timeout });
+      timers = heartbeats_begun e cookie.maker.tag (record stopped_timers { heartbeat_interval = e.timers.heartbeat_interval; heartbeat_timeout = e.timers.heartbeat_timeout });
       queues = queues;
       left = [];
     }

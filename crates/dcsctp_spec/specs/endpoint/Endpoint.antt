@@ -81,6 +81,19 @@ abbrev pub heartbeat_settings : Options → TimerSettings
 heartbeat_settings options =
     record { duration = as_nanos options.heartbeat_interval; terms = record { backoff = Fixed; max_restarts = None; max_backoff = None } }
 
+-- how much later than half a retransmission timeout a HEARTBEAT is sent: up to one timeout, as the low bits of the association's
+-- own tag choose
+abbrev pub heartbeat_jitter : Options → ℕ → ℕ
+heartbeat_jitter options tag = as_nanos options.rto_initial / 2 ^ 16 * (tag % 2 ^ 16)
+
+-- How long the heartbeat interval of an association with this own tag runs. By the RFC the retransmission timeout is added to it,
+-- 50 % more or less, so that associations that begin together don't beat together (RFC 9260, section 8.3).
+abbrev pub heartbeat_wait : Options → ℕ → ℕ
+heartbeat_wait options tag =
+    if options.follow_rfc
+    then min (as_nanos options.heartbeat_interval + (as_nanos options.rto_initial / 2 + heartbeat_jitter options tag)) max_nanos
+    else as_nanos options.heartbeat_interval
+
 -- its own request to reset streams that is under way (RFC 6525, section 4.1)
 pub record OutstandingRequest : Type 0 where
   pub last_tsn : ℕ
@@ -132,11 +145,24 @@ may_answer e = not (e.options.follow_rfc && e.has_answered)
 abbrev pub errors_begun : Endpoint → ℕ
 errors_begun e = if e.options.follow_rfc then 0 else e.error_count
 
--- The heartbeat interval starts again. One of zero switches heartbeats off.
-abbrev pub heartbeats_begun : Endpoint → Timers → Timers
-heartbeats_begun e timers =
+-- The heartbeat interval of an association with this own tag starts again. One of zero switches heartbeats off.
+abbrev pub heartbeats_begun : Endpoint → ℕ → Timers → Timers
+heartbeats_begun e tag timers =
     if as_nanos e.options.heartbeat_interval == 0 then timers
-    else record timers { heartbeat_interval = started e.moment (heartbeat_settings e.options) }
+    else record timers {
+      heartbeat_interval = started e.moment (record (heartbeat_settings e.options) { duration = heartbeat_wait e.options tag });
+    }
+
+-- a pair as one number
+abbrev pub number_of_pair : Pair → ℕ
+number_of_pair pair = pair.tag * 2 ^ 32 + pair.first_tsn
+
+-- the secret once this pair was drawn
+abbrev pub secret_with : Endpoint → Pair → ℕ
+secret_with e pair = if e.options.follow_rfc && e.secret == 0 then number_of_pair pair else e.secret
+
+abbrev pub with_secret : Endpoint → Pair → Endpoint
+with_secret e pair = record e { secret = secret_with e pair }
 
 -- a socket that was just made
 abbrev pub fresh_endpoint : Options → Endpoint

@@ -18,7 +18,7 @@ use Rattle.dcsctp_spec.specs.queues.Skipping.{SaysForward}
 use Rattle.dcsctp_spec.specs.queues.Transfer.{Transfer, advertised_window, may_give, is_idle}
 use Rattle.dcsctp_spec.specs.queues.Tracker.{TrackerState, is_acknowledgement_due, owes_acknowledgement, sack_of, sacked}
 use Rattle.dcsctp_spec.specs.endpoint.BegunResets.{BegunReset, streams_within, last_assigned_tsn, begun_in, request_contents, begun_effects, queue_requesting, retransmission_begun, after_begun}
-use Rattle.dcsctp_spec.specs.endpoint.Endpoint.{Endpoint, Core, closed, cookie_wait, cookie_echoed, open_in, Timers, heartbeats_begun, held_in}
+use Rattle.dcsctp_spec.specs.endpoint.Endpoint.{Endpoint, Core, closed, cookie_wait, cookie_echoed, open_in, Timers, heartbeats_begun, held_in, own_tag}
 use Rattle.dcsctp_spec.specs.endpoint.Timers.{moment_after}
 use Rattle.dcsctp_spec.specs.endpoint.Outcome.{Outcome, contents_len, still, quiet, sends, behind, noting, then_outcome}
 use Rattle.dcsctp_spec.specs.association.Choices.{plain_contents}
@@ -248,7 +248,7 @@ IsAnswerOfQueues ask e draft answer (Some transfer) = GivesWhere (is_idle e.queu
 -- With data the heartbeat interval starts again.
 abbrev pub timers_with : Endpoint → List Plain → Timers
 timers_with e [] = e.timers
-timers_with e (chunk ∷ chunks) = heartbeats_begun e e.timers
+timers_with e (chunk ∷ chunks) = heartbeats_begun e (own_tag e.core) e.timers
 
 -- The answers that are allowed to this ask.
 pub record IsFlushAnswer (ask : Ask) (e : Endpoint) (draft : Emission) (answer : Answer) : Type 0 where

@@ -17,7 +17,7 @@ use Rattle.dcsctp_spec.specs.endpoint.Event.{aborted, connected}
 use Rattle.dcsctp_spec.specs.Packet.{Introduction, Content, init, init_ack, cookie_echo, abort, shutdown_ack, Emission}
 use Rattle.dcsctp_spec.specs.queues.SendQueue.{SendQueueState, queue_restarted, numbered_for}
 use Rattle.dcsctp_spec.specs.queues.Transfer.{new_transfer, next_tsn_of}
-use Rattle.dcsctp_spec.specs.endpoint.Endpoint.{Endpoint, Core, closed, cookie_wait, cookie_echoed, open_in, OpenPhase, established, shutdown_ack_sent, heartbeats_begun, t1_settings, errors_begun, may_answer}
+use Rattle.dcsctp_spec.specs.endpoint.Endpoint.{Endpoint, Core, closed, cookie_wait, cookie_echoed, open_in, OpenPhase, established, shutdown_ack_sent, heartbeats_begun, t1_settings, errors_begun, may_answer, secret_with, with_secret}
 use Rattle.dcsctp_spec.specs.endpoint.Timers.{started}
 use Rattle.dcsctp_spec.specs.endpoint.Outcome.{Outcome, still, quiet, fits, to_peer, emits, answering, noting, drawing}
 use Rattle.dcsctp_spec.specs.association.Effect.{holds, connects, identity_of}
@@ -220,7 +220,8 @@ InitAckTurn e theirs cookie o =
 
 -- The association is established. T1 is stopped, and the heartbeat interval starts again.
 abbrev pub connected_after : Endpoint → Pair → Held → Endpoint
-connected_after e mine held = record e { core = open_in established mine held; timers = heartbeats_begun e (record e.timers { t1 = None }) }
+connected_after e mine held =
+    record e { core = open_in established mine held; timers = heartbeats_begun e mine.tag (record e.timers { t1 = None }) }
 
 -- COOKIE ACK counts only in CookieEchoed (RFC 9260, section 5.2.5). A flush follows. Its change is `cookie_ack_change`.
 abbrev pub cookie_ack_by : FlushKind → Endpoint → Core → Outcome

@@ -6,7 +6,7 @@ use Rattle.dcsctp_types.specs.declared.capabilities.Capabilities.{Capabilities}
 use Rattle.dcsctp_types.specs.declared.options.Options.{Options}
 use Rattle.dcsctp_types.specs.declared.snapshot.HandoverCapabilities.{HandoverCapabilities}
 use Rattle.dcsctp_spec.specs.endpoint.Event as events
-use Rattle.dcsctp_spec.specs.endpoint.Endpoint.{Endpoint, Core, closed, open_in, established}
+use Rattle.dcsctp_spec.specs.endpoint.Endpoint.{Endpoint, Core, Timers, closed, open_in, established, heartbeats_begun}
 use Rattle.dcsctp_spec.specs.endpoint.Following.{next_chunk}
 use Rattle.dcsctp_spec.specs.endpoint.Outcome.{Outcome, still}
 use Rattle.dcsctp_types.specs.Snapshot.{SendPart, ReceivePart, Snapshot}
@@ -67,13 +67,18 @@ pub record RestoresTransfer (now : ℕ) (was_reset : Bool) (tx : SendPart) (rx :
 
 -- ---- the turn
 
--- What waits is replaced too. No timer starts but that of what is in flight: the heartbeat interval starts with the next data.
+-- The heartbeat interval starts with the next data. By the RFC it starts at once (RFC 9260, section 8.3).
+abbrev pub timers_restored : Endpoint → ℕ → Timers
+timers_restored e tag = if e.options.follow_rfc then heartbeats_begun e tag e.timers else e.timers
+
+-- What waits is replaced too.
 abbrev pub restored_endpoint : Endpoint → Snapshot → Transfer → Endpoint
 restored_endpoint e state transfer =
     record e {
       core = open_in established (own_pair state) (held_restored e.options state);
       tie = state.tie_tag;
       outstanding = None;
+      timers = timers_restored e state.my_verification_tag;
       queues = record {
         queue = queue_restored e.moment state.tx (numbered_for state.capabilities.message_interleaving e.queues.queue);
         transfer = Some transfer;
