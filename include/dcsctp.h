@@ -100,9 +100,9 @@
  *   never filled.
  *
  * DTLS. Run it over DTLS, or over another layer that delivers only what the peer has sent.
- *   Otherwise anyone can connect to a closed socket with one forged COOKIE ECHO: cookies aren't
- *   authenticated. Most other packets need the verification tag, but the text of an error names the
- *   one that was expected. Each INIT is answered, and each chunk of a packet may cause a packet.
+ *   Packets aren't authenticated. Most need the verification tag, but the text of an error names
+ *   the one that was expected, and without `follow_rfc` anyone can connect to a closed socket with
+ *   one forged COOKIE ECHO. Each INIT is answered, and each chunk of a packet may cause a packet.
  *
  * Results. A call returns DCSCTP_OK or a number that its description names. An error is negative.
  *   Errors are listed at each call, without DCSCTP_ERROR_. Unless the error or the call says more,
@@ -350,10 +350,10 @@ typedef struct dcsctp_socket {
  *   Smaller `max_init_retransmits`, `max_retransmissions`, `heartbeat_interval` or
  *   `max_timer_backoff_duration` make it shorter. With 10 as `max_retransmissions` it takes 333 to
  *   339 s for a HEARTBEAT, and 27.5 s or 26.8 s for data: then 25 s without a link may end it.
- *   With `follow_rfc` HEARTBEATs are `heartbeat_interval` and 50 to 150 % of `rto_initial` apart: the
- *   verification tag chooses how much, so that sockets don't send them together. If the interval is
- *   above 0 but no longer than half of `rto_initial` (without `follow_rfc`: all of it), a HEARTBEAT
- *   may never be an error.
+ *   With `follow_rfc` HEARTBEATs are `heartbeat_interval` and 50 to 150 % of `rto_initial` apart:
+ *   the verification tag chooses how much, so that sockets don't send them together. If the
+ *   interval is above 0 but no longer than half of `rto_initial` (without `follow_rfc`: all of it),
+ *   a HEARTBEAT may never be an error.
  *
  * `max_timer_backoff_duration`: each wait for an answer to data, to SHUTDOWN or to a request to
  *   reset streams is twice the last one, but no longer than this, nor than `rto_max`. Only the

@@ -175,22 +175,27 @@ static void texts(void) {
 
 /* ---- What a forged packet does -------------------------------------------------------------- */
 
-/* A closed socket that has sent no INIT ACK takes a cookie that is made by hand. Its fields are the
- * maker's name, the tags of both ends, their first TSNs, a window, a tie tag, what is supported, a
- * method, the streams and the moment. */
+/* Without `follow_rfc` a closed socket that has sent no INIT ACK takes a cookie that is made by hand. Its
+ * fields are the maker's name, the tags of both ends, their first TSNs, a window, a tie tag, what is
+ * supported, a method, the streams and the moment. With it the tie tag is a secret. */
 static void forged_cookie(void) {
     static const uint8_t echo[] = {10, 0, 0, 60, 'd', 'c', 'S', 'C', 'T', 'P', 'r', '0',
                                    0, 0, 0, 11, 0, 0, 0, 22, 0, 0, 0, 33, 0, 0, 0, 44,
                                    0, 1, 0, 0, 0, 0, 0, 0, 0, 0, 0, 0, 1, 0, 1, 0,
                                    0, 0, 0, 0, 255, 255, 255, 255, 0, 0, 3, 70, 48, 184, 160, 0};
     static const uint8_t header[12] = {19, 136, 19, 136, 0, 0, 0, 22};
-    const dcsctp_options options = quiet_options();
-    create_pair(&pair, &options, &options);
-    EQUAL("COOKIE ECHO", forge(&pair.a, header, echo, sizeof echo), DCSCTP_OK);
-    EQUAL("COOKIE ACK", carry(&pair.a, NULL), 1);
-    EQUAL("A is connected", pair.a.seen[DCSCTP_EVENT_CONNECTED], 1);
-    EQUAL("with the forged tag", u32_at(pair.a.packet + 4), 11);
-    destroy_pair(&pair);
+    dcsctp_options options = quiet_options();
+    for (uint32_t on = 0; on <= 1; on++) {
+        options.follow_rfc = on;
+        create_pair(&pair, &options, &options);
+        EQUAL("COOKIE ECHO", forge(&pair.a, header, echo, sizeof echo), DCSCTP_OK);
+        EQUAL("COOKIE ACK or ERROR", carry(&pair.a, NULL), 1);
+        EQUAL("its chunk type", pair.a.packet[12], on ? 9 : 11);
+        EQUAL("A is connected", pair.a.seen[DCSCTP_EVENT_CONNECTED], !on);
+        EQUAL("it is reported", pair.a.seen[DCSCTP_EVENT_ERROR], on);
+        EQUAL("with the forged tag", u32_at(pair.a.packet + 4), 11);
+        destroy_pair(&pair);
+    }
 }
 
 /* The tag that packets have to bear stands at the end of the text for a packet with another one. */

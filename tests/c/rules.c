@@ -187,7 +187,7 @@ static void begin_seeded(uint64_t round_trip, const uint8_t seeds[2]) {
     for (int who = A; who <= B; who++) {
         lanes[who].first = lanes[who].count = 0;
         lanes[who].free = 0;
-        EQUAL("a socket", create(&ends[who], &options, (uint8_t)(1 + below(255)), BEGIN), 0);
+        EQUAL("a socket", create(&ends[who], &options, seeds[who], BEGIN), 0);
     }
 }
 

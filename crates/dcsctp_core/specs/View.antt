@@ -169,6 +169,7 @@ endpoint_of context =
       outstanding = outstanding_of context.state;
       renewable = performed_reset context.renewable;
       last_tag = context.last_tag;
+      secret = context.secret;
       error_count = context.tx_error_counter.count;
       heartbeat_counter = context.heartbeat_counter;
       heartbeat_sent = context.heartbeat_sent;

@@ -2,7 +2,7 @@
 
 ghost use Rattle.std.specs.Prelude.{◌≡◌};
 ghost use Rattle.std.specs.Duration.{as_nanos};
-ghost use Rattle.dcsctp_transfer.specs.spec.endpoint.Endpoint.{heartbeat_settings, heartbeat_wait};
+ghost use Rattle.dcsctp_transfer.specs.spec.endpoint.Endpoint.{heartbeat_settings, heartbeat_wait, number_of_pair};
 ghost use Rattle.dcsctp_transfer.specs.spec.endpoint.HeartbeatOutcomes.{heartbeat_timeout_settings};
 ghost use Rattle.dcsctp_transfer.specs.spec.endpoint.CookieEchoOutcomes.{is_last_tag};
 ghost use Rattle.dcsctp_transfer.specs.types.Settings.{IsValid};
@@ -82,6 +82,10 @@ pub struct Context<R> {
     // Our verification tag in the last association that had a peer and has ended.
     last_tag: Option<u32>,
 
+    // What our cookies bear as their tie tag where there is no association. With `Options::follow_rfc` it is the first pair
+    // that the closed socket drew, 0 until then.
+    secret: u64,
+
     /// The errors that count (RFC 9260, section 8.1).
     pub tx_error_counter: TxErrorCounter,
 
@@ -131,13 +135,20 @@ fn heartbeat_wait(options: &Options, tag: u32) -> Duration
     options.heartbeat_interval.saturating_add(added)
 }
 
+// A pair as one number.
+fn number_of_pair(pair: Pair) -> u64
+    ensures { result ≡ number_of_pair pair }
+{
+    u64::from(pair.tag) * 4_294_967_296 + u64::from(pair.first_tsn)
+}
+
 impl<R: Rng> Context<R> {
     ghost use Rattle.std.specs.Prelude.{◌≡◌, ◌+◌, Bool, ℕ, List, length, map, nat_le, string_bytes};
     ghost use Rattle.std.specs.Duration.{as_nanos};
     ghost use Rattle.std.specs.Option.{option_map};
     ghost use Rattle.rand_core.specs.Stream.{next_u32, next_u64};
     ghost use Rattle.dcsctp_transfer.specs.types.declared.word.Word.TheVariants.{U32, U64};
-    ghost use Rattle.dcsctp_transfer.specs.spec.endpoint.Endpoint.{may_answer};
+    ghost use Rattle.dcsctp_transfer.specs.spec.endpoint.Endpoint.{may_answer, secret_with};
     ghost use Rattle.dcsctp_transfer.specs.spec.endpoint.Outcome.{packet_counted};
     ghost use Rattle.dcsctp_transfer.specs.spec.endpoint.EndOutcomes.{left_by};
     ghost use Rattle.dcsctp_transfer.specs.types.queues.Messages.{message_content};
@@ -148,7 +159,7 @@ impl<R: Rng> Context<R> {
     ghost use Rattle.dcsctp_transfer.specs.spec.endpoint.TimeTurns.{own_timer};
     ghost use Rattle.dcsctp_transfer.specs.spec.endpoint.OwnTimers.{heartbeat_interval, heartbeat_timeout, reconfiguration, retransmission};
     ghost use Rattle.dcsctp_transfer.specs.spec.endpoint.HeartbeatOutcomes.{interval_expired, beating, timeout_outcome, answered, heartbeat_round_trip, is_exhausted};
-    ghost use Rattle.dcsctp_transfer.specs.spec.endpoint.CookieEchoOutcomes.{is_tag_over};
+    ghost use Rattle.dcsctp_transfer.specs.spec.endpoint.CookieEchoOutcomes.{is_tag_over, is_foreign};
     ghost use Rattle.dcsctp_transfer.specs.spec.endpoint.Timers.{running_deadline};
     ghost use Rattle.dcsctp_core.specs.Timing.{where_expired, is_timer_due, ExpiresAlways};
     ghost use Rattle.dcsctp_core.specs.Reconfiguring.{request_over};
@@ -190,6 +201,7 @@ impl<R: Rng> Context<R> {
             renewable: None,
             has_answered: false,
             last_tag: None,
+            secret: 0,
             tx_error_counter: TxErrorCounter::new(options.max_retransmissions),
             rx_packets_count: 0,
             tx_packets_count: 0,
@@ -519,6 +531,48 @@ impl<R: Rng> Context<R> {
             State::CookieEchoed(_) | State::Open(_) => false,
             State::Closed | State::CookieWait(_) => {
                 self.options.follow_rfc && is_last_tag(self.last_tag, tag)
+            }
+        }
+    }
+
+    /// What our cookies bear as their tie tag where there is no association: with `Options::follow_rfc` a secret, else 0.
+    pub fn secret(&self) -> u64
+        ensures { result ≡ (endpoint_of self.now).secret }
+    {
+        self.secret
+    }
+
+    /// The secret once this pair was drawn: with `Options::follow_rfc` the first one is it.
+    pub fn secret_with(&self, pair: Pair) -> u64
+        ensures { result ≡ secret_with (endpoint_of self.now) pair }
+    {
+        if self.options.follow_rfc && self.secret == 0 {
+            number_of_pair(pair)
+        } else {
+            self.secret
+        }
+    }
+
+    /// Keeps this secret.
+    pub fn keep_secret(&mut self, secret: u64)
+        ensures { view_of self.new ≡ record (view_of self.old) {
+          endpoint = record
+              (endpoint_of self.old) { secret = secret };
+        } }
+    {
+        self.secret = secret;
+    }
+
+    /// Is there no association, and is a cookie with this tie tag none that this socket made? With `Options::follow_rfc`
+    /// none begins by it (RFC 9260, section 5.1.5).
+    pub fn is_foreign(&self, tie_tag: u64) -> bool
+        ensures { result
+            ≡ is_foreign (endpoint_of self.now) (endpoint_of self.now).core tie_tag }
+    {
+        match &self.state {
+            State::CookieEchoed(_) | State::Open(_) => false,
+            State::Closed | State::CookieWait(_) => {
+                self.options.follow_rfc && (self.secret == 0 || tie_tag != self.secret)
             }
         }
     }

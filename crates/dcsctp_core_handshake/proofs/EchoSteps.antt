@@ -123,9 +123,9 @@ is_of_peer true true tie zero is = refl
 same_of : (a b : ℕ) → (a == b) ≡ true → a ≡ b
 same_of a b is = grind (arith, nat_tests)
 
-peer_of : (my : Pair) (held : Held) (tie header : ℕ) (cookie : Cookie) → maintain_existing ≡ case_with_peer my held tie header cookie → held.peer.tag ≡ cookie.addressee.tag
-peer_of my held tie header cookie is =
-    sym (same_of cookie.addressee.tag held.peer.tag (is_of_peer (header == my.tag) (cookie.addressee.tag == held.peer.tag) (cookie.tie == tie) (cookie.tie == 0) is))
+peer_of : (my : Pair) (held : Held) (tie secret header : ℕ) (cookie : Cookie) → maintain_existing ≡ case_with_peer my held tie secret header cookie → held.peer.tag ≡ cookie.addressee.tag
+peer_of my held tie secret header cookie is =
+    sym (same_of cookie.addressee.tag held.peer.tag (is_of_peer (header == my.tag) (cookie.addressee.tag == held.peer.tag) (cookie.tie == tie) (cookie.tie == secret) is))
 
 -- a packet that begins with COOKIE ACK, under this tag
 abbrev ack_under : Held → ℕ → Emission
@@ -134,17 +134,17 @@ ack_under held tag = record { with_checksum = held.capabilities.zero_checksum_me
 abbrev acks_under : List Answer → Endpoint → List (Event Emission) → Held → ℕ → Outcome
 acks_under answers e events held tag = flush_answered answers e [] events (held.capabilities.zero_checksum_method.0 == 0) tag (cookie_ack ∷ [])
 
-maintain_is : (e : Endpoint) (cookie : Cookie) (core : Core) (tie header : ℕ) (answers : List Answer) → maintain_existing ≡ resolve core tie header cookie → MaintainedAnswers e core answers
+maintain_is : (e : Endpoint) (cookie : Cookie) (core : Core) (tie secret header : ℕ) (answers : List Answer) → maintain_existing ≡ resolve core tie secret header cookie → MaintainedAnswers e core answers
     → MaintainAnswers e cookie core answers × (maintained_by (flush_answered answers) e core ≡ maintain_by (flush_answered answers) e cookie core)
-maintain_is e cookie closed tie header answers is h = (h, refl)
-maintain_is e cookie (cookie_wait mine) tie header answers is h = (h, refl)
-maintain_is e cookie (cookie_echoed mine held echoed) tie header answers is h =
-    let same : held.peer.tag ≡ cookie.addressee.tag = peer_of mine held tie header cookie is in (
+maintain_is e cookie closed tie secret header answers is h = (h, refl)
+maintain_is e cookie (cookie_wait mine) tie secret header answers is h = (h, refl)
+maintain_is e cookie (cookie_echoed mine held echoed) tie secret header answers is h =
+    let same : held.peer.tag ≡ cookie.addressee.tag = peer_of mine held tie secret header cookie is in (
       subst (λ (tag : ℕ). FlushAnswers (connected_after e mine held) (ack_under held tag) answers) same h,
       ap (λ (tag : ℕ). noting (connects (identity_of mine held) ∷ []) (acks_under answers (connected_after e mine held) (connected ∷ []) held tag)) same,
     )
-maintain_is e cookie (open_in phase mine held) tie header answers is h =
-    let same : held.peer.tag ≡ cookie.addressee.tag = peer_of mine held tie header cookie is in (
+maintain_is e cookie (open_in phase mine held) tie secret header answers is h =
+    let same : held.peer.tag ≡ cookie.addressee.tag = peer_of mine held tie secret header cookie is in (
       subst (λ (tag : ℕ). FlushAnswers e (ack_under held tag) answers) same h,
       ap (acks_under answers e [] held) same,
     )
@@ -159,8 +159,8 @@ maintain_turn : {R : Type 0} (old : View R) (header : ℕ) (bytes : List ℕ) (c
     → MaintainAt old o → CookieEchoAt header bytes old o
 maintain_turn old header bytes cookie o c turn =
     let e : Endpoint = old.endpoint in
-    let is : maintain_existing ≡ resolve e.core e.tie header cookie = sym (kept_by_age (is_spent e e.core header cookie) (resolve e.core e.tie header cookie) (sym c.is)) in
-    let here = maintain_is e cookie e.core e.tie header turn.0 is turn.1 in
+    let is : maintain_existing ≡ resolve e.core e.tie e.secret header cookie = sym (kept_by_age (is_spent e e.core header cookie) (resolve e.core e.tie e.secret header cookie) (sym c.is)) in
+    let here = maintain_is e cookie e.core e.tie e.secret header turn.0 is turn.1 in
     turn_of e header bytes cookie 0 maintain_existing turn.0 o c here.0 (turn.2 ∙ here.1)
 
 pub works_maintain : {R : Type 0} (stream : R → Stream) (old new : View R) (header : ℕ) (bytes : List ℕ) (cookie : Cookie) → IsCase old.endpoint header bytes cookie maintain_existing

@@ -53,6 +53,10 @@ abbrev pub renewed_pair_where : Endpoint → Option Held → Introduction → �
 renewed_pair_where e None theirs word = still e
 renewed_pair_where e (Some held) theirs word = renewed_pair_outcome e theirs word
 
+-- where there is no association, with the words that the generator gives next
+abbrev pub closed_turn : {R : Type 0} → (R → Stream) → Introduction → View R → Outcome
+closed_turn stream theirs view = init_outcome view.endpoint theirs closed (first_word (stream view.generator)) (second_word (stream view.generator))
+
 -- with the words that the generator gives next
 abbrev pub init_reply_turn : {R : Type 0} → (R → Stream) → Introduction → View R → Outcome
 init_reply_turn stream theirs view = init_outcome view.endpoint theirs view.endpoint.core (first_word (stream view.generator)) (second_word (stream view.generator))

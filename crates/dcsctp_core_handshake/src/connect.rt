@@ -70,6 +70,7 @@ fn await_init_ack<R: Rng>(context: &mut Context<R>, my: Pair)
 {
     let duration = context.options.t1_init_timeout;
     let t1_init = started_t1(&context.options, context.moment, duration);
+    context.keep_secret(context.secret_with(my));
     context.state = State::CookieWait(CookieWaitState { t1_init, my });
 }
 

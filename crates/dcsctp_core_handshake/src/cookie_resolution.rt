@@ -61,8 +61,8 @@ impl CookieResolution {
 }
 
 /// Which case a COOKIE ECHO is now, in a packet with this header tag: that of the table, unless it would make an
-/// association and its cookie is older than `cookie_lifetime` (RFC 9260, section 5.1.5) or, with
-/// `Options::follow_rfc`, of the last association (section 5.3.1).
+/// association and its cookie is older than `cookie_lifetime` or, with `Options::follow_rfc`, none that we made (RFC 9260,
+/// section 5.1.5) or of the last association (section 5.3.1).
 pub fn resolve_now<R: Rng>(
     context: &Context<R>,
     header_tag: u32,
@@ -73,13 +73,21 @@ pub fn resolve_now<R: Rng>(
         header_tag (cookie_of cookie.now) }
 {
     let is_stale = cookie.is_stale(context.options.cookie_lifetime, context.moment);
-    let is_spent = context.is_tag_over(header_tag) || is_stale;
-    resolve(&context.state, header_tag, cookie).aged(is_spent)
+    let is_refused = context.is_foreign(cookie.tie_tag) || is_stale;
+    let is_spent = context.is_tag_over(header_tag) || is_refused;
+    resolve(&context.state, context.secret(), header_tag, cookie).aged(is_spent)
 }
 
-/// Which case of the table a COOKIE ECHO is, in a packet with this header tag. It is never `Stale`.
-pub fn resolve(state: &State, header_tag: u32, cookie: &StateCookie) -> CookieResolution
-    ensures { resolution_of result ≡ resolve (core_of state.now) (tie_of state.now) header_tag
+/// Which case of the table a COOKIE ECHO is, in a packet with this header tag. Cookies that were made without an
+/// association bear `secret` as their tie tag. It is never `Stale`.
+pub fn resolve(
+    state: &State,
+    secret: u64,
+    header_tag: u32,
+    cookie: &StateCookie,
+) -> CookieResolution
+    ensures { resolution_of result
+        ≡ resolve (core_of state.now) (tie_of state.now) secret header_tag
         (cookie_of cookie.now) }
 {
     let Some(tcb) = state.tcb() else {
@@ -94,7 +102,7 @@ pub fn resolve(state: &State, header_tag: u32, cookie: &StateCookie) -> CookieRe
     match (own_tag, peer_tag) {
         (true, true) => CookieResolution::MaintainExisting,
         (true, false) => CookieResolution::SimultaneousInit,
-        (false, true) if cookie.tie_tag == 0 => CookieResolution::Discard,
+        (false, true) if cookie.tie_tag == secret => CookieResolution::Discard,
         (false, true) => CookieResolution::InvalidTag,
         (false, false) if cookie.tie_tag == tcb.tie_tag => CookieResolution::RestartDetected,
         (false, false) => CookieResolution::InvalidTag,

@@ -3,7 +3,7 @@
 ghost use Rattle.dcsctp_core.specs.wire.Content.{init_content};
 ghost use Rattle.dcsctp_core.specs.spec.Packet.{introduction_in};
 ghost use Rattle.dcsctp_core.specs.Handling.{Tries, TriesDrawing};
-ghost use Rattle.dcsctp_core_handshake.specs.Handshake.{DrawsTag, DrawsPair, init_answer_turn, init_reply_turn, init_turn, renewed_turn};
+ghost use Rattle.dcsctp_core_handshake.specs.Handshake.{DrawsTag, DrawsPair, init_answer_turn, closed_turn, init_reply_turn, init_turn, renewed_turn};
 
 use crate::parameters::introduction;
 use dcsctp_core::api::{Capabilities, Pair, StateCookie};
@@ -94,6 +94,22 @@ fn answer_anew<R: Rng>(context: &mut Context<R>, init: &InitChunk<'_>) -> Result
     Ok(())
 }
 
+// Answers an INIT where there is no association, with a pair that is drawn for it. The first one is the secret of our
+// cookies.
+//
+// `Err`: an allocation failed, and nothing has changed but the random words that were drawn.
+fn answer_closed<R: Rng>(context: &mut Context<R>, init: &InitChunk<'_>) -> Result<(), AllocError>
+    ensures { TriesDrawing R.stream
+        (closed_turn R.stream (introduction_in (init_content init.now)))
+        context.old result context.new }
+{
+    let pair = draw_pair(context)?;
+    let secret = context.secret_with(pair);
+    send_init_ack(context, init, pair, secret)?;
+    context.keep_secret(secret);
+    Ok(())
+}
+
 // Answers an INIT. `Err`: an allocation failed, and nothing has changed but the random words that were drawn.
 fn answer_init<R: Rng>(context: &mut Context<R>, init: &InitChunk<'_>) -> Result<(), AllocError>
     ensures { TriesDrawing R.stream
@@ -101,17 +117,16 @@ fn answer_init<R: Rng>(context: &mut Context<R>, init: &InitChunk<'_>) -> Result
         context.old result context.new }
 {
     match &context.state {
-        State::Closed => {
-            let pair = draw_pair(context)?;
-            send_init_ack(context, init, pair, 0)?;
-        }
+        State::Closed => answer_closed(context, init)?,
         State::CookieWait(wait) => {
             let my = wait.my;
-            send_init_ack(context, init, my, 0)?;
+            let secret = context.secret();
+            send_init_ack(context, init, my, secret)?;
         }
         State::CookieEchoed(echoed) => {
             let my = echoed.tcb.my;
-            send_init_ack(context, init, my, 0)?;
+            let secret = context.secret();
+            send_init_ack(context, init, my, secret)?;
         }
         State::Open(opened) => match opened.phase {
             OpenPhase::ShutdownAckSent(_) => send_shutdown_ack(context)?,

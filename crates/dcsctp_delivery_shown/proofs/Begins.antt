@@ -89,7 +89,7 @@ record SaysOffer (options : Options) (read : Result Cookie (List ℕ)) (link : A
 echo_says : (options : Options) (core : Core) (header : ℕ) (read : Result Cookie (List ℕ)) (choices : Choices) (link : AssociationIdentity) → HasEffect (holds link) (read_echo_change options core header read choices).effects → SaysOffer options read link
 echo_says options core header (Err text) choices link has = absurd has
 echo_says options core header (Ok cookie) choices link has =
-    record { cookie = cookie; reads = refl; says = resolved_says options cookie choices link core (aged choices.is_stale (resolve core choices.tie header cookie)) has }
+    record { cookie = cookie; reads = refl; says = resolved_says options cookie choices link core (aged choices.is_stale (resolve core choices.tie choices.secret header cookie)) has }
 
 -- ---- a chunk that was sent by the other socket
 

@@ -13,7 +13,7 @@ use Rattle.dcsctp_spec_lemmas.specs.spec.Cookie.{Cookie}
 use Rattle.dcsctp_spec_lemmas.specs.spec.endpoint.Event.{Event, packets_in, connected, connection_restarted, aborted}
 use Rattle.dcsctp_spec_lemmas.specs.spec.queues.SendQueue.{queue_restarted, numbered_for}
 use Rattle.dcsctp_spec_lemmas.specs.spec.Packet.{Introduction, Content, cookie_echo, shutdown_ack, Emission}
-use Rattle.dcsctp_spec_lemmas.specs.spec.endpoint.Endpoint.{Endpoint, Core, closed, cookie_wait, cookie_echoed, open_in, established, shutdown_pending, shutdown_sent, shutdown_received, shutdown_ack_sent, may_answer}
+use Rattle.dcsctp_spec_lemmas.specs.spec.endpoint.Endpoint.{Endpoint, Core, closed, cookie_wait, cookie_echoed, open_in, established, shutdown_pending, shutdown_sent, shutdown_received, shutdown_ack_sent, may_answer, with_secret, secret_with}
 use Rattle.dcsctp_spec_lemmas.specs.spec.endpoint.Outcome.{Outcome, quiet, emits, fits, to_peer}
 use Rattle.dcsctp_spec_lemmas.specs.spec.endpoint.FlushOutcomes.{Answer, draft_to, flush_of, flush_answered}
 use Rattle.dcsctp_spec_lemmas.specs.spec.endpoint.EndOutcomes.{abort_outcome, aborting_outcome, abort_to, end_of}
@@ -64,9 +64,9 @@ module _ (came : Option Content) (calm : IsCalm came) (to : ℕ) where
       (ap (λ (b : EndpointQueues). record { queues = b; own = own_of base }) same ∙ ap (λ (own : Option Own). record { queues = e.queues; own = own }) (sym is)) makes
 
   init_link : (e : Endpoint) (theirs : Introduction) (core : Core) (word next : ℕ) → identity_in (init_outcome e theirs core word next).after.core ≡ identity_in e.core
-  init_link e theirs closed word next = emits_link e (U32 word ∷ U32 next ∷ []) (init_ack_emission e theirs (pair_from word next) 0)
-  init_link e theirs (cookie_wait my) word next = emits_link e [] (init_ack_emission e theirs my 0)
-  init_link e theirs (cookie_echoed my held cookie) word next = emits_link e [] (init_ack_emission e theirs my 0)
+  init_link e theirs closed word next = emits_link (with_secret e (pair_from word next)) (U32 word ∷ U32 next ∷ []) (init_ack_emission (with_secret e (pair_from word next)) theirs (pair_from word next) (secret_with e (pair_from word next)))
+  init_link e theirs (cookie_wait my) word next = emits_link e [] (init_ack_emission e theirs my e.secret)
+  init_link e theirs (cookie_echoed my held cookie) word next = emits_link e [] (init_ack_emission e theirs my e.secret)
   init_link e theirs (open_in established my held) word next = emits_link e (U32 word ∷ []) (init_ack_emission e theirs (renewed_pair e word) e.tie)
   init_link e theirs (open_in shutdown_pending my held) word next = emits_link e (U32 word ∷ []) (init_ack_emission e theirs (renewed_pair e word) e.tie)
   init_link e theirs (open_in shutdown_sent my held) word next = emits_link e (U32 word ∷ []) (init_ack_emission e theirs (renewed_pair e word) e.tie)
@@ -74,9 +74,9 @@ module _ (came : Option Content) (calm : IsCalm came) (to : ℕ) where
   init_link e theirs (open_in shutdown_ack_sent my held) word next = emits_link e [] (to_peer held shutdown_ack)
 
   init_makes : (e : Endpoint) (theirs : Introduction) (core : Core) (word next : ℕ) → MakesTo came to (inside e) (init_outcome e theirs core word next)
-  init_makes e theirs closed word next = emitted came to e (U32 word ∷ U32 next ∷ []) (init_ack_emission e theirs (pair_from word next) 0) (tt, tt) tt
-  init_makes e theirs (cookie_wait my) word next = emitted came to e [] (init_ack_emission e theirs my 0) (tt, tt) tt
-  init_makes e theirs (cookie_echoed my held cookie) word next = emitted came to e [] (init_ack_emission e theirs my 0) (tt, tt) tt
+  init_makes e theirs closed word next = emitted came to (with_secret e (pair_from word next)) (U32 word ∷ U32 next ∷ []) (init_ack_emission (with_secret e (pair_from word next)) theirs (pair_from word next) (secret_with e (pair_from word next))) (tt, tt) tt
+  init_makes e theirs (cookie_wait my) word next = emitted came to e [] (init_ack_emission e theirs my e.secret) (tt, tt) tt
+  init_makes e theirs (cookie_echoed my held cookie) word next = emitted came to e [] (init_ack_emission e theirs my e.secret) (tt, tt) tt
   init_makes e theirs (open_in established my held) word next = emitted came to e (U32 word ∷ []) (init_ack_emission e theirs (renewed_pair e word) e.tie) (tt, tt) tt
   init_makes e theirs (open_in shutdown_pending my held) word next = emitted came to e (U32 word ∷ []) (init_ack_emission e theirs (renewed_pair e word) e.tie) (tt, tt) tt
   init_makes e theirs (open_in shutdown_sent my held) word next = emitted came to e (U32 word ∷ []) (init_ack_emission e theirs (renewed_pair e word) e.tie) (tt, tt) tt
@@ -225,21 +225,21 @@ module _ (came : Option Content) (calm : IsCalm came) (to : ℕ) where
   restarted_goes opening e cookie tie (open_in shutdown_received my held) answers allowed = anew_goes opening e cookie tie (connection_restarted ∷ connected ∷ []) answers refl allowed
   restarted_goes opening e cookie tie (open_in shutdown_ack_sent my held) answers allowed = goes_on calm refl (spoken came to (inside e) (shutting_down_emission held) (tt, (tt, tt)) (refl, tt))
 
-  maintained_goes : (e : Endpoint) (cookie : Cookie) (header : ℕ) (core : Core) (answers : List Answer) → e.core ≡ core → IsPeerTag e.core to → IsPeerTag core to → resolve core e.tie header cookie ≡ maintain_existing → MaintainAnswers e cookie core answers → Goes came to e (maintain_by (flush_answered answers) e cookie core)
+  maintained_goes : (e : Endpoint) (cookie : Cookie) (header : ℕ) (core : Core) (answers : List Answer) → e.core ≡ core → IsPeerTag e.core to → IsPeerTag core to → resolve core e.tie e.secret header cookie ≡ maintain_existing → MaintainAnswers e cookie core answers → Goes came to e (maintain_by (flush_answered answers) e cookie core)
   maintained_goes e cookie header closed answers same at is resolved allowed = goes_on calm refl (rests came to (inside e))
   maintained_goes e cookie header (cookie_wait my) answers same at is resolved allowed = goes_on calm refl (rests came to (inside e))
   maintained_goes e cookie header (cookie_echoed my held echoed) answers same at is resolved allowed = goes_on calm (flush_link (connected_after e my held) (cookie_ack_emission held cookie) answers allowed ∙ sym (ap identity_in same))
       (from_own e (connected_after e my held) (flush_of (connected_after e my held) (cookie_ack_emission held cookie) answers) refl (ap (λ (c : Core). own_in c e.outstanding) same)
-      (flushed came to (connected_after e my held) (cookie_ack_emission held cookie) answers is (eqb-true cookie.addressee.tag held.peer.tag (is_the_peer (header == my.tag) (cookie.addressee.tag == held.peer.tag) (cookie.tie == e.tie) (cookie.tie == 0) resolved) ∙ is) (tt, tt) tt (tt, tt) allowed))
-  maintained_goes e cookie header (open_in phase my held) answers same at is resolved allowed = goes_on calm (flush_link e (cookie_ack_emission held cookie) answers allowed) (flushed came to e (cookie_ack_emission held cookie) answers at (eqb-true cookie.addressee.tag held.peer.tag (is_the_peer (header == my.tag) (cookie.addressee.tag == held.peer.tag) (cookie.tie == e.tie) (cookie.tie == 0) resolved) ∙ is) (tt, tt) tt (tt, tt) allowed)
+      (flushed came to (connected_after e my held) (cookie_ack_emission held cookie) answers is (eqb-true cookie.addressee.tag held.peer.tag (is_the_peer (header == my.tag) (cookie.addressee.tag == held.peer.tag) (cookie.tie == e.tie) (cookie.tie == e.secret) resolved) ∙ is) (tt, tt) tt (tt, tt) allowed))
+  maintained_goes e cookie header (open_in phase my held) answers same at is resolved allowed = goes_on calm (flush_link e (cookie_ack_emission held cookie) answers allowed) (flushed came to e (cookie_ack_emission held cookie) answers at (eqb-true cookie.addressee.tag held.peer.tag (is_the_peer (header == my.tag) (cookie.addressee.tag == held.peer.tag) (cookie.tie == e.tie) (cookie.tie == e.secret) resolved) ∙ is) (tt, tt) tt (tt, tt) allowed)
 
-  resolved_goes : IsOpening came → (e : Endpoint) (cookie : Cookie) (header : ℕ) (core : Core) (word : ℕ) (old : Bool) (resolution : Resolution) (answers : List Answer) → e.core ≡ core → IsPeerTag e.core to → IsPeerTag core to → aged old (resolve core e.tie header cookie) ≡ resolution → ResolvedAnswers e cookie core word resolution answers
+  resolved_goes : IsOpening came → (e : Endpoint) (cookie : Cookie) (header : ℕ) (core : Core) (word : ℕ) (old : Bool) (resolution : Resolution) (answers : List Answer) → e.core ≡ core → IsPeerTag e.core to → IsPeerTag core to → aged old (resolve core e.tie e.secret header cookie) ≡ resolution → ResolvedAnswers e cookie core word resolution answers
       → Goes came to e (resolved_by (flush_answered answers) e cookie core word resolution)
   resolved_goes opening e cookie header core word old establish_new answers same at is resolved allowed = kept_goes opening e cookie word answers allowed
   resolved_goes opening e cookie header core word old restart answers same at is resolved allowed = restarted_goes opening e cookie word core answers allowed
   resolved_goes opening e cookie header core word old simultaneous_init answers same at is resolved allowed = collided_goes opening e core cookie word answers same allowed
   resolved_goes opening e cookie header core word old discard answers same at is resolved allowed = goes_on calm refl (rests came to (inside e))
-  resolved_goes opening e cookie header core word old maintain_existing answers same at is resolved allowed = maintained_goes e cookie header core answers same at is (kept_by_age old (resolve core e.tie header cookie) resolved) allowed
+  resolved_goes opening e cookie header core word old maintain_existing answers same at is resolved allowed = maintained_goes e cookie header core answers same at is (kept_by_age old (resolve core e.tie e.secret header cookie) resolved) allowed
   resolved_goes opening e cookie header core word old invalid_tag answers same at is resolved allowed = goes_on calm refl (rests came to (inside e))
   resolved_goes opening e cookie header core word old stale answers same at is resolved allowed =
       by_stale_outcome (Goes came to e) e cookie (goes_on calm refl (spoken came to (inside e) (stale_emission cookie) (tt, tt) tt)) (goes_on calm refl (rests came to (inside e)))

@@ -4,7 +4,7 @@ use Rattle.dcsctp_spec_lemmas.specs.types.declared.association.Pair.{Pair}
 use Rattle.dcsctp_spec_lemmas.specs.types.declared.word.Word.{Word}
 use Rattle.dcsctp_spec_lemmas.specs.types.declared.word.Word.TheVariants.{U32}
 use Rattle.dcsctp_spec_lemmas.specs.spec.Packet.{Introduction, Content, init, init_ack, cookie_echo, cookie_ack, re_config, abort, shutdown, shutdown_ack, shutdown_complete, plain, Emission}
-use Rattle.dcsctp_spec_lemmas.specs.spec.endpoint.Endpoint.{Endpoint, Core, closed, cookie_wait, cookie_echoed, open_in, established, shutdown_pending, shutdown_sent, shutdown_received, shutdown_ack_sent}
+use Rattle.dcsctp_spec_lemmas.specs.spec.endpoint.Endpoint.{Endpoint, Core, closed, cookie_wait, cookie_echoed, open_in, established, shutdown_pending, shutdown_sent, shutdown_received, shutdown_ack_sent, with_secret, secret_with}
 use Rattle.dcsctp_spec_lemmas.specs.spec.endpoint.Outcome.{Outcome, quiet, sends, fits, emits, to_peer}
 use Rattle.dcsctp_spec_runs.specs.Past.{HasEffect}
 use Rattle.dcsctp_spec_lemmas.specs.spec.association.Controlled.{IsControlled, ControlledChunk, ControlledAct}
@@ -74,9 +74,9 @@ module _ (noted : Effect) (Is : Core → Type 0) (undrawn : (pair : Pair) → no
 
   init_none : (e : Endpoint) (theirs : Introduction) (core : Core) (word later : ℕ) → Holds (init_outcome e theirs core word later).effects → ⊥
   init_none e theirs closed word later has =
-      drawn_before _ _ (emits_none e (U32 word ∷ U32 later ∷ []) (init_ack_emission e theirs (pair_from word later) 0)) has
-  init_none e theirs (cookie_wait own) word later has = emits_none e [] (init_ack_emission e theirs own 0) has
-  init_none e theirs (cookie_echoed own held cookie) word later has = emits_none e [] (init_ack_emission e theirs own 0) has
+      drawn_before _ _ (emits_none (with_secret e (pair_from word later)) (U32 word ∷ U32 later ∷ []) (init_ack_emission (with_secret e (pair_from word later)) theirs (pair_from word later) (secret_with e (pair_from word later)))) has
+  init_none e theirs (cookie_wait own) word later has = emits_none e [] (init_ack_emission e theirs own e.secret) has
+  init_none e theirs (cookie_echoed own held cookie) word later has = emits_none e [] (init_ack_emission e theirs own e.secret) has
   init_none e theirs (open_in established own held) word later has = renewed_none e theirs word has
   init_none e theirs (open_in shutdown_pending own held) word later has = renewed_none e theirs word has
   init_none e theirs (open_in shutdown_sent own held) word later has = renewed_none e theirs word has

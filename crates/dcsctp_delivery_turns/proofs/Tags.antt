@@ -106,29 +106,29 @@ not_existing : (b : Bool) → case_without_peer b ≡ maintain_existing → ⊥
 not_existing true e = absurd (cc)
 not_existing false e = absurd (cc)
 
-maintained_tag : (e : Endpoint) (cookie : Cookie) (header : ℕ) (core : Core) (answers : List Answer) → e.core ≡ core → resolve core e.tie header cookie ≡ maintain_existing → MaintainAnswers e cookie core answers
+maintained_tag : (e : Endpoint) (cookie : Cookie) (header : ℕ) (core : Core) (answers : List Answer) → e.core ≡ core → resolve core e.tie e.secret header cookie ≡ maintain_existing → MaintainAnswers e cookie core answers
     → own_tag (maintain_by (flush_answered answers) e cookie core).after.core ≡ header
 maintained_tag e cookie header closed answers is resolved allowed = absurd (not_existing (header == cookie.maker.tag) resolved)
 maintained_tag e cookie header (cookie_wait my) answers is resolved allowed = absurd (not_existing (header == cookie.maker.tag) resolved)
 maintained_tag e cookie header (cookie_echoed my held echoed) answers is resolved allowed =
     flushed_tag (connected_after e my held) (cookie_ack_emission held cookie) answers allowed
-    ∙ sym (eqb-true header my.tag (is_existing (header == my.tag) (cookie.addressee.tag == held.peer.tag) (cookie.tie == e.tie) (cookie.tie == 0) resolved))
+    ∙ sym (eqb-true header my.tag (is_existing (header == my.tag) (cookie.addressee.tag == held.peer.tag) (cookie.tie == e.tie) (cookie.tie == e.secret) resolved))
 maintained_tag e cookie header (open_in phase my held) answers is resolved allowed =
     flushed_tag e (cookie_ack_emission held cookie) answers allowed ∙ ap own_tag is
-    ∙ sym (eqb-true header my.tag (is_existing (header == my.tag) (cookie.addressee.tag == held.peer.tag) (cookie.tie == e.tie) (cookie.tie == 0) resolved))
+    ∙ sym (eqb-true header my.tag (is_existing (header == my.tag) (cookie.addressee.tag == held.peer.tag) (cookie.tie == e.tie) (cookie.tie == e.secret) resolved))
 
 -- A stale one drops the rest of its packet.
 stale_drops : (e : Endpoint) (cookie : Cookie) → (stale_outcome e cookie).following ≡ next_chunk → ⊥
 stale_drops e cookie next = by_stale_outcome (λ o. o.following ≡ next_chunk → ⊥) e cookie not_next not_next next
 
-resolved_tag : (e : Endpoint) (cookie : Cookie) (header : ℕ) (core : Core) (word : ℕ) (old : Bool) (resolution : Resolution) (answers : List Answer) → e.core ≡ core → header ≡ cookie.maker.tag → aged old (resolve core e.tie header cookie) ≡ resolution
+resolved_tag : (e : Endpoint) (cookie : Cookie) (header : ℕ) (core : Core) (word : ℕ) (old : Bool) (resolution : Resolution) (answers : List Answer) → e.core ≡ core → header ≡ cookie.maker.tag → aged old (resolve core e.tie e.secret header cookie) ≡ resolution
     → ResolvedAnswers e cookie core word resolution answers → (resolved_by (flush_answered answers) e cookie core word resolution).following ≡ next_chunk
     → own_tag (resolved_by (flush_answered answers) e cookie core word resolution).after.core ≡ header
 resolved_tag e cookie header core word old establish_new answers is bears resolved allowed next = established_tag e cookie (queues_kept e cookie) word (connected ∷ []) answers allowed ∙ sym bears
 resolved_tag e cookie header core word old restart answers is bears resolved allowed next = restarted_tag e cookie word core answers allowed next ∙ sym bears
 resolved_tag e cookie header core word old simultaneous_init answers is bears resolved allowed next = established_tag e cookie (queues_collided e core cookie) word (connected ∷ []) answers allowed ∙ sym bears
 resolved_tag e cookie header core word old discard answers is bears resolved allowed next = absurd (not_next next)
-resolved_tag e cookie header core word old maintain_existing answers is bears resolved allowed next = maintained_tag e cookie header core answers is (kept_by_age old (resolve core e.tie header cookie) resolved) allowed
+resolved_tag e cookie header core word old maintain_existing answers is bears resolved allowed next = maintained_tag e cookie header core answers is (kept_by_age old (resolve core e.tie e.secret header cookie) resolved) allowed
 resolved_tag e cookie header core word old invalid_tag answers is bears resolved allowed next = absurd (not_next next)
 resolved_tag e cookie header core word old stale answers is bears resolved allowed next = absurd (stale_drops e cookie next)
 

@@ -4,7 +4,7 @@ use Rattle.dcsctp_spec_lemmas.specs.spec.Cookie.{Cookie}
 use Rattle.dcsctp_spec_lemmas.specs.types.declared.association.Pair.{Pair}
 use Rattle.dcsctp_spec_lemmas.specs.types.declared.word.Word.{Word}
 use Rattle.dcsctp_spec_lemmas.specs.types.declared.word.Word.TheVariants.{U32, U64}
-use Rattle.dcsctp_spec_lemmas.specs.spec.endpoint.Endpoint.{Endpoint, Core, closed, cookie_wait, cookie_echoed, open_in, established, shutdown_pending, shutdown_sent, shutdown_received, shutdown_ack_sent}
+use Rattle.dcsctp_spec_lemmas.specs.spec.endpoint.Endpoint.{Endpoint, Core, closed, cookie_wait, cookie_echoed, open_in, established, shutdown_pending, shutdown_sent, shutdown_received, shutdown_ack_sent, with_secret, secret_with}
 use Rattle.dcsctp_spec_lemmas.specs.spec.endpoint.Event.{Event, connected, connection_restarted, aborted}
 use Rattle.dcsctp_spec_lemmas.specs.spec.endpoint.Outcome.{Outcome, quiet, emits, fits, drawing, to_peer}
 use Rattle.dcsctp_spec_lemmas.specs.spec.Packet.{Introduction, Content, cookie_echo, shutdown_ack, Emission}
@@ -38,9 +38,9 @@ drawn_asks : (e : Endpoint) (words : List Word) (pair : Pair) (emission : Emissi
 drawn_asks e words pair emission = (let sent = emitted e words emission in record { none = sent.none; waits = sent.waits })
 
 pub init_asks : (e : Endpoint) (theirs : Introduction) (core : Core) (word next : ℕ) → AsksNothing e.queues.transfer (init_outcome e theirs core word next)
-init_asks e theirs closed word next = drawn_asks e (U32 word ∷ U32 next ∷ []) (pair_from word next) (init_ack_emission e theirs (pair_from word next) 0)
-init_asks e theirs (cookie_wait my) word next = emitted e [] (init_ack_emission e theirs my 0)
-init_asks e theirs (cookie_echoed my held cookie) word next = emitted e [] (init_ack_emission e theirs my 0)
+init_asks e theirs closed word next = drawn_asks (with_secret e (pair_from word next)) (U32 word ∷ U32 next ∷ []) (pair_from word next) (init_ack_emission (with_secret e (pair_from word next)) theirs (pair_from word next) (secret_with e (pair_from word next)))
+init_asks e theirs (cookie_wait my) word next = emitted e [] (init_ack_emission e theirs my e.secret)
+init_asks e theirs (cookie_echoed my held cookie) word next = emitted e [] (init_ack_emission e theirs my e.secret)
 init_asks e theirs (open_in established my held) word next = drawn_asks e (U32 word ∷ []) (renewed_pair e word) (init_ack_emission e theirs (renewed_pair e word) e.tie)
 init_asks e theirs (open_in shutdown_pending my held) word next = drawn_asks e (U32 word ∷ []) (renewed_pair e word) (init_ack_emission e theirs (renewed_pair e word) e.tie)
 init_asks e theirs (open_in shutdown_sent my held) word next = drawn_asks e (U32 word ∷ []) (renewed_pair e word) (init_ack_emission e theirs (renewed_pair e word) e.tie)

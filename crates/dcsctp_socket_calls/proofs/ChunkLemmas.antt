@@ -7,7 +7,7 @@ use Rattle.dcsctp_core.specs.types.declared.association.Pair.{Pair}
 use Rattle.dcsctp_core.specs.types.declared.word.Word.{Word}
 use Rattle.dcsctp_core.specs.types.declared.word.Word.TheVariants.{U32}
 use Rattle.dcsctp_core.specs.spec.Packet.{Introduction, Content, Emission, init, shutdown_ack}
-use Rattle.dcsctp_core.specs.spec.endpoint.Endpoint.{Endpoint, Core, closed, cookie_wait, cookie_echoed, open_in, established, shutdown_pending, shutdown_sent, shutdown_received, shutdown_ack_sent, may_answer}
+use Rattle.dcsctp_core.specs.spec.endpoint.Endpoint.{Endpoint, Core, closed, cookie_wait, cookie_echoed, open_in, established, shutdown_pending, shutdown_sent, shutdown_received, shutdown_ack_sent, may_answer, with_secret, secret_with}
 use Rattle.dcsctp_core.specs.spec.endpoint.Following.{next_chunk}
 use Rattle.dcsctp_core.specs.spec.endpoint.Outcome.{Outcome, fits, sends, quiet, to_peer}
 use Rattle.dcsctp_core.specs.spec.endpoint.Turn.{ContentTurn, act_input}
@@ -53,9 +53,9 @@ answer_follows e theirs words mine tie = emits_follows (fits e (init_ack_emissio
 
 -- What follows an INIT is the next chunk.
 init_follows : (e : Endpoint) (theirs : Introduction) (core : Core) (word next : ℕ) → (init_outcome e theirs core word next).following ≡ next_chunk
-init_follows e theirs closed word next = answer_follows e theirs (U32 word ∷ U32 next ∷ []) (pair_from word next) 0
-init_follows e theirs (cookie_wait mine) word next = answer_follows e theirs [] mine 0
-init_follows e theirs (cookie_echoed mine held cookie) word next = answer_follows e theirs [] mine 0
+init_follows e theirs closed word next = answer_follows (with_secret e (pair_from word next)) theirs (U32 word ∷ U32 next ∷ []) (pair_from word next) (secret_with e (pair_from word next))
+init_follows e theirs (cookie_wait mine) word next = answer_follows e theirs [] mine e.secret
+init_follows e theirs (cookie_echoed mine held cookie) word next = answer_follows e theirs [] mine e.secret
 init_follows e theirs (open_in established mine held) word next = answer_follows e theirs (U32 word ∷ []) (renewed_pair e word) e.tie
 init_follows e theirs (open_in shutdown_pending mine held) word next = answer_follows e theirs (U32 word ∷ []) (renewed_pair e word) e.tie
 init_follows e theirs (open_in shutdown_sent mine held) word next = answer_follows e theirs (U32 word ∷ []) (renewed_pair e word) e.tie

@@ -1,6 +1,6 @@
 //! The calls of a socket, over its parts: each is a list of turns.
 
-ghost use Rattle.std.specs.Prelude.{◌≡◌, ◌<◌, true, false, IsOk, map};
+ghost use Rattle.std.specs.Prelude.{◌≡◌, ◌<◌, true, false, IsOk, [], ◌∷◌, map};
 ghost use Rattle.dcsctp_core.specs.wire.Content.{chunk_content, packet_content};
 ghost use Rattle.dcsctp_core.specs.spec.Packet.{content_in};
 ghost use Rattle.dcsctp_core.specs.types.Schedule.{connect_call, close_call, shutdown_call, advance_call};

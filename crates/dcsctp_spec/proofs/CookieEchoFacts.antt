@@ -56,7 +56,7 @@ unfolding cookie_at
 echo_where_closed e = refl
 
 -- By the RFC's rules it begins again.
-echo_where_closed_by_rfc : (e : Endpoint) → (cookie_echo_outcome (by_rfc (socket e 1191 (pos 4) closed 4)) closed 7 (cookie_at (own_cookie 0)) 55).after.queues.queue ≡ queue_at_start
+echo_where_closed_by_rfc : (e : Endpoint) → (cookie_echo_outcome (by_rfc (socket e 1191 (pos 4) closed 4)) closed 7 (cookie_at (own_cookie 5)) 55).after.queues.queue ≡ queue_at_start
 unfolding cookie_at
 echo_where_closed_by_rfc e = refl
 
@@ -171,13 +171,37 @@ echo_that_is_stale : (e : Endpoint) → let late : Endpoint = record (socket e 1
 unfolding cookie_at
 echo_that_is_stale e = refl
 
+-- ---- one that this socket didn't make, where there is no association
+
+-- By the RFC's rules it bears another tie tag than the secret,
+forged_echo : (e : Endpoint) → cookie_echo_outcome (by_rfc (socket e 1191 (pos 4) closed 4)) closed 7 (cookie_at (own_cookie 6)) 55
+    ≡ record {
+      words = [];
+      effects = [];
+      after = by_rfc (socket e 1191 (pos 4) closed 5);
+      events = error ParseFailed (codes "Stale state cookie") ∷ packet_of true 9 (plain (unworked (error_chunk (unknown_cause 3 (0 ∷ 0 ∷ 0 ∷ 0 ∷ []) ∷ []))) ∷ []) ∷ [];
+      following = dropped_rest;
+    }
+unfolding cookie_at parameter_chunk_bytes parameter_bytes
+forged_echo e = refl
+
+-- also while an INIT ACK is awaited,
+forged_while_waiting : (e : Endpoint) → (cookie_echo_outcome (by_rfc (socket e 1191 (pos 4) closed 4)) (cookie_wait older) 7 (cookie_at (own_cookie 0)) 55).effects ≡ []
+unfolding cookie_at parameter_chunk_bytes parameter_bytes
+forged_while_waiting e = refl
+
+-- and so is any while no pair was drawn.
+forged_at_once : (e : Endpoint) → (cookie_echo_outcome (record (by_rfc (socket e 1191 (pos 4) closed 4)) { secret = 0 }) closed 7 (cookie_at (own_cookie 0)) 55).effects ≡ []
+unfolding cookie_at parameter_chunk_bytes parameter_bytes
+forged_at_once e = refl
+
 -- ---- the last association had this own tag
 
 abbrev after_7 : Endpoint → Endpoint
 after_7 e = record (socket e 1191 (pos 4) closed 4) { last_tag = Some 7 }
 
 -- By the RFC's rules a cookie under it makes no other,
-echo_of_the_last : (e : Endpoint) → cookie_echo_outcome (by_rfc (after_7 e)) closed 7 (cookie_at (own_cookie 0)) 55
+echo_of_the_last : (e : Endpoint) → cookie_echo_outcome (by_rfc (after_7 e)) closed 7 (cookie_at (own_cookie 5)) 55
     ≡ record {
       words = [];
       effects = [];
@@ -189,7 +213,7 @@ unfolding cookie_at parameter_chunk_bytes parameter_bytes
 echo_of_the_last e = refl
 
 -- nor while an INIT ACK is awaited. By the port it does.
-echo_of_the_last_while_waiting : (e : Endpoint) → (cookie_echo_outcome (by_rfc (after_7 e)) (cookie_wait older) 7 (cookie_at (own_cookie 0)) 55).effects ≡ []
+echo_of_the_last_while_waiting : (e : Endpoint) → (cookie_echo_outcome (by_rfc (after_7 e)) (cookie_wait older) 7 (cookie_at (own_cookie 5)) 55).effects ≡ []
 unfolding cookie_at parameter_chunk_bytes parameter_bytes
 echo_of_the_last_while_waiting e = refl
 

@@ -109,13 +109,14 @@ socket e mtu max_burst core packets_sent =
       core = core;
       tie = 77;
       last_tag = None;
+      secret = 0;
       counts = record { packets_received = 3; packets_sent = packets_sent; messages_queued = 5 };
       queues = record { queue = queue; transfer = None };
     }
 
--- with the RFC's rules
+-- with the RFC's rules, and with 5 as the secret
 abbrev pub by_rfc : Endpoint → Endpoint
-by_rfc e = record e { options = record e.options { follow_rfc = true } }
+by_rfc e = record e { options = record e.options { follow_rfc = true }; secret = 5 }
 
 -- T1, just started: it is doubled each time, and restarts eight times
 abbrev t1_due : ℕ → ℕ → Option RunningTimer

@@ -1,7 +1,7 @@
 -- Outside examples of what a socket does with an INIT, computed by the definitions: a wrong rule in specs/
 -- would not check here.
 use Rattle.std.proofs.Common.{◌≡◌, ℕ, Bool, true, false, Some, Err, List, [], ◌∷◌, ◌++◌, refl, arith}
-use Rattle.std.specs.Prelude.{codes, replicate}
+use Rattle.std.specs.Prelude.{codes, replicate, take, drop}
 use Rattle.dcsctp_types.specs.wire.Spelling.{parameter_bytes, parameters_len, init_fields, parameter_chunk_bytes, other_bytes, header_bytes, checksum_field, packet_bytes_of}
 use Rattle.dcsctp_types.specs.declared.association.Pair.{Pair}
 use Rattle.dcsctp_types.specs.declared.association.Held.{Held}
@@ -25,7 +25,7 @@ use Rattle.dcsctp_spec.specs.endpoint.Following.{next_chunk}
 use Rattle.dcsctp_spec.specs.endpoint.Turn.{arrival, arrival_outcome, refusal_outcome, unreadable_text}
 use Rattle.dcsctp_spec.specs.association.Effect.{draws}
 use Rattle.dcsctp_spec.specs.endpoint.CallTurns.{Transition, words_of, events_of}
-use Rattle.dcsctp_spec.specs.endpoint.HandshakeOutcomes.{init_outcome, init_answered}
+use Rattle.dcsctp_spec.specs.endpoint.HandshakeOutcomes.{cookie_for, init_outcome, init_answered}
 
 -- ---- options
 
@@ -127,8 +127,9 @@ socket : Endpoint → ℕ → ℕ → Endpoint
 socket e mtu packets_sent =
     record e {
       moment = 5_000_000_000;
-      options = configured e.options mtu;
+      options = record (configured e.options mtu) { follow_rfc = false };
       tie = 77;
+      secret = 0;
       counts = record { packets_received = 3; packets_sent = packets_sent; messages_queued = 5 };
       queues = record { queue = empty_queue e.options; transfer = Some (record (new_transfer e.options nothing_negotiated 0 0 0) { retransmission = new_retransmission e.options 0xffffffff 0 false false }) };
     }
@@ -147,6 +148,25 @@ init_where_closed : (e : Endpoint) → init_outcome (socket e 1191 4) theirs clo
     ≡ record { words = U32 5 ∷ U32 9 ∷ []; effects = draws (record { tag = 10; first_tsn = 5 }) ∷ []; after = socket e 1191 5; events = sent (record { with_checksum = false; packet = record { tag = 7; contents = answer 10 5 5242880 closed_cookie ∷ [] } }) ∷ []; following = next_chunk }
 unfolding configured theirs socket answer closed_cookie cookie_bytes parameter_chunk_bytes init_fields parameters_len parameter_bytes
 init_where_closed e = refl
+
+-- by the RFC's rules, with this secret
+by_rfc : Endpoint → ℕ → Endpoint
+by_rfc e secret = let old : Options = e.options in record e { options = record old { follow_rfc = true }; secret = secret }
+
+-- The first pair that is drawn, 10 and 5, is the secret that the cookie bears from byte 28 on.
+first_secret : (e : Endpoint) → (init_outcome (by_rfc (socket e 1191 4) 0) theirs closed 5 9).after ≡ by_rfc (socket e 1191 5) 0xa_0000_0005
+unfolding configured theirs socket by_rfc cookie_bytes parameter_chunk_bytes init_fields parameters_len parameter_bytes
+first_secret e = refl
+
+bears_secret : take 8 (drop 28 (cookie_bytes (cookie_for 0 theirs (record { tag = 10; first_tsn = 5 }) 0xa_0000_0005)))
+    ≡ 0 ∷ 0 ∷ 0 ∷ 10 ∷ 0 ∷ 0 ∷ 0 ∷ 5 ∷ []
+unfolding theirs cookie_bytes
+bears_secret = refl
+
+-- It stays, whatever pair is drawn later.
+kept_secret : (e : Endpoint) → (init_outcome (by_rfc (socket e 1191 4) 3) theirs closed 5 9).after.secret ≡ 3
+unfolding configured theirs socket by_rfc cookie_bytes parameter_chunk_bytes init_fields parameters_len parameter_bytes
+kept_secret e = refl
 
 -- The answer has 112 bytes: 12, 20, 4, 8, 8 and 60.
 answer_that_fits : (e : Endpoint) → (init_outcome (socket e 112 4) theirs closed 5 9).after ≡ socket e 112 5

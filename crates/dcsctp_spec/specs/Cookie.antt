@@ -12,7 +12,7 @@ pub record Cookie : Type 0 where
   pub addressee : Pair
   pub offer : Offer
   pub window : ℕ
-  -- the tie tag of the association that was open, 0 if none was (RFC 9260, section 5.2.2)
+  -- the tie tag of the association that was open, or what is borne if none was (RFC 9260, section 5.2.2)
   pub tie : ℕ
   -- when it was made, on its maker's clock
   pub moment : ℕ

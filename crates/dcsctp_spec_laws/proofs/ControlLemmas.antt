@@ -9,14 +9,14 @@ use Rattle.dcsctp_spec_lemmas.specs.types.declared.word.Word.{Word}
 use Rattle.dcsctp_spec_lemmas.specs.types.declared.word.Word.TheVariants.{U32}
 use Rattle.dcsctp_spec_lemmas.specs.spec.Cookie.{cookie_bytes}
 use Rattle.dcsctp_spec_lemmas.specs.spec.Packet.{Introduction, Content, init, init_ack, cookie_echo, cookie_ack, re_config, abort, shutdown, shutdown_ack, shutdown_complete, plain}
-use Rattle.dcsctp_spec_lemmas.specs.spec.endpoint.Endpoint.{Endpoint, Core, closed, cookie_wait, cookie_echoed, open_in, established, shutdown_pending, shutdown_sent, shutdown_received, shutdown_ack_sent}
+use Rattle.dcsctp_spec_lemmas.specs.spec.endpoint.Endpoint.{Endpoint, Core, closed, cookie_wait, cookie_echoed, open_in, established, shutdown_pending, shutdown_sent, shutdown_received, shutdown_ack_sent, with_secret, secret_with}
 use Rattle.dcsctp_spec_lemmas.specs.spec.endpoint.Outcome.{Outcome, still, count_up, fits, to_peer, emits, answering, drawing}
 use Rattle.dcsctp_spec_lemmas.specs.spec.endpoint.Following.{next_chunk}
 use Rattle.dcsctp_spec_lemmas.specs.spec.endpoint.Event.{sent}
 use Rattle.dcsctp_spec_lemmas.specs.types.declared.options.Options.{Options}
 use Rattle.dcsctp_spec_lemmas.specs.spec.endpoint.Turn.{BeginTurn}
 use Rattle.dcsctp_spec_lemmas.specs.spec.endpoint.HandshakeOutcomes.{pair_from, renewed_pair, renewed_pair_outcome, cookie_for, init_ack_for, init_ack_emission, answer_outcome, init_outcome}
-use Rattle.dcsctp_spec_lemmas.specs.spec.association.Effect.{Effect, draws, unchanged, emitted_alone}
+use Rattle.dcsctp_spec_lemmas.specs.spec.association.Effect.{Change, Effect, draws, unchanged, emitted_alone}
 use Rattle.dcsctp_spec_lemmas.specs.spec.association.Choices.{Choices}
 use Rattle.dcsctp_spec_lemmas.specs.spec.association.HandshakeChanges.{IsCookieOf}
 use Rattle.dcsctp_spec_lemmas.specs.spec.association.Acts.{act_change, connect, t1_expires, shut_down, step_of_shutdown, shutdown_repeats, abort_with, hands_over, flushes, request_again, request_renewed}
@@ -81,6 +81,11 @@ renewed e tag theirs word core is h = (
       (answered e tag theirs (renewed_pair e word) e.tie (U32 word ∷ []) core is),
 )
 
+-- The secret leaves no sign either.
+pub secret_controlled : (e : Endpoint) (mine : Pair) (o : Outcome) (change : Change) → IsControlled (with_secret e mine) o change → IsControlled e o change
+secret_controlled e mine o change h =
+    record { core = h.core; options = h.options; observations = h.observations; effects = h.effects; following = h.following }
+
 -- A SHUTDOWN ACK fits every packet.
 ack_fits : (e : Endpoint) (held : Held) → IsValid e.options → fits e (to_peer held shutdown_ack) ≡ true
 unfolding other_bytes
@@ -102,22 +107,23 @@ init_controlled : (e : Endpoint) (tag : ℕ) (theirs : Introduction) (core : Cor
 init_controlled e tag theirs closed word next is own h = (
   _,
   (
-    choices_of e (pair_from word next) (cookie_bytes (cookie_for e.moment theirs (pair_from word next) 0)) (fits e (init_ack_emission e theirs (pair_from word next) 0)),
-    is_cookie e theirs (pair_from word next) 0 h (drawn_fits word next),
+    choices_of e (pair_from word next) (cookie_bytes (cookie_for e.moment theirs (pair_from word next) (secret_with e (pair_from word next)))) (fits e (init_ack_emission (with_secret e (pair_from word next)) theirs (pair_from word next) (secret_with e (pair_from word next)))),
+    is_cookie e theirs (pair_from word next) (secret_with e (pair_from word next)) h (drawn_fits word next),
     refl,
   ),
   drawing_controlled e _ closed (pair_from word next) _
-      (answered e tag theirs (pair_from word next) 0 (U32 word ∷ U32 next ∷ []) closed is),
+      (secret_controlled e (pair_from word next) _ _
+      (answered (with_secret e (pair_from word next)) tag theirs (pair_from word next) (secret_with e (pair_from word next)) (U32 word ∷ U32 next ∷ []) closed is)),
 )
 init_controlled e tag theirs (cookie_wait my) word next is own h = (
   _,
-  (choices_of e my (cookie_bytes (cookie_for e.moment theirs my 0)) (fits e (init_ack_emission e theirs my 0)), is_cookie e theirs my 0 h own, refl),
-  answered e tag theirs my 0 [] (cookie_wait my) is,
+  (choices_of e my (cookie_bytes (cookie_for e.moment theirs my e.secret)) (fits e (init_ack_emission e theirs my e.secret)), is_cookie e theirs my e.secret h own, refl),
+  answered e tag theirs my e.secret [] (cookie_wait my) is,
 )
 init_controlled e tag theirs (cookie_echoed my held echoed) word next is own h = (
   _,
-  (choices_of e my (cookie_bytes (cookie_for e.moment theirs my 0)) (fits e (init_ack_emission e theirs my 0)), is_cookie e theirs my 0 h own, refl),
-  answered e tag theirs my 0 [] (cookie_echoed my held echoed) is,
+  (choices_of e my (cookie_bytes (cookie_for e.moment theirs my e.secret)) (fits e (init_ack_emission e theirs my e.secret)), is_cookie e theirs my e.secret h own, refl),
+  answered e tag theirs my e.secret [] (cookie_echoed my held echoed) is,
 )
 init_controlled e tag theirs (open_in established my held) word next is own h =
     let r = renewed e tag theirs word (open_in established my held) is h in

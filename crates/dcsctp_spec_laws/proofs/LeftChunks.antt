@@ -13,7 +13,7 @@ use Rattle.dcsctp_spec_lemmas.specs.spec.association.CookieEchoChanges.{Resoluti
 use Rattle.dcsctp_spec_lemmas.specs.spec.association.ResetChanges.{HandledParameters}
 use Rattle.dcsctp_spec_lemmas.specs.spec.queues.Transfer.{Transfer, EndpointQueues}
 use Rattle.dcsctp_spec_lemmas.specs.spec.endpoint.Cause.{Cause}
-use Rattle.dcsctp_spec_lemmas.specs.spec.endpoint.Endpoint.{Endpoint, Core, closed, cookie_wait, cookie_echoed, open_in, OpenPhase, established, shutdown_pending, shutdown_sent, shutdown_received, shutdown_ack_sent}
+use Rattle.dcsctp_spec_lemmas.specs.spec.endpoint.Endpoint.{Endpoint, Core, closed, cookie_wait, cookie_echoed, open_in, OpenPhase, established, shutdown_pending, shutdown_sent, shutdown_received, shutdown_ack_sent, with_secret, secret_with}
 use Rattle.dcsctp_spec_lemmas.specs.spec.endpoint.Event.{Event, aborted, connected, connection_restarted}
 use Rattle.dcsctp_spec_lemmas.specs.spec.endpoint.Outcome.{Outcome, quiet, sends, fits, to_peer}
 use Rattle.dcsctp_spec_lemmas.specs.spec.endpoint.FlushOutcomes.{Answer, draft_to, flush_of, flush_answered}
@@ -30,9 +30,12 @@ use Rattle.dcsctp_spec_lemmas.proofs.OneAnswerLemmas.{init_by}
 -- ---- INIT
 
 init_stays : (e : Endpoint) (theirs : Introduction) (core : Core) (word next : ℕ) → StaysIn e (init_outcome e theirs core word next)
-init_stays e theirs closed word next = emits_stays e (U32 word ∷ U32 next ∷ []) (init_ack_emission e theirs (pair_from word next) 0)
-init_stays e theirs (cookie_wait mine) word next = emits_stays e [] (init_ack_emission e theirs mine 0)
-init_stays e theirs (cookie_echoed mine held cookie) word next = emits_stays e [] (init_ack_emission e theirs mine 0)
+init_stays e theirs closed word next =
+    let mine = pair_from word next in
+    stays_then e (with_secret e mine) (init_outcome e theirs closed word next).after (record { left = refl; there = refl; last = refl })
+    (emits_stays (with_secret e mine) (U32 word ∷ U32 next ∷ []) (init_ack_emission (with_secret e mine) theirs mine (secret_with e mine)))
+init_stays e theirs (cookie_wait mine) word next = emits_stays e [] (init_ack_emission e theirs mine e.secret)
+init_stays e theirs (cookie_echoed mine held cookie) word next = emits_stays e [] (init_ack_emission e theirs mine e.secret)
 init_stays e theirs (open_in established mine held) word next = emits_stays e (U32 word ∷ []) (init_ack_emission e theirs (renewed_pair e word) e.tie)
 init_stays e theirs (open_in shutdown_pending mine held) word next = emits_stays e (U32 word ∷ []) (init_ack_emission e theirs (renewed_pair e word) e.tie)
 init_stays e theirs (open_in shutdown_sent mine held) word next = emits_stays e (U32 word ∷ []) (init_ack_emission e theirs (renewed_pair e word) e.tie)

@@ -167,4 +167,4 @@ module _ (p : Options) where
       → IsSoundCore p (read_echo_change p core header found choices).core
   read_echo_sound core header bytes (Err text) choices is h = h
   read_echo_sound core header bytes (Ok cookie) choices is h =
-      resolved_sound core cookie choices (aged choices.is_stale (resolve core choices.tie header cookie)) (cookie_has_tags bytes cookie is) h
+      resolved_sound core cookie choices (aged choices.is_stale (resolve core choices.tie choices.secret header cookie)) (cookie_has_tags bytes cookie is) h

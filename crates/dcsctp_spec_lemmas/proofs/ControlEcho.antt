@@ -68,9 +68,9 @@ is_of_peer true true tie zero is = refl
 same_of : (a b : ℕ) → (a == b) ≡ true → a ≡ b
 same_of a b is = grind (arith, nat_tests)
 
-peer_of : (my : Pair) (held : Held) (tie header : ℕ) (cookie : Cookie) → case_with_peer my held tie header cookie ≡ maintain_existing → held.peer.tag ≡ cookie.addressee.tag
-peer_of my held tie header cookie is =
-    sym (same_of cookie.addressee.tag held.peer.tag (is_of_peer (header == my.tag) (cookie.addressee.tag == held.peer.tag) (cookie.tie == tie) (cookie.tie == 0) is))
+peer_of : (my : Pair) (held : Held) (tie secret header : ℕ) (cookie : Cookie) → case_with_peer my held tie secret header cookie ≡ maintain_existing → held.peer.tag ≡ cookie.addressee.tag
+peer_of my held tie secret header cookie is =
+    sym (same_of cookie.addressee.tag held.peer.tag (is_of_peer (header == my.tag) (cookie.addressee.tag == held.peer.tag) (cookie.tie == tie) (cookie.tie == secret) is))
 
 -- The case of the existing association is that of the table, whatever the age of the cookie.
 pub kept_by_age : (old : Bool) (resolution : Resolution) → aged old resolution ≡ maintain_existing → resolution ≡ maintain_existing
@@ -89,10 +89,10 @@ maintain_at e cookie closed header spent answers is case h = still_controlled e 
 maintain_at e cookie (cookie_wait mine) header spent answers is case h = still_controlled e (cookie_wait mine) is
 maintain_at e cookie (cookie_echoed mine held echoed) header spent answers is case h =
     flush_controlled e (connected_after e mine held) [] (connected ∷ []) (cookie_ack_emission held cookie) answers (λ x. open_in established mine x) held (connects (identity_of mine held) ∷ []) (connects (identity_of mine held) ∷ [])
-    (rebuilds_open established mine held) refl refl (peer_of mine held e.tie header cookie (kept_by_age _ _ case)) h refl refl refl
+    (rebuilds_open established mine held) refl refl (peer_of mine held e.tie e.secret header cookie (kept_by_age _ _ case)) h refl refl refl
 maintain_at e cookie (open_in phase mine held) header spent answers is case h =
     flush_controlled e e [] [] (cookie_ack_emission held cookie) answers (λ x. open_in phase mine x) held [] [] (rebuilds_open phase mine held)
-    is refl (subst (λ (core : Core). IsPeerTag core cookie.addressee.tag) (sym is) (peer_of mine held e.tie header cookie (kept_by_age _ _ case))) h refl refl refl
+    is refl (subst (λ (core : Core). IsPeerTag core cookie.addressee.tag) (sym is) (peer_of mine held e.tie e.secret header cookie (kept_by_age _ _ case))) h refl refl refl
 
 -- ---- one that is stale
 

@@ -32,7 +32,7 @@ filling_where is_allowed = record nothing_to_send { is_allowed = is_allowed }
 -- the choices of a turn that emits one packet at most
 abbrev pub choices_of : Endpoint → Pair → List ℕ → Bool → Choices
 choices_of e drawn cookie fits =
-    record (idle_choices drawn) { cookie = cookie; tie = e.tie; fits = fits; filling = filling_where (allows_packet e.options.max_burst) }
+    record (idle_choices drawn) { cookie = cookie; tie = e.tie; secret = e.secret; fits = fits; filling = filling_where (allows_packet e.options.max_burst) }
 
 -- nothing is drawn
 abbrev pub no_choices : Endpoint → Bool → Choices

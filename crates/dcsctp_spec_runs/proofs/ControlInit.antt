@@ -5,7 +5,7 @@ use Rattle.dcsctp_spec_lemmas.specs.types.declared.association.Pair.{Pair}
 use Rattle.dcsctp_spec_lemmas.specs.types.declared.word.Word.TheVariants.{U32}
 use Rattle.dcsctp_spec_lemmas.specs.spec.Cookie.{cookie_bytes}
 use Rattle.dcsctp_spec_lemmas.specs.spec.Packet.{Introduction, Content, init}
-use Rattle.dcsctp_spec_lemmas.specs.spec.endpoint.Endpoint.{Endpoint, Core, closed, cookie_wait, cookie_echoed, open_in, established, shutdown_pending, shutdown_sent, shutdown_received, shutdown_ack_sent}
+use Rattle.dcsctp_spec_lemmas.specs.spec.endpoint.Endpoint.{Endpoint, Core, closed, cookie_wait, cookie_echoed, open_in, established, shutdown_pending, shutdown_sent, shutdown_received, shutdown_ack_sent, with_secret, secret_with}
 use Rattle.dcsctp_spec_lemmas.specs.spec.endpoint.Outcome.{Outcome, fits}
 use Rattle.dcsctp_spec_lemmas.specs.spec.endpoint.HandshakeOutcomes.{InitTurn, pair_from, renewed_pair, cookie_for, init_ack_emission, init_outcome}
 use Rattle.dcsctp_spec_lemmas.specs.spec.association.Choices.{Choices}
@@ -13,7 +13,7 @@ use Rattle.dcsctp_spec_lemmas.specs.spec.association.Acts.{chunk_change}
 use Rattle.dcsctp_spec_lemmas.specs.spec.association.Controlled.{IsControlled}
 use Rattle.dcsctp_spec_lemmas.proofs.ControlHandshake.{choices_of, still_controlled}
 use Rattle.dcsctp_spec_lemmas.proofs.OneAnswerLemmas.{init_by, answering_controlled}
-use Rattle.dcsctp_spec_laws.proofs.ControlLemmas.{drawing_controlled, answered, ack_controlled}
+use Rattle.dcsctp_spec_laws.proofs.ControlLemmas.{drawing_controlled, secret_controlled, answered, ack_controlled}
 
 -- a chunk's turn is what these choices make of it; nothing is asked of a cookie
 abbrev pub MovedBy : Endpoint → ℕ → Content → Outcome → Core → Choices → Type 0
@@ -21,7 +21,7 @@ MovedBy e tag content o core choices = IsControlled e o (chunk_change e.options 
 
 -- the choices of an INIT that is answered under our pair, and of one for which a pair is drawn
 abbrev keeping : Endpoint → Introduction → Pair → Choices
-keeping e theirs my = choices_of e my (cookie_bytes (cookie_for e.moment theirs my 0)) (fits e (init_ack_emission e theirs my 0))
+keeping e theirs my = choices_of e my (cookie_bytes (cookie_for e.moment theirs my e.secret)) (fits e (init_ack_emission e theirs my e.secret))
 
 abbrev renewing : Endpoint → Introduction → ℕ → Choices
 renewing e theirs word =
@@ -30,11 +30,13 @@ renewing e theirs word =
 init_moves_at : (e : Endpoint) (tag : ℕ) (theirs : Introduction) (core : Core) (word next : ℕ) → e.core ≡ core → IsValid e.options
     → (choices : Choices) × MovedBy e tag (init theirs) (init_outcome e theirs core word next) core choices
 init_moves_at e tag theirs closed word next is valid = (
-  keeping e theirs (pair_from word next),
-  drawing_controlled e _ closed (pair_from word next) _ (answered e tag theirs (pair_from word next) 0 (U32 word ∷ U32 next ∷ []) closed is),
+  keeping (with_secret e (pair_from word next)) theirs (pair_from word next),
+  drawing_controlled e _ closed (pair_from word next) _
+      (secret_controlled e (pair_from word next) _ _
+      (answered (with_secret e (pair_from word next)) tag theirs (pair_from word next) (secret_with e (pair_from word next)) (U32 word ∷ U32 next ∷ []) closed is)),
 )
-init_moves_at e tag theirs (cookie_wait my) word next is valid = (keeping e theirs my, answered e tag theirs my 0 [] (cookie_wait my) is)
-init_moves_at e tag theirs (cookie_echoed my held echoed) word next is valid = (keeping e theirs my, answered e tag theirs my 0 [] (cookie_echoed my held echoed) is)
+init_moves_at e tag theirs (cookie_wait my) word next is valid = (keeping e theirs my, answered e tag theirs my e.secret [] (cookie_wait my) is)
+init_moves_at e tag theirs (cookie_echoed my held echoed) word next is valid = (keeping e theirs my, answered e tag theirs my e.secret [] (cookie_echoed my held echoed) is)
 init_moves_at e tag theirs (open_in established my held) word next is valid = (
   renewing e theirs word,
   drawing_controlled e _ (open_in established my held) (renewed_pair e word) _

@@ -44,7 +44,7 @@ resolved_same p n core cookie choices stale = refl
 
 echo_same : (p : Options) (n : ℕ) (core : Core) (header : ℕ) (read : Result Cookie (List ℕ)) (choices : Choices)
     → read_echo_change (longest p n) core header read choices ≡ read_echo_change p core header read choices
-echo_same p n core header (Ok cookie) choices = resolved_same p n core cookie choices (aged choices.is_stale (resolve core choices.tie header cookie))
+echo_same p n core header (Ok cookie) choices = resolved_same p n core cookie choices (aged choices.is_stale (resolve core choices.tie choices.secret header cookie))
 echo_same p n core header (Err text) choices = refl
 
 init_same : (p : Options) (n : ℕ) (core : Core) (theirs : Introduction) (choices : Choices) → init_change (longest p n) core theirs choices ≡ init_change p core theirs choices

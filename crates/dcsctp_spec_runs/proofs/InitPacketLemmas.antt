@@ -91,7 +91,7 @@ chunk_stays e tag theirs (t ∷ ts) turns =
     ap (λ (x : Outcome). x.following) turn.2
     ∙ init_by (λ (x : Outcome). x.following ≡ next_chunk) e theirs turn.0 turn.1 refl (init_goes_on e theirs e.core turn.0 turn.1) in
     let counts : CountsSentOnly e t.outcome.after = (init_brings_one_packet e theirs t.outcome turn).0 in
-    same_stays e t.outcome.after ts (ap (λ (x : Endpoint). x.core) counts.1) (ap (λ (x : Endpoint). is_earlier_acknowledgement_due x.queues.transfer) counts.1)
+    same_stays e t.outcome.after ts (ap (λ (x : Endpoint). x.core) counts.2) (ap (λ (x : Endpoint). is_earlier_acknowledgement_due x.queues.transfer) counts.2)
     (ended_stays t.outcome.after ts (further e tag (init theirs) [] (packet_ends ∷ []) t ts goes_on turns))
 
 whole_stays : (e : Endpoint) (tag : ℕ) (theirs : Introduction) (ts : List Transition) → WholeTurns e (record { tag = tag; contents = init theirs ∷ [] }) ts → Stays e ts

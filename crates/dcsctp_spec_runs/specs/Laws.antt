@@ -17,7 +17,7 @@ use Rattle.dcsctp_spec_lemmas.specs.wire.Content.{PacketContent}
 use Rattle.dcsctp_spec_lemmas.specs.wire.Format.{IsPacket}
 use Rattle.dcsctp_spec_lemmas.specs.types.Offer.{Offer, offer_of, offer_in, offer_parameters, offer_announced, capabilities_offered, negotiated, answering_offer}
 use Rattle.dcsctp_spec_lemmas.specs.spec.Packet.{Introduction, Content, shutdown_ack, Packet, Emission, cookie_parameters, packet_in}
-use Rattle.dcsctp_spec_lemmas.specs.spec.endpoint.Endpoint.{Endpoint, Core}
+use Rattle.dcsctp_spec_lemmas.specs.spec.endpoint.Endpoint.{Endpoint, Core, closed}
 use Rattle.dcsctp_spec_runs.specs.World.{MayBeHandled, ChunkChanges}
 use Rattle.dcsctp_spec_lemmas.specs.spec.association.Acts.{chunk_change}
 use Rattle.dcsctp_spec_lemmas.specs.spec.association.Choices.{Choices}
@@ -46,19 +46,28 @@ NegotiationIsMutual = (a b : Offer) → IsMirrored (negotiated a b) (negotiated 
 abbrev pub AnswerKeepsAgreement : Type 0
 AnswerKeepsAgreement = (mine theirs : Offer) → negotiated mine (answering_offer mine theirs) ≡ negotiated mine theirs
 
--- Nothing but the count of packets sent differs, and that a chunk of the packet was answered.
+-- The secret stays. By the RFC's rules a closed socket that has none yet gets one.
+abbrev pub SecretStays : Endpoint → Endpoint → Type 0
+SecretStays old new = (new.secret ≡ old.secret) ⊎ ((old.options.follow_rfc ≡ true) × (old.secret ≡ 0) × (old.core ≡ closed))
+
+-- Nothing but the count of packets sent differs, that a chunk of the packet was answered, and the first secret.
 abbrev pub CountsSentOnly : Endpoint → Endpoint → Type 0
 CountsSentOnly old new =
     ((new.has_answered ≡ old.has_answered) ⊎ (new.has_answered ≡ true))
-    × (new ≡ record old { counts = record old.counts { packets_sent = new.counts.packets_sent }; has_answered = new.has_answered })
+    × SecretStays old new
+    × (new ≡ record old {
+      counts = record old.counts { packets_sent = new.counts.packets_sent };
+      has_answered = new.has_answered;
+      secret = new.secret;
+    })
 
 -- no event, or a packet
 pub data AtMostOnePacket : List (Event Emission) → Type 0 where
   no_packet : AtMostOnePacket []
   one_packet : (emission : Emission) → AtMostOnePacket (sent emission ∷ [])
 
--- An INIT brings at most one event, a packet, and changes nothing but the count of packets sent and that it was answered, in every
--- phase (RFC 9260, sections 5.1 and 5.2).
+-- An INIT brings at most one event, a packet, and changes nothing but the count of packets sent, that it was answered, and the first
+-- secret, in every phase (RFC 9260, sections 5.1 and 5.2).
 abbrev pub InitBringsOnePacket : Type 0
 InitBringsOnePacket = (e : Endpoint) (theirs : Introduction) (o : Outcome) → InitTurn e theirs o → CountsSentOnly e o.after × AtMostOnePacket o.events
 

@@ -88,7 +88,7 @@ resolved_ends options core cookie choices stale = alone_answers [] (options.foll
 
 echo_ends : (options : Options) (core : Core) (header : ℕ) (read : Result Cookie (List ℕ)) (choices : Choices) → EndsNone (read_echo_change options core header read choices).effects
 echo_ends options core header (Err text) choices = tt
-echo_ends options core header (Ok cookie) choices = resolved_ends options core cookie choices (aged choices.is_stale (resolve core choices.tie header cookie))
+echo_ends options core header (Ok cookie) choices = resolved_ends options core cookie choices (aged choices.is_stale (resolve core choices.tie choices.secret header cookie))
 
 -- ---- flushes and resets
 

@@ -59,62 +59,62 @@ later_moment = refl
 -- ---- the rows of the table
 
 -- A: no tag is that of the association, and the tie tag is.
-row_a : resolve where_open 12 19 (cookie new_two new_one 12) ≡ restart
+row_a : resolve where_open 12 0 19 (cookie new_two new_one 12) ≡ restart
 row_a = refl
 
 -- B: only our own tag matches, with any tie tag
-row_b : (tie : ℕ) → resolve where_open 12 9 (cookie two new_one tie) ≡ simultaneous_init
+row_b : (tie : ℕ) → resolve where_open 12 0 9 (cookie two new_one tie) ≡ simultaneous_init
 row_b tie = refl
 
 -- B where the peer's tag isn't known yet
-row_b_without_peer : (tie : ℕ) → resolve (cookie_wait two) 0 9 (cookie two one tie) ≡ establish_new
+row_b_without_peer : (tie : ℕ) → resolve (cookie_wait two) 0 0 9 (cookie two one tie) ≡ establish_new
 row_b_without_peer tie = refl
 
 -- C: the peer's tag alone, with no tie tag
-row_c : resolve where_open 12 19 (cookie new_two one 0) ≡ discard
+row_c : resolve where_open 12 0 19 (cookie new_two one 0) ≡ discard
 row_c = refl
 
 -- D: both tags, with any tie tag
-row_d : (tie : ℕ) → resolve where_open 12 9 (cookie two one tie) ≡ maintain_existing
+row_d : (tie : ℕ) → resolve where_open 12 0 9 (cookie two one tie) ≡ maintain_existing
 row_d tie = refl
 
 -- What is in no row is dropped.
-another_tie_tag : resolve where_open 12 19 (cookie new_two new_one 13) ≡ invalid_tag
+another_tie_tag : resolve where_open 12 0 19 (cookie new_two new_one 13) ≡ invalid_tag
 another_tie_tag = refl
 
-no_tag_and_no_tie_tag : resolve where_open 12 19 (cookie new_two new_one 0) ≡ invalid_tag
+no_tag_and_no_tie_tag : resolve where_open 12 0 19 (cookie new_two new_one 0) ≡ invalid_tag
 no_tag_and_no_tie_tag = refl
 
-peer_tag_and_tie_tag : resolve where_open 12 19 (cookie new_two one 12) ≡ invalid_tag
+peer_tag_and_tie_tag : resolve where_open 12 0 19 (cookie new_two one 12) ≡ invalid_tag
 peer_tag_and_tie_tag = refl
 
-peer_tag_and_another_tie_tag : resolve where_open 12 19 (cookie new_two one 13) ≡ invalid_tag
+peer_tag_and_another_tie_tag : resolve where_open 12 0 19 (cookie new_two one 13) ≡ invalid_tag
 peer_tag_and_another_tie_tag = refl
 
 -- The rows hold while COOKIE ACK is awaited.
-row_a_where_echoed : resolve where_echoed 12 19 (cookie new_two new_one 12) ≡ restart
+row_a_where_echoed : resolve where_echoed 12 0 19 (cookie new_two new_one 12) ≡ restart
 row_a_where_echoed = refl
 
-row_b_where_echoed : (tie : ℕ) → resolve where_echoed 12 9 (cookie two new_one tie) ≡ simultaneous_init
+row_b_where_echoed : (tie : ℕ) → resolve where_echoed 12 0 9 (cookie two new_one tie) ≡ simultaneous_init
 row_b_where_echoed tie = refl
 
-row_c_where_echoed : resolve where_echoed 12 19 (cookie new_two one 0) ≡ discard
+row_c_where_echoed : resolve where_echoed 12 0 19 (cookie new_two one 0) ≡ discard
 row_c_where_echoed = refl
 
-row_d_where_echoed : (tie : ℕ) → resolve where_echoed 12 9 (cookie two one tie) ≡ maintain_existing
+row_d_where_echoed : (tie : ℕ) → resolve where_echoed 12 0 9 (cookie two one tie) ≡ maintain_existing
 row_d_where_echoed tie = refl
 
-another_tie_tag_where_echoed : resolve where_echoed 12 19 (cookie new_two new_one 13) ≡ invalid_tag
+another_tie_tag_where_echoed : resolve where_echoed 12 0 19 (cookie new_two new_one 13) ≡ invalid_tag
 another_tie_tag_where_echoed = refl
 
 -- Where no peer is held, the header tag is that of the cookie's maker.
-own_cookie_where_closed : resolve closed 0 9 (cookie two one 0) ≡ establish_new
+own_cookie_where_closed : resolve closed 0 0 9 (cookie two one 0) ≡ establish_new
 own_cookie_where_closed = refl
 
-wrong_tag_where_closed : resolve closed 0 8 (cookie two one 0) ≡ invalid_tag
+wrong_tag_where_closed : resolve closed 0 0 8 (cookie two one 0) ≡ invalid_tag
 wrong_tag_where_closed = refl
 
-wrong_tag_in_cookie_wait : resolve (cookie_wait two) 0 8 (cookie two one 0) ≡ invalid_tag
+wrong_tag_in_cookie_wait : resolve (cookie_wait two) 0 0 8 (cookie two one 0) ≡ invalid_tag
 wrong_tag_in_cookie_wait = refl
 
 -- ---- the turns that change nothing: no COOKIE ACK is sent, and the rest of the packet is dropped

@@ -78,17 +78,17 @@ maintained_by false false false e is = absurd (cc)
 equal_where : (m n : ℕ) → (m == n) ≡ true → m ≡ n
 equal_where m n e = grind (arith, nat_tests)
 
-maintained_with_peer : (my : Pair) (held : Held) (tie header : ℕ) (cookie : Cookie) → case_with_peer my held tie header cookie ≡ maintain_existing → IsMaintained my held header cookie
-maintained_with_peer my held tie header cookie is =
+maintained_with_peer : (my : Pair) (held : Held) (tie secret header : ℕ) (cookie : Cookie) → case_with_peer my held tie secret header cookie ≡ maintain_existing → IsMaintained my held header cookie
+maintained_with_peer my held tie secret header cookie is =
     let tests : ((header == my.tag) ≡ true) × ((cookie.addressee.tag == held.peer.tag) ≡ true) =
-    maintained_by (header == my.tag) (cookie.addressee.tag == held.peer.tag) (cookie.tie == tie) (cookie.tie == 0) is in
+    maintained_by (header == my.tag) (cookie.addressee.tag == held.peer.tag) (cookie.tie == tie) (cookie.tie == secret) is in
     record { own = equal_where header my.tag tests.0; peers = equal_where cookie.addressee.tag held.peer.tag tests.1 }
 
-maintained_in : (core : Core) (tie header : ℕ) (cookie : Cookie) → resolve core tie header cookie ≡ maintain_existing → MaintainedIn core header cookie
-maintained_in closed tie header cookie is = without_peer_not (header == cookie.maker.tag) is
-maintained_in (cookie_wait my) tie header cookie is = without_peer_not (header == cookie.maker.tag) is
-maintained_in (cookie_echoed my held bytes) tie header cookie is = maintained_with_peer my held tie header cookie is
-maintained_in (open_in phase my held) tie header cookie is = maintained_with_peer my held tie header cookie is
+maintained_in : (core : Core) (tie secret header : ℕ) (cookie : Cookie) → resolve core tie secret header cookie ≡ maintain_existing → MaintainedIn core header cookie
+maintained_in closed tie secret header cookie is = without_peer_not (header == cookie.maker.tag) is
+maintained_in (cookie_wait my) tie secret header cookie is = without_peer_not (header == cookie.maker.tag) is
+maintained_in (cookie_echoed my held bytes) tie secret header cookie is = maintained_with_peer my held tie secret header cookie is
+maintained_in (open_in phase my held) tie secret header cookie is = maintained_with_peer my held tie secret header cookie is
 
 -- Then the cookie's pairs are those of the association.
 pub record SamePairs (my : Pair) (held : Held) (cookie : Cookie) : Type 0 where
@@ -185,5 +185,5 @@ pub cookie_echo_kept : (options : Options) (their_offer : Offer) (mine theirs : 
     → Kept (offer_of options) their_offer mine theirs (cookie_echo_change options core header bytes choices)
 cookie_echo_kept options their_offer mine theirs core header bytes behind choices my_tags their_tags h echo delivered =
     subst (λ (r : Result Cookie (List ℕ)). Kept (offer_of options) their_offer mine theirs (read_echo_change options core header r choices)) (sym echo.reads)
-    (resolved_kept options their_offer mine theirs core header bytes behind choices (aged choices.is_stale (resolve core choices.tie header echo.cookie)) my_tags their_tags h echo delivered
-    (λ case. maintained_in core choices.tie header echo.cookie (kept_by_age choices.is_stale (resolve core choices.tie header echo.cookie) case)))
+    (resolved_kept options their_offer mine theirs core header bytes behind choices (aged choices.is_stale (resolve core choices.tie choices.secret header echo.cookie)) my_tags their_tags h echo delivered
+    (λ case. maintained_in core choices.tie choices.secret header echo.cookie (kept_by_age choices.is_stale (resolve core choices.tie choices.secret header echo.cookie) case)))

@@ -125,7 +125,7 @@ resolved_meant options core cookie choices stale = same_meant refl (alone_says c
 
 echo_meant : (options : Options) (core : Core) (header : ℕ) (read : Result Cookie (List ℕ)) (choices : Choices) → Meant core (read_echo_change options core header read choices)
 echo_meant options core header (Err text) choices = same_meant refl tt
-echo_meant options core header (Ok cookie) choices = resolved_meant options core cookie choices (aged choices.is_stale (resolve core choices.tie header cookie))
+echo_meant options core header (Ok cookie) choices = resolved_meant options core cookie choices (aged choices.is_stale (resolve core choices.tie choices.secret header cookie))
 
 -- ---- flushes and resets
 

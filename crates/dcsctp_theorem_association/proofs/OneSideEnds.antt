@@ -115,7 +115,7 @@ resolved_ends_once options core cookie choices stale = stays (no_ends-alone (opt
 
 echo_ends_once : (options : Options) (core : Core) (header : ℕ) (read : Result Cookie (List ℕ)) (choices : Choices) → OneEnd core (read_echo_change options core header read choices)
 echo_ends_once options core header (Err text) choices = stays refl
-echo_ends_once options core header (Ok cookie) choices = resolved_ends_once options core cookie choices (aged choices.is_stale (resolve core choices.tie header cookie))
+echo_ends_once options core header (Ok cookie) choices = resolved_ends_once options core cookie choices (aged choices.is_stale (resolve core choices.tie choices.secret header cookie))
 
 -- ---- flushes and resets
 

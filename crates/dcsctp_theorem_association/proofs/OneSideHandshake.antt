@@ -153,4 +153,4 @@ resolved_keeps options core cookie choices stale past good = good-emitted_alone 
 
 pub echo_keeps : (options : Options) (core : Core) (header : ℕ) (read : Result Cookie (List ℕ)) (choices : Choices) → Keeps core (read_echo_change options core header read choices)
 echo_keeps options core header (Err text) choices past good = good
-echo_keeps options core header (Ok cookie) choices past good = resolved_keeps options core cookie choices (aged choices.is_stale (resolve core choices.tie header cookie)) past good
+echo_keeps options core header (Ok cookie) choices past good = resolved_keeps options core cookie choices (aged choices.is_stale (resolve core choices.tie choices.secret header cookie)) past good

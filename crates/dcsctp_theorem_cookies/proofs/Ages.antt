@@ -27,7 +27,7 @@ use Rattle.dcsctp_spec_runs.specs.Fitting.{AllSent}
 use Rattle.dcsctp_spec_runs.specs.Sockets.{PerformedAct, Both, of_side, turns_after, endpoint_after, SocketRun}
 use Rattle.dcsctp_spec_lemmas.specs.spec.endpoint.FlushOutcomes.{Answer, flush_answered}
 use Rattle.dcsctp_spec_lemmas.specs.spec.endpoint.HandshakeOutcomes.{cookie_for}
-use Rattle.dcsctp_spec_lemmas.specs.spec.endpoint.CookieEchoOutcomes.{stale_outcome, is_tag_over, is_spent, resolved_by, resolved_now, cookie_echo_by, ResolvedAnswers, EchoedAnswers, CookieEchoTurn, maintain_by}
+use Rattle.dcsctp_spec_lemmas.specs.spec.endpoint.CookieEchoOutcomes.{stale_outcome, is_tag_over, is_foreign, is_spent, resolved_by, resolved_now, cookie_echo_by, ResolvedAnswers, EchoedAnswers, CookieEchoTurn, maintain_by}
 use Rattle.dcsctp_spec_laws.proofs.AlongLemmas.{along_append}
 use Rattle.dcsctp_spec_runs.proofs.RunsAlong.{run_along}
 use Rattle.dcsctp_spec_lemmas.proofs.ControlEcho.{judging, maintain_at}
@@ -204,8 +204,10 @@ young_at : (e : Endpoint) (header : ℕ) (bytes : List ℕ) (found : Result Cook
 young_at e header bytes (Err text) word answers link reads h has = absurd has
 young_at e header bytes (Ok cookie) word answers link reads h has =
     let fresh : is_stale (as_nanos e.options.cookie_lifetime) e.moment cookie ≡ false =
-    neither (is_tag_over e e.core header) (is_stale (as_nanos e.options.cookie_lifetime) e.moment cookie)
-    (made_fresh e cookie header word answers link (is_spent e e.core header cookie) (resolve e.core e.tie header cookie) refl h has) in
+    let stale : Bool = is_stale (as_nanos e.options.cookie_lifetime) e.moment cookie in
+    neither (is_foreign e e.core cookie.tie) stale
+    (neither (is_tag_over e e.core header) (is_foreign e e.core cookie.tie || stale)
+    (made_fresh e cookie header word answers link (is_spent e e.core header cookie) (resolve e.core e.tie e.secret header cookie) refl h has)) in
     subst (λ (moment : ℕ). cut e.moment ≤ moment + as_nanos e.options.cookie_lifetime) (sym (moment_read bytes cookie reads)) (in_lifetime (as_nanos e.options.cookie_lifetime) e.moment cookie.moment fresh)
 
 abbrev Young : Endpoint → Transition → Type 0

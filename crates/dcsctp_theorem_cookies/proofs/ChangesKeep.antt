@@ -96,7 +96,7 @@ module _ (rules : Rules) where
   cookie_echo_keeps : (options : Options) (core : Core) (header : ℕ) (read : Result Cookie (List ℕ)) (choices : Choices) → CoreKeeps rules core
       → ChangeKeeps rules (read_echo_change options core header read choices)
   cookie_echo_keeps options core header (Err text) choices h = record { effects = tt; core = h }
-  cookie_echo_keeps options core header (Ok cookie) choices h = resolved_keeps options core cookie choices (aged choices.is_stale (resolve core choices.tie header cookie)) h
+  cookie_echo_keeps options core header (Ok cookie) choices h = resolved_keeps options core cookie choices (aged choices.is_stale (resolve core choices.tie choices.secret header cookie)) h
 
   -- ---- shutdown and ends
 

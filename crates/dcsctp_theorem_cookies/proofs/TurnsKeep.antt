@@ -6,7 +6,7 @@ use Rattle.dcsctp_spec_lemmas.specs.types.declared.word.Word.TheVariants.{U32}
 use Rattle.dcsctp_spec_lemmas.specs.types.declared.association.Pair.{Pair}
 use Rattle.dcsctp_spec_lemmas.specs.spec.Cookie.{cookie_bytes}
 use Rattle.dcsctp_spec_lemmas.specs.spec.Packet.{Introduction, Content, init, shutdown_ack, Emission}
-use Rattle.dcsctp_spec_lemmas.specs.spec.endpoint.Endpoint.{Endpoint, Core, closed, cookie_wait, cookie_echoed, open_in, shutdown_ack_sent}
+use Rattle.dcsctp_spec_lemmas.specs.spec.endpoint.Endpoint.{Endpoint, Core, closed, cookie_wait, cookie_echoed, open_in, shutdown_ack_sent, with_secret, secret_with}
 use Rattle.dcsctp_spec_lemmas.specs.spec.endpoint.Outcome.{Outcome, still, quiet, sends as sends_packet, fits, to_peer, emits}
 use Rattle.dcsctp_spec_lemmas.specs.spec.endpoint.HandshakeOutcomes.{pair_from, renewed_pair, cookie_for, init_ack_emission, init_outcome}
 use Rattle.dcsctp_spec_lemmas.specs.spec.endpoint.OwnTimers.{timer_act}
@@ -93,9 +93,9 @@ module _ (rules : Rules) where
 
   init_keeps : (e : Endpoint) (theirs : Introduction) (core : Core) (word next : ℕ) → CoreKeeps rules e.core → MakesGood rules e → OutcomeKeeps rules (init_outcome e theirs core word next)
   init_keeps e theirs closed word next h made =
-      with_effects _ _ (emits_keeps e (U32 word ∷ U32 next ∷ []) (init_ack_emission e theirs (pair_from word next) 0) h (made theirs (pair_from word next) 0, tt))
-  init_keeps e theirs (cookie_wait my) word next h made = emits_keeps e [] (init_ack_emission e theirs my 0) h (made theirs my 0, tt)
-  init_keeps e theirs (cookie_echoed my held cookie) word next h made = emits_keeps e [] (init_ack_emission e theirs my 0) h (made theirs my 0, tt)
+      with_effects _ _ (emits_keeps (with_secret e (pair_from word next)) (U32 word ∷ U32 next ∷ []) (init_ack_emission (with_secret e (pair_from word next)) theirs (pair_from word next) (secret_with e (pair_from word next))) h (made theirs (pair_from word next) (secret_with e (pair_from word next)), tt))
+  init_keeps e theirs (cookie_wait my) word next h made = emits_keeps e [] (init_ack_emission e theirs my e.secret) h (made theirs my e.secret, tt)
+  init_keeps e theirs (cookie_echoed my held cookie) word next h made = emits_keeps e [] (init_ack_emission e theirs my e.secret) h (made theirs my e.secret, tt)
   init_keeps e theirs (open_in shutdown_ack_sent my held) word next h made = emits_keeps e [] (to_peer held shutdown_ack) h (tt, tt)
   init_keeps e theirs (open_in phase my held) word next h made =
       with_effects _ _ (emits_keeps e (U32 word ∷ []) (init_ack_emission e theirs (renewed_pair e word) e.tie) h (made theirs (renewed_pair e word) e.tie, tt))

@@ -11,7 +11,7 @@ use Rattle.dcsctp_spec_lemmas.specs.spec.Cookie.{Cookie}
 use Rattle.dcsctp_spec_lemmas.specs.spec.endpoint.Event.{aborted}
 use Rattle.dcsctp_spec_lemmas.specs.spec.queues.Transfer.{EndpointQueues}
 use Rattle.dcsctp_spec_lemmas.specs.spec.Packet.{Introduction, shutdown_ack, init_ack}
-use Rattle.dcsctp_spec_lemmas.specs.spec.endpoint.Endpoint.{Endpoint, Core, closed, cookie_wait, cookie_echoed, open_in, established, shutdown_pending, shutdown_sent, shutdown_received, shutdown_ack_sent}
+use Rattle.dcsctp_spec_lemmas.specs.spec.endpoint.Endpoint.{Endpoint, Core, closed, cookie_wait, cookie_echoed, open_in, established, shutdown_pending, shutdown_sent, shutdown_received, shutdown_ack_sent, with_secret, secret_with}
 use Rattle.dcsctp_spec_lemmas.specs.spec.endpoint.Outcome.{Outcome, emits, to_peer}
 use Rattle.dcsctp_spec_lemmas.specs.spec.endpoint.FlushOutcomes.{Answer, draft_to, flush_of, flush_answered}
 use Rattle.dcsctp_spec_lemmas.specs.spec.endpoint.EndOutcomes.{abort_outcome, abort_to, end_of, aborting_outcome}
@@ -26,9 +26,9 @@ use Rattle.dcsctp_theorem_sockets.proofs.Bursts.{count, append_few, Few, none, e
 -- ---- the handshake
 
 pub init_few : (e : Endpoint) (theirs : Introduction) (core : Core) (word next : ℕ) → Few 1 (init_outcome e theirs core word next)
-init_few e theirs closed word next = emits_few e (U32 word ∷ U32 next ∷ []) (init_ack_emission e theirs (pair_from word next) 0)
-init_few e theirs (cookie_wait my) word next = emits_few e [] (init_ack_emission e theirs my 0)
-init_few e theirs (cookie_echoed my held cookie) word next = emits_few e [] (init_ack_emission e theirs my 0)
+init_few e theirs closed word next = emits_few (with_secret e (pair_from word next)) (U32 word ∷ U32 next ∷ []) (init_ack_emission (with_secret e (pair_from word next)) theirs (pair_from word next) (secret_with e (pair_from word next)))
+init_few e theirs (cookie_wait my) word next = emits_few e [] (init_ack_emission e theirs my e.secret)
+init_few e theirs (cookie_echoed my held cookie) word next = emits_few e [] (init_ack_emission e theirs my e.secret)
 init_few e theirs (open_in established my held) word next = emits_few e (U32 word ∷ []) (init_ack_emission e theirs (renewed_pair e word) e.tie)
 init_few e theirs (open_in shutdown_pending my held) word next = emits_few e (U32 word ∷ []) (init_ack_emission e theirs (renewed_pair e word) e.tie)
 init_few e theirs (open_in shutdown_sent my held) word next = emits_few e (U32 word ∷ []) (init_ack_emission e theirs (renewed_pair e word) e.tie)

@@ -1,5 +1,5 @@
 -- The COOKIE ECHO and the COOKIE ACK of a handshake, and how it ends.
-use Rattle.std.specs.Prelude.{◌==◌}
+use Rattle.std.specs.Prelude.{◌==◌, ◌<◌, ◌^◌, ◌&&◌, if◌then◌else◌}
 use Rattle.std.proofs.Common.{◌≡◌, ◌≤◌, ℕ, Bool, true, false, cond, eqb, None, Some, List, [], ◌∷◌, ◌++◌, inl, Result, Ok, refl, sym, subst, ap, ◌∙◌, arith}
 use Rattle.dcsctp_spec_lemmas.specs.types.declared.association.Pair.{Pair}
 use Rattle.dcsctp_spec_lemmas.specs.types.declared.association.Held.{Held}
@@ -11,7 +11,7 @@ use Rattle.dcsctp_spec_lemmas.specs.types.Offer.{offer_of, negotiated}
 use Rattle.dcsctp_spec_lemmas.specs.spec.Cookie.{Cookie, cookie_bytes, cookie_at}
 use Rattle.dcsctp_spec_lemmas.specs.spec.endpoint.Event.{connected}
 use Rattle.dcsctp_spec_lemmas.specs.spec.Packet.{init, init_ack, cookie_echo, cookie_ack, Packet, Emission, emission_bytes}
-use Rattle.dcsctp_spec_lemmas.specs.spec.endpoint.Endpoint.{Endpoint, Core, closed, cookie_echoed, open_in, established, fresh_endpoint, own_tag}
+use Rattle.dcsctp_spec_lemmas.specs.spec.endpoint.Endpoint.{Endpoint, Core, closed, cookie_echoed, open_in, established, fresh_endpoint, own_tag, number_of_pair}
 use Rattle.dcsctp_spec_lemmas.specs.spec.endpoint.Outcome.{Outcome, noting, quiet, sends, packet_counted}
 use Rattle.dcsctp_spec_lemmas.specs.spec.endpoint.Turn.{act_input}
 use Rattle.dcsctp_spec_lemmas.specs.spec.endpoint.HandshakeOutcomes.{pair_from, echo_emission, connected_after}
@@ -30,46 +30,50 @@ use Rattle.dcsctp_spec_runs.proofs.FlushLemmas.{establish_now, cookie_ack_turn_n
 use Rattle.dcsctp_theorem_sockets.specs.Handshake.{IsConnected}
 use Rattle.dcsctp_theorem_sockets.proofs.Bytes.{length_of_cookie, in_cookie}
 use Rattle.dcsctp_theorem_sockets.proofs.HandshakeReads.{counted_at, delivered, IsTaken, Taken, taken}
-use Rattle.dcsctp_theorem_sockets.proofs.HandshakeTurns.{HandshakeLaws, Good, same_tag, not_zero, method_checked, Begins, begins, connecting, taken_as, asked, Answers, answers, answering, waiting, made_cookie, case_at_start, answer_to, awaiting, Echoes, echoes, echoing}
+use Rattle.dcsctp_theorem_sockets.proofs.HandshakeTurns.{HandshakeLaws, Good, same_tag, not_zero, method_checked, Begins, begins, connecting, taken_as, asked, Answers, answers, answering, waiting, made_cookie, case_at_start, answer_to, awaiting, Echoes, echoes, echoing, sealed, seal}
 use Rattle.dcsctp_theorem_sockets.proofs.Sendable.{echo_sendable, ack_sendable}
 use Rattle.dcsctp_theorem_sockets.proofs.TurnsFit.{drawn_fits}
 
 -- ---- COOKIE ECHO
 
 -- the socket that answered, once its INIT ACK went out, and once the COOKIE ECHO was counted
-abbrev pub answered : Options → Endpoint
-answered b = record (packet_counted (asked b)) { has_answered = true }
+abbrev pub answered : Options → Pair → Endpoint
+answered b q = record (packet_counted (sealed b q)) { has_answered = true }
 
-abbrev pub echoed : Options → Endpoint
-echoed b = counted_at (answered b)
+abbrev pub echoed : Options → Pair → Endpoint
+echoed b q = counted_at (answered b q)
 
 abbrev pub acknowledgement : Options → Options → Pair → Pair → Emission
 acknowledgement a b p q =
-    record { with_checksum = (held_by_cookie b (made_cookie a p q)).capabilities.zero_checksum_method.0 == 0; packet = record { tag = p.tag; contents = cookie_ack ∷ [] } }
+    record { with_checksum = (held_by_cookie b (made_cookie a b p q)).capabilities.zero_checksum_method.0 == 0; packet = record { tag = p.tag; contents = cookie_ack ∷ [] } }
 
 abbrev pub established_effects : Options → Options → Pair → Pair → List Effect
 established_effects a b p q =
-    let held : Held = held_by_cookie b (made_cookie a p q) in
+    let held : Held = held_by_cookie b (made_cookie a b p q) in
     holds (identity_of q held) ∷ connects (identity_of q held) ∷ []
 
 -- the send queue, in which nothing waits, and nothing is in flight
 abbrev queues_there : Options → Options → Pair → Pair → EndpointQueues
 queues_there a b p q =
-    queues_with (echoed b) (made_cookie a p q) (record (echoed b).queues.queue { is_interleaved = interleaves (echoed b) (made_cookie a p q) })
+    queues_with (echoed b q) (made_cookie a b p q) (record (echoed b q).queues.queue { is_interleaved = interleaves (echoed b q) (made_cookie a b p q) })
 
 abbrev pub establishing : Options → Options → Pair → Pair → ℕ → Outcome
 establishing a b p q tie =
     noting (established_effects a b p q)
-    (sends (established_by (echoed b) (made_cookie a p q) (queues_there a b p q) tie) (U64 tie ∷ []) (connected ∷ []) (acknowledgement a b p q))
+    (sends (established_by (echoed b q) (made_cookie a b p q) (queues_there a b p q) tie) (U64 tie ∷ []) (connected ∷ []) (acknowledgement a b p q))
 
 -- The socket is established, and answers COOKIE ACK.
 pub record Establishes (a b : Options) (p q : Pair) (turns : List Transition) : Type 0 where
   pub tie : ℕ
-  pub only : turns ≡ delivered (answered b) q.tag (cookie_echo (cookie_bytes (made_cookie a p q))) (establishing a b p q tie)
+  pub only : turns ≡ delivered (answered b q) q.tag (cookie_echo (cookie_bytes (made_cookie a b p q))) (establishing a b p q tie)
 
-pub cookie_reads : HandshakeLaws → (a : Options) (p q : Pair) → Good a → FitsPair p → FitsPair q → cookie_at (cookie_bytes (made_cookie a p q)) ≡ Ok (made_cookie a p q)
-cookie_reads law a p q good mine own =
-    law.cookies (made_cookie a p q)
+secret_fits : (follows : Bool) (q : Pair) → FitsPair q → (if follows && true then number_of_pair q else 0) < 2 ^ 64
+secret_fits true q fits = omega (arith, fits.tag, fits.first_tsn)
+secret_fits false q fits = omega arith
+
+pub cookie_reads : HandshakeLaws → (a b : Options) (p q : Pair) → Good a → FitsPair p → FitsPair q → cookie_at (cookie_bytes (made_cookie a b p q)) ≡ Ok (made_cookie a b p q)
+cookie_reads law a b p q good mine own =
+    law.cookies (made_cookie a b p q)
     (record {
       names = record {
         maker = own;
@@ -77,63 +81,63 @@ cookie_reads law a p q good mine own =
         offer = record { zero_checksum_method = good.fits.zero_checksum_method; inbound_streams = good.fits.inbound_streams; outbound_streams = good.fits.outbound_streams };
       };
       window = good.valid.receive_window;
-      tie = omega arith;
+      tie = secret_fits b.follow_rfc q own;
       moment = omega arith;
     })
 
 -- It is this queue whether or not its numbers start again.
-queue_there_where : (follows : Bool) (a b : Options) (p q : Pair) → queues_with (echoed b) (made_cookie a p q) (queue_where follows (echoed b) (made_cookie a p q)) ≡ queues_there a b p q
+queue_there_where : (follows : Bool) (a b : Options) (p q : Pair) → queues_with (echoed b q) (made_cookie a b p q) (queue_where follows (echoed b q) (made_cookie a b p q)) ≡ queues_there a b p q
 queue_there_where true a b p q = refl
 queue_there_where false a b p q = refl
 
-queue_is : (a b : Options) (p q : Pair) → queues_kept (echoed b) (made_cookie a p q) ≡ queues_there a b p q
+queue_is : (a b : Options) (p q : Pair) → queues_kept (echoed b q) (made_cookie a b p q) ≡ queues_there a b p q
 queue_is a b p q = queue_there_where b.follow_rfc a b p q
 
-pub established_idle : (a b : Options) (p q : Pair) (tie : ℕ) → IsIdle (established_by (echoed b) (made_cookie a p q) (queues_kept (echoed b) (made_cookie a p q)) tie)
-established_idle a b p q tie = subst (λ (queues : EndpointQueues). IsIdle (established_by (echoed b) (made_cookie a p q) queues tie)) (sym (queue_is a b p q)) refl
+pub established_idle : (a b : Options) (p q : Pair) (tie : ℕ) → IsIdle (established_by (echoed b q) (made_cookie a b p q) (queues_kept (echoed b q) (made_cookie a b p q)) tie)
+established_idle a b p q tie = subst (λ (queues : EndpointQueues). IsIdle (established_by (echoed b q) (made_cookie a b p q) queues tie)) (sym (queue_is a b p q)) refl
 
 -- its COOKIE ACK is sent
 pub established_sends : (a b : Options) (p q : Pair) (tie : ℕ) → Good b
-    → establish_outcome (echoed b) (made_cookie a p q) (queues_kept (echoed b) (made_cookie a p q)) tie (connected ∷ []) ≡ establishing a b p q tie
+    → establish_outcome (echoed b q) (made_cookie a b p q) (queues_kept (echoed b q) (made_cookie a b p q)) tie (connected ∷ []) ≡ establishing a b p q tie
 established_sends a b p q tie good =
-    let after : Endpoint = established_by (echoed b) (made_cookie a p q) (queues_there a b p q) tie in
-    ap (λ (queues : EndpointQueues). establish_outcome (echoed b) (made_cookie a p q) queues tie (connected ∷ [])) (queue_is a b p q)
+    let after : Endpoint = established_by (echoed b q) (made_cookie a b p q) (queues_there a b p q) tie in
+    ap (λ (queues : EndpointQueues). establish_outcome (echoed b q) (made_cookie a b p q) queues tie (connected ∷ [])) (queue_is a b p q)
     ∙ ap (λ (x : Bool). noting (established_effects a b p q) (cond x (sends after (U64 tie ∷ []) (connected ∷ []) (acknowledgement a b p q)) (quiet after (U64 tie ∷ []) (connected ∷ [])))) good.allow.burst
 
 establishes_by : HandshakeLaws → (a b : Options) (p q : Pair) (turns : List Transition) → Good a → Good b → FitsPair p → FitsPair q
-    → Taken (answered b) q.tag (cookie_echo (cookie_bytes (made_cookie a p q))) turns → Establishes a b p q turns
+    → Taken (answered b q) q.tag (cookie_echo (cookie_bytes (made_cookie a b p q))) turns → Establishes a b p q turns
 establishes_by law a b p q turns good_a good_b mine own h =
-    let e : Endpoint = echoed b in
-    let cookie : Cookie = made_cookie a p q in
+    let e : Endpoint = echoed b q in
+    let cookie : Cookie = made_cookie a b p q in
     let bytes : List ℕ = cookie_bytes cookie in
     let word : ℕ = h.comes.0 in
     let flush : FlushKind = flush_answered h.comes.1 in
-    let reads : cookie_at bytes ≡ Ok cookie = cookie_reads law a p q good_a mine own in
+    let reads : cookie_at bytes ≡ Ok cookie = cookie_reads law a b p q good_a mine own in
     let allowed : EstablishAnswers e cookie (queues_kept e cookie) word h.comes.1 =
-    subst (λ (case : Resolution). ResolvedAnswers e cookie closed word case h.comes.1) (case_at_start e a p q refl refl)
+    subst (λ (case : Resolution). ResolvedAnswers e cookie closed word case h.comes.1) (case_at_start e a b p q refl refl refl refl own.tag_is_not_zero)
     (subst (λ (found : Result Cookie (List ℕ)). EchoedAnswers e closed q.tag found word h.comes.1) reads h.comes.2) in
     let is : h.outcome ≡ establish_outcome e cookie (queues_kept e cookie) word (connected ∷ []) =
     h.comes.3
     ∙ ap (λ (found : Result Cookie (List ℕ)). cookie_echo_by flush e closed q.tag found word) reads
-    ∙ ap (λ (case : Resolution). resolved_by flush e cookie closed word case) (case_at_start e a p q refl refl)
+    ∙ ap (λ (case : Resolution). resolved_by flush e cookie closed word case) (case_at_start e a b p q refl refl refl refl own.tag_is_not_zero)
     ∙ establish_now e cookie (queues_kept e cookie) word (connected ∷ []) h.comes.1 (established_idle a b p q word) allowed in
-    record { tie = word; only = taken_as (answered b) q.tag (cookie_echo bytes) turns h _ (is ∙ established_sends a b p q word good_b) refl (refl, refl) }
+    record { tie = word; only = taken_as (answered b q) q.tag (cookie_echo bytes) turns h _ (is ∙ established_sends a b p q word good_b) refl (refl, refl) }
 
-pub echo_is_taken : (a b : Options) (p q : Pair) → Good a → FitsPair q → a.remote_port ≡ b.local_port → IsTaken b a true q.tag (cookie_echo (cookie_bytes (made_cookie a p q)))
+pub echo_is_taken : (a b : Options) (p q : Pair) → Good a → FitsPair q → a.remote_port ≡ b.local_port → IsTaken b a true q.tag (cookie_echo (cookie_bytes (made_cookie a b p q)))
 echo_is_taken a b p q good own port =
     record {
       fits = good.fits;
-      sendable = record { tag = own.tag; contents = (echo_sendable (cookie_bytes (made_cookie a p q)) (record { len_fits = omega (arith, length_of_cookie (made_cookie a p q)); cookie_in_bytes = in_cookie (made_cookie a p q) }), tt) };
+      sendable = record { tag = own.tag; contents = (echo_sendable (cookie_bytes (made_cookie a b p q)) (record { len_fits = omega (arith, length_of_cookie (made_cookie a b p q)); cookie_in_bytes = in_cookie (made_cookie a b p q) }), tt) };
       minima = tt;
       to_this_port = sym port;
       checked = inl refl;
     }
 
 pub establishes : HandshakeLaws → (a b : Options) (p q : Pair) (turns : List Transition) → Good a → Good b → FitsPair p → FitsPair q → a.remote_port ≡ b.local_port
-    → HandleInput (answered b) (emission_bytes (ports_of a) (echo_emission q.tag (cookie_bytes (made_cookie a p q)))) turns → Establishes a b p q turns
+    → HandleInput (answered b q) (emission_bytes (ports_of a) (echo_emission q.tag (cookie_bytes (made_cookie a b p q)))) turns → Establishes a b p q turns
 establishes law a b p q turns good_a good_b mine own port input =
     establishes_by law a b p q turns good_a good_b mine own
-    (taken law.wire (answered b) a true q.tag (cookie_echo (cookie_bytes (made_cookie a p q))) turns (echo_is_taken a b p q good_a own port) refl (λ e o rests. rests) input)
+    (taken law.wire (answered b q) a true q.tag (cookie_echo (cookie_bytes (made_cookie a b p q))) turns (echo_is_taken a b p q good_a own port) refl (λ e o rests. rests) input)
 
 -- ---- COOKIE ACK
 
@@ -170,9 +174,9 @@ pub connects_last : HandshakeLaws → (a b : Options) (p q : Pair) (tie : ℕ) (
 connects_last law a b p q tie turns good mine port input =
     let h : Taken (awaited a b p q tie) p.tag cookie_ack turns =
     taken law.wire (awaited a b p q tie) b (acknowledgement a b p q).with_checksum p.tag cookie_ack turns (ack_is_taken a b p q good mine port)
-    (ack_admitted (cookie_echoed p (held_here a b p q) (cookie_bytes (made_cookie a p q))) p.tag refl mine.tag_is_not_zero) (λ e o rests. rests) input in
+    (ack_admitted (cookie_echoed p (held_here a b p q) (cookie_bytes (made_cookie a b p q))) p.tag refl mine.tag_is_not_zero) (λ e o rests. rests) input in
     taken_as (awaited a b p q tie) p.tag cookie_ack turns h _
-    (cookie_ack_turn_now (counted_at (awaited a b p q tie)) p (held_here a b p q) (cookie_bytes (made_cookie a p q)) h.outcome refl refl h.comes) refl (refl, refl)
+    (cookie_ack_turn_now (counted_at (awaited a b p q tie)) p (held_here a b p q) (cookie_bytes (made_cookie a b p q)) h.outcome refl refl h.comes) refl (refl, refl)
 
 -- ---- in turn
 
@@ -184,10 +188,10 @@ abbrev pub answered_by : Options → Options → Pair → ℕ → ℕ → List T
 answered_by a b p word next = delivered (fresh_endpoint b) 0 (init (introduction_of a p)) (answering a b p word next)
 
 abbrev pub echoed_by : Options → Options → Pair → Pair → ℕ → List Transition
-echoed_by a b p q tie = delivered (waiting a p) p.tag (init_ack (answer_to a b p q) (Some (cookie_bytes (made_cookie a p q)))) (echoing a b p q tie)
+echoed_by a b p q tie = delivered (waiting a p) p.tag (init_ack (answer_to a b p q) (Some (cookie_bytes (made_cookie a b p q)))) (echoing a b p q tie)
 
 abbrev pub acknowledged_by : Options → Options → Pair → Pair → ℕ → List Transition
-acknowledged_by a b p q tie = delivered (answered b) q.tag (cookie_echo (cookie_bytes (made_cookie a p q))) (establishing a b p q tie)
+acknowledged_by a b p q tie = delivered (answered b q) q.tag (cookie_echo (cookie_bytes (made_cookie a b p q))) (establishing a b p q tie)
 
 abbrev pub connected_by : Options → Options → Pair → Pair → ℕ → List Transition
 connected_by a b p q tie = delivered (awaited a b p q tie) p.tag cookie_ack (connecting_last a b p q tie)

@@ -1,7 +1,7 @@
 -- The five calls of a handshake between two fitting sockets, one after another. The one that
 -- connects has the options a and the pair p, the other the options b and the pair q.
 use Rattle.std.proofs.Common.{◌≡◌, ◌≢◌, ◌≤◌, ℕ, Bool, true, false, cond, not, eqb, None, Some, List, [], ◌∷◌, ◌⊎◌, inl, inr, refl, sym, subst, ap, ◌∙◌, arith, ◌&&◌, ◌||◌, Option}
-use Rattle.std.specs.Prelude.{nat_le}
+use Rattle.std.specs.Prelude.{◌==◌, nat_le, if◌then◌else◌}
 use Rattle.std.specs.Duration.{as_nanos}
 use Rattle.std.proofs.lemmas.Bool.Decides.{nat_tests}
 use Rattle.dcsctp_spec_lemmas.specs.types.declared.association.Pair.{Pair}
@@ -12,12 +12,12 @@ use Rattle.dcsctp_spec_lemmas.specs.types.Settings.{IsValid, FitsOptions, ports_
 use Rattle.dcsctp_spec_lemmas.specs.types.Offer.{offer_of, agreed_method}
 use Rattle.dcsctp_spec_lemmas.specs.spec.Cookie.{Cookie, cookie_bytes, is_stale}
 use Rattle.dcsctp_spec_lemmas.specs.spec.Packet.{Introduction, Content, init, init_ack, Packet, Emission, emission_bytes}
-use Rattle.dcsctp_spec_lemmas.specs.spec.endpoint.Endpoint.{Endpoint, Core, closed, cookie_wait, fresh_endpoint, own_tag, may_answer}
+use Rattle.dcsctp_spec_lemmas.specs.spec.endpoint.Endpoint.{Endpoint, Core, closed, cookie_wait, fresh_endpoint, own_tag, may_answer, number_of_pair, with_secret, secret_with}
 use Rattle.dcsctp_spec_lemmas.specs.spec.endpoint.Outcome.{Outcome, noting, quiet, sends, packet_counted, answering as counted, drawing}
 use Rattle.dcsctp_spec_lemmas.specs.spec.endpoint.Turn.{act_input}
 use Rattle.dcsctp_spec_lemmas.specs.spec.endpoint.FlushOutcomes.{allows_packet}
-use Rattle.dcsctp_spec_lemmas.specs.spec.association.CookieEchoChanges.{establish_new, aged, case_without_peer}
-use Rattle.dcsctp_spec_lemmas.specs.spec.endpoint.CookieEchoOutcomes.{is_last_tag, resolved_now}
+use Rattle.dcsctp_spec_lemmas.specs.spec.association.CookieEchoChanges.{Resolution, establish_new, aged, case_without_peer}
+use Rattle.dcsctp_spec_lemmas.specs.spec.endpoint.CookieEchoOutcomes.{is_last_tag, resolved_now, is_foreign}
 use Rattle.dcsctp_spec_lemmas.specs.spec.endpoint.HandshakeOutcomes.{pair_from, init_emission, awaits_init_ack, init_ack_emission, cookie_for, awaits_cookie_ack, echo_emission, init_outcome, init_answered, init_ack_outcome, connect_outcome}
 use Rattle.dcsctp_spec_lemmas.specs.spec.association.HandshakeChanges.{introduction_of, answering_introduction, held_by_init_ack}
 use Rattle.dcsctp_spec_lemmas.specs.spec.association.Acts.{connect}
@@ -102,10 +102,18 @@ begins a (t ∷ other ∷ ts) good turns = absurd turns.1
 abbrev pub asked : Options → Endpoint
 asked b = counted_at (fresh_endpoint b)
 
+-- the same with the secret, if this pair is the first that it draws
+abbrev pub sealed : Options → Pair → Endpoint
+sealed b q = with_secret (asked b) q
+
+-- the secret
+abbrev pub seal : Options → Pair → ℕ
+seal b q = secret_with (asked b) q
+
 abbrev pub answering : Options → Options → Pair → ℕ → ℕ → Outcome
 answering a b p word next =
-    counted (drawing (pair_from word next)
-    (sends (asked b) (U32 word ∷ U32 next ∷ []) [] (init_ack_emission (asked b) (introduction_of a p) (pair_from word next) 0)))
+    let q : Pair = pair_from word next in
+    counted (drawing q (sends (sealed b q) (U32 word ∷ U32 next ∷ []) [] (init_ack_emission (sealed b q) (introduction_of a p) q (seal b q))))
 
 -- The socket answers the INIT of this pair with a pair of its own.
 pub record Answers (a b : Options) (p : Pair) (turns : List Transition) : Type 0 where
@@ -121,10 +129,11 @@ answers_first false e theirs word next = refl
 pub answer_sends : (a b : Options) (p : Pair) (word next : ℕ) → 112 ≤ b.mtu
     → init_answered (may_answer (asked b)) (asked b) (introduction_of a p) word next ≡ answering a b p word next
 answer_sends a b p word next large =
-    let emission : Emission = init_ack_emission (asked b) (introduction_of a p) (pair_from word next) 0 in
+    let q : Pair = pair_from word next in
+    let emission : Emission = init_ack_emission (sealed b q) (introduction_of a p) q (seal b q) in
     let words : List Word = U32 word ∷ U32 next ∷ [] in
     answers_first b.follow_rfc (asked b) (introduction_of a p) word next
-    ∙ ap (λ (x : Bool). counted (drawing (pair_from word next) (cond x (sends (asked b) words [] emission) (quiet (asked b) words [])))) (init_ack_fits (asked b) (introduction_of a p) (pair_from word next) 0 large)
+    ∙ ap (λ (x : Bool). counted (drawing q (cond x (sends (sealed b q) words [] emission) (quiet (sealed b q) words [])))) (init_ack_fits (sealed b q) (introduction_of a p) q (seal b q) large)
 
 -- where the chunk's outcome is known
 pub taken_as : (e : Endpoint) (tag : ℕ) (content : Content) (turns : List Transition) (h : Taken e tag content turns) (o : Outcome) → h.outcome ≡ o → o.following ≡ next_chunk
@@ -161,8 +170,8 @@ answers law a b p turns good_a good_b own port input =
 abbrev pub waiting : Options → Pair → Endpoint
 waiting a p = packet_counted (awaits_init_ack (fresh_endpoint a) p)
 
-abbrev pub made_cookie : Options → Pair → Pair → Cookie
-made_cookie a p q = cookie_for 0 (introduction_of a p) q 0
+abbrev pub made_cookie : Options → Options → Pair → Pair → Cookie
+made_cookie a b p q = cookie_for 0 (introduction_of a p) q (seal b q)
 
 -- At the start of the clocks a cookie isn't stale, whatever its lifetime.
 zero_age : (lifetime : ℕ) → not (nat_le 0 lifetime) ≡ false
@@ -172,58 +181,70 @@ and_never : (b : Bool) → (b && false) ≡ false
 and_never true = refl
 and_never false = refl
 
+-- A cookie that bears the secret isn't forged.
+own_where : (follows : Bool) (q : Pair) → 1 ≤ q.tag → let secret = if follows && true then number_of_pair q else 0 in
+    (follows && (secret == 0 || not (secret == secret))) ≡ false
+own_where true q some = grind (arith, nat_tests)
+own_where false q some = refl
+
 -- A socket that had no association yet makes one of it.
-pub case_at_start : (e : Endpoint) (a : Options) (p q : Pair) → e.moment ≡ 0 → e.last_tag ≡ None → resolved_now e closed q.tag (made_cookie a p q) ≡ establish_new
-case_at_start e a p q at none =
+pub case_at_start : (e : Endpoint) (a b : Options) (p q : Pair) → e.moment ≡ 0 → e.last_tag ≡ None → e.options.follow_rfc ≡ b.follow_rfc → e.secret ≡ seal b q → 1 ≤ q.tag
+    → resolved_now e closed q.tag (made_cookie a b p q) ≡ establish_new
+case_at_start e a b p q at none follows bears some =
     let lifetime : ℕ = as_nanos e.options.cookie_lifetime in
-    let old : Bool = is_stale lifetime e.moment (made_cookie a p q) in
-    ap (λ (last : Option ℕ). aged ((e.options.follow_rfc && is_last_tag last q.tag) || old) (case_without_peer (eqb q.tag q.tag))) none
-    ∙ ap (λ (over : Bool). aged (over || old) (case_without_peer (eqb q.tag q.tag))) (and_never e.options.follow_rfc)
-    ∙ ap (λ (now : ℕ). aged (is_stale lifetime now (made_cookie a p q)) (case_without_peer (eqb q.tag q.tag))) at
-    ∙ ap (λ (old : Bool). aged old (case_without_peer (eqb q.tag q.tag))) (zero_age lifetime)
+    let cookie : Cookie = made_cookie a b p q in
+    let old : Bool = is_stale lifetime e.moment cookie in
+    let case : Resolution = case_without_peer (eqb q.tag q.tag) in
+    ap (λ (last : Option ℕ). aged ((e.options.follow_rfc && is_last_tag last q.tag) || (is_foreign e closed cookie.tie || old)) case) none
+    ∙ ap (λ (over : Bool). aged (over || (is_foreign e closed cookie.tie || old)) case) (and_never e.options.follow_rfc)
+    ∙ ap (λ (secret : ℕ). aged ((e.options.follow_rfc && (secret == 0 || not (cookie.tie == secret))) || old) case) bears
+    ∙ ap (λ (by_rfc : Bool). aged ((by_rfc && (seal b q == 0 || not (cookie.tie == seal b q))) || old) case) follows
+    ∙ ap (λ (foreign : Bool). aged (foreign || old) case) (own_where b.follow_rfc q some)
+    ∙ ap (λ (now : ℕ). aged (is_stale lifetime now cookie) case) at
+    ∙ ap (λ (old : Bool). aged old case) (zero_age lifetime)
     ∙ ap case_without_peer (same_tag q.tag)
 
 abbrev pub answer_to : Options → Options → Pair → Pair → Introduction
 answer_to a b p q = answering_introduction b (introduction_of a p) q
 
 abbrev pub awaiting : Options → Options → Pair → Pair → ℕ → Endpoint
-awaiting a b p q tie = awaits_cookie_ack (counted_at (waiting a p)) p (answer_to a b p q) (cookie_bytes (made_cookie a p q)) tie
+awaiting a b p q tie = awaits_cookie_ack (counted_at (waiting a p)) p (answer_to a b p q) (cookie_bytes (made_cookie a b p q)) tie
 
 abbrev pub echoing : Options → Options → Pair → Pair → ℕ → Outcome
 echoing a b p q tie =
     noting (holds (identity_of p (held_by_init_ack a p (answer_to a b p q))) ∷ [])
-    (sends (awaiting a b p q tie) (U64 tie ∷ []) [] (echo_emission q.tag (cookie_bytes (made_cookie a p q))))
+    (sends (awaiting a b p q tie) (U64 tie ∷ []) [] (echo_emission q.tag (cookie_bytes (made_cookie a b p q))))
 
 -- The socket echoes the cookie.
 pub record Echoes (a b : Options) (p q : Pair) (turns : List Transition) : Type 0 where
   pub tie : ℕ
-  pub only : turns ≡ delivered (waiting a p) p.tag (init_ack (answer_to a b p q) (Some (cookie_bytes (made_cookie a p q)))) (echoing a b p q tie)
+  pub only : turns ≡ delivered (waiting a p) p.tag (init_ack (answer_to a b p q) (Some (cookie_bytes (made_cookie a b p q)))) (echoing a b p q tie)
 
 pub echo_sends : (a b : Options) (p q : Pair) (tie : ℕ) → Good a
-    → init_ack_outcome (counted_at (waiting a p)) (answer_to a b p q) (Some (cookie_bytes (made_cookie a p q))) (cookie_wait p) tie ≡ echoing a b p q tie
+    → init_ack_outcome (counted_at (waiting a p)) (answer_to a b p q) (Some (cookie_bytes (made_cookie a b p q))) (cookie_wait p) tie ≡ echoing a b p q tie
 echo_sends a b p q tie good =
     let e : Endpoint = awaiting a b p q tie in
-    let emission : Emission = echo_emission q.tag (cookie_bytes (made_cookie a p q)) in
+    let emission : Emission = echo_emission q.tag (cookie_bytes (made_cookie a b p q)) in
     let words : List Word = U64 tie ∷ [] in
     let holding : List Effect = holds (identity_of p (held_by_init_ack a p (answer_to a b p q))) ∷ [] in
-    ap (λ (x : Bool). noting holding (cond x (cond (allows_packet a.max_burst) (sends e words [] emission) (quiet e words [])) (quiet e words []))) (echo_fits e q.tag (made_cookie a p q) good.allow.mtu)
+    ap (λ (x : Bool). noting holding (cond x (cond (allows_packet a.max_burst) (sends e words [] emission) (quiet e words [])) (quiet e words []))) (echo_fits e q.tag (made_cookie a b p q) good.allow.mtu)
     ∙ ap (λ (x : Bool). noting holding (cond x (sends e words [] emission) (quiet e words []))) good.allow.burst
 
 echoes_by : (a b : Options) (p q : Pair) (turns : List Transition) → Good a
-    → Taken (waiting a p) p.tag (init_ack (answer_to a b p q) (Some (cookie_bytes (made_cookie a p q)))) turns → Echoes a b p q turns
+    → Taken (waiting a p) p.tag (init_ack (answer_to a b p q) (Some (cookie_bytes (made_cookie a b p q)))) turns → Echoes a b p q turns
 echoes_by a b p q turns good h =
     let e : Endpoint = counted_at (waiting a p) in
-    let cookie : List ℕ = cookie_bytes (made_cookie a p q) in
+    let cookie : List ℕ = cookie_bytes (made_cookie a b p q) in
     let now : (word : ℕ) × (h.outcome ≡ init_ack_outcome e (answer_to a b p q) (Some cookie) (cookie_wait p) word) =
     init_ack_turn_now e (answer_to a b p q) cookie p h.outcome refl (λ word. refl) h.comes in
     record { tie = now.0; only = taken_as (waiting a p) p.tag (init_ack (answer_to a b p q) (Some cookie)) turns h _ (now.1 ∙ echo_sends a b p q now.0 good) refl (refl, refl) }
 
 pub answer_is_taken : HandshakeLaws → (a b : Options) (p q : Pair) → Good b → FitsPair p → FitsPair q → b.remote_port ≡ a.local_port
-    → IsTaken a b (eqb (agreed_method (offer_of b) (offer_of a)) 0) p.tag (init_ack (answer_to a b p q) (Some (cookie_bytes (made_cookie a p q))))
+    → IsTaken a b (eqb (agreed_method (offer_of b) (offer_of a)) 0) p.tag (init_ack (answer_to a b p q) (Some (cookie_bytes (made_cookie a b p q))))
 answer_is_taken law a b p q good mine own port =
     record {
       fits = good.fits;
-      sendable = record { tag = mine.tag; contents = (init_ack_sendable law.offers b (introduction_of a p) q (made_cookie a p q) good.valid good.fits own, tt) };
+      sendable = record { tag = mine.tag; contents = (init_ack_sendable law.offers b (introduction_of a p) q (made_cookie a b p q) good.valid good.fits own, tt) };
       minima = record { tag_is_not_zero = own.tag_is_not_zero; window_is_large_enough = good.allow.window; sends_on_a_stream = good.allow.outbound_streams; receives_on_a_stream = good.allow.inbound_streams };
       to_this_port = sym port;
       checked = method_checked b.zero_checksum_alternate_error_detection_method.0 a.zero_checksum_alternate_error_detection_method.0;
@@ -238,9 +259,9 @@ ack_admitted core theirs cookie tag own some =
     ∙ ap (λ (is_own : Bool). admitted_where is_own (wrong_tag_text tag (own_tag core))) (ap (eqb tag) own ∙ same_tag tag)
 
 pub echoes : HandshakeLaws → (a b : Options) (p q : Pair) (turns : List Transition) → Good a → Good b → FitsPair p → FitsPair q → b.remote_port ≡ a.local_port
-    → HandleInput (waiting a p) (emission_bytes (ports_of b) (init_ack_emission (asked b) (introduction_of a p) q 0)) turns → Echoes a b p q turns
+    → HandleInput (waiting a p) (emission_bytes (ports_of b) (init_ack_emission (sealed b q) (introduction_of a p) q (seal b q))) turns → Echoes a b p q turns
 echoes law a b p q turns good_a good_b mine own port input =
-    let content : Content = init_ack (answer_to a b p q) (Some (cookie_bytes (made_cookie a p q))) in
+    let content : Content = init_ack (answer_to a b p q) (Some (cookie_bytes (made_cookie a b p q))) in
     echoes_by a b p q turns good_a
     (taken law.wire (waiting a p) b (eqb (agreed_method (offer_of b) (offer_of a)) 0) p.tag content turns (answer_is_taken law a b p q good_b mine own port)
-    (ack_admitted (cookie_wait p) (answer_to a b p q) (cookie_bytes (made_cookie a p q)) p.tag refl mine.tag_is_not_zero) (λ e o rests. rests) input)
+    (ack_admitted (cookie_wait p) (answer_to a b p q) (cookie_bytes (made_cookie a b p q)) p.tag refl mine.tag_is_not_zero) (λ e o rests. rests) input)

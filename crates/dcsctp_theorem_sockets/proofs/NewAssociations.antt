@@ -119,7 +119,7 @@ aged_anew options core cookie choices true invalid_tag h = h
 aged_anew options core cookie choices true stale h = h
 aged_anew options core cookie choices false resolution h = h
 
-table_anew : (options : Options) (core : Core) (header : ℕ) (cookie : Cookie) (choices : Choices) → New core (resolved_change options core cookie choices (resolve core choices.tie header cookie)).effects
+table_anew : (options : Options) (core : Core) (header : ℕ) (cookie : Cookie) (choices : Choices) → New core (resolved_change options core cookie choices (resolve core choices.tie choices.secret header cookie)).effects
 table_anew options closed header cookie choices =
     first_anew closed (resolved_change options closed cookie choices (case_without_peer (header == cookie.maker.tag))).effects refl
     (unknown_first options closed cookie choices (header == cookie.maker.tag))
@@ -127,15 +127,15 @@ table_anew options (cookie_wait my) header cookie choices =
     first_anew (cookie_wait my) (resolved_change options (cookie_wait my) cookie choices (case_without_peer (header == cookie.maker.tag))).effects refl
     (unknown_first options (cookie_wait my) cookie choices (header == cookie.maker.tag))
 table_anew options (cookie_echoed my held echoed) header cookie choices =
-    case_anew options (cookie_echoed my held echoed) my held cookie choices (header == my.tag) (cookie.addressee.tag == held.peer.tag) (cookie.tie == choices.tie) (cookie.tie == 0)
+    case_anew options (cookie_echoed my held echoed) my held cookie choices (header == my.tag) (cookie.addressee.tag == held.peer.tag) (cookie.tie == choices.tie) (cookie.tie == choices.secret)
     refl refl
 table_anew options (open_in phase my held) header cookie choices =
-    case_anew options (open_in phase my held) my held cookie choices (header == my.tag) (cookie.addressee.tag == held.peer.tag) (cookie.tie == choices.tie) (cookie.tie == 0) refl refl
+    case_anew options (open_in phase my held) my held cookie choices (header == my.tag) (cookie.addressee.tag == held.peer.tag) (cookie.tie == choices.tie) (cookie.tie == choices.secret) refl refl
 
 echo_anew : (options : Options) (core : Core) (header : ℕ) (read : Result Cookie (List ℕ)) (choices : Choices) → New core (read_echo_change options core header read choices).effects
 echo_anew options core header (Err text) choices = none_anew core [] tt
 echo_anew options core header (Ok cookie) choices =
-    aged_anew options core cookie choices choices.is_stale (resolve core choices.tie header cookie) (table_anew options core header cookie choices)
+    aged_anew options core cookie choices choices.is_stale (resolve core choices.tie choices.secret header cookie) (table_anew options core header cookie choices)
 
 -- ---- every other chunk
 

@@ -5,7 +5,7 @@ use Rattle.dcsctp_spec_lemmas.specs.types.declared.association.Pair.{Pair}
 use Rattle.dcsctp_spec_lemmas.specs.types.declared.word.Word.{Word}
 use Rattle.dcsctp_spec_lemmas.specs.types.declared.word.Word.TheVariants.{U32}
 use Rattle.dcsctp_spec_lemmas.specs.spec.Packet.{Introduction, Content, init, init_ack, cookie_echo, cookie_ack, re_config, abort, shutdown, shutdown_ack, shutdown_complete, plain, Emission}
-use Rattle.dcsctp_spec_lemmas.specs.spec.endpoint.Endpoint.{Endpoint, Core, closed, cookie_wait, cookie_echoed, open_in, established, shutdown_pending, shutdown_sent, shutdown_received, shutdown_ack_sent, fresh_endpoint}
+use Rattle.dcsctp_spec_lemmas.specs.spec.endpoint.Endpoint.{Endpoint, Core, closed, cookie_wait, cookie_echoed, open_in, established, shutdown_pending, shutdown_sent, shutdown_received, shutdown_ack_sent, fresh_endpoint, with_secret, secret_with}
 use Rattle.dcsctp_spec_lemmas.specs.spec.endpoint.Outcome.{Outcome, quiet, sends as sends_packet, fits, emits, to_peer}
 use Rattle.dcsctp_spec_laws.proofs.DataLemmas.{flushed_act, end_at, send_at, resets_at, take_at}
 use Rattle.dcsctp_spec_lemmas.specs.spec.endpoint.OwnTimers.{timer_act}
@@ -119,9 +119,9 @@ renewing_ends_none : (e : Endpoint) (theirs : Introduction) (word : ℕ) → End
 renewing_ends_none e theirs word = drawn_before _ _ (emits_end_none e (U32 word ∷ []) (init_ack_emission e theirs (renewed_pair e word) e.tie))
 
 init_ends_none : (e : Endpoint) (theirs : Introduction) (core : Core) (word next : ℕ) → EndsNone (init_outcome e theirs core word next).effects
-init_ends_none e theirs closed word next = drawn_before _ _ (emits_end_none e (U32 word ∷ U32 next ∷ []) (init_ack_emission e theirs (pair_from word next) 0))
-init_ends_none e theirs (cookie_wait my) word next = emits_end_none e [] (init_ack_emission e theirs my 0)
-init_ends_none e theirs (cookie_echoed my held cookie) word next = emits_end_none e [] (init_ack_emission e theirs my 0)
+init_ends_none e theirs closed word next = drawn_before _ _ (emits_end_none (with_secret e (pair_from word next)) (U32 word ∷ U32 next ∷ []) (init_ack_emission (with_secret e (pair_from word next)) theirs (pair_from word next) (secret_with e (pair_from word next))))
+init_ends_none e theirs (cookie_wait my) word next = emits_end_none e [] (init_ack_emission e theirs my e.secret)
+init_ends_none e theirs (cookie_echoed my held cookie) word next = emits_end_none e [] (init_ack_emission e theirs my e.secret)
 init_ends_none e theirs (open_in established my held) word next = renewing_ends_none e theirs word
 init_ends_none e theirs (open_in shutdown_pending my held) word next = renewing_ends_none e theirs word
 init_ends_none e theirs (open_in shutdown_sent my held) word next = renewing_ends_none e theirs word

@@ -160,7 +160,7 @@ handshake_runs law a b w good_a good_b to_b to_a =
     let q : Pair = pair_b w in
     let own : FitsPair p = drawn_fits w.word w.next in
     let other : FitsPair q = drawn_fits w.word' w.next' in
-    let bytes : List ℕ = cookie_bytes (made_cookie a p q) in
+    let bytes : List ℕ = cookie_bytes (made_cookie a b p q) in
     let first : Turns (fresh_endpoint a) (act_input connect ∷ []) (begun_by a w.word w.next) =
     (record { is = refl; comes = (w.word, w.next, sym (connect_sends a w.word w.next good_a.allow.mtu)) }, tt) in
     let second = gives law.wire (fresh_endpoint b) a true 0 (init (introduction_of a p)) (answering a b p w.word' w.next') (init_is_taken law a b p good_a own to_b) refl refl
@@ -168,9 +168,9 @@ handshake_runs law a b w good_a good_b to_b to_a =
     let third = gives law.wire (waiting a p) b (eqb (agreed_method (offer_of b) (offer_of a)) 0) p.tag (init_ack (answer_to a b p q) (Some bytes)) (echoing a b p q w.tie)
     (answer_is_taken law a b p q good_b own other to_a) (ack_admitted (cookie_wait p) (answer_to a b p q) bytes p.tag refl own.tag_is_not_zero) refl
     (init_ack_turn_of (counted_at (waiting a p)) (answer_to a b p q) bytes p w.tie (echoing a b p q w.tie) refl refl (sym (echo_sends a b p q w.tie good_a))) refl (refl, refl) in
-    let fourth = gives law.wire (answered_once b) a true q.tag (cookie_echo bytes) (establishing a b p q w.tie') (echo_is_taken a b p q good_a other to_b) refl refl
-    (cookie_echo_turn_of (counted_at (answered_once b)) q.tag bytes (made_cookie a p q) w.tie' (establishing a b p q w.tie') refl (cookie_reads law a p q good_a own other)
-    (case_at_start (counted_at (answered_once b)) a p q refl refl) (established_idle a b p q w.tie') (sym (established_sends a b p q w.tie' good_b))) refl (refl, refl) in
+    let fourth = gives law.wire (answered_once b q) a true q.tag (cookie_echo bytes) (establishing a b p q w.tie') (echo_is_taken a b p q good_a other to_b) refl refl
+    (cookie_echo_turn_of (counted_at (answered_once b q)) q.tag bytes (made_cookie a b p q) w.tie' (establishing a b p q w.tie') refl (cookie_reads law a b p q good_a own other)
+    (case_at_start (counted_at (answered_once b q)) a b p q refl refl refl refl other.tag_is_not_zero) (established_idle a b p q w.tie') (sym (established_sends a b p q w.tie' good_b))) refl (refl, refl) in
     let fifth = gives law.wire (awaited a b p q w.tie) b (acknowledgement a b p q).with_checksum p.tag cookie_ack (connecting_last a b p q w.tie) (ack_is_taken a b p q good_b own to_a)
     (cookie_ack_admitted (cookie_echoed p (held_here a b p q) bytes) p.tag refl own.tag_is_not_zero) refl
     (cookie_ack_turn_of (counted_at (awaited a b p q w.tie)) p (held_here a b p q) bytes (connecting_last a b p q w.tie) refl refl refl) refl (refl, refl) in
@@ -188,7 +188,7 @@ by_side options a b sides.B = b
 abbrev inputs_of : List Transition → List Input
 inputs_of turns = map (λ (turn : Transition). turn.input) turns
 
-inputs_of_a : (a b : Options) (w : Words) → let cookie = cookie_bytes (made_cookie a (pair_a w) (pair_b w)) in
+inputs_of_a : (a b : Options) (w : Words) → let cookie = cookie_bytes (made_cookie a b (pair_a w) (pair_b w)) in
     let answer = init_ack (answer_to a b (pair_a w) (pair_b w)) (Some cookie) in
     inputs_of (turns_after (six_acts a b w)).a
     ≡ act_input connect

@@ -15,7 +15,7 @@ use Rattle.dcsctp_spec_lemmas.specs.spec.Cookie.{Cookie}
 use Rattle.dcsctp_spec_lemmas.specs.spec.endpoint.Event.{Event, connected, connection_restarted, aborted}
 use Rattle.dcsctp_spec_lemmas.specs.spec.queues.Transfer.{EndpointQueues}
 use Rattle.dcsctp_spec_lemmas.specs.spec.Packet.{Introduction, cookie_ack, shutdown_ack, Emission}
-use Rattle.dcsctp_spec_lemmas.specs.spec.endpoint.Endpoint.{Endpoint, Core, closed, cookie_wait, cookie_echoed, open_in, established, shutdown_pending, shutdown_sent, shutdown_received, shutdown_ack_sent}
+use Rattle.dcsctp_spec_lemmas.specs.spec.endpoint.Endpoint.{Endpoint, Core, closed, cookie_wait, cookie_echoed, open_in, established, shutdown_pending, shutdown_sent, shutdown_received, shutdown_ack_sent, with_secret, secret_with}
 use Rattle.dcsctp_spec_lemmas.specs.spec.endpoint.Outcome.{Outcome, contents_len, emits, to_peer}
 use Rattle.dcsctp_spec_lemmas.specs.spec.endpoint.FlushOutcomes.{Answer, draft_to, FlushAnswers, flush_answered}
 use Rattle.dcsctp_spec_lemmas.specs.spec.endpoint.EndOutcomes.{ended_outcome, abort_outcome, abort_to, end_of, aborting_outcome}
@@ -29,9 +29,9 @@ use Rattle.dcsctp_theorem_sockets.proofs.Sizes.{AtLimit, AllShort, TurnSizes, sh
 -- ---- the handshake
 
 pub init_sizes : (limit : ℕ) (e : Endpoint) (theirs : Introduction) (core : Core) (word next : ℕ) → AtLimit limit e → TurnSizes limit (init_outcome e theirs core word next)
-init_sizes limit e theirs closed word next h = emits_sizes limit e (U32 word ∷ U32 next ∷ []) (init_ack_emission e theirs (pair_from word next) 0) h
-init_sizes limit e theirs (cookie_wait my) word next h = emits_sizes limit e [] (init_ack_emission e theirs my 0) h
-init_sizes limit e theirs (cookie_echoed my held cookie) word next h = emits_sizes limit e [] (init_ack_emission e theirs my 0) h
+init_sizes limit e theirs closed word next h = emits_sizes limit (with_secret e (pair_from word next)) (U32 word ∷ U32 next ∷ []) (init_ack_emission (with_secret e (pair_from word next)) theirs (pair_from word next) (secret_with e (pair_from word next))) h
+init_sizes limit e theirs (cookie_wait my) word next h = emits_sizes limit e [] (init_ack_emission e theirs my e.secret) h
+init_sizes limit e theirs (cookie_echoed my held cookie) word next h = emits_sizes limit e [] (init_ack_emission e theirs my e.secret) h
 init_sizes limit e theirs (open_in established my held) word next h = emits_sizes limit e (U32 word ∷ []) (init_ack_emission e theirs (renewed_pair e word) e.tie) h
 init_sizes limit e theirs (open_in shutdown_pending my held) word next h = emits_sizes limit e (U32 word ∷ []) (init_ack_emission e theirs (renewed_pair e word) e.tie) h
 init_sizes limit e theirs (open_in shutdown_sent my held) word next h = emits_sizes limit e (U32 word ∷ []) (init_ack_emission e theirs (renewed_pair e word) e.tie) h

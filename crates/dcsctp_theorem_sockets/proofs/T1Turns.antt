@@ -11,7 +11,7 @@ use Rattle.dcsctp_spec_lemmas.specs.spec.endpoint.Event.{Event, connected, conne
 use Rattle.dcsctp_spec_lemmas.specs.spec.queues.Transfer.{EndpointQueues}
 use Rattle.dcsctp_spec_lemmas.specs.spec.Packet.{Introduction, cookie_echo, shutdown_ack, Emission}
 use Rattle.dcsctp_spec_runs.specs.Deadlines.{T1Runs}
-use Rattle.dcsctp_spec_lemmas.specs.spec.endpoint.Endpoint.{Endpoint, Core, closed, cookie_wait, cookie_echoed, open_in, established, shutdown_pending, shutdown_sent, shutdown_received, shutdown_ack_sent}
+use Rattle.dcsctp_spec_lemmas.specs.spec.endpoint.Endpoint.{Endpoint, Core, closed, cookie_wait, cookie_echoed, open_in, established, shutdown_pending, shutdown_sent, shutdown_received, shutdown_ack_sent, with_secret, secret_with}
 use Rattle.dcsctp_spec_lemmas.specs.spec.endpoint.Outcome.{Outcome, quiet, sends, emits, fits, to_peer}
 use Rattle.dcsctp_spec_lemmas.specs.spec.endpoint.FlushOutcomes.{Answer, draft_to, flush_of, packets_allowed, first_ask, FlushAnswers, flush_answered}
 use Rattle.dcsctp_spec_lemmas.specs.spec.endpoint.EndOutcomes.{abort_outcome, aborting_outcome}
@@ -58,9 +58,9 @@ echoed_up false e words tag cookie answers allowed h = h
 -- ---- the handshake
 
 pub init_up : (e : Endpoint) (theirs : Introduction) (core : Core) (word next : ℕ) → Up e → Up (init_outcome e theirs core word next).after
-init_up e theirs closed word next h = emits_up e (U32 word ∷ U32 next ∷ []) (init_ack_emission e theirs (pair_from word next) 0) h
-init_up e theirs (cookie_wait my) word next h = emits_up e [] (init_ack_emission e theirs my 0) h
-init_up e theirs (cookie_echoed my held cookie) word next h = emits_up e [] (init_ack_emission e theirs my 0) h
+init_up e theirs closed word next h = emits_up (with_secret e (pair_from word next)) (U32 word ∷ U32 next ∷ []) (init_ack_emission (with_secret e (pair_from word next)) theirs (pair_from word next) (secret_with e (pair_from word next))) h
+init_up e theirs (cookie_wait my) word next h = emits_up e [] (init_ack_emission e theirs my e.secret) h
+init_up e theirs (cookie_echoed my held cookie) word next h = emits_up e [] (init_ack_emission e theirs my e.secret) h
 init_up e theirs (open_in established my held) word next h = emits_up e (U32 word ∷ []) (init_ack_emission e theirs (renewed_pair e word) e.tie) h
 init_up e theirs (open_in shutdown_pending my held) word next h = emits_up e (U32 word ∷ []) (init_ack_emission e theirs (renewed_pair e word) e.tie) h
 init_up e theirs (open_in shutdown_sent my held) word next h = emits_up e (U32 word ∷ []) (init_ack_emission e theirs (renewed_pair e word) e.tie) h

@@ -4,7 +4,7 @@ use Rattle.dcsctp_spec_lemmas.specs.types.declared.word.Word.{Word}
 use Rattle.dcsctp_spec_lemmas.specs.types.declared.word.Word.TheVariants.{U32}
 use Rattle.dcsctp_spec_lemmas.specs.spec.endpoint.Event.{Event, sent, connected, closed, connection_restarted, aborted, error, buffered_amount_low, total_buffered_amount_low, streams_reset_failed, streams_reset_performed, incoming_stream_reset, lifecycle_message_fully_sent, lifecycle_message_maybe_expired, lifecycle_message_expired, lifecycle_message_delivered, lifecycle_end}
 use Rattle.dcsctp_spec_lemmas.specs.spec.Packet.{Introduction, Content, init, init_ack, cookie_echo, cookie_ack, re_config, abort, shutdown, shutdown_ack, shutdown_complete, plain, Emission}
-use Rattle.dcsctp_spec_lemmas.specs.spec.endpoint.Endpoint.{Endpoint, Core, cookie_wait, cookie_echoed, open_in, established, shutdown_pending, shutdown_sent, shutdown_received, shutdown_ack_sent, fresh_endpoint}
+use Rattle.dcsctp_spec_lemmas.specs.spec.endpoint.Endpoint.{Endpoint, Core, cookie_wait, cookie_echoed, open_in, established, shutdown_pending, shutdown_sent, shutdown_received, shutdown_ack_sent, fresh_endpoint, with_secret, secret_with}
 use Rattle.dcsctp_spec_lemmas.specs.spec.endpoint.Endpoint as machine
 use Rattle.dcsctp_spec_lemmas.specs.spec.endpoint.Outcome.{Outcome, still, quiet, sends as sends_packet, fits, to_peer, emits}
 use Rattle.dcsctp_spec_laws.proofs.DataLemmas.{flushed_act, end_at, send_at, resets_at, take_at}
@@ -123,9 +123,12 @@ renewed_rests e theirs word = emits_rest e (U32 word ∷ []) (init_ack_emission 
 
 init_rests : (e : Endpoint) (theirs : Introduction) (core : Core) (word next : ℕ) → Rests e (init_outcome e theirs core word next)
 init_rests e theirs machine.closed word next =
-    with_effects e _ _ (emits_rest e (U32 word ∷ U32 next ∷ []) (init_ack_emission e theirs (pair_from word next) 0))
-init_rests e theirs (cookie_wait my) word next = emits_rest e [] (init_ack_emission e theirs my 0)
-init_rests e theirs (cookie_echoed my held cookie) word next = emits_rest e [] (init_ack_emission e theirs my 0)
+    let mine = pair_from word next in
+    let anew : Endpoint = with_secret e mine in
+    let at = emits_rest anew (U32 word ∷ U32 next ∷ []) (init_ack_emission anew theirs mine anew.secret) in
+    record { core = at.core; none = at.none }
+init_rests e theirs (cookie_wait my) word next = emits_rest e [] (init_ack_emission e theirs my e.secret)
+init_rests e theirs (cookie_echoed my held cookie) word next = emits_rest e [] (init_ack_emission e theirs my e.secret)
 init_rests e theirs (open_in established my held) word next = with_effects e _ _ (renewed_rests e theirs word)
 init_rests e theirs (open_in shutdown_pending my held) word next = with_effects e _ _ (renewed_rests e theirs word)
 init_rests e theirs (open_in shutdown_sent my held) word next = with_effects e _ _ (renewed_rests e theirs word)

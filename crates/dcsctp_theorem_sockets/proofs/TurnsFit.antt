@@ -12,7 +12,7 @@ use Rattle.dcsctp_spec_lemmas.specs.spec.endpoint.Cause.{Cause}
 use Rattle.dcsctp_spec_lemmas.specs.spec.endpoint.Event.{Event, sent, connected, connection_restarted, aborted}
 use Rattle.dcsctp_spec_lemmas.specs.spec.Packet.{Introduction, Content, init, init_ack, cookie_echo, cookie_ack, re_config, abort, shutdown, shutdown_ack, shutdown_complete, plain, Emission}
 use Rattle.dcsctp_spec_lemmas.specs.spec.queues.Transfer.{EndpointQueues}
-use Rattle.dcsctp_spec_lemmas.specs.spec.endpoint.Endpoint.{Endpoint, Core, closed, cookie_wait, cookie_echoed, open_in, established, shutdown_pending, shutdown_sent, shutdown_received, shutdown_ack_sent}
+use Rattle.dcsctp_spec_lemmas.specs.spec.endpoint.Endpoint.{Endpoint, Core, closed, cookie_wait, cookie_echoed, open_in, established, shutdown_pending, shutdown_sent, shutdown_received, shutdown_ack_sent, with_secret, secret_with}
 use Rattle.dcsctp_spec_lemmas.specs.spec.endpoint.Outcome.{Outcome, noting, quiet, sends, emits, fits, to_peer, drawing}
 use Rattle.dcsctp_spec_lemmas.specs.spec.endpoint.Turn.{ContentTurn}
 use Rattle.dcsctp_spec_lemmas.specs.spec.endpoint.FlushOutcomes.{Answer, draft_to, FlushAnswers, flush_answered}
@@ -74,10 +74,13 @@ renewed_answer_fits law e theirs word h said =
 
 init_fits : OfferReadsBack → (e : Endpoint) (theirs : Introduction) (core : Core) (word next : ℕ) → FitsEndpoint e → FitsCore core → FitsPair theirs.pair → TurnFits (init_outcome e theirs core word next)
 init_fits law e theirs closed word next h own said =
-    drawing_fits (pair_from word next) _
-    (emits_fit e (U32 word ∷ U32 next ∷ []) (init_ack_emission e theirs (pair_from word next) 0) h (answer_fits law e theirs (pair_from word next) 0 h said (drawn_fits word next)))
-init_fits law e theirs (cookie_wait my) word next h own said = emits_fit e [] (init_ack_emission e theirs my 0) h (answer_fits law e theirs my 0 h said own)
-init_fits law e theirs (cookie_echoed my held cookie) word next h own said = emits_fit e [] (init_ack_emission e theirs my 0) h (answer_fits law e theirs my 0 h said own.0)
+    let mine = pair_from word next in
+    let anew : Endpoint = with_secret e mine in
+    let fits : FitsEndpoint anew = record { valid = h.valid; options = h.options; core = h.core; t1 = h.t1 } in
+    drawing_fits mine _
+    (emits_fit anew (U32 word ∷ U32 next ∷ []) (init_ack_emission anew theirs mine anew.secret) fits (answer_fits law anew theirs mine anew.secret fits said (drawn_fits word next)))
+init_fits law e theirs (cookie_wait my) word next h own said = emits_fit e [] (init_ack_emission e theirs my e.secret) h (answer_fits law e theirs my e.secret h said own)
+init_fits law e theirs (cookie_echoed my held cookie) word next h own said = emits_fit e [] (init_ack_emission e theirs my e.secret) h (answer_fits law e theirs my e.secret h said own.0)
 init_fits law e theirs (open_in established my held) word next h own said = renewed_answer_fits law e theirs word h said
 init_fits law e theirs (open_in shutdown_pending my held) word next h own said = renewed_answer_fits law e theirs word h said
 init_fits law e theirs (open_in shutdown_sent my held) word next h own said = renewed_answer_fits law e theirs word h said

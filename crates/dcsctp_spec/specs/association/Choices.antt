@@ -28,8 +28,9 @@ pub record Choices : Type 0 where
   pub drawn : Pair
   -- the bytes of the cookie, if one is made
   pub cookie : List ℕ
-  -- the association's tie tag (RFC 9260, section 5.2.2)
+  -- the association's tie tag (RFC 9260, section 5.2.2), and what a cookie bears in its place where there is no association
   pub tie : ℕ
+  pub secret : ℕ
   -- May an INIT be answered?
   pub may_answer : Bool
   -- Is the cookie of a COOKIE ECHO older than its lifetime?
@@ -62,6 +63,7 @@ idle_choices drawn =
       drawn = drawn;
       cookie = [];
       tie = 0;
+      secret = 0;
       may_answer = true;
       is_stale = false;
       fits = true;

@@ -32,29 +32,30 @@ pub data Resolution : Type 0 where
   stale : Resolution
 
 -- The table of RFC 9260, section 5.2.4, if the peer is known, by four answers. Is the header tag its own tag, and is the cookie's
--- peer tag the peer's? Is its tie tag the association's, and is it 0?
+-- peer tag the peer's? Is its tie tag the association's, and is it the one that is borne where there is no association?
 abbrev pub case_by : Bool → Bool → Bool → Bool → Resolution
-case_by false false true zero = restart
-case_by false false false zero = invalid_tag
-case_by true false tie zero = simultaneous_init
+case_by false false true untied = restart
+case_by false false false untied = invalid_tag
+case_by true false tie untied = simultaneous_init
 case_by false true tie true = discard
 case_by false true tie false = invalid_tag
-case_by true true tie zero = maintain_existing
+case_by true true tie untied = maintain_existing
 
 -- If the peer isn't known, the header carries the tag that the cookie's maker had chosen.
 abbrev pub case_without_peer : Bool → Resolution
 case_without_peer true = establish_new
 case_without_peer false = invalid_tag
 
-abbrev pub case_with_peer : Pair → Held → ℕ → ℕ → Cookie → Resolution
-case_with_peer my held tie header cookie = case_by (header == my.tag) (cookie.addressee.tag == held.peer.tag) (cookie.tie == tie) (cookie.tie == 0)
+abbrev pub case_with_peer : Pair → Held → ℕ → ℕ → ℕ → Cookie → Resolution
+case_with_peer my held tie secret header cookie =
+    case_by (header == my.tag) (cookie.addressee.tag == held.peer.tag) (cookie.tie == tie) (cookie.tie == secret)
 
--- by the association, its tie tag, the header tag and the cookie
-abbrev pub resolve : Core → ℕ → ℕ → Cookie → Resolution
-resolve closed tie header cookie = case_without_peer (header == cookie.maker.tag)
-resolve (cookie_wait my) tie header cookie = case_without_peer (header == cookie.maker.tag)
-resolve (cookie_echoed my held echoed) tie header cookie = case_with_peer my held tie header cookie
-resolve (open_in phase my held) tie header cookie = case_with_peer my held tie header cookie
+-- by the association, its tie tag and the one that is borne where there is none, the header tag and the cookie
+abbrev pub resolve : Core → ℕ → ℕ → ℕ → Cookie → Resolution
+resolve closed tie secret header cookie = case_without_peer (header == cookie.maker.tag)
+resolve (cookie_wait my) tie secret header cookie = case_without_peer (header == cookie.maker.tag)
+resolve (cookie_echoed my held echoed) tie secret header cookie = case_with_peer my held tie secret header cookie
+resolve (open_in phase my held) tie secret header cookie = case_with_peer my held tie secret header cookie
 
 -- A stale cookie makes no association; of the existing one its age says nothing.
 abbrev pub aged : Bool → Resolution → Resolution
@@ -130,7 +131,7 @@ resolved_change options core cookie choices stale = stale_change options core co
 -- Bytes that are no cookie change nothing.
 abbrev pub read_echo_change : Options → Core → ℕ → Result Cookie (List ℕ) → Choices → Change
 read_echo_change options core header (Err text) choices = rest_dropped core
-read_echo_change options core header (Ok cookie) choices = resolved_change options core cookie choices (aged choices.is_stale (resolve core choices.tie header cookie))
+read_echo_change options core header (Ok cookie) choices = resolved_change options core cookie choices (aged choices.is_stale (resolve core choices.tie choices.secret header cookie))
 
 abbrev pub cookie_echo_change : Options → Core → ℕ → List ℕ → Choices → Change
 cookie_echo_change options core header bytes choices = read_echo_change options core header (cookie_at bytes) choices

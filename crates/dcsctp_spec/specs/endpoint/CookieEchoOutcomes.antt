@@ -203,13 +203,21 @@ is_tag_over e (cookie_echoed my held cookie) header = false
 is_tag_over e (open_in phase my held) header = false
 is_tag_over e core header = e.options.follow_rfc && is_last_tag e.last_tag header
 
--- Is a cookie too old to make an association, or has it made one that is over?
+-- Is there no association, and is a cookie with this tie tag none that this socket made? By the RFC none begins by it (RFC 9260,
+-- section 5.1.5).
+abbrev pub is_foreign : Endpoint → Core → ℕ → Bool
+is_foreign e (cookie_echoed my held echoed) tie = false
+is_foreign e (open_in phase my held) tie = false
+is_foreign e core tie = e.options.follow_rfc && (e.secret == 0 || not (tie == e.secret))
+
+-- Is a cookie too old to make an association, has it made one that is over, or is it forged?
 abbrev pub is_spent : Endpoint → Core → ℕ → Cookie → Bool
-is_spent e core header cookie = is_tag_over e core header || is_stale (as_nanos e.options.cookie_lifetime) e.moment cookie
+is_spent e core header cookie =
+    is_tag_over e core header || (is_foreign e core cookie.tie || is_stale (as_nanos e.options.cookie_lifetime) e.moment cookie)
 
 -- the case, by that too
 abbrev pub resolved_now : Endpoint → Core → ℕ → Cookie → Resolution
-resolved_now e core header cookie = aged (is_spent e core header cookie) (resolve core e.tie header cookie)
+resolved_now e core header cookie = aged (is_spent e core header cookie) (resolve core e.tie e.secret header cookie)
 
 -- By the association, the header tag and what the bytes read as; the word is the one that comes next, drawn or not. Its change is
 -- `cookie_echo_change`.

@@ -1,6 +1,6 @@
 -- What a socket is between two turns (RFC 9260, sections 4 and 5).
-use Rattle.std.specs.Prelude.{◌==◌, ℕ, Bool, false, not, ◌&&◌, if◌then◌else◌, Option, None, Some, List, []}
-use Rattle.std.specs.Duration.{as_nanos}
+use Rattle.std.specs.Prelude.{◌==◌, ℕ, ◌+◌, ◌*◌, ◌/◌, ◌%◌, ◌^◌, min, Bool, false, not, ◌&&◌, if◌then◌else◌, Option, None, Some, List, []}
+use Rattle.std.specs.Duration.{as_nanos, max_nanos}
 use Rattle.dcsctp_spec.specs.endpoint.Timers.{TimerSettings, RunningTimer, started}
 use Rattle.dcsctp_spec.specs.queues.Transfer.{EndpointQueues, empty_queues}
 use Rattle.dcsctp_spec.specs.Reconfiguration.{NumberedReset}
@@ -120,6 +120,9 @@ pub record Endpoint : Type 0 where
   pub renewable : Option NumberedReset
   -- the own tag of the last association that had a peer and has ended; None: of none
   pub last_tag : Option ℕ
+  -- What a cookie bears as its tie tag where there is no association. By the RFC it is a secret: the first pair that the closed
+  -- socket drew, 0 until then.
+  pub secret : ℕ
   -- RFC 9260, section 8.1
   pub error_count : ℕ
   pub heartbeat_counter : ℕ
@@ -175,6 +178,7 @@ fresh_endpoint options =
       outstanding = None;
       renewable = None;
       last_tag = None;
+      secret = 0;
       error_count = 0;
       heartbeat_counter = 0;
       heartbeat_sent = None;

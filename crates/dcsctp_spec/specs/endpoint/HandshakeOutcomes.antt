@@ -81,13 +81,14 @@ init_outcome_where_open e theirs shutdown_ack_sent held word = emits e [] (to_pe
 init_outcome_where_open e theirs phase held word = renewed_pair_outcome e theirs word
 
 -- An INIT is answered with its own pair during a handshake, else with a drawn tag. A closed socket also draws the first TSN; an
--- open association takes one far from its own. Neither is kept. The association is unchanged in every phase. The words are those
--- that come next, drawn or not.
+-- open association takes one far from its own. The first pair that a closed socket draws is its secret, and none is kept else. The
+-- association is unchanged in every phase. The words are those that come next, drawn or not.
 abbrev pub init_outcome : Endpoint → Introduction → Core → ℕ → ℕ → Outcome
 init_outcome e theirs closed word next =
-    drawing (pair_from word next) (answer_outcome e theirs (U32 word ∷ U32 next ∷ []) (pair_from word next) 0)
-init_outcome e theirs (cookie_wait mine) word next = answer_outcome e theirs [] mine 0
-init_outcome e theirs (cookie_echoed mine held cookie) word next = answer_outcome e theirs [] mine 0
+    let mine : Pair = pair_from word next in
+    drawing mine (answer_outcome (with_secret e mine) theirs (U32 word ∷ U32 next ∷ []) mine (secret_with e mine))
+init_outcome e theirs (cookie_wait mine) word next = answer_outcome e theirs [] mine e.secret
+init_outcome e theirs (cookie_echoed mine held cookie) word next = answer_outcome e theirs [] mine e.secret
 init_outcome e theirs (open_in phase mine held) word next = init_outcome_where_open e theirs phase held word
 
 -- by whether it may be answered; else no word is drawn
@@ -108,7 +109,11 @@ init_emission e mine = record { with_checksum = true; packet = record { tag = 0;
 -- an INIT ACK is awaited
 abbrev pub awaits_init_ack : Endpoint → Pair → Endpoint
 awaits_init_ack e mine =
-    record e { core = cookie_wait mine; timers = record e.timers { t1 = started e.moment (t1_settings e.options (as_nanos e.options.t1_init_timeout)) } }
+    record e {
+      core = cookie_wait mine;
+      secret = secret_with e mine;
+      timers = record e.timers { t1 = started e.moment (t1_settings e.options (as_nanos e.options.t1_init_timeout)) };
+    }
 
 -- A closed socket draws a pair and begins an association. The words are those that come next, drawn or not.
 abbrev pub connect_outcome : Endpoint → Core → ℕ → ℕ → Outcome
