@@ -401,8 +401,8 @@ typedef struct dcsctp_socket {
  *   bytes more in the receive window. Of a packet's HEARTBEATs, INITs and RE-CONFIG requests one is
  *   answered. A shutdown also waits for a message behind a reset of its stream, if it has no
  *   lifetime. I-DATA while a SHUTDOWN awaits its answer brings another. A closed socket takes only
- *   its own cookies. A restored association sends HEARTBEATs at once, not only once it sends data.
- *   At 0, and with upstream's limits (above), the socket behaves as upstream, but for a
+ *   its own cookies. The heartbeat interval of a restored association starts at once, not with its
+ *   next data. At 0, and with upstream's limits (above), the socket behaves as upstream, but for a
  *   few differences: docs/design/differences.md has a row for each, and for each rule. */
 typedef struct dcsctp_options {
     size_t size;                                         /* sizeof(dcsctp_options) */
@@ -497,7 +497,8 @@ int32_t dcsctp_connect(dcsctp_socket *socket) DCSCTP_CHECKED_CALL;
  * sends nothing: DCSCTP_EVENT_CLOSED comes at once, and what is queued goes out in the next
  * association. Later in the handshake it shuts down as below, without DCSCTP_EVENT_CONNECTED; but
  * the COOKIE ECHO isn't sent again, and if it was lost, DCSCTP_EVENT_ABORTED comes after minutes.
- * On a closed socket it does nothing.
+ * If the peer connects, too, the shutdown may be forgotten, and what was sent lost without an
+ * event: DCSCTP_EVENT_CONNECTED comes then. On a closed socket it does nothing.
  *
  * It ends the association in an orderly way. All data that was sent is acknowledged first. With
  * `follow_rfc` queued messages are sent before that, and the peer acknowledges what was abandoned,
@@ -774,6 +775,9 @@ int32_t dcsctp_send_many(dcsctp_socket *socket, const dcsctp_outgoing_message *m
  * again. Each one that is lost counts as an error, and without `follow_rfc` no answer clears that
  * count: a live association can be aborted within three minutes. With `follow_rfc` the user of a
  * peer without it may get the event of one reset twice.
+ *
+ * Wait for DCSCTP_EVENT_CONNECTED before this call. If both ends connect, an earlier request may be
+ * forgotten: neither event comes, and messages sent until then may be lost.
  *
  * Errors: NO_SOCKET, NOT_CONNECTED, NOT_SUPPORTED, FAILED, OUT_OF_MEMORY. OUT_OF_MEMORY: if the
  * numbers can't be copied, nothing has changed, and the call may be tried again. */
