@@ -90,7 +90,8 @@ strained() {
 strain() {
     local kind held
     for kind in fragments interleaved gaps links waiting streams reset \
-        skips-repeated skips-rising skips-waiting skips-interleaved; do
+        skips-repeated skips-rising skips-waiting skips-interleaved \
+        skips-deferred skips-deferred-interleaved resets; do
         for held in 10 10000; do
             report "$kind: $held held, a packet" strained "$kind" "$held"
         done

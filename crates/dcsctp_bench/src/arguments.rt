@@ -139,6 +139,8 @@ fn parse_holding(word: &str) -> Option<Holding> {
         "waiting" => Some(Holding::Waiting),
         "streams" => Some(Holding::Streams),
         "reset" => Some(Holding::Reset),
+        "skips-deferred" => Some(Holding::Deferred),
+        "skips-deferred-interleaved" => Some(Holding::DeferredApart),
         _ => None,
     }
 }
@@ -151,6 +153,7 @@ fn parse_kind(word: &str) -> Option<(Holding, Following)> {
         "skips-rising" => Some((Holding::Begun, Following::Skips { is_rising: true })),
         "skips-waiting" => Some((Holding::Waiting, same)),
         "skips-interleaved" => Some((Holding::Interleaved, same)),
+        "resets" => Some((Holding::Fragments, Following::Resets)),
         _ => Some((parse_holding(word)?, Following::More)),
     }
 }

@@ -7,7 +7,7 @@
 //!     [zero-checksum] [counts] [chunks]
 //! dcsctp_bench hold N [used]
 //! dcsctp_bench strain fragments|interleaved|gaps|links|waiting|streams|reset|skips-repeated|skips-rising|
-//!     skips-waiting|skips-interleaved HELD MORE
+//!     skips-waiting|skips-interleaved|skips-deferred|skips-deferred-interleaved|resets HELD MORE
 //! dcsctp_bench rules readers|windows|shutdown|bulk|reconnects|closes|keeps|equals on|off [loss=PERMILLE]
 //!     [seed=SEED] [window=BYTES]
 //! ```
@@ -20,7 +20,8 @@
 //! passed, the chunks of data that were sent, and those that the peer had when they arrived. `hold` makes N
 //! pairs and keeps them, `used` after 1 MiB was sent each way. `strain` has one socket hold HELD unfinished
 //! or waiting things that its peer sent. Then it hands it MORE packets, 10 at most, whose contents belong
-//! among those, or that name their stream as often as a FORWARD-TSN can. `rules` tries what the option
+//! among those, or that name their stream as often as a FORWARD-TSN can, or that have as many FORWARD-TSNs or
+//! requests to reset a stream as a packet has room for. `rules` tries what the option
 //! `follow_rfc` changes, `on` or `off`, with a receive window of BYTES: `rules.rt` says what the users do. The
 //! exit status is 0 if all went well and 2 at bad arguments. Else it is 1, and standard error says why.
 #![tactic(auto)]
@@ -48,7 +49,7 @@ const USAGE: &str = "usage: dcsctp_bench handshakes N
            [zero-checksum] [counts] [chunks]
        dcsctp_bench hold N [used]
        dcsctp_bench strain fragments|interleaved|gaps|links|waiting|streams|reset|skips-repeated|skips-rising|
-           skips-waiting|skips-interleaved HELD MORE
+           skips-waiting|skips-interleaved|skips-deferred|skips-deferred-interleaved|resets HELD MORE
        dcsctp_bench rules readers|windows|shutdown|bulk|reconnects|closes|keeps|equals on|off [loss=PERMILLE]
            [seed=SEED] [window=BYTES]";
 

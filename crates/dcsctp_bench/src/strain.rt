@@ -37,6 +37,12 @@ pub enum Holding {
 
     /// The streams of a reset that waits for data that was sent before it (RFC 6525, section 5.2.2).
     Reset,
+
+    /// Entries of FORWARD-TSNs that wait for the end of such a reset of all streams, each of another stream.
+    Deferred,
+
+    /// The same of I-FORWARD-TSNs.
+    DeferredApart,
 }
 
 /// What comes once a receiver holds it.
@@ -48,6 +54,9 @@ pub enum Following {
     /// FORWARD-TSNs, or I-FORWARD-TSNs, that name one stream as often as they can. Nothing that is held is
     /// skipped. The numbers rise, or each is the same.
     Skips { is_rising: bool },
+
+    /// As many requests to reset a stream as a packet has room for. Nothing is held of that stream.
+    Resets,
 }
 
 /// How a receiver is strained.
@@ -225,6 +234,47 @@ fn skipped_streams(alloc: Global, rising_from: Option<u16>) -> Result<Vec<u8>, A
     Ok(entries)
 }
 
+// How many FORWARD-TSNs of one entry a packet has room for, I-FORWARD-TSNs, and requests to reset a stream.
+const SKIPS: u32 = 97;
+
+const SKIPS_APART: u32 = 73;
+
+const RESETS: u32 = 48;
+
+// The bytes of these chunks in a packet.
+const CHUNKS: usize = 1_168;
+
+// Entries that name the first message of that many streams from this one on.
+fn skipped_firsts(
+    alloc: Global,
+    from: u32,
+    count: u32,
+    is_apart: bool,
+) -> Result<Vec<u8>, AllocError> {
+    let first: &[u8] = if is_apart { &[0; 6] } else { &[0; 2] };
+    let mut entries = Vec::new(alloc);
+    for number in 0..count {
+        entries.extend_from_slice(&low(from.wrapping_add(number)).to_be_bytes())?;
+        entries.extend_from_slice(first)?;
+    }
+    Ok(entries)
+}
+
+// A chunk that skips messages up to this TSN by these entries.
+fn skipping(new_cumulative_tsn: u32, skipped_streams: &[u8], is_apart: bool) -> Chunk<'_> {
+    if is_apart {
+        Chunk::IForwardTsn(IForwardTsnChunk {
+            new_cumulative_tsn,
+            skipped_streams,
+        })
+    } else {
+        Chunk::ForwardTsn(ForwardTsnChunk {
+            new_cumulative_tsn,
+            skipped_streams,
+        })
+    }
+}
+
 // The entries of an I-FORWARD-TSN that name the unordered messages of stream 0 up to the first.
 fn skipped_apart(alloc: Global) -> Result<Vec<u8>, AllocError> {
     let mut entries = Vec::new(alloc);
@@ -234,19 +284,34 @@ fn skipped_apart(alloc: Global) -> Result<Vec<u8>, AllocError> {
     Ok(entries)
 }
 
+// Adds a chunk to a packet, if that has room for it.
+fn add(packet: &mut SctpPacketBuilder, chunk: &Chunk<'_>) {
+    if chunk.serialized_size() <= packet.bytes_remaining() {
+        packet.add(chunk);
+    }
+}
+
 impl<'p> Sender<'p> {
-    // Hands a chunk over in a packet of its own, and takes all events and messages.
-    fn send(&mut self, chunk: &Chunk<'_>) -> Result<(), Failure> {
+    // A packet for so many bytes of chunks.
+    fn packet(&self, size: usize) -> Result<SctpPacketBuilder, AllocError> {
         let tag = self.pair.b.socket.verification_tag();
-        let size = chunk.serialized_size().min(65_000).saturating_add(12);
+        let size = size.min(65_000).saturating_add(12);
         let builder = SctpPacketBuilder::new(self.alloc, tag, 5000, 5000, size)?;
-        let mut packet = builder.write_checksum(false);
-        if chunk.serialized_size() <= packet.bytes_remaining() {
-            packet.add(chunk);
-        }
+        Ok(builder.write_checksum(false))
+    }
+
+    // Hands a packet over, and takes all events and messages.
+    fn send_packet(&mut self, packet: SctpPacketBuilder) -> Result<(), Failure> {
         let bytes = packet.build();
         self.pair.b.socket.handle_input(bytes.as_slice())?;
         self.drain()
+    }
+
+    // Hands a chunk over in a packet of its own.
+    fn send(&mut self, chunk: &Chunk<'_>) -> Result<(), Failure> {
+        let mut packet = self.packet(chunk.serialized_size())?;
+        add(&mut packet, chunk);
+        self.send_packet(packet)
     }
 
     // Takes all events and messages.
@@ -266,20 +331,73 @@ impl<'p> Sender<'p> {
         Ok(())
     }
 
-    // Asks for a reset of that many streams, which waits for the first TSN.
+    // A request of this number to reset streams once this TSN was received.
+    fn request<'x>(
+        &self,
+        number: u32,
+        last_tsn: u32,
+        streams: &'x [u8],
+    ) -> Result<Chunk<'x>, AllocError> {
+        let mut parameters = Vec::new(self.alloc);
+        parameters.push(Parameter::OutgoingSsnResetRequest(OutgoingSsnResetRequestParameter {
+            request_seq_nbr: self.first.wrapping_add(number),
+            response_seq_nbr: 0,
+            sender_last_assigned_tsn: last_tsn,
+            streams,
+        }))?;
+        Ok(Chunk::ReConfig(ReConfigChunk { parameters }))
+    }
+
+    // Asks for a reset of that many streams, or of all, which waits for the first TSN.
     fn reset(&mut self, count: u32) -> Result<(), Failure> {
         let mut streams = Vec::new(self.alloc);
         for id in 0..count {
             streams.extend_from_slice(&low(id).to_be_bytes())?;
         }
-        let mut parameters = Vec::new(self.alloc);
-        parameters.push(Parameter::OutgoingSsnResetRequest(OutgoingSsnResetRequestParameter {
-            request_seq_nbr: self.first,
-            response_seq_nbr: 0,
-            sender_last_assigned_tsn: self.first,
-            streams: streams.as_slice(),
-        }))?;
-        self.send(&Chunk::ReConfig(ReConfigChunk { parameters }))
+        let chunk = self.request(0, self.first, streams.as_slice())?;
+        self.send(&chunk)
+    }
+
+    // Asks for a reset of all streams, which waits for the first TSN, and skips a message on each of that
+    // many.
+    fn defer(&mut self, count: u32, is_apart: bool) -> Result<(), Failure> {
+        self.reset(0)?;
+        let many = if is_apart { SKIPPED_APART } else { SKIPPED };
+        let many = u32::from(many).max(1);
+        for number in 0..count.div_ceil(many) {
+            let from = number.saturating_mul(many);
+            let left = count.saturating_sub(from).min(many);
+            let entries = skipped_firsts(self.alloc, from, left, is_apart)?;
+            let tsn = self.first.wrapping_add(number).wrapping_add(1);
+            self.send(&skipping(tsn, entries.as_slice(), is_apart))?;
+        }
+        Ok(())
+    }
+
+    // Hands over a packet of as many chunks as it has room for, each of which skips a message.
+    fn skip_often(&mut self, number: u32, is_apart: bool) -> Result<(), Failure> {
+        let count = if is_apart { SKIPS_APART } else { SKIPS };
+        let from = number.wrapping_mul(count).wrapping_add(10_000);
+        let mut packet = self.packet(CHUNKS)?;
+        for at in 0..count {
+            let entry = skipped_firsts(self.alloc, at, 1, is_apart)?;
+            let tsn = self.first.wrapping_add(from).wrapping_add(at);
+            add(&mut packet, &skipping(tsn, entry.as_slice(), is_apart));
+        }
+        self.send_packet(packet)
+    }
+
+    // Hands over a packet of as many requests as it has room for, each to reset a stream of which nothing is
+    // held.
+    fn reset_often(&mut self, number: u32) -> Result<(), Failure> {
+        let from = number.wrapping_mul(RESETS);
+        let mut packet = self.packet(CHUNKS)?;
+        for at in 0..RESETS {
+            let before = self.first.wrapping_sub(1);
+            let request = self.request(from.wrapping_add(at), before, &[0, 1])?;
+            add(&mut packet, &request);
+        }
+        self.send_packet(packet)
     }
 
     // Hands over a chunk that skips nothing of what is held.
@@ -301,13 +419,33 @@ impl<'p> Sender<'p> {
         }))
     }
 
+    // Has the receiver hold what isn't data, and returns how much that is.
+    fn begin(&mut self, strain: &Strain) -> Result<u32, Failure> {
+        match strain.holding {
+            Holding::Reset => self.reset(strain.held)?,
+            Holding::Deferred => self.defer(strain.held, false)?,
+            Holding::DeferredApart => self.defer(strain.held, true)?,
+            _ => return Ok(0),
+        }
+        Ok(strain.held)
+    }
+
     // Hands over the packet of this number, the first being 0.
     fn hand(&mut self, strain: &Strain, number: u32) -> Result<(), Failure> {
-        if let Following::Skips { is_rising } = strain.following {
-            if number >= strain.held {
-                return self.skip(strain, number, is_rising);
+        if let Some(more) = number.checked_sub(strain.held) {
+            match (strain.holding, strain.following) {
+                (Holding::Deferred, _) => return self.skip_often(more, false),
+                (Holding::DeferredApart, _) => return self.skip_often(more, true),
+                (_, Following::Resets) => return self.reset_often(more),
+                (_, Following::Skips { is_rising }) => return self.skip(strain, number, is_rising),
+                (_, Following::More) => {}
             }
         }
+        self.hand_data(strain, number)
+    }
+
+    // Hands over data as the packet of this number.
+    fn hand_data(&mut self, strain: &Strain, number: u32) -> Result<(), Failure> {
         let place = strain.place(number);
         let tsn = self.first.wrapping_add(number);
         let chunk = match strain.holding {
@@ -321,7 +459,9 @@ impl<'p> Sender<'p> {
             }
             Holding::Waiting => ordered(tsn, 0, low(place.wrapping_add(1))),
             Holding::Streams => ordered(tsn, low(place), 0),
-            Holding::Reset => ordered(tsn.wrapping_add(1), low(strain.held.saturating_sub(1)), 0),
+            Holding::Reset | Holding::Deferred | Holding::DeferredApart => {
+                ordered(tsn.wrapping_add(1), low(strain.held.saturating_sub(1)), 0)
+            }
         };
         self.send(&chunk)
     }
@@ -329,7 +469,10 @@ impl<'p> Sender<'p> {
 
 /// Connects two sockets, and strains one of them.
 pub fn strain_receiver(alloc: Global, strain: &Strain) -> Result<(), Failure> {
-    let is_interleaved = matches!(strain.holding, Holding::Interleaved | Holding::Links);
+    let is_interleaved = matches!(
+        strain.holding,
+        Holding::Interleaved | Holding::Links | Holding::DeferredApart
+    );
     let mut pair = Pair::strained(alloc, is_interleaved)?;
     pair.connect()?;
     let first = pair.a.socket.association().map_or(0, |it| it.my.first_tsn);
@@ -339,11 +482,7 @@ pub fn strain_receiver(alloc: Global, strain: &Strain) -> Result<(), Failure> {
         first,
     };
     let total = strain.held.saturating_add(strain.more);
-    let mut from = 0;
-    if let Holding::Reset = strain.holding {
-        sender.reset(strain.held)?;
-        from = strain.held;
-    }
+    let from = sender.begin(strain)?;
     for number in from..total {
         sender.hand(strain, number)?;
     }
