@@ -1,6 +1,6 @@
 -- Runs that begin among the places of their messages.
-use Rattle.std.proofs.Common.{◌≡◌, ◌+◌, ◌*◌, ◌-◌, ◌/◌, ◌^◌, ◌<◌, ◌≤◌, ℕ, zero, suc, Bool, true, false, Option, Some, None, List, [], ◌∷◌, ◌++◌, map, take, drop, if◌then◌else◌, arith, refl, sym, ◌∙◌, ap, subst}
-use Rattle.std.specs.Prelude.{nat_le, not, is_some, slice_get, Result, Ok, Err, IfOk, OnErr}
+use Rattle.std.proofs.Common.{◌≡◌, ◌+◌, ◌*◌, ◌-◌, ◌/◌, ◌^◌, ◌<◌, ◌≤◌, ℕ, Bool, true, false, Option, Some, None, List, [], ◌∷◌, map, if◌then◌else◌, arith, refl, sym, ◌∙◌, ap, subst}
+use Rattle.std.specs.Prelude.{nat_le, not, Result, Ok, Err, IfOk, OnErr}
 use Rattle.std.specs.List.{AllByRecursion, filter}
 use Rattle.std.specs.List.Sorted.{IsStrictlySortedBy}
 use Rattle.std.specs.Map.{keys_of}
@@ -11,73 +11,23 @@ use Rattle.std.specs.declared.alloc.AllocError.{AllocError}
 use Rattle.dcsctp_receive_ordered_map.specs.Entries.{Ascends}
 use Rattle.dcsctp_api.specs.spec.queues.IncomingStreams.{runs_up_to, runs_behind}
 use Rattle.dcsctp_api.specs.spec.queues.Numbers.{fragment_place}
-use Rattle.dcsctp_api.specs.spec.queues.Runs.{RunModel, PartModel, Assembled, part_dropped, part_kept, message_whole, AddsPart, AddsAt, behind_place, entry_before, chosen, front_end, back_start, merged, run_before, run_behind, with_part, without_runs}
+use Rattle.dcsctp_api.specs.spec.queues.Runs.{RunModel, PartModel, AddsPart, behind_place, merged}
 use Rattle.dcsctp_receive_reassembly.specs.declared.runs.Run.{Run}
 use Rattle.dcsctp_receive_reassembly.specs.declared.runs.Assembled.{Assembled as Outcome}
 use Rattle.dcsctp_receive_reassembly.specs.Runs.{run_model, assembled_of, up_to_place, IsInPlace, AreInPlace}
+use Rattle.dcsctp_receive_reassembly.proofs.AddedLemmas.{EachOf, added_to_each}
 
 -- ---- a part that is added
 
-taken_in_place : (k : ℕ) (runs : List RunModel) → AreInPlace runs → AreInPlace (take k runs)
-taken_in_place zero runs are = tt
-taken_in_place (suc k) [] are = tt
-taken_in_place (suc k) (run ∷ runs) are = (are.0, taken_in_place k runs are.1)
+merged_in_place : (part : PartModel) → part.place / 2 ^ 64 ≡ part.number → (front back : Option RunModel) → EachOf IsInPlace front → IsInPlace (merged front part back)
+merged_in_place part place None None is = place
+merged_in_place part place None (Some back) is = place
+merged_in_place part place (Some front) None is = is
+merged_in_place part place (Some front) (Some back) is = is
 
-left_in_place : (k : ℕ) (runs : List RunModel) → AreInPlace runs → AreInPlace (drop k runs)
-left_in_place zero runs are = are
-left_in_place (suc k) [] are = tt
-left_in_place (suc k) (run ∷ runs) are = left_in_place k runs are.1
-
-both_in_place : (runs others : List RunModel) → AreInPlace runs → AreInPlace others → AreInPlace (runs ++ others)
-both_in_place [] others are are' = are'
-both_in_place (run ∷ runs) others are are' = (are.0, both_in_place runs others are.1 are')
-
--- Is the run, if there is one, in place?
-abbrev SomeInPlace : Option RunModel → Type 0
-SomeInPlace None = Unit {0}
-SomeInPlace (Some run) = IsInPlace run
-
-got_in_place : (k : ℕ) (runs : List RunModel) → AreInPlace runs → SomeInPlace (slice_get runs k)
-got_in_place zero [] are = tt
-got_in_place (suc k) [] are = tt
-got_in_place zero (run ∷ runs) are = are.0
-got_in_place (suc k) (run ∷ runs) are = got_in_place k runs are.1
-
-before_in_place : (joins : Bool) (at : ℕ) (runs : List RunModel) → AreInPlace runs → SomeInPlace (chosen joins (entry_before at runs))
-before_in_place false at runs are = tt
-before_in_place true zero runs are = tt
-before_in_place true (suc at) runs are = got_in_place at runs are
-
-merged_in_place : (front : Option RunModel) (part : PartModel) (back : Option RunModel) → part.place / 2 ^ 64 ≡ part.number → SomeInPlace front → IsInPlace (merged front part back)
-merged_in_place None part None place is = place
-merged_in_place None part (Some back) place is = place
-merged_in_place (Some front) part None place is = is
-merged_in_place (Some front) part (Some back) place is = is
-
-pub added_in_place : (part : PartModel) (old new : List RunModel) (outcome : Assembled) → part.place / 2 ^ 64 ≡ part.number → AreInPlace old → AddsPart part old outcome new → AreInPlace new
-added_in_place part old new outcome place are adds = go outcome adds.adds
-  where
-    at : ℕ
-    at = adds.at
-
-    kept : (joins joins' : Bool) → AreInPlace (with_part joins joins' at part old)
-    kept joins joins' =
-        both_in_place (take (front_end joins at) old) (merged (chosen joins (entry_before at old)) part (chosen joins' (slice_get old at)) ∷ drop (back_start joins' at) old)
-        (taken_in_place (front_end joins at) old are)
-        (merged_in_place (chosen joins (entry_before at old)) part (chosen joins' (slice_get old at)) place (before_in_place joins at old are), left_in_place (back_start joins' at) old are)
-
-    left : (joins joins' : Bool) → AreInPlace (without_runs joins joins' at old)
-    left joins joins' =
-        both_in_place (take (front_end joins at) old) (drop (back_start joins' at) old) (taken_in_place (front_end joins at) old are) (left_in_place (back_start joins' at) old are)
-
-    go : (outcome : Assembled) → AddsAt at part old outcome new → AreInPlace new
-    go part_dropped is = subst AreInPlace (sym is.1) are
-    go part_kept is = subst AreInPlace (sym is.2) (kept (is_some (run_before at old part)) (is_some (run_behind part at old)))
-    go (message_whole whole) is = subst AreInPlace (sym is.3) (left (is_some (run_before at old part)) (is_some (run_behind part at old)))
-
--- the same by the result
 pub added_or_kept : (part : PartModel) (old new : List RunModel) (result : Result Outcome AllocError) → part.place / 2 ^ 64 ≡ part.number → AreInPlace old → IfOk result (λ outcome. AddsPart part old (assembled_of outcome) new) → OnErr result (new ≡ old) → AreInPlace new
-added_or_kept part old new (Ok outcome) place are ok err = added_in_place part old new (assembled_of outcome) place are ok
+added_or_kept part old new (Ok outcome) place are ok err =
+    added_to_each IsInPlace part old new (assembled_of outcome) (merged_in_place part place) are ok
 added_or_kept part old new (Err error) place are ok err = subst AreInPlace (sym err) are
 
 -- ---- messages that are dropped

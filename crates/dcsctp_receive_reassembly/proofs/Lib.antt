@@ -1,6 +1,8 @@
+pub mod AddedLemmas
 pub mod CountingLemmas
 mod FragmentLemmas
 pub mod HandoverLemmas
+pub mod JoinsLemmas
 pub mod NamedLemmas
 pub mod PartUsed
 pub mod ReassemblyLemmas
@@ -9,8 +11,10 @@ pub mod RunDropLemmas
 pub mod RunMapLemmas
 pub mod RunsLemmas
 pub mod SkippingLemmas
+pub mod SkipsLemmas
 pub mod StreamUsed
 pub mod StreamSums
 pub mod WaitingLemmas
 pub mod WorkLemmas
 pub mod WrittenLemmas
+pub mod UnorderedLemmas

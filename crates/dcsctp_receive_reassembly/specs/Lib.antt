@@ -1,6 +1,7 @@
 pub mod Counting
 pub mod Handover
 pub mod Held
+pub mod Joins
 pub mod NamedFields
 pub mod NamedStreams
 pub mod Queue
@@ -8,4 +9,6 @@ pub mod QueueFields
 pub mod Reassembly
 pub mod Runs
 pub mod Skipping
+pub mod Skips
 pub mod Streams
+pub mod Unordered

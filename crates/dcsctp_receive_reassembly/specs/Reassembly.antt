@@ -3,7 +3,6 @@ use Rattle.std.specs.Prelude.{◌≡◌, ℕ, ◌+◌, ◌≤◌, map}
 use Rattle.dcsctp_api.specs.types.queues.Messages.{message_content}
 use Rattle.dcsctp_receive_reassembly.specs.declared.stream.Stream.{Stream}
 use Rattle.dcsctp_receive_reassembly.specs.declared.incoming.Incoming.{Incoming}
-use Rattle.dcsctp_receive_reassembly.specs.Runs.{run_model}
 use Rattle.dcsctp_api.specs.spec.queues.IncomingStreams.{StreamModel}
 use Rattle.dcsctp_receive_reassembly.specs.Streams.{stream_model}
 use Rattle.dcsctp_api.specs.spec.queues.Incoming.{IncomingModel, held_used}
@@ -17,7 +16,7 @@ incoming_of incoming =
       messages_received = incoming.messages_received;
       ready = map message_content incoming.ready.items;
       streams = map entry_of incoming.streams.entries;
-      unordered = map run_model incoming.unordered.entries;
+      unordered = incoming.unordered;
       last_tsn_number = incoming.last_tsn_number;
     }
 

@@ -92,12 +92,15 @@ abbrev pub lent_used : ℕ → Option RunModel → ℕ
 lent_used overhead None = 0
 lent_used overhead (Some run) = run_used overhead run
 
+-- So much of the receive window is what the runs used that are left no longer.
+abbrev pub Frees : ℕ → List RunModel → ℕ → List RunModel → Type 0
+Frees overhead old used new = (runs_used overhead new ≤ runs_used overhead old) × (used ≡ capped_u128 (runs_used overhead old - runs_used overhead new))
+
 -- What a message that became whole says that its other parts used is what the runs used that are left no longer.
 abbrev pub IsFreed : ℕ → List RunModel → Assembled → List RunModel → Type 0
 IsFreed overhead old Dropped new = Unit {0}
 IsFreed overhead old Kept new = Unit {0}
-IsFreed overhead old (WholeMessage whole) new =
-    (runs_used overhead new ≤ runs_used overhead old) × (whole.used ≡ capped_u128 (runs_used overhead old - runs_used overhead new))
+IsFreed overhead old (WholeMessage whole) new = Frees overhead old whole.used new
 
 -- The runs begin among the places of their messages.
 abbrev pub IsInPlace : RunModel → Type 0

@@ -1,8 +1,9 @@
 //! What waits while a reset of streams is deferred (RFC 6525, section 5.2.2).
 
-ghost use Rattle.std.specs.Prelude.{◌≡◌, ◌≤◌, ◌+◌, length, map, [], IfOk, OnOk, OnErr};
+ghost use Rattle.std.specs.Prelude.{◌≡◌, ◌≤◌, ◌+◌, ℕ, length, map, List, [], None, Some, IfOk, OnOk, OnErr};
 ghost use Rattle.std.specs.BTreeMap.{insert_entry};
 ghost use Rattle.std.specs.List.{sum_by};
+ghost use Rattle.std.specs.Vec.{vec_capacity};
 ghost use Rattle.std.specs.Option.{option_map};
 ghost use Rattle.std.specs.Ordering.{nat_cmp};
 ghost use Rattle.dcsctp_api.specs.spec.queues.Incoming.{held_used, SameIncoming, TakesIncomingChunk};
@@ -10,6 +11,7 @@ ghost use Rattle.dcsctp_api.specs.spec.queues.IncomingStreams.{skipped_stream};
 ghost use Rattle.dcsctp_api.specs.spec.queues.Reassembly.{names_stream, skip_key, with_entries, with_skips, entries_within, entries_beside, waiting_used, HandlesWaiting, HandlesAll, HandlesFront, SkipsThen};
 ghost use Rattle.dcsctp_receive_reassembly.specs.Queue.{waiting_model, skips_as, deferral_of, HandlesDeferral};
 ghost use Rattle.dcsctp_receive_reassembly.specs.Reassembly.{incoming_of, Balances};
+ghost use Rattle.dcsctp_receive_reassembly.specs.Skips.{WasReplaced, WereReplaced};
 ghost use Rattle.dcsctp_receive_reassembly.specs.Streams.{chunk_of};
 
 use crate::arrivals::Data;
@@ -52,6 +54,13 @@ pub struct PartedEntries {
     pub beside: Vec<SkippedTo>,
 }
 
+// What stood at a key before another entry took its place.
+#[derive(Clone, Copy)]
+pub struct Replaced {
+    key: u32,
+    before: Option<SkippedTo>,
+}
+
 // Which messages an entry is for: the ordered ones of a stream, by their stream sequence numbers or by their
 // identifiers, or the unordered ones.
 fn skip_key(entry: &SkippedTo) -> u32
@@ -72,17 +81,51 @@ fn skip_key(entry: &SkippedTo) -> u32
     }
 }
 
-// Keeps entries, each in the place of one for the same messages.
+// Keeps entries, each in the place of one for the same messages, and lists what they replaced, for which
+// there is room.
 fn keep_entries(
     kept: &mut BTreeMap<u32, SkippedTo>,
     entries: &[SkippedTo],
+    replaced: &mut Vec<Replaced>,
 ) -> Result<(), AllocError>
-    ensures { OnOk result (kept.new.entries ≡ with_entries entries.now kept.old.entries) }
+    requires none { replaced.old.items ≡ [] }
+    requires room { length entries.now ≤ vec_capacity replaced.old }
+    ensures ok { OnOk result (kept.new.entries ≡ with_entries entries.now kept.old.entries) }
+    ensures replaced { WereReplaced replaced.new.items kept.old.entries kept.new.entries }
 {
     for entry in entries {
-        let _ = kept.insert(skip_key(entry), *entry)?;
+        let key = skip_key(entry);
+        let before = kept.insert(key, *entry)?;
+        replaced.push_reserved(Replaced { key, before });
     }
     Ok(())
+}
+
+// Puts back what stood at a key before.
+fn put_back(kept: &mut BTreeMap<u32, SkippedTo>, one: Replaced)
+    ensures { (before : List (ℕ × SkippedTo)) → WasReplaced one before kept.old.entries
+        → kept.new.entries ≡ before }
+{
+    match one.before {
+        None => {
+            let _ = kept.remove(&one.key);
+        }
+        Some(entry) => {
+            if let Some(place) = kept.get_mut(&one.key) {
+                *place = entry;
+            }
+        }
+    }
+}
+
+// Puts back all that was replaced, the last first.
+fn put_all_back(kept: &mut BTreeMap<u32, SkippedTo>, replaced: &mut Vec<Replaced>)
+    ensures { (before : List (ℕ × SkippedTo)) → WereReplaced replaced.old.items before
+        kept.old.entries → kept.new.entries ≡ before }
+{
+    while let Some(one) = replaced.pop() {
+        put_back(kept, one);
+    }
 }
 
 /// Parts the entries by whether a reset names their stream.
@@ -108,22 +151,60 @@ pub fn part_entries(
     Ok(PartedEntries { within, beside })
 }
 
-/// What is to be skipped, with the entries of a newer FORWARD-TSN.
-pub fn with_skips(
+// What is to be skipped by the entries of the first FORWARD-TSN.
+fn first_skips(alloc: Global, tsn: u32, entries: &[SkippedTo]) -> Result<WaitingSkips, AllocError>
+    ensures { IfOk result (λ skips. skips_as skips ≡ with_skips tsn entries.now None) }
+{
+    let mut kept = BTreeMap::new(alloc);
+    for entry in entries {
+        let _ = kept.insert(skip_key(entry), *entry)?;
+    }
+    Ok(WaitingSkips { tsn, entries: kept })
+}
+
+// Adds the entries of a newer FORWARD-TSN. What is kept stays where it is. `Err`: an allocation failed, and
+// nothing has changed.
+fn add_skips(
     alloc: Global,
-    skips: &Option<WaitingSkips>,
+    skips: &mut WaitingSkips,
     tsn: u32,
     entries: &[SkippedTo],
-) -> Result<WaitingSkips, AllocError>
-    ensures { IfOk result
-        (λ all. skips_as all ≡ with_skips tsn entries.now (option_map skips_as skips.now)) }
+) -> Result<(), AllocError>
+    ensures ok { OnOk result
+        (skips_as skips.new ≡ with_skips tsn entries.now (Some (skips_as skips.old))) }
+    ensures err { OnErr result (skips_as skips.new ≡ skips_as skips.old) }
 {
-    let mut kept = match skips {
-        Some(skips) => skips.entries.clone()?,
-        None => BTreeMap::new(alloc),
-    };
-    keep_entries(&mut kept, entries)?;
-    Ok(WaitingSkips { tsn, entries: kept })
+    let mut replaced = Vec::with_capacity(alloc, entries.len())?;
+    match keep_entries(&mut skips.entries, entries, &mut replaced) {
+        Ok(()) => {
+            skips.tsn = tsn;
+            Ok(())
+        }
+        Err(error) => {
+            put_all_back(&mut skips.entries, &mut replaced);
+            Err(error)
+        }
+    }
+}
+
+/// Keeps what is to be skipped by the entries of a FORWARD-TSN. `Err`: an allocation failed, and nothing has
+/// changed.
+pub fn keep_skips(
+    alloc: Global,
+    skips: &mut Option<WaitingSkips>,
+    tsn: u32,
+    entries: &[SkippedTo],
+) -> Result<(), AllocError>
+    ensures ok { OnOk result
+        (option_map skips_as skips.new
+        ≡ Some (with_skips tsn entries.now (option_map skips_as skips.old))) }
+    ensures err { OnErr result (option_map skips_as skips.new ≡ option_map skips_as skips.old) }
+{
+    if let Some(kept) = skips {
+        return add_skips(alloc, kept, tsn, entries);
+    }
+    *skips = Some(first_skips(alloc, tsn, entries)?);
+    Ok(())
 }
 
 // The entries, in the order of their keys.

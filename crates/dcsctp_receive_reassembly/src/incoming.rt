@@ -17,10 +17,9 @@ ghost use Rattle.dcsctp_api.specs.spec.queues.Incoming.{AreInOrder, stream_on, n
 
 use crate::arrivals::Data;
 use crate::counting::Counted;
-use crate::joining::add_part;
 use crate::numbers::number_near;
-use crate::runs::Run;
 use crate::stream::{FIRST_NUMBER, Stream, deliver_unordered, part_of_data};
+use crate::unordered::UnorderedParts;
 use dcsctp_api::types::{Numbering, SkippedTo};
 use dcsctp_api::{Message, StreamId};
 use std::alloc::{AllocError, Global};
@@ -41,8 +40,8 @@ pub struct Incoming {
     pub ready: VecDeque<Message>,
     pub streams: BTreeMap<u16, Stream>,
 
-    /// Parts of unordered messages of DATA, by their TSNs. The number of a message is its stream.
-    pub unordered: BTreeMap<u128, Run>,
+    /// Parts of unordered messages of DATA.
+    pub unordered: UnorderedParts,
 
     /// The number of the TSN that was handled last.
     pub last_tsn_number: u64,
@@ -209,7 +208,7 @@ impl Incoming {
             messages_received: 0,
             ready: VecDeque::new(alloc),
             streams: BTreeMap::new(alloc),
-            unordered: BTreeMap::new(alloc),
+            unordered: UnorderedParts::new(alloc),
             last_tsn_number: FIRST_NUMBER,
         }
     }
@@ -251,7 +250,7 @@ impl Incoming {
         let size = chunk.payload.len();
         let part = part_of_data(chunk, u128::from(tsn_number), u64::from(id.0));
         self.ready.try_reserve(1)?;
-        let outcome = add_part(self.alloc, &mut self.unordered, part, overhead)?;
+        let outcome = self.unordered.add(self.alloc, part, overhead)?;
         let counted = deliver_unordered(id, size, overhead, outcome, &mut self.ready);
         self.count(counted);
         Ok(())

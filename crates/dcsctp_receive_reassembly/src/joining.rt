@@ -15,39 +15,20 @@ ghost use Rattle.std.specs.Prelude.{
   true,
   false,
 };
-ghost use Rattle.std.specs.Option.{option_map};
 ghost use Rattle.std.specs.BTreeMap.{IsOrdered, get, is_at};
 ghost use Rattle.std.specs.Ordering.{nat_cmp};
 ghost use Rattle.dcsctp_receive_ordered_map.specs.Entries.{count_up_to};
-ghost use Rattle.dcsctp_api.specs.spec.queues.Runs.{entry_before, whole_run, follows, precedes, following, run_behind, single_run, merged, is_whole, joined_bytes, with_part, without_runs, holds_some, is_held_before, AddsPart};
-ghost use Rattle.dcsctp_receive_reassembly.specs.Runs.{assembled_of, run_model, part_of, whole_of, lent_run, lent_used, RunBeginsAt, BeginsIf, IsOfMessage, IsFreed};
+ghost use Rattle.dcsctp_api.specs.spec.queues.Runs.{part_kept, message_whole, entry_before, chosen, whole_run, single_run, merged, joined_bytes, with_part, without_runs, is_held_before, AddsPart};
+ghost use Rattle.dcsctp_receive_reassembly.specs.Runs.{assembled_of, run_model, part_of, whole_of, lent_run, lent_used, RunBeginsAt, BeginsIf, IsOfMessage, Frees, IsFreed};
+ghost use Rattle.dcsctp_receive_reassembly.specs.Joins.{FindsJoins};
 ghost use Rattle.dcsctp_receive_reassembly.specs.Held.{capped_u128};
 
+use crate::joins::{Joins, is_held, joins_of};
 use crate::linking::{append, link, reserve, reserve_between, take_over};
-use crate::runs::{Assembled, Part, Run, Whole, holds, run_up_to, run_used, size_of_run};
-use dcsctp_receive_ordered_map::{entry_behind, put_entry};
+use crate::runs::{Assembled, Part, Run, Whole, run_used, size_of_run};
+use dcsctp_receive_ordered_map::put_entry;
 use std::alloc::{AllocError, Global};
 use std::collections::{BTreeMap, VecDeque};
-
-// Does the part follow on this run, which begins at `first`?
-fn follows(first: u128, run: &Run, part: &Part) -> bool
-    ensures { result ≡ follows (run_model (first, run.now)) (part_of part.now) }
-{
-    part.place.saturating_sub(first) == run.others.len() as u128 + 1
-        && run.number == part.number
-        && !run.has_end
-        && !part.is_beginning
-}
-
-// Does this run, which begins at `first`, follow on the part?
-fn precedes(part: &Part, first: u128, run: &Run) -> bool
-    ensures { result ≡ precedes (part_of part.now) (run_model (first, run.now)) }
-{
-    first.saturating_sub(part.place) == 1
-        && run.number == part.number
-        && !part.is_end
-        && !run.has_beginning
-}
 
 // Adds a copy of the payloads.
 fn copy_payloads(joined: &mut Vec<u8>, payloads: &VecDeque<Vec<u8>>) -> Result<(), AllocError>
@@ -112,14 +93,6 @@ fn joined(
         (λ whole. whole_of whole
         ≡ whole_run (merged (lent_run before.entry) (part_of part) (lent_run behind.entry))) }
 {
-    if before.is_none() && behind.is_none() {
-        return Ok(Whole {
-            number: part.number,
-            ppid: part.ppid,
-            payload: part.payload,
-            used: 0,
-        });
-    }
     let used = used_by(before, overhead).saturating_add(used_by(behind, overhead));
     let front = before.map_or(0, |(_, run)| size_of_run(run));
     let back = behind.map_or(0, |(_, run)| size_of_run(run));
@@ -144,51 +117,6 @@ fn joined(
         payload,
         used,
     })
-}
-
-// The run before the part, if the part follows on it.
-fn run_before<'x>(nearest: Option<(u128, &'x Run)>, part: &Part) -> Option<(u128, &'x Run)>
-    ensures { lent_run result ≡ following (lent_run nearest.entry) (part_of part.now) }
-{
-    let (first, run) = nearest?;
-    if follows(first, run, part) {
-        Some((first, run))
-    } else {
-        None
-    }
-}
-
-// The run that follows on the part. Nothing follows on an end.
-fn run_behind<'x>(part: &Part, runs: &'x BTreeMap<u128, Run>) -> Option<(u128, &'x Run)>
-    ensures { lent_run result
-        ≡ run_behind (part_of part.now) (count_up_to part.now.place runs.now.entries)
-        (map run_model runs.now.entries) }
-{
-    if part.is_end {
-        return None;
-    }
-    let (first, run) = entry_behind(runs, part.place)?;
-    if precedes(part, *first, run) {
-        Some((*first, run))
-    } else {
-        None
-    }
-}
-
-// Is the message of the part whole with the runs on both sides?
-fn is_whole(before: Option<(u128, &Run)>, part: &Part, behind: Option<(u128, &Run)>) -> bool
-    ensures { result
-        ≡ is_whole (merged (lent_run before.entry) (part_of part.now) (lent_run behind.entry)) }
-{
-    let has_beginning = match before {
-        Some((_, run)) => run.has_beginning,
-        None => part.is_beginning,
-    };
-    let has_end = match behind {
-        Some((_, run)) => run.has_end,
-        None => part.is_end,
-    };
-    has_beginning && has_end
 }
 
 // The part goes alone among the runs.
@@ -273,28 +201,29 @@ fn keep_between(
     Ok(())
 }
 
-// Keeps the part, whose message isn't whole yet, with the runs that join it: they begin at these places.
-fn keep(
+/// Keeps the part, whose message isn't whole yet, with the runs that it joins. `Err`: an allocation failed,
+/// and the runs are unchanged.
+pub fn keep(
     alloc: Global,
     runs: &mut BTreeMap<u128, Run>,
-    first: Option<u128>,
+    joins: Joins,
     part: Part,
-    next: Option<u128>,
 ) -> Result<(), AllocError>
-    requires absent { is_held_before (count_up_to part.place runs.old.entries)
-        (map run_model runs.old.entries) part.place ≡ false }
-    requires before { BeginsIf first
-        (entry_before (count_up_to part.place runs.old.entries) (map run_model runs.old.entries)) }
-    requires behind { BeginsIf next
-        (slice_get (map run_model runs.old.entries) (count_up_to part.place runs.old.entries)) }
+    requires joins { FindsJoins (count_up_to part.place runs.old.entries) (part_of part)
+        (map run_model runs.old.entries) joins }
+    requires parts { joins.is_whole ≡ false }
     requires ordered { IsOrdered nat_cmp runs.old }
-    ensures ok { OnOk result
+    ensures adds { OnOk result
+        (AddsPart (part_of part) (map run_model runs.old.entries) part_kept
+        (map run_model runs.new.entries)) }
+    ensures kept { OnOk result
         (map run_model runs.new.entries
-        ≡ with_part (is_some first) (is_some next) (count_up_to part.place runs.old.entries)
-        (part_of part) (map run_model runs.old.entries)) }
+        ≡ with_part (is_some joins.first) (is_some joins.next)
+        (count_up_to part.place runs.old.entries) (part_of part)
+        (map run_model runs.old.entries)) }
     ensures err { OnErr result (map run_model runs.new.entries ≡ map run_model runs.old.entries) }
 {
-    match (first, next) {
+    match (joins.first, joins.next) {
         (Some(first), Some(next)) => keep_between(runs, first, part, next),
         (Some(first), None) => keep_before(runs, first, part),
         (None, Some(next)) => keep_behind(alloc, runs, part, next),
@@ -325,22 +254,72 @@ fn take_out(runs: &mut BTreeMap<u128, Run>, first: Option<u128>, next: Option<u1
     }
 }
 
-// Is the place in the nearest run that begins at it or before it?
-fn is_held_by(nearest: Option<(u128, &Run)>, place: u128) -> bool
-    ensures { result ≡ holds_some (lent_run nearest.entry) place }
+// The run that begins at this place, where one is named.
+fn run_at<'x>(runs: &'x BTreeMap<u128, Run>, first: Option<u128>) -> Option<(u128, &'x Run)>
+    requires { IsOrdered nat_cmp runs.now }
+    ensures { (at : ℕ) → BeginsIf first (slice_get (map run_model runs.now.entries) at)
+        → lent_run result
+        ≡ chosen (is_some first) (slice_get (map run_model runs.now.entries) at) }
 {
-    match nearest {
-        Some((first, run)) => holds(first, run, place),
-        None => false,
-    }
+    let first = first?;
+    let run = runs.get(&first)?;
+    Some((first, run))
 }
 
-// Where a run begins.
-fn first_of(run: Option<(u128, &Run)>) -> Option<u128>
-    ensures { result ≡ option_map (λ run. run.first) (lent_run run.entry) }
+/// Takes out the runs with which a part makes its message whole, and returns the message. `Err`: an allocation
+/// failed, and the runs are unchanged.
+pub fn finish(
+    alloc: Global,
+    runs: &mut BTreeMap<u128, Run>,
+    joins: Joins,
+    part: Part,
+    overhead: usize,
+) -> Result<Whole, AllocError>
+    requires joins { FindsJoins (count_up_to part.place runs.old.entries) (part_of part)
+        (map run_model runs.old.entries) joins }
+    requires whole { joins.is_whole ≡ true }
+    requires ordered { IsOrdered nat_cmp runs.old }
+    ensures adds { IfOk result
+        (λ whole. AddsPart (part_of part) (map run_model runs.old.entries)
+        (message_whole (whole_of whole)) (map run_model runs.new.entries)) }
+    ensures left { OnOk result
+        (map run_model runs.new.entries
+        ≡ without_runs (is_some joins.first) (is_some joins.next)
+        (count_up_to part.place runs.old.entries) (map run_model runs.old.entries)) }
+    ensures number { IfOk result (λ whole. whole.number ≡ part.number) }
+    ensures used { IfOk result
+        (λ whole. Frees overhead (map run_model runs.old.entries) whole.used
+        (map run_model runs.new.entries)) }
+    ensures err { OnErr result (map run_model runs.new.entries ≡ map run_model runs.old.entries) }
 {
-    let (first, _) = run?;
-    Some(first)
+    let before = run_at(runs, joins.first);
+    let behind = run_at(runs, joins.next);
+    let whole = joined(alloc, before, part, behind, overhead)?;
+    take_out(runs, joins.first, joins.next);
+    Ok(whole)
+}
+
+/// Adds a message of one part: it joins no others.
+#[inline(always)]
+pub fn add_alone(runs: &BTreeMap<u128, Run>, part: Part) -> Assembled
+    requires begins { part.is_beginning ≡ true }
+    requires ends { part.is_end ≡ true }
+    ensures adds { AddsPart (part_of part) (map run_model runs.now.entries) (assembled_of result)
+        (map run_model runs.now.entries) }
+    ensures number { IsOfMessage part.number result }
+    ensures used { (overhead : ℕ)
+        → IsFreed overhead (map run_model runs.now.entries) result
+        (map run_model runs.now.entries) }
+{
+    if is_held(runs, part.place) {
+        return Assembled::Dropped;
+    }
+    Assembled::Whole(Whole {
+        number: part.number,
+        ppid: part.ppid,
+        payload: part.payload,
+        used: 0,
+    })
 }
 
 /// Adds a part, and returns its message if that is whole now. One that was received before is dropped. If an
@@ -360,19 +339,16 @@ pub fn add_part(
         (map run_model runs.new.entries)) }
     ensures err { OnErr result (map run_model runs.new.entries ≡ map run_model runs.old.entries) }
 {
-    let nearest = run_up_to(runs, part.place);
-    if is_held_by(nearest, part.place) {
-        return Ok(Assembled::Dropped);
+    if part.is_beginning && part.is_end {
+        return Ok(add_alone(runs, part));
     }
-    let before = run_before(nearest, &part);
-    let behind = run_behind(&part, runs);
-    let first = first_of(before);
-    let next = first_of(behind);
-    if is_whole(before, &part, behind) {
-        let whole = joined(alloc, before, part, behind, overhead)?;
-        take_out(runs, first, next);
+    let Some(joins) = joins_of(runs, &part) else {
+        return Ok(Assembled::Dropped);
+    };
+    if joins.is_whole {
+        let whole = finish(alloc, runs, joins, part, overhead)?;
         return Ok(Assembled::Whole(whole));
     }
-    keep(alloc, runs, first, part, next)?;
+    keep(alloc, runs, joins, part)?;
     Ok(Assembled::Kept)
 }

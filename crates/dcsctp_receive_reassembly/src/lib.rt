@@ -9,6 +9,7 @@ mod fragments;
 mod handover;
 mod incoming;
 mod joining;
+mod joins;
 mod linking;
 mod named;
 mod numbers;
@@ -16,6 +17,7 @@ mod reassembly_queue;
 mod runs;
 mod skipping;
 mod stream;
+mod unordered;
 
 pub use arrivals::Data;
 pub use dcsctp_api::types::{Numbering, SkippedTo};

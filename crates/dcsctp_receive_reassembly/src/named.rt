@@ -1,14 +1,11 @@
-//! The streams that a reset names (RFC 6525, section 4.1). A stream is found by binary search, or in a table.
+//! The streams that a reset names (RFC 6525, section 4.1). A stream is found by binary search.
 
-ghost use Rattle.std.specs.Prelude.{◌≡◌, ℕ, IfOk};
+ghost use Rattle.std.specs.Prelude.{◌≡◌, IfOk};
 ghost use Rattle.dcsctp_api.specs.types.Ids.{stream_numbers};
 ghost use Rattle.dcsctp_receive_reassembly.specs.NamedStreams.{IsSortedFrom};
-ghost use Rattle.dcsctp_api.specs.spec.queues.Incoming.{is_named};
 ghost use Rattle.dcsctp_api.specs.spec.queues.Reassembly.{names_stream};
-ghost use Rattle.dcsctp_api.specs.types.StreamTables.{marks};
 
 use dcsctp_api::StreamId;
-use dcsctp_api::types::StreamTable;
 use std::alloc::{AllocError, Global};
 use std::marker::Model;
 
@@ -70,15 +67,4 @@ impl NamedStreams {
     {
         finds(self.given.as_slice(), self.sorted.as_slice(), id)
     }
-}
-
-/// The streams of the list, as a table of bits.
-pub fn table_of(streams: &[StreamId]) -> StreamTable
-    ensures { (number : ℕ) → marks result number ≡ is_named (stream_numbers streams.now) number }
-{
-    let mut table = StreamTable::new();
-    for id in streams {
-        table.mark(id.0);
-    }
-    table
 }

@@ -9,7 +9,7 @@ ghost use Rattle.dcsctp_api.specs.types.queues.Messages.{message_content};
 ghost use Rattle.dcsctp_receive_reassembly.specs.Streams.{chunk_of};
 
 use crate::arrivals::Data;
-use crate::deferral::{Deferral, WaitingData, handle_deferral, part_entries, with_skips};
+use crate::deferral::{Deferral, WaitingData, handle_deferral, keep_skips, part_entries};
 use crate::handover::{ordered_streams, restored_streams};
 use crate::incoming::Incoming;
 use crate::named::NamedStreams;
@@ -309,15 +309,15 @@ impl ReassemblyQueue {
     {
         if let Some(deferral) = &mut self.deferral {
             let parted = part_entries(self.incoming.alloc, &deferral.streams, skipped)?;
-            let skips = with_skips(
+            let beside = parted.beside.as_slice();
+            self.incoming.prepare(beside)?;
+            keep_skips(
                 self.incoming.alloc,
-                &deferral.skips,
+                &mut deferral.skips,
                 tsn,
                 parted.within.as_slice(),
             )?;
-            self.incoming
-                .forward(tsn, parted.beside.as_slice(), self.overhead)?;
-            deferral.skips = Some(skips);
+            self.incoming.skip_past(tsn, beside, self.overhead);
         }
         Ok(())
     }

@@ -2,7 +2,6 @@
 //! 6.9).
 
 ghost use Rattle.std.specs.Prelude.{◌≡◌, ◌+◌, map, not};
-ghost use Rattle.std.specs.List.{filter};
 ghost use Rattle.std.specs.BTreeMap.{IsOrdered};
 ghost use Rattle.std.specs.Ordering.{nat_cmp};
 ghost use Rattle.dcsctp_receive_ordered_map.specs.Entries.{count_up_to};
@@ -10,10 +9,8 @@ ghost use Rattle.dcsctp_api.specs.spec.queues.Runs.{entry_before, holds, behind_
 ghost use Rattle.dcsctp_receive_reassembly.specs.Runs.{run_model, lent_run, begins_up_to, up_to_place};
 ghost use Rattle.dcsctp_receive_reassembly.specs.Held.{capped_usize, capped_u128};
 ghost use Rattle.dcsctp_api.specs.spec.queues.Runs.{payloads_used, run_used, runs_used};
-ghost use Rattle.dcsctp_api.specs.types.StreamTables.{marks};
 
 use dcsctp_api::PpId;
-use dcsctp_api::types::StreamTable;
 use dcsctp_receive_ordered_map::entry_up_to;
 use std::collections::{BTreeMap, VecDeque};
 
@@ -146,38 +143,8 @@ pub fn runs_used(runs: &BTreeMap<u128, Run>, overhead: usize) -> u128
     used
 }
 
-// How much the runs of the messages with these numbers use, at most `u128::MAX`.
-fn messages_used(runs: &BTreeMap<u128, Run>, numbers: &StreamTable, overhead: usize) -> u128
-    ensures { result
-        ≡ capped_u128
-        (runs_used overhead
-        (filter (λ run. marks numbers.now run.number) (map run_model runs.now.entries))) }
-{
-    let mut used: u128 = 0;
-    for (_, run) in runs {
-        if numbers.has(run.number) {
-            used = used.saturating_add(run_used(run, overhead));
-        }
-    }
-    used
-}
-
-/// Drops the runs of the messages with these numbers, and returns how much they used.
-pub fn drop_messages(runs: &mut BTreeMap<u128, Run>, numbers: &StreamTable, overhead: usize) -> u128
-    ensures kept { map run_model runs.new.entries
-        ≡ filter (λ run. not (marks numbers.now run.number)) (map run_model runs.old.entries) }
-    ensures size { result
-        ≡ capped_u128
-        (runs_used overhead
-        (filter (λ run. marks numbers.now run.number) (map run_model runs.old.entries))) }
-{
-    let dropped = messages_used(runs, numbers, overhead);
-    runs.retain(|_, run| !numbers.has(run.number));
-    dropped
-}
-
-// Does the first run begin at this place or before it?
-fn first_begins_up_to(runs: &BTreeMap<u128, Run>, place: u128) -> bool
+/// Does the first run begin at this place or before it?
+pub fn first_begins_up_to(runs: &BTreeMap<u128, Run>, place: u128) -> bool
     ensures { result ≡ begins_up_to place (map run_model runs.now.entries) }
 {
     match runs.first_key_value() {

@@ -17,9 +17,7 @@ ghost use Rattle.dcsctp_receive_reassembly.specs.Reassembly.{incoming_of, entry_
 ghost use Rattle.dcsctp_receive_reassembly.specs.Skipping.{AllMade, room_for};
 
 use crate::incoming::{Incoming, make_stream};
-use crate::named::table_of;
 use crate::numbers::number_near;
-use crate::runs::{drop_messages, drop_places, runs_used};
 use crate::stream::Stream;
 use dcsctp_api::types::{SkippedTo, StreamTable};
 use dcsctp_api::{Message, StreamId};
@@ -247,7 +245,7 @@ impl Incoming {
         ensures streams { self.new.streams ≡ self.old.streams }
         ensures used { Balances overhead self.old self.new }
     {
-        let dropped = drop_places(&mut self.unordered, u128::from(tsn_number), overhead);
+        let dropped = self.unordered.drop_up_to(tsn_number, overhead);
         self.used = self.used.saturating_sub(dropped);
     }
 
@@ -270,6 +268,36 @@ impl Incoming {
         self.last_tsn_number = tsn_number;
     }
 
+    /// Makes room for what a FORWARD TSN with these entries leads to. `Err`: an allocation failed. What was
+    /// received stays as it is.
+    pub fn prepare(&mut self, entries: &[SkippedTo]) -> Result<(), AllocError>
+        ensures made { OnOk result (AllMade entries.now self.new.streams) }
+        ensures room { OnOk result
+            (deque_len self.new.ready
+            + room_for entries.now (λ id. stream_on id (map entry_of self.new.streams.entries))
+            ≤ deque_capacity self.new.ready) }
+        ensures same { SameIncoming (incoming_of self.old) (incoming_of self.new) }
+        ensures used { (overhead : ℕ) → Balances overhead self.old self.new }
+    {
+        make_streams(self.alloc, &mut self.streams, entries)?;
+        let room = room_for(&self.streams, entries);
+        self.ready.try_reserve(room)?;
+        Ok(())
+    }
+
+    /// Handles a FORWARD TSN or I-FORWARD-TSN for which there is room.
+    pub fn skip_past(&mut self, tsn: u32, entries: &[SkippedTo], overhead: usize)
+        requires made { AllMade entries.now self.old.streams }
+        requires room { deque_len self.old.ready
+            + room_for entries.now (λ id. stream_on id (map entry_of self.old.streams.entries))
+            ≤ deque_capacity self.old.ready }
+        ensures moves { MovesOn tsn entries.now (incoming_of self.old) (incoming_of self.new) }
+        ensures used { Balances overhead self.old self.new }
+    {
+        let tsn_number = number_near(self.last_tsn_number, tsn);
+        self.move_on(tsn_number, entries, overhead);
+    }
+
     /// Handles a FORWARD TSN or I-FORWARD-TSN that doesn't wait for the end of a deferred reset. All memory
     /// is allocated first: if that fails, nothing has changed.
     pub fn forward(
@@ -283,11 +311,8 @@ impl Incoming {
         ensures used { Balances overhead self.old self.new }
         ensures err { OnErr result (SameIncoming (incoming_of self.old) (incoming_of self.new)) }
     {
-        make_streams(self.alloc, &mut self.streams, entries)?;
-        let room = room_for(&self.streams, entries);
-        self.ready.try_reserve(room)?;
-        let tsn_number = number_near(self.last_tsn_number, tsn);
-        self.move_on(tsn_number, entries, overhead);
+        self.prepare(entries)?;
+        self.skip_past(tsn, entries, overhead);
         Ok(())
     }
 
@@ -296,20 +321,19 @@ impl Incoming {
         ensures resets { ResetsEveryStream (incoming_of self.old) (incoming_of self.new) }
         ensures used { Balances overhead self.old self.new }
     {
-        let dropped = runs_used(&self.unordered, overhead);
+        let dropped = self.unordered.used(overhead);
         self.unordered.clear();
         let forgotten = forget_streams(&mut self.streams, overhead);
         self.used = self.used.saturating_sub(dropped).saturating_sub(forgotten);
     }
 
-    // Forgets these streams. The parts of unordered messages are visited once, however many streams there
-    // are.
+    // Forgets these streams.
     fn reset_each_stream(&mut self, streams: &[StreamId], overhead: usize)
         ensures resets { ResetsEach (stream_numbers streams.now) (incoming_of self.old)
             (incoming_of self.new) }
         ensures used { Balances overhead self.old self.new }
     {
-        let dropped = drop_messages(&mut self.unordered, &table_of(streams), overhead);
+        let dropped = self.unordered.drop_streams(streams, overhead);
         let forgotten = forget_each_stream(&mut self.streams, streams, overhead);
         self.used = self.used.saturating_sub(dropped).saturating_sub(forgotten);
     }

@@ -6,7 +6,7 @@ use Rattle.dcsctp_api.specs.spec.queues.Runs.{runs_used}
 use Rattle.dcsctp_api.specs.spec.queues.IncomingStreams.{ready_bytes, streams_used, delivered_as, UnorderedOutcome}
 use Rattle.dcsctp_api.specs.spec.queues.Runs.{PartModel}
 use Rattle.dcsctp_receive_reassembly.specs.Counting.{CountsPart}
-use Rattle.dcsctp_receive_reassembly.specs.Runs.{run_model, part_of, assembled_of}
+use Rattle.dcsctp_receive_reassembly.specs.Runs.{part_of, assembled_of}
 use Rattle.dcsctp_api.specs.spec.queues.Incoming.{IncomingModel}
 use Rattle.dcsctp_receive_reassembly.proofs.CountingLemmas.{counted_size}
 use Rattle.dcsctp_receive_reassembly.proofs.StreamUsed.{unordered_counts}
@@ -17,8 +17,8 @@ returns-clause-used c =
     λ within.
     let part : PartModel = part_of c.part_of_data-part.result in
     let size : length part.payload ≡ c.len-size.result = omega (arith, ap (λ (it : PartModel). length it.payload) c.part_of_data-part.ensures, c.len-size.ensures) in
-    let counts : CountsPart (length part.payload + c.args.overhead) (runs_used c.args.overhead (map run_model c.args.self.now.unordered.entries) + ready_bytes (map message_content c.args.self.now.ready.items)) c.deliver_unordered-counted.result (runs_used c.args.overhead (map run_model c.add_part.new.runs.entries) + ready_bytes (map message_content c.deliver_unordered-counted.new.ready.items)) =
-    unordered_counts c.args.overhead part c.args.chunk.stream_id.0 (map run_model c.args.self.now.unordered.entries) (map run_model c.add_part.new.runs.entries) (map message_content c.args.self.now.ready.items) (map message_content c.deliver_unordered-counted.new.ready.items) c.in_ok-outcome.outcome c.deliver_unordered-counted.result
+    let counts : CountsPart (length part.payload + c.args.overhead) (runs_used c.args.overhead c.args.self.now.unordered + ready_bytes (map message_content c.args.self.now.ready.items)) c.deliver_unordered-counted.result (runs_used c.args.overhead c.add.new.self + ready_bytes (map message_content c.deliver_unordered-counted.new.ready.items)) =
+    unordered_counts c.args.overhead part c.args.chunk.stream_id.0 c.args.self.now.unordered c.add.new.self (map message_content c.args.self.now.ready.items) (map message_content c.deliver_unordered-counted.new.ready.items) c.in_ok-outcome.outcome c.deliver_unordered-counted.result
     c.in_ok-outcome.ensures.ok
     (subst (λ (before : List MessageContent). UnorderedOutcome part (delivered_as c.args.chunk.stream_id.0) before (assembled_of c.in_ok-outcome.outcome) c.deliver_unordered-counted.result.taken (map message_content c.deliver_unordered-counted.new.ready.items)) (ap (λ (items : List Message). map message_content items) c.try_reserve.ensures.items) (c.deliver_unordered-counted.ensures.does part size))
     c.in_ok-outcome.ensures.used
