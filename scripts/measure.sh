@@ -87,6 +87,14 @@ strained() {
     awk -v difference="$((ten - none))" 'BEGIN { printf "%.0f\n", difference / 10 }'
 }
 
+# burdened KIND HELD: what one more call or packet costs a sender that has so many streams or messages.
+burdened() {
+    local none ten
+    none=$(instructions strain "$1" "$2" 0)
+    ten=$(instructions strain "$1" "$2" 10)
+    awk -v difference="$((ten - none))" 'BEGIN { printf "%.0f\n", difference / 10 }'
+}
+
 strain() {
     local kind held
     for kind in fragments interleaved gaps links waiting streams reset \
@@ -94,6 +102,11 @@ strain() {
         skips-deferred skips-deferred-interleaved resets; do
         for held in 10 10000; do
             report "$kind: $held held, a packet" strained "$kind" "$held"
+        done
+    done
+    for kind in turns closes priorities sends reset-calls sacks misses abandoned; do
+        for held in 10 10000; do
+            report "$kind: $held held, a call or packet" burdened "$kind" "$held"
         done
     done
 }

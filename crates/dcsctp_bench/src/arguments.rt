@@ -1,5 +1,6 @@
 //! What the arguments of the program say.
 
+use crate::burden::{Burden, Kind};
 use crate::rules::{Case, Rule};
 use crate::strain::{Following, HOLES, Holding, Strain};
 
@@ -14,6 +15,9 @@ pub enum Command {
 
     /// Strains a receiver.
     Strain(Strain),
+
+    /// Strains a sender.
+    Burden(Burden),
 
     /// Tries a rule.
     Rules(Case),
@@ -158,18 +162,40 @@ fn parse_kind(word: &str) -> Option<(Holding, Following)> {
     }
 }
 
-// How a receiver is strained, by these words: what it holds, how much, and how many packets come then.
-fn parse_strain(words: &[String]) -> Option<Strain> {
+// What a word says about how a sender is strained; `None` if it says nothing.
+fn parse_burden(word: &str) -> Option<Kind> {
+    match word {
+        "turns" => Some(Kind::Turns),
+        "closes" => Some(Kind::Closes),
+        "priorities" => Some(Kind::Priorities),
+        "sends" => Some(Kind::Sends),
+        "reset-calls" => Some(Kind::Resets),
+        "sacks" => Some(Kind::Sacks),
+        "misses" => Some(Kind::Misses),
+        "abandoned" => Some(Kind::Abandoned),
+        _ => None,
+    }
+}
+
+// How a sender or a receiver is strained, by these words: by what, how much there is, and how many calls or
+// packets come then.
+fn parse_strain(words: &[String]) -> Option<Command> {
     if words.len() != 3 {
         return None;
     }
-    let (holding, following) = parse_kind(words.first()?.as_str())?;
-    Some(Strain {
+    let word = words.first()?.as_str();
+    let held = number(words.get(1)?.as_str(), 1, MOST)?;
+    let more = number(words.get(2)?.as_str(), 0, HOLES)?;
+    if let Some(kind) = parse_burden(word) {
+        return Some(Command::Burden(Burden { kind, held, more }));
+    }
+    let (holding, following) = parse_kind(word)?;
+    Some(Command::Strain(Strain {
         holding,
         following,
-        held: number(words.get(1)?.as_str(), 1, MOST)?,
-        more: number(words.get(2)?.as_str(), 0, HOLES)?,
-    })
+        held,
+        more,
+    }))
 }
 
 // What a word says about which rule is tried; `None` if it says nothing.
@@ -220,7 +246,7 @@ fn parse_case(words: &[String]) -> Option<Case> {
 pub fn parse_command(words: &[String]) -> Option<Command> {
     let (name, words) = words.split_first()?;
     match name.as_str() {
-        "strain" => return Some(Command::Strain(parse_strain(words)?)),
+        "strain" => return parse_strain(words),
         "rules" => return Some(Command::Rules(parse_case(words)?)),
         _ => {}
     }

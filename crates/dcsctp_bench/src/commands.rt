@@ -1,6 +1,7 @@
 //! What the program does at each command, and what it prints of it.
 
 use crate::arguments::{Command, Plan};
+use crate::burden::strain_sender;
 use crate::chunks::Chunks;
 use crate::failure::Failure;
 use crate::pair::{BenchSocket, Link, Pair};
@@ -17,6 +18,7 @@ pub fn obey(rt: &(impl Print + Alloc<A = Global>), command: Command) -> Result<(
         Command::Handshakes(count) => shake_hands(rt, count),
         Command::Messages(plan) => carry(rt, &plan),
         Command::Strain(strain) => strain_receiver(rt.alloc(), &strain),
+        Command::Burden(burden) => strain_sender(rt.alloc(), &burden),
         Command::Rules(case) => try_rule(rt, &case),
         Command::Hold(count, is_used) => hold(rt, count, is_used),
     }

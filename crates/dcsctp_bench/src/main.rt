@@ -7,7 +7,8 @@
 //!     [zero-checksum] [counts] [chunks]
 //! dcsctp_bench hold N [used]
 //! dcsctp_bench strain fragments|interleaved|gaps|links|waiting|streams|reset|skips-repeated|skips-rising|
-//!     skips-waiting|skips-interleaved|skips-deferred|skips-deferred-interleaved|resets HELD MORE
+//!     skips-waiting|skips-interleaved|skips-deferred|skips-deferred-interleaved|resets|
+//!     turns|closes|priorities|sends|reset-calls|sacks|misses|abandoned HELD MORE
 //! dcsctp_bench rules readers|windows|shutdown|bulk|reconnects|closes|keeps|equals on|off [loss=PERMILLE]
 //!     [seed=SEED] [window=BYTES]
 //! ```
@@ -21,12 +22,14 @@
 //! pairs and keeps them, `used` after 1 MiB was sent each way. `strain` has one socket hold HELD unfinished
 //! or waiting things that its peer sent. Then it hands it MORE packets, 10 at most, whose contents belong
 //! among those, or that name their stream as often as a FORWARD-TSN can, or that have as many FORWARD-TSNs or
-//! requests to reset a stream as a packet has room for. `rules` tries what the option
-//! `follow_rfc` changes, `on` or `off`, with a receive window of BYTES: `rules.rt` says what the users do. The
-//! exit status is 0 if all went well and 2 at bad arguments. Else it is 1, and standard error says why.
+//! requests to reset a stream as a packet has room for. From `turns` on it is a sender that is strained;
+//! `burden.rt` says how. `rules` tries what the option `follow_rfc` changes, `on` or `off`, with a receive
+//! window of BYTES: `rules.rt` says what the users do. The exit status is 0 if all went well and 2 at bad
+//! arguments. Else it is 1, and standard error says why.
 #![tactic(auto)]
 
 mod arguments;
+mod burden;
 mod chunks;
 mod commands;
 mod failure;
@@ -49,7 +52,8 @@ const USAGE: &str = "usage: dcsctp_bench handshakes N
            [zero-checksum] [counts] [chunks]
        dcsctp_bench hold N [used]
        dcsctp_bench strain fragments|interleaved|gaps|links|waiting|streams|reset|skips-repeated|skips-rising|
-           skips-waiting|skips-interleaved|skips-deferred|skips-deferred-interleaved|resets HELD MORE
+           skips-waiting|skips-interleaved|skips-deferred|skips-deferred-interleaved|resets|
+           turns|closes|priorities|sends|reset-calls|sacks|misses|abandoned HELD MORE
        dcsctp_bench rules readers|windows|shutdown|bulk|reconnects|closes|keeps|equals on|off [loss=PERMILLE]
            [seed=SEED] [window=BYTES]";
 
