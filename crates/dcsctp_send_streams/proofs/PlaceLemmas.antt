@@ -70,7 +70,7 @@ length-insert_at (x ∷ xs) (suc p) s le = let e = length-insert_at xs p s (omeg
 pub ranked-insert : (streams : List Stream) (turns after : List Turn) (room more left p : ℕ) (s : Stream) (turn : Option Turn)
     → IsRanked streams turns room → IsFound streams s.id (Err p) → turn ≡ turn_of s
     → ((others : List Turn) → turns ≡ others → after ≡ with_optional_turn turn others)
-    → length streams + 1 ≤ more → left ≡ more → IsRanked (insert streams p s) after left
+    → length streams + 1 ≤ more → more ≤ left → IsRanked (insert streams p s) after left
 ranked-insert streams turns after room more left p s turn ranked found is moved fits same =
     let len = length-insert_at streams p s found.0 in
     let ascending = IsAscending-insert streams p s ranked.ascending found in

@@ -65,6 +65,14 @@ pub length-with_turn : (t : Turn) (turns : List Turn) → length (with_turn t tu
 length-with_turn t [] = omega arith
 length-with_turn t (x ∷ xs) = let e = length_at x t xs (comes_after x t) (length-with_turn t xs) in omega (arith, e)
 
+-- a turn that is alone is replaced
+pub set_single : (turns others : List Turn) (before after : Turn) → turns ≡ with_turn before others → length turns ≡ 1 → set turns 0 after ≡ with_turn after others
+set_single turns [] before after are one = rw are refl
+set_single turns (x ∷ xs) before after are one =
+    let more = length-with_turn before (x ∷ xs) in
+    let same = ap length are in
+    absurd (omega (arith, more, same, one))
+
 pub length-with_turns : (turn : Option Turn) (turns : List Turn) → length (with_optional_turn turn turns) ≤ length turns + 1
 length-with_turns None turns = omega arith
 length-with_turns (Some turn) turns = let e = length-with_turn turn turns in omega (arith, e)
@@ -163,12 +171,12 @@ holds_read streams turns room p x before ranked lt e is =
 pub ranked_read : (streams : List Stream) (turns others_turns : List Turn) (room left p : ℕ) (x s : Stream) (before after : Option Turn)
     → IsRanked streams turns room → p < length streams → x ≡ get_or streams p x → before ≡ turn_of x → after ≡ turn_of s → s.id ≡ x.id
     → ((others : List Turn) → turns ≡ with_optional_turn before others → others_turns ≡ with_optional_turn after others)
-    → left ≡ room → IsRanked (set streams p s) others_turns left
+    → room ≤ left → IsRanked (set streams p s) others_turns left
 ranked_read streams turns others_turns room left p x s before after ranked lt e is will same moved fits =
     let at = at_place streams p x lt e in
     ranked-set streams turns others_turns room left p s ranked lt (same ∙ ap (λ s. s.id) at)
     (λ others are. moved others (are ∙ ap (λ t. with_optional_turn t others) (ap (λ s. turn_of s) (sym at) ∙ sym is)) ∙ ap (λ t. with_optional_turn t others) will)
-    (omega (arith, fits))
+    fits
 
 -- what is left after a change of a stream that was read, which keeps its turn
 pub ranked_read_same : (streams : List Stream) (turns : List Turn) (room p : ℕ) (x s : Stream)

@@ -6,6 +6,7 @@ use crate::turns::move_turn;
 use dcsctp_api::types::{HandoverOutgoingStream, Turn, UnderWay};
 use dcsctp_api::{SocketTime, StreamId};
 use std::alloc::{AllocError, Global};
+use std::collections::VecDeque;
 use std::marker::Model;
 
 /// All streams that were used, in ascending order, with the turns of those that may begin a message.
@@ -14,14 +15,15 @@ pub struct Streams {
     items: Vec<OutgoingStream>,
 
     // In order, the last turn first. There is room for one of each stream.
-    turns: Vec<Turn>,
+    turns: VecDeque<Turn>,
 
     // How many of the streams are to be reset, and weren't handed out yet.
     pausing: usize,
 }
 
 impl Model for Streams {
-    ghost use Rattle.std.specs.Prelude.{List, vec_capacity};
+    ghost use Rattle.std.specs.Prelude.{List};
+    ghost use Rattle.std.specs.VecDeque.{deque_capacity};
     ghost use Rattle.dcsctp_api.specs.types.queues.SendStreams.{Stream};
     ghost use Rattle.dcsctp_send_streams.specs.Ranking.{AreStreamsKept};
 
@@ -29,7 +31,7 @@ impl Model for Streams {
 
     ghost view = { λ streams. streams.items.items };
 
-    ghost invariant = { λ streams. AreStreamsKept streams.items.items streams.turns.items (vec_capacity streams.turns) streams.pausing };
+    ghost invariant = { λ streams. AreStreamsKept streams.items.items streams.turns.items (deque_capacity streams.turns) streams.pausing };
 }
 
 impl Streams {
@@ -48,7 +50,7 @@ impl Streams {
     {
         Streams {
             items: Vec::new(alloc),
-            turns: Vec::new(alloc),
+            turns: VecDeque::new(alloc),
             pausing: 0,
         }
     }
@@ -114,7 +116,7 @@ impl Streams {
         ensures some { IfSome result (IsNext self.now) }
         ensures none { IfNone result (turns_of self.now ≡ []) }
     {
-        let turn = *self.turns.last()?;
+        let turn = *self.turns.back()?;
         match self.find(turn.stream_id) {
             Ok(place) => Some(place),
             Err(_) => None,
@@ -132,7 +134,7 @@ impl Streams {
     pub fn has_turn(&self) -> bool
         ensures { result ≡ list_any (λ stream. is_some (turn_of stream)) self.now }
     {
-        !self.turns.as_slice().is_empty()
+        !self.turns.is_empty()
     }
 
     /// Does a message wait at the moment `now` that may be begun?

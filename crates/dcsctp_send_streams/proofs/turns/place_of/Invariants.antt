@@ -4,9 +4,9 @@ use Rattle.dcsctp_send_streams.proofs.turns.place_of.Given as goal
 
 abbrev pub invariant-halving : goal.invariant-halving
 invariant-halving l = record {
-  in_range : (l.low ≤ l.high) × (l.high ≤ length l.turns);
-  below : (k : ℕ) → k < l.low → comes_after (get_or l.turns k l.turn) l.turn ≡ true;
-  above : (k : ℕ) → l.high ≤ k → k < length l.turns → comes_after (get_or l.turns k l.turn) l.turn ≡ false;
+  in_range : (l.low ≤ l.high) × (l.high ≤ length l.turns.items);
+  below : (k : ℕ) → k < l.low → comes_after (get_or l.turns.items k l.turn) l.turn ≡ true;
+  above : (k : ℕ) → l.high ≤ k → k < length l.turns.items → comes_after (get_or l.turns.items k l.turn) l.turn ≡ false;
 }
 
 abbrev pub decreases-halving : goal.decreases-halving

@@ -1,4 +1,4 @@
-use Rattle.std.proofs.Common.{ap, length, ◌∙◌, ◌==◌}
+use Rattle.std.proofs.Common.{ap, ◌∙◌, ◌==◌}
 use Rattle.dcsctp_send_streams.proofs.NextLemmas.{has_any}
 use Rattle.dcsctp_send_streams.proofs.streams.Streams.has_turn.Goals as goal
 
@@ -6,4 +6,4 @@ pub returns : goal.returns
 returns c =
     rw (← c.self.view_is)
     (has_any c.self.inside.items.items c.self.inside.turns.items c.is_empty.result c.self.invariant.ranked.are
-    (c.is_empty.ensures ∙ ap (λ turns. length turns == 0) c.as_slice.ensures.value))
+    (c.is_empty.ensures ∙ ap (λ n. n == 0) c.self.inside.turns.ok.0))
