@@ -1,13 +1,15 @@
 -- Streams that are handed out.
-use Rattle.std.proofs.Common.{◌≡◌, ◌==◌, ℕ, zero, suc, ◌+◌, ◌<◌, ◌≤◌, Bool, true, false, if◌then◌else◌, Option, Err, List, [], ◌∷◌, ◌++◌, length, get_or, filter, map, take, refl, sym, ap, ◌∙◌, arith}
+use Rattle.std.proofs.Common.{◌≡◌, ◌≢◌, ◌==◌, ℕ, zero, suc, ◌+◌, ◌<◌, ◌≤◌, nat_lt, Bool, true, false, if◌then◌else◌, Option, Err, List, [], ◌∷◌, ◌++◌, length, get_or, filter, map, take, drop, refl, sym, ap, ◌∙◌, arith}
 use Rattle.dcsctp_api.specs.types.Ids.{stream_numbers}
 use Rattle.dcsctp_api.specs.types.declared.ids.StreamId.{StreamId}
 use Rattle.dcsctp_api.specs.types.declared.sending.UnderWay.{UnderWay}
-use Rattle.dcsctp_api.specs.types.queues.SendStreams.{Stream, handed_out, stream_at}
+use Rattle.dcsctp_api.specs.types.queues.SendStreams.{Stream, is_pausing, handed_out}
 use Rattle.dcsctp_send_streams.specs.Ranking.{IsFound}
 use Rattle.dcsctp_api.specs.spec.queues.SendQueue.{stream_changed, CanGoOn}
-use Rattle.dcsctp_api.specs.spec.queues.OwnResets.{is_ready, handing_out}
+use Rattle.dcsctp_api.specs.spec.queues.OwnResets.{is_under_way, count_under_way, is_ready, handing_out}
+use Rattle.dcsctp_send_streams.specs.Pausing.{pausing_ids}
 use Rattle.dcsctp_send_streams.proofs.NextLemmas.{absent_at}
+use Rattle.dcsctp_send_streams.proofs.PausedLemmas.{true_less, false_less}
 use Rattle.dcsctp_send_queue.proofs.ResetLemmas.{can_go_on-map, changed_absent}
 
 -- no stream has this number
@@ -52,20 +54,40 @@ handing_out-all ids k streams le = ap (λ ts. handing_out (stream_numbers ts) st
 abbrev pub ready_ids : Option UnderWay → List Stream → List ℕ
 ready_ids under_way streams = map (λ stream. stream.id) (filter (is_ready under_way) streams)
 
-pub ready_by : (under_way : Option UnderWay) (x : Stream) (xs rest : List Stream) (b : Bool) (others : List ℕ) → is_ready under_way x ≡ b → ready_ids under_way xs ≡ ready_ids under_way rest ++ others
-    → ready_ids under_way (x ∷ xs) ≡ ready_ids under_way (x ∷ rest) ++ others
-ready_by under_way x xs rest true others e ih = rw e (ap (λ ts. x.id ∷ ts) ih)
-ready_by under_way x xs rest false others e ih = rw e ih
+-- those of the numbers of which no message is under way
+abbrev pub ready_of : Option UnderWay → List StreamId → List ℕ
+ready_of under_way [] = []
+ready_of under_way (id ∷ ids) = if is_under_way id.0 under_way then ready_of under_way ids else id.0 ∷ ready_of under_way ids
 
-pub ready_first : (under_way : Option UnderWay) (x : Stream) (b : Bool) → is_ready under_way x ≡ b → ready_ids under_way (x ∷ []) ≡ (if b then x.id ∷ [] else [])
-ready_first under_way x true e = rw e refl
-ready_first under_way x false e = rw e refl
+ready_by : (under_way : Option UnderWay) (x : Stream) (xs : List Stream) (b c : Bool) → is_pausing x.pause ≡ b → is_under_way x.id under_way ≡ c → ready_ids under_way xs ≡ ready_of under_way (pausing_ids xs)
+    → ready_ids under_way (x ∷ xs) ≡ ready_of under_way (pausing_ids (x ∷ xs))
+ready_by under_way x xs true true e f ih = rw e (rw f ih)
+ready_by under_way x xs true false e f ih = rw e (rw f (ap (λ ids. x.id ∷ ids) ih))
+ready_by under_way x xs false c e f ih = rw e ih
+
+-- the ready streams are among those that are to be reset
+pub ready_is : (under_way : Option UnderWay) (streams : List Stream) → ready_ids under_way streams ≡ ready_of under_way (pausing_ids streams)
+ready_is under_way [] = refl
+ready_is under_way (x ∷ xs) = ready_by under_way x xs (is_pausing x.pause) (is_under_way x.id under_way) refl refl (ready_is under_way xs)
+
+parts_by : (b : Bool) (n : ℕ) (whole first rest : List ℕ) → whole ≡ first ++ rest → (if b then whole else n ∷ whole) ≡ (if b then first else n ∷ first) ++ rest
+parts_by true n whole first rest e = e
+parts_by false n whole first rest e = ap (λ ids. n ∷ ids) e
+
+ready_of-parts : (under_way : Option UnderWay) (ids : List StreamId) (k : ℕ) → ready_of under_way ids ≡ ready_of under_way (take k ids) ++ ready_of under_way (drop k ids)
+ready_of-parts under_way [] zero = refl
+ready_of-parts under_way [] (suc k) = refl
+ready_of-parts under_way (x ∷ xs) zero = refl
+ready_of-parts under_way (x ∷ xs) (suc k) = parts_by (is_under_way x.0 under_way) x.0 (ready_of under_way xs) (ready_of under_way (take k xs)) (ready_of under_way (drop k xs)) (ready_of-parts under_way xs k)
 
 -- the ready streams among one more
-pub ready-take : (under_way : Option UnderWay) (streams : List Stream) (k : ℕ) → k < length streams → ready_ids under_way (take (suc k) streams) ≡ ready_ids under_way (take k streams) ++ (if is_ready under_way (stream_at streams k) then (stream_at streams k).id ∷ [] else [])
-ready-take under_way [] k lt = absurd (omega arith)
-ready-take under_way (x ∷ xs) zero lt = ready_first under_way x (is_ready under_way x) refl
-ready-take under_way (x ∷ xs) (suc k) lt = ready_by under_way x (take (suc k) xs) (take k xs) (is_ready under_way x) (if is_ready under_way (stream_at xs k) then (stream_at xs k).id ∷ [] else []) refl (ready-take under_way xs k (omega arith))
+ready_of-take : (under_way : Option UnderWay) (ids : List StreamId) (k : ℕ) (d : StreamId) → k < length ids
+    → ready_of under_way (take (suc k) ids) ≡ ready_of under_way (take k ids) ++ (if is_under_way (get_or ids k d).0 under_way then [] else (get_or ids k d).0 ∷ [])
+ready_of-take under_way [] k d lt = absurd (omega arith)
+ready_of-take under_way (x ∷ xs) zero d lt = refl
+ready_of-take under_way (x ∷ xs) (suc k) d lt =
+    parts_by (is_under_way x.0 under_way) x.0 (ready_of under_way (take (suc k) xs)) (ready_of under_way (take k xs)) (if is_under_way (get_or xs k d).0 under_way then [] else (get_or xs k d).0 ∷ [])
+    (ready_of-take under_way xs k d (omega arith))
 
 pub take_nil : (k : ℕ) → take k (let none : List ℕ = [] in none) ≡ []
 take_nil zero = refl
@@ -95,31 +117,55 @@ pub nothing_more : (ids : List ℕ) → ids ++ [] ≡ ids
 nothing_more [] = refl
 nothing_more (x ∷ xs) = ap (λ ts. x ∷ ts) (nothing_more xs)
 
+-- a stream of which no message is under way is ready
+pub count_none : (id : ℕ) (under_way : Option UnderWay) (b : Bool) → is_under_way id under_way ≡ b → 0 ≡ count_under_way id under_way → is_under_way id under_way ≡ false
+count_none id under_way true e none = let one : count_under_way id under_way ≡ 1 = rw e refl in absurd (omega (arith, one, none))
+count_none id under_way false e none = e
+
+pub count_some : (id n : ℕ) (under_way : Option UnderWay) (b : Bool) → is_under_way id under_way ≡ b → n ≡ count_under_way id under_way → n ≢ 0 → is_under_way id under_way ≡ true
+count_some id n under_way true e is some = e
+count_some id n under_way false e is some = let none : count_under_way id under_way ≡ 0 = rw e refl in absurd (some (is ∙ none))
+
 -- a ready stream is added to the list
-pub ready_pushed : (under_way : Option UnderWay) (streams : List Stream) (k j max : ℕ) (ids new : List StreamId) (id : StreamId) → j ≡ k + 1 → k < length streams → stream_numbers ids ≡ take max (ready_ids under_way (take k streams)) → length ids < max
-    → is_ready under_way (stream_at streams k) ≡ true → id.0 ≡ (stream_at streams k).id → new ≡ ids ++ id ∷ [] → stream_numbers new ≡ take max (ready_ids under_way (take j streams))
-ready_pushed under_way streams k j max ids new id e lt are less ready is pushed =
-    let step : ready_ids under_way (take (suc k) streams) ≡ ready_ids under_way (take k streams) ++ (stream_at streams k).id ∷ [] = rw ready at (ready-take under_way streams k lt) in
+pub ready_pushed : (under_way : Option UnderWay) (ids got new : List StreamId) (k j max : ℕ) (id : StreamId) → j ≡ k + 1 → k < length ids → stream_numbers got ≡ take max (ready_of under_way (take k ids)) → length got < max
+    → id ≡ get_or ids k id → is_under_way id.0 under_way ≡ false → new ≡ got ++ id ∷ [] → stream_numbers new ≡ take max (ready_of under_way (take j ids))
+ready_pushed under_way ids got new k j max id e lt are less is ready pushed =
+    let test : is_under_way (get_or ids k id).0 under_way ≡ false = ap (λ (it : StreamId). is_under_way it.0 under_way) (sym is) ∙ ready in
+    let step : ready_of under_way (take (suc k) ids) ≡ ready_of under_way (take k ids) ++ (get_or ids k id).0 ∷ [] = rw test at (ready_of-take under_way ids k id lt) in
     let at : suc k ≡ j = omega arith in
-    let len = numbers-length ids in
+    let len = numbers-length got in
     let same = ap length are in
-    ap (λ ts. stream_numbers ts) pushed ∙ (numbers-push ids id ∙ (ap (λ n. stream_numbers ids ++ n ∷ []) is ∙ (ap (λ ts. ts ++ (stream_at streams k).id ∷ []) are
-    ∙ (take_push (ready_ids under_way (take k streams)) max (stream_at streams k).id (omega (arith, len, same, less))
-    ∙ (ap (λ ts. take max ts) (sym step) ∙ ap (λ n. take max (ready_ids under_way (take n streams))) at)))))
+    ap (λ ts. stream_numbers ts) pushed ∙ (numbers-push got id ∙ (ap (λ (it : StreamId). stream_numbers got ++ it.0 ∷ []) is ∙ (ap (λ ts. ts ++ (get_or ids k id).0 ∷ []) are
+    ∙ (take_push (ready_of under_way (take k ids)) max (get_or ids k id).0 (omega (arith, len, same, less))
+    ∙ (ap (λ ts. take max ts) (sym step) ∙ ap (λ n. take max (ready_of under_way (take n ids))) at)))))
 
 -- a stream that isn't ready is passed
-pub ready_passed : (under_way : Option UnderWay) (streams : List Stream) (k j max : ℕ) (numbers : List ℕ) → j ≡ k + 1 → k < length streams → numbers ≡ take max (ready_ids under_way (take k streams))
-    → is_ready under_way (stream_at streams k) ≡ false → numbers ≡ take max (ready_ids under_way (take j streams))
-ready_passed under_way streams k j max numbers e lt are ready =
-    let step : ready_ids under_way (take (suc k) streams) ≡ ready_ids under_way (take k streams) ++ [] = rw ready at (ready-take under_way streams k lt) in
+pub ready_passed : (under_way : Option UnderWay) (ids : List StreamId) (numbers : List ℕ) (k j max : ℕ) (id : StreamId) → j ≡ k + 1 → k < length ids → numbers ≡ take max (ready_of under_way (take k ids))
+    → id ≡ get_or ids k id → is_under_way id.0 under_way ≡ true → numbers ≡ take max (ready_of under_way (take j ids))
+ready_passed under_way ids numbers k j max id e lt are is out =
+    let test : is_under_way (get_or ids k id).0 under_way ≡ true = ap (λ (it : StreamId). is_under_way it.0 under_way) (sym is) ∙ out in
+    let step : ready_of under_way (take (suc k) ids) ≡ ready_of under_way (take k ids) ++ [] = rw test at (ready_of-take under_way ids k id lt) in
     let at : suc k ≡ j = omega arith in
-    are ∙ (ap (λ ts. take max ts) (sym (step ∙ nothing_more (ready_ids under_way (take k streams)))) ∙ ap (λ n. take max (ready_ids under_way (take n streams))) at)
+    are ∙ (ap (λ ts. take max ts) (sym (step ∙ nothing_more (ready_of under_way (take k ids)))) ∙ ap (λ n. take max (ready_of under_way (take n ids))) at)
 
--- where the list is full, a stream is passed
-pub ready_full : (under_way : Option UnderWay) (streams : List Stream) (k j max : ℕ) (numbers : List ℕ) → j ≡ k + 1 → k < length streams → numbers ≡ take max (ready_ids under_way (take k streams))
-    → max ≤ length numbers → numbers ≡ take max (ready_ids under_way (take j streams))
-ready_full under_way streams k j max numbers e lt are full =
-    let at : suc k ≡ j = omega arith in
+ready_all : (under_way : Option UnderWay) (ids : List StreamId) (numbers : List ℕ) (k max : ℕ) → numbers ≡ take max (ready_of under_way (take k ids)) → length ids ≤ k → numbers ≡ take max (ready_of under_way ids)
+ready_all under_way ids numbers k max are le = are ∙ ap (λ ts. take max (ready_of under_way ts)) (all_taken ids k le)
+
+ready_full : (under_way : Option UnderWay) (ids : List StreamId) (numbers : List ℕ) (k max : ℕ) → numbers ≡ take max (ready_of under_way (take k ids)) → max ≤ length numbers → numbers ≡ take max (ready_of under_way ids)
+ready_full under_way ids numbers k max are full =
     let same = ap length are in
-    are ∙ (take_full (ready_ids under_way (take k streams)) (if is_ready under_way (stream_at streams k) then (stream_at streams k).id ∷ [] else []) max (omega (arith, same, full))
-    ∙ (ap (λ ts. take max ts) (sym (ready-take under_way streams k lt)) ∙ ap (λ n. take max (ready_ids under_way (take n streams))) at))
+    are ∙ (take_full (ready_of under_way (take k ids)) (ready_of under_way (drop k ids)) max (omega (arith, same, full)) ∙ ap (λ ts. take max ts) (sym (ready_of-parts under_way ids k)))
+
+ready_end_by : (under_way : Option UnderWay) (ids : List StreamId) (numbers : List ℕ) (k max : ℕ) (b : Bool) → nat_lt k (length ids) ≡ b → numbers ≡ take max (ready_of under_way (take k ids))
+    → (k < length ids → max ≤ length numbers) → numbers ≡ take max (ready_of under_way ids)
+ready_end_by under_way ids numbers k max true e are full = ready_full under_way ids numbers k max are (full (true_less k (length ids) e))
+ready_end_by under_way ids numbers k max false e are full = ready_all under_way ids numbers k max are (false_less k (length ids) e)
+
+-- none is left, or the list is full
+pub ready_end : (under_way : Option UnderWay) (streams : List Stream) (got : List StreamId) (k max : ℕ) → stream_numbers got ≡ take max (ready_of under_way (take k (pausing_ids streams)))
+    → (k < length (pausing_ids streams) → max ≤ length got) → stream_numbers got ≡ take max (ready_ids under_way streams)
+ready_end under_way streams got k max are full =
+    let ids = pausing_ids streams in
+    let len = numbers-length got in
+    ready_end_by under_way ids (stream_numbers got) k max (nat_lt k (length ids)) refl are (λ lt. let le = full lt in omega (arith, le, len))
+    ∙ ap (λ ts. take max ts) (sym (ready_is under_way streams))

@@ -1,7 +1,10 @@
 pub mod BytesLemmas
 pub mod CountLemmas
+pub mod HandedOutLemmas
 pub mod Mapped
 pub mod NextLemmas
+pub mod PauseLemmas
+pub mod PausedLemmas
 pub mod PlaceLemmas
 pub mod StreamLemmas
 pub mod TellingLemmas

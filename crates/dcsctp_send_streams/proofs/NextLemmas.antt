@@ -6,7 +6,7 @@ use borrow.Author.Tests.{ltb-true, ltb-false}
 use Rattle.dcsctp_api.specs.types.declared.sending.Turn.{Turn}
 use Rattle.dcsctp_api.specs.types.declared.sending.Pause.{Pause}
 use Rattle.dcsctp_api.specs.types.declared.sending.Pause.TheVariants.{Open, Pausing, HandedOut}
-use Rattle.dcsctp_api.specs.types.queues.SendStreams.{comes_after, with_turn, with_optional_turn, Stream, is_pausing, committed, rolled_back, stream_at, turn_of, turns_of, IsNext, IsAscending}
+use Rattle.dcsctp_api.specs.types.queues.SendStreams.{comes_after, with_turn, with_optional_turn, Stream, committed, rolled_back, stream_at, turn_of, turns_of, IsNext, IsAscending}
 use Rattle.dcsctp_send_streams.specs.Turns.{NoneAfter, IsOrdered}
 use Rattle.dcsctp_send_streams.specs.Ranking.{IsRanked, IsFound}
 use Rattle.dcsctp_send_streams.proofs.TurnLemmas.{itself}
@@ -147,14 +147,6 @@ committed_if HandedOut s e = rw e refl
 pub committed-id : (s : Stream) → (committed s).id ≡ s.id
 committed-id s = committed_if s.pause s refl
 
-pub committed_pausing_if : (pause : Pause) (s : Stream) → s.pause ≡ pause → is_pausing (committed s).pause ≡ is_pausing s.pause
-committed_pausing_if Open s e = rw e refl
-committed_pausing_if Pausing s e = rw e refl
-committed_pausing_if HandedOut s e = rw e refl
-
-pub committed-pausing : (s : Stream) → is_pausing (committed s).pause ≡ is_pausing s.pause
-committed-pausing s = committed_pausing_if s.pause s refl
-
 pub rolled_back_if : (pause : Pause) (s : Stream) → s.pause ≡ pause → (rolled_back s).id ≡ s.id
 rolled_back_if Open s e = rw e refl
 rolled_back_if Pausing s e = rw e refl
@@ -162,14 +154,6 @@ rolled_back_if HandedOut s e = rw e refl
 
 pub rolled_back-id : (s : Stream) → (rolled_back s).id ≡ s.id
 rolled_back-id s = rolled_back_if s.pause s refl
-
-pub rolled_back_pausing_if : (pause : Pause) (s : Stream) → s.pause ≡ pause → is_pausing (rolled_back s).pause ≡ is_pausing s.pause
-rolled_back_pausing_if Open s e = rw e refl
-rolled_back_pausing_if Pausing s e = rw e refl
-rolled_back_pausing_if HandedOut s e = rw e refl
-
-pub rolled_back-pausing : (s : Stream) → is_pausing (rolled_back s).pause ≡ is_pausing s.pause
-rolled_back-pausing s = rolled_back_pausing_if s.pause s refl
 
 pub in_not_empty : (t : Turn) (turns : List Turn) → In t turns → turns ≡ [] → ⊥
 in_not_empty t [] m e = m

@@ -4,7 +4,7 @@ use Rattle.std.specs.List.{remove}
 use Rattle.dcsctp_api.specs.types.declared.sending.Turn.{Turn}
 use Rattle.dcsctp_api.specs.types.declared.sending.Pause.{Pause}
 use Rattle.dcsctp_api.specs.types.declared.sending.Pause.TheVariants.{Open, Pausing, HandedOut}
-use Rattle.dcsctp_api.specs.types.queues.SendStreams.{comes_after, with_turn, with_optional_turn, Waiting, Stream, is_pausing, stream_counted, stream_at, turn_if, turn_of, turns_of, IsBelow, IsAscending}
+use Rattle.dcsctp_api.specs.types.queues.SendStreams.{comes_after, with_turn, with_optional_turn, Waiting, Stream, stream_counted, stream_at, turn_if, turn_of, turns_of, IsBelow, IsAscending}
 use Rattle.dcsctp_send_streams.specs.Turns.{IsOrdered, HoldsTurns}
 use Rattle.dcsctp_send_streams.specs.Ranking.{IsRanked}
 use Rattle.dcsctp_send_streams.proofs.TurnLemmas.{IsOrdered-with_turn, with_turn-with_turn}
@@ -197,11 +197,11 @@ counted-turn false true s = refl
 counted-turn true false s = refl
 counted-turn true true s = refl
 
-pub counted-pausing : (is_interleaved is_unordered : Bool) (s : Stream) → is_pausing (stream_counted is_interleaved is_unordered s).pause ≡ is_pausing s.pause
-counted-pausing false false s = refl
-counted-pausing false true s = refl
-counted-pausing true false s = refl
-counted-pausing true true s = refl
+pub counted-pause : (is_interleaved is_unordered : Bool) (s : Stream) → (stream_counted is_interleaved is_unordered s).pause ≡ s.pause
+counted-pause false false s = refl
+counted-pause false true s = refl
+counted-pause true false s = refl
+counted-pause true true s = refl
 
 pub counted-messages : (is_interleaved is_unordered : Bool) (s : Stream) → (stream_counted is_interleaved is_unordered s).messages ≡ s.messages
 counted-messages false false s = refl

@@ -4,6 +4,8 @@ use Rattle.std.specs.List.{count_by, AllByRecursion}
 use Rattle.dcsctp_api.specs.types.declared.sending.Turn.{Turn}
 use Rattle.dcsctp_api.specs.types.queues.SendStreams.{Stream, IsAscending, is_pausing, turns_of, stream_at}
 use Rattle.dcsctp_api.specs.spec.queues.SendQueue.{HaveBytes}
+use Rattle.dcsctp_send_streams.specs.declared.paused.PausedIds.{PausedIds}
+use Rattle.dcsctp_send_streams.specs.Pausing.{ArePaused}
 
 -- These are the streams and their turns, and there is room for one turn of each.
 pub record IsRanked (streams : List Stream) (turns : List Turn) (room : ℕ) : Type 0 where
@@ -15,10 +17,10 @@ pub record IsRanked (streams : List Stream) (turns : List Turn) (room : ℕ) : T
 abbrev pub count_pausing : List Stream → ℕ
 count_pausing streams = count_by (λ stream. is_pausing stream.pause) streams
 
--- These are kept beside the streams: their turns, with room, and how many of them are to be reset. Each message has bytes.
-pub record AreStreamsKept (streams : List Stream) (turns : List Turn) (room pausing : ℕ) : Type 0 where
+-- These are kept beside the streams: their turns, with room, and which of them are paused. Each message has bytes.
+pub record AreStreamsKept (streams : List Stream) (turns : List Turn) (room : ℕ) (ids : PausedIds) : Type 0 where
   pub ranked : IsRanked streams turns room
-  pub counted : pausing ≡ count_pausing streams
+  pub paused : ArePaused streams ids
   pub bytes : AllByRecursion HaveBytes streams
 
 -- what a search for this number finds: its place, or the place at which it would be

@@ -4,6 +4,7 @@
 
 mod data;
 mod message;
+mod paused;
 mod stream;
 mod streams;
 mod turns;

@@ -1,9 +1,12 @@
 //! The streams of a queue, and whose turn it is.
 
+mod resetting;
+
 use crate::message::QueuedMessage;
+use crate::paused::PausedIds;
 use crate::stream::OutgoingStream;
 use crate::turns::move_turn;
-use dcsctp_api::types::{HandoverOutgoingStream, Turn, UnderWay};
+use dcsctp_api::types::{HandoverOutgoingStream, Pause, Turn, UnderWay};
 use dcsctp_api::{SocketTime, StreamId};
 use std::alloc::{AllocError, Global};
 use std::collections::VecDeque;
@@ -17,8 +20,8 @@ pub struct Streams {
     // In order, the last turn first. There is room for one of each stream.
     turns: VecDeque<Turn>,
 
-    // How many of the streams are to be reset, and weren't handed out yet.
-    pausing: usize,
+    // Those that are paused. There is room for all streams.
+    paused: PausedIds,
 }
 
 impl Model for Streams {
@@ -31,18 +34,18 @@ impl Model for Streams {
 
     ghost view = { λ streams. streams.items.items };
 
-    ghost invariant = { λ streams. AreStreamsKept streams.items.items streams.turns.items (deque_capacity streams.turns) streams.pausing };
+    ghost invariant = { λ streams. AreStreamsKept streams.items.items streams.turns.items (deque_capacity streams.turns) streams.paused };
 }
 
 impl Streams {
     ghost use Rattle.std.specs.List.{list_any, AllByRecursion};
-    ghost use Rattle.std.specs.Prelude.{◌≡◌, ◌-◌, ◌<◌, ◌&&◌, [], length, is_some, map, slice_set, insert, OnOk, OnErr, IfSome, IfNone};
-    ghost use Rattle.dcsctp_api.specs.types.queues.SendStreams.{front_of, with_message, without_front, paused, handed_out, begun_anew, amount_raised, stream_counted, served, committed, rolled_back, stream_at, turn_of, turns_of, IsNext, IsAscending};
+    ghost use Rattle.std.specs.Prelude.{◌≡◌, ◌-◌, ◌<◌, ◌&&◌, [], length, is_some, slice_set, insert, OnOk, OnErr, IfSome, IfNone};
+    ghost use Rattle.dcsctp_api.specs.types.queues.SendStreams.{front_of, with_message, without_front, amount_raised, stream_counted, served, stream_at, turn_of, turns_of, IsNext, IsAscending};
     ghost use Rattle.dcsctp_api.specs.spec.queues.SendQueue.{HaveBytes, has_live};
     ghost use Rattle.dcsctp_api.specs.spec.queues.OwnResets.{is_lasting};
     ghost use Rattle.dcsctp_api.specs.spec.queues.Readiness.{has_messages, is_paused};
-    ghost use Rattle.dcsctp_send_streams.specs.Ranking.{count_pausing, IsFound};
-    ghost use Rattle.dcsctp_api.specs.spec.queues.QueuedParts.{emptied, stream_restored, with_rest};
+    ghost use Rattle.dcsctp_send_streams.specs.Ranking.{IsFound};
+    ghost use Rattle.dcsctp_api.specs.spec.queues.QueuedParts.{stream_restored, with_rest};
 
     /// No streams. Allocates nothing.
     pub fn new(alloc: Global) -> Streams
@@ -51,7 +54,7 @@ impl Streams {
         Streams {
             items: Vec::new(alloc),
             turns: VecDeque::new(alloc),
-            pausing: 0,
+            paused: PausedIds::new(alloc),
         }
     }
 
@@ -103,11 +106,13 @@ impl Streams {
         self.items.reserve(1)?;
         let spare = self.items.capacity().saturating_sub(self.turns.len());
         self.turns.reserve(spare)?;
+        self.paused.reserve(self.items.capacity())?;
+        let id = stream.id();
+        let pause = stream.pause_state();
         let turn = stream.turn();
-        let pausing = stream.count_pausing();
         self.items.insert(place, stream)?;
         move_turn(&mut self.turns, None, turn);
-        self.pausing = self.pausing.saturating_add(pausing);
+        self.paused.move_stream(id, Pause::Open, pause);
         Ok(())
     }
 
@@ -121,13 +126,6 @@ impl Streams {
             Ok(place) => Some(place),
             Err(_) => None,
         }
-    }
-
-    /// How many streams are to be reset, and weren't handed out yet.
-    pub fn count_pausing(&self) -> usize
-        ensures { result ≡ count_pausing self.now }
-    {
-        self.pausing
     }
 
     /// May a stream begin a message?
@@ -229,72 +227,6 @@ impl Streams {
         message
     }
 
-    /// Keeps only that many of the stream's messages, the oldest, and pauses the stream.
-    pub fn pause(&mut self, place: usize, kept: usize)
-        requires { place < length self.old }
-        ensures { self.new ≡ slice_set self.old place (paused kept (stream_at self.old place)) }
-    {
-        let stream = &mut self.items[place];
-        let before = stream.turn();
-        let was_pausing = stream.count_pausing();
-        stream.pause(kept);
-        let after = stream.turn();
-        move_turn(&mut self.turns, before, after);
-        self.pausing = self.pausing.saturating_sub(was_pausing).saturating_add(1);
-    }
-
-    /// Hands the stream out to be reset.
-    pub fn hand_out(&mut self, place: usize)
-        requires { place < length self.old }
-        ensures { self.new ≡ slice_set self.old place (handed_out (stream_at self.old place)) }
-    {
-        let stream = &mut self.items[place];
-        let before = stream.turn();
-        let was_pausing = stream.count_pausing();
-        stream.hand_out();
-        let after = stream.turn();
-        move_turn(&mut self.turns, before, after);
-        self.pausing = self.pausing.saturating_sub(was_pausing);
-    }
-
-    /// Ends the stream's pause, and counts its messages from 0 again.
-    pub fn begin_anew(&mut self, place: usize)
-        requires { place < length self.old }
-        ensures { self.new ≡ slice_set self.old place (begun_anew (stream_at self.old place)) }
-    {
-        let stream = &mut self.items[place];
-        let before = stream.turn();
-        let was_pausing = stream.count_pausing();
-        stream.begin_anew();
-        let after = stream.turn();
-        move_turn(&mut self.turns, before, after);
-        self.pausing = self.pausing.saturating_sub(was_pausing);
-    }
-
-    /// It was reset, if it was handed out: its pause ends, and its messages are counted from 0 again.
-    pub fn commit(&mut self, place: usize)
-        requires { place < length self.old }
-        ensures { self.new ≡ slice_set self.old place (committed (stream_at self.old place)) }
-    {
-        let stream = &mut self.items[place];
-        let before = stream.turn();
-        stream.commit();
-        let after = stream.turn();
-        move_turn(&mut self.turns, before, after);
-    }
-
-    /// It was not reset, if it was handed out: its pause ends.
-    pub fn roll_back(&mut self, place: usize)
-        requires { place < length self.old }
-        ensures { self.new ≡ slice_set self.old place (rolled_back (stream_at self.old place)) }
-    {
-        let stream = &mut self.items[place];
-        let before = stream.turn();
-        stream.roll_back();
-        let after = stream.turn();
-        move_turn(&mut self.turns, before, after);
-    }
-
     /// Gives the stream the numbers and the priority that a snapshot has.
     pub fn restore(&mut self, place: usize, named: &HandoverOutgoingStream)
         requires { place < length self.old }
@@ -306,20 +238,6 @@ impl Streams {
         stream.restore(named);
         let after = stream.turn();
         move_turn(&mut self.turns, before, after);
-    }
-
-    /// Drops the messages of the stream, and counts them from 0 again.
-    pub fn empty(&mut self, place: usize)
-        requires { place < length self.old }
-        ensures { self.new ≡ slice_set self.old place (emptied (stream_at self.old place)) }
-    {
-        let stream = &mut self.items[place];
-        let before = stream.turn();
-        let was_pausing = stream.count_pausing();
-        stream.empty();
-        let after = stream.turn();
-        move_turn(&mut self.turns, before, after);
-        self.pausing = self.pausing.saturating_sub(was_pausing);
     }
 
     /// Sets the stream's priority.
@@ -399,41 +317,5 @@ impl Streams {
         stream.serve(turn);
         let after = stream.turn();
         move_turn(&mut self.turns, before, after);
-    }
-
-    /// Ends every pause, and counts all messages from 0 again.
-    pub fn begin_all_anew(&mut self)
-        ensures { self.new ≡ map begun_anew self.old }
-    {
-        for place in 0..self.len() {
-            self.begin_anew(place);
-        }
-    }
-
-    /// Drops all messages, and counts those of each stream from 0 again.
-    pub fn empty_all(&mut self)
-        ensures { self.new ≡ map emptied self.old }
-    {
-        for place in 0..self.len() {
-            self.empty(place);
-        }
-    }
-
-    /// The streams that are handed out were reset.
-    pub fn commit_all(&mut self)
-        ensures { self.new ≡ map committed self.old }
-    {
-        for place in 0..self.len() {
-            self.commit(place);
-        }
-    }
-
-    /// The streams that are handed out were not reset.
-    pub fn roll_back_all(&mut self)
-        ensures { self.new ≡ map rolled_back self.old }
-    {
-        for place in 0..self.len() {
-            self.roll_back(place);
-        }
     }
 }

@@ -16,7 +16,7 @@ impl Backlog {
     ghost use Rattle.dcsctp_api.specs.spec.queues.Transfer.{is_none_ready};
     ghost use Rattle.dcsctp_send_streams.specs.Telling.{contents, TellsFront};
     ghost use Rattle.dcsctp_send_streams.specs.Ranking.{count_pausing};
-    ghost use Rattle.dcsctp_api.specs.spec.queues.OwnResets.{count_under_way, ready_streams, is_ready, prepared, prepare_events, handing_out};
+    ghost use Rattle.dcsctp_api.specs.spec.queues.OwnResets.{count_under_way, ready_streams, prepared, prepare_events, handing_out};
     ghost use Rattle.dcsctp_send_queue.specs.Leaving.{after_pause, pause_events};
     ghost use Rattle.dcsctp_api.specs.spec.queues.Sending.{begun};
     ghost use Rattle.dcsctp_send_queue.specs.Resets.{IsUsedAtMost};
@@ -64,15 +64,6 @@ impl Backlog {
         }
     }
 
-    /// Can the stream be handed out to be reset?
-    pub fn is_ready(&self, place: usize) -> bool
-        requires { place < length self.now.streams }
-        ensures { result ≡ is_ready self.now.under_way (stream_at self.now.streams place) }
-    {
-        let stream = self.streams.at(place);
-        stream.pause_state() == Pause::Pausing && self.count_under_way(stream.id()) == 0
-    }
-
     /// The numbers of at most `max` of the streams that can be handed out, the least first.
     pub fn ready_ids(&self, max: usize) -> Result<Vec<StreamId>, AllocError>
         ensures ids { IfOk result
@@ -80,10 +71,13 @@ impl Backlog {
         ensures ascending { IsAscending self.now.streams }
     {
         let mut ids = Vec::new(self.alloc);
-        for place in 0..self.streams.len() {
-            if ids.len() < max && self.is_ready(place) {
-                ids.push(self.streams.at(place).id())?;
+        let mut place = 0;
+        'asking: while place < self.streams.count_pausing() && ids.len() < max {
+            let id = self.streams.pausing_at(place);
+            if self.count_under_way(id) == 0 {
+                ids.push(id)?;
             }
+            place += 1;
         }
         Ok(ids)
     }

@@ -1,6 +1,6 @@
 use Rattle.std.proofs.Common.{ap, ◌∙◌, arith, length, sym}
 use Rattle.dcsctp_api.specs.types.queues.SendStreams.{with_turn}
-use Rattle.dcsctp_send_streams.proofs.StreamLemmas.{length-with_turn, set_single}
+use Rattle.dcsctp_send_streams.proofs.StreamLemmas.{set_single}
 use Rattle.dcsctp_send_streams.proofs.turns.replace_turn.Goals as goal
 
 pub add_turn-requires : goal.add_turn-requires

@@ -1,20 +1,19 @@
-use Rattle.std.proofs.Common.{set, ap, sym, ◌∙◌, arith}
-use Rattle.dcsctp_api.specs.types.queues.SendStreams.{committed, stream_at}
-use Rattle.dcsctp_send_streams.proofs.Mapped.{mapped_to-none, mapped_to-all, mapped_to-step, length-mapped_to}
+use Rattle.std.proofs.Common.{◌<◌, List, length, map, ap, sym, ◌∙◌}
+use Rattle.dcsctp_api.specs.types.queues.SendStreams.{Stream, committed, stream_at}
+use Rattle.dcsctp_send_streams.specs.Pausing.{handed_out_ids}
+use Rattle.dcsctp_send_streams.proofs.HandedOutLemmas.{fewer_out, map_set, none_out, committed-again, committed-kept, committed-out}
 use Rattle.dcsctp_send_streams.proofs.streams.Streams.commit_all.Goals as goal
 
-pub loop-place-init : goal.loop-place-init
-loop-place-init c = sym (mapped_to-none committed c.args.self.now)
-
-pub commit-requires : goal.commit-requires
-commit-requires c =
-    let len = length-mapped_to c.loop-place.place committed c.args.self.now in
-    rw c.loop-place.invariant (omega (arith, len))
+pub loop-place-smaller : goal.loop-place-smaller
+loop-place-smaller c =
+    let at : Stream = stream_at c.loop-place.self c.in-Some.place in
+    let less : length (handed_out_ids c.commit.new.self) < length (handed_out_ids c.loop-place.self) =
+    rw c.commit.ensures (fewer_out c.loop-place.self c.in-Some.place (committed at) c.in-Some.ensures.some.0 c.in-Some.ensures.some.1 (committed-out at)) in
+    less
 
 pub loop-place-preserved : goal.loop-place-preserved
 loop-place-preserved c =
-    c.commit.ensures ∙ (ap (λ s. set s c.loop-place.place (committed (stream_at s c.loop-place.place))) c.loop-place.invariant
-    ∙ mapped_to-step c.loop-place.place _ committed c.args.self.now (omega arith) (omega arith))
+    ap (λ (streams : List Stream). map committed streams) c.commit.ensures ∙ (map_set committed c.loop-place.self c.in-Some.place committed-again ∙ c.loop-place.invariant)
 
 pub returns : goal.returns
-returns c = c.loop-place.invariant ∙ mapped_to-all c.loop-place.place committed c.args.self.now (omega arith)
+returns c = sym (none_out committed c.loop-place.self committed-kept c.in_default.ensures.none) ∙ c.loop-place.invariant

@@ -1,7 +1,7 @@
 use Rattle.std.proofs.Common.{◌<◌, length}
 use Rattle.dcsctp_send_streams.proofs.BytesLemmas.{bytes_same}
-use Rattle.dcsctp_send_streams.proofs.CountLemmas.{counted_same}
-use Rattle.dcsctp_send_streams.proofs.StreamLemmas.{ranked_read_same, counted-id, counted-turn, counted-pausing, counted-messages}
+use Rattle.dcsctp_send_streams.proofs.PauseLemmas.{paused_same}
+use Rattle.dcsctp_send_streams.proofs.StreamLemmas.{ranked_read_same, counted-id, counted-turn, counted-pause, counted-messages}
 use Rattle.dcsctp_send_streams.proofs.streams.Streams.count_begun.Goals as goal
 
 pub invariant_of-self : goal.invariant_of-self
@@ -10,6 +10,7 @@ invariant_of-self c =
     record {
       ranked = ranked_read_same _ _ _ c.args.place _ _ c.self.invariant.ranked lt c.index_mut-stream.ensures.value
           (rw c.count_begun.ensures (counted-id _ _ _)) (rw c.count_begun.ensures (counted-turn _ _ _));
-      counted = counted_same _ _ c.args.place _ _ c.self.invariant.counted lt c.index_mut-stream.ensures.value (rw c.count_begun.ensures (counted-pausing _ _ _));
+      paused = paused_same _ _ c.args.place _ _ c.self.invariant.ranked.ascending c.self.invariant.paused lt c.index_mut-stream.ensures.value
+          (rw c.count_begun.ensures (counted-id _ _ _)) (rw c.count_begun.ensures (counted-pause _ _ _));
       bytes = bytes_same _ c.args.place _ _ c.self.invariant.bytes lt c.index_mut-stream.ensures.value (rw c.count_begun.ensures (counted-messages _ _ _));
     }

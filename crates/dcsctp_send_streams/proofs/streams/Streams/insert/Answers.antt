@@ -1,7 +1,7 @@
 use Rattle.std.proofs.Common.{Err, length, arith, refl, ap, ◌∙◌}
 use Rattle.dcsctp_send_streams.specs.Ranking.{IsFound}
 use Rattle.dcsctp_send_streams.proofs.BytesLemmas.{bytes_insert}
-use Rattle.dcsctp_send_streams.proofs.CountLemmas.{counted_insert}
+use Rattle.dcsctp_send_streams.proofs.PauseLemmas.{holds_fresh, paused_insert}
 use Rattle.dcsctp_send_streams.proofs.PlaceLemmas.{ranked-insert}
 use Rattle.dcsctp_send_streams.proofs.StreamLemmas.{IsOrdered-turns_of, length-turns_of}
 use Rattle.dcsctp_send_streams.proofs.streams.Streams.insert.Goals as goal
@@ -20,11 +20,25 @@ move_turn-requires c =
       has_room = omega (arith, few, same, are, room, more);
     }
 
+pub move_stream-requires : goal.move_stream-requires
+move_stream-requires c =
+    let room = c.in_ok-reserve.ensures.ok in
+    let kept = ap length c.reserve.ensures.items in
+    let one = c.in_ok-reserve-3.ensures.room in
+    let other = c.in_ok-reserve-3.ensures.more in
+    holds_fresh c.self.inside.items.items _ _ c.self.invariant.ranked.ascending
+    (c.reserve-3.ensures.pausing ∙ c.self.invariant.paused.pausing) (c.reserve-3.ensures.handed_out ∙ c.self.invariant.paused.handed_out)
+    (omega (arith, room, kept, one)) (omega (arith, room, kept, other))
+
 pub invariant_of-self-2 : goal.invariant_of-self-2
 invariant_of-self-2 c =
     let room = c.in_ok-reserve.ensures.ok in
     let more = c.in_ok-reserve-2.ensures.ok in
     let kept = ap length c.reserve.ensures.items in
+    let one = c.in_ok-reserve-3.ensures.room in
+    let other = c.in_ok-reserve-3.ensures.more in
+    let one_left = c.move_stream.ensures.has_room in
+    let other_left = c.move_stream.ensures.has_more in
     let found : IsFound c.self.inside.items.items c.args.stream.id (Err c.args.place) = rw c.self.view_is c.requires in
     record {
       ranked = rw (c.in_ok-insert.ensures.items, c.reserve.ensures.items)
@@ -32,9 +46,11 @@ invariant_of-self-2 c =
           c.self.invariant.ranked found c.turn-turn.ensures.turn
           (λ others are. c.move_turn.ensures.turns others (c.reserve-2.ensures.items ∙ are))
           (omega (arith, room, more, kept)) c.move_turn.ensures.capacity);
-      counted = rw (c.in_ok-insert.ensures.items, c.reserve.ensures.items)
-          (counted_insert c.self.inside.items.items _ _ _ c.args.place c.args.stream c.self.invariant.counted found.0 c.count_pausing-pausing.ensures
-          (omega (arith, c.self.inside.items.ok.0, c.self.inside.items.ok.1, c.self.inside.items.small)) c.saturating_add-self-inside.ensures);
+      paused = rw (c.in_ok-insert.ensures.items, c.reserve.ensures.items)
+          (paused_insert c.self.inside.items.items c.reserve-3.new.self c.move_stream.new.self c.args.place c.args.stream _ _ c.self.invariant.ranked.ascending found
+          (c.reserve-3.ensures.pausing ∙ c.self.invariant.paused.pausing) (c.reserve-3.ensures.handed_out ∙ c.self.invariant.paused.handed_out)
+          c.id-id.ensures c.pause_state-pause.ensures c.move_stream.ensures.pausing c.move_stream.ensures.handed_out
+          (omega (arith, room, kept, one, one_left)) (omega (arith, room, kept, other, other_left)));
       bytes = rw (c.in_ok-insert.ensures.items, c.reserve.ensures.items)
           (bytes_insert c.self.inside.items.items c.args.place c.args.stream c.self.invariant.bytes c.turn-turn.ensures.bytes found.0);
     }

@@ -1,6 +1,6 @@
 use Rattle.std.proofs.Common.{◌<◌, length, refl}
 use Rattle.dcsctp_send_streams.proofs.BytesLemmas.{bytes_same}
-use Rattle.dcsctp_send_streams.proofs.CountLemmas.{counted_same}
+use Rattle.dcsctp_send_streams.proofs.PauseLemmas.{paused_same}
 use Rattle.dcsctp_send_streams.proofs.StreamLemmas.{ranked_read_same}
 use Rattle.dcsctp_send_streams.proofs.streams.Streams.reduce.Goals as goal
 
@@ -10,6 +10,7 @@ invariant_of-self c =
     record {
       ranked = ranked_read_same _ _ _ c.args.place _ _ c.self.invariant.ranked lt c.index_mut-stream.ensures.value
           (rw c.reduce.ensures refl) (rw c.reduce.ensures refl);
-      counted = counted_same _ _ c.args.place _ _ c.self.invariant.counted lt c.index_mut-stream.ensures.value (rw c.reduce.ensures refl);
+      paused = paused_same _ _ c.args.place _ _ c.self.invariant.ranked.ascending c.self.invariant.paused lt c.index_mut-stream.ensures.value
+          (rw c.reduce.ensures refl) (rw c.reduce.ensures refl);
       bytes = bytes_same _ c.args.place _ _ c.self.invariant.bytes lt c.index_mut-stream.ensures.value (rw c.reduce.ensures refl);
     }

@@ -1,6 +1,6 @@
 use Rattle.std.proofs.Common.{◌<◌, length, refl}
 use Rattle.dcsctp_send_streams.proofs.BytesLemmas.{bytes_set}
-use Rattle.dcsctp_send_streams.proofs.CountLemmas.{counted_same}
+use Rattle.dcsctp_send_streams.proofs.PauseLemmas.{paused_same}
 use Rattle.dcsctp_send_streams.proofs.StreamLemmas.{holds_read, ranked_read}
 use Rattle.dcsctp_send_streams.proofs.streams.Streams.restore.Goals as goal
 
@@ -15,6 +15,7 @@ invariant_of-self c =
     record {
       ranked = ranked_read _ _ _ _ _ c.args.place _ _ _ _ c.self.invariant.ranked lt c.index_mut-stream.ensures.value c.turn-before.ensures.turn c.turn-after.ensures.turn
           (rw c.restore.ensures refl) c.move_turn.ensures.turns c.move_turn.ensures.capacity;
-      counted = counted_same _ _ c.args.place _ _ c.self.invariant.counted lt c.index_mut-stream.ensures.value (rw c.restore.ensures refl);
+      paused = paused_same _ _ c.args.place _ _ c.self.invariant.ranked.ascending c.self.invariant.paused lt c.index_mut-stream.ensures.value
+          (rw c.restore.ensures refl) (rw c.restore.ensures refl);
       bytes = bytes_set _ c.args.place _ c.self.invariant.bytes c.turn-after.ensures.bytes;
     }
