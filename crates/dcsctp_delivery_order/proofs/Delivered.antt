@@ -14,12 +14,12 @@ use Rattle.dcsctp_delivery_order.specs.Delivered.{DeliveredInOrder, DeliveredWit
 use Rattle.dcsctp_delivery_order.proofs.Gaps.{filled_no_gap}
 use Rattle.dcsctp_delivery_order.proofs.Incoming.{ordered_was_read}
 
-pub read_is_in_order : (queued : List Message) (history : History) (quiet : ℕ → Bool) (got : List ℕ) (base : ℕ) (places : List ℕ) (incoming : IncomingModel) (read : List MessageContent)
-    → WereQueued queued places read → AreDistinct places → ((id : ℕ) → CountsFromZero history id) → IncomingOrdered false queued history quiet got base places incoming → DeliveredInOrder queued read
-read_is_in_order queued history quiet got base places incoming read were once counts o =
+pub read_is_in_order : (gapless : ℕ → Bool) (queued : List Message) (history : History) (quiet : ℕ → Bool) (got : List ℕ) (base : ℕ) (places : List ℕ) (incoming : IncomingModel) (read : List MessageContent)
+    → WereQueued queued places read → AreDistinct places → ((id : ℕ) → CountsFromZero history id) → IncomingOrdered gapless queued history quiet got base places incoming → DeliveredInOrder queued read
+read_is_in_order gapless queued history quiet got base places incoming read were once counts o =
     record {
       delivered = record { places = places; were_queued = were; once = once };
-      in_order = λ id. ordered_was_read false queued history quiet got base places incoming id (counts id) o;
+      in_order = λ id. ordered_was_read gapless queued history quiet got base places incoming id (counts id) o;
     }
 
 module _ (queued : List Message) (id : ℕ) where
@@ -43,12 +43,12 @@ module _ (queued : List Message) (id : ℕ) where
 
 pub read_is_front : (queued : List Message) (history : History) (got : List ℕ) (base : ℕ) (places : List ℕ) (incoming : IncomingModel) (read : List MessageContent)
     → WereQueued queued places read → AreDistinct places → ((id : ℕ) → CountsFromZero history id) → ((id : ℕ) → SendsInTurn queued history id)
-    → IncomingOrdered true queued history (λ id. false) got base places incoming → DeliveredWithoutGaps queued read
+    → IncomingOrdered (λ id. true) queued history (λ id. false) got base places incoming → DeliveredWithoutGaps queued read
 read_is_front queued history got base places incoming read were once counts sends o =
     record {
       ordered = record {
         delivered = record { places = places; were_queued = were; once = once };
-        in_order = λ id. ordered_was_read true queued history (λ k. false) got base places incoming id (counts id) o;
+        in_order = λ id. ordered_was_read (λ k. true) queued history (λ k. false) got base places incoming id (counts id) o;
       };
       no_gap = λ id. (
           let s = o.order id (counts id) in

@@ -25,7 +25,8 @@ use Rattle.dcsctp_delivery_directions.proofs.Standing.{Stands}
 use Rattle.dcsctp_delivery_directions.proofs.Steps.{stepped, more_queued}
 use Rattle.dcsctp_delivery_order.specs.Delivered.{DeliveredInOrder}
 use Rattle.dcsctp_delivery_order.specs.Reading.{CountsFromZero}
-use Rattle.dcsctp_delivery_order.specs.Received.{none_quiet, ReassemblesInOrder, none_handled, some_handled}
+use Rattle.dcsctp_delivery_order.specs.Incoming.{NoneLimitedOn}
+use Rattle.dcsctp_delivery_order.specs.Received.{none_quiet, none_gapless, ReassemblesInOrder, none_handled, some_handled}
 use Rattle.dcsctp_delivery_order.proofs.Beginning.{waits_from}
 use Rattle.dcsctp_delivery_order.proofs.Delivered.{read_is_in_order}
 use Rattle.dcsctp_delivery_order.proofs.Follows.{counts_from_zero}
@@ -36,7 +37,7 @@ use Rattle.dcsctp_delivery_order.proofs.Unsent.{received_none}
 -- ---- what holds throughout
 
 -- The newest request has no end, if it isn't known to be performed.
-abbrev Unended : Asking → Type 0
+abbrev pub Unended : Asking → Type 0
 Unended asking = asking.is_performed ≡ false → (asking.requests ≡ []) ⊎ (0 < asking.out)
 
 -- The history, the streams that the newest request names, and what the receiver has where few TSNs were assigned. This is of a
@@ -47,7 +48,11 @@ record GoesInOrder (first : ℕ) (direction : Direction) : Type 0 where
   unended : direction.queues.queue.is_interleaved ≡ true → Unended direction.asking
   zero : direction.queues.queue.is_interleaved ≡ true → direction.beginning.from_zero ≡ true → (id : ℕ) → stands.history.floors id false % 2 ^ 32 ≡ 0
   arrives : length stands.history.log < 2 ^ 31 → direction.queues.queue.is_interleaved ≡ true → direction.beginning.from_zero ≡ true
-      → Arrives first stands.history direction.queued direction.read direction.tracker direction.reassembly direction.queues.queue.streams
+      → Arrives none_gapless first stands.history direction.queued direction.read direction.tracker direction.reassembly direction.queues.queue.streams
+
+-- no stream is without gaps
+none_free : (log : List Slot) → NoneLimitedOn none_gapless log
+none_free log n f at is = absurd (cc)
 
 -- ---- an association begins
 
@@ -67,7 +72,7 @@ begins_so first direction s floors is none_out none_asked at_zero =
             were = a.were;
             once = a.once;
             quiet = none_quiet;
-            received = received_none direction.queued s.history (ap (λ (h : History). h.log) is) first a.places direction.tracker direction.reassembly a.received;
+            received = received_none direction.queued s.history (ap (λ (h : History). h.log) is) none_gapless first a.places direction.tracker direction.reassembly a.received;
             silent = λ id silent. absurd (cc);
           }
           );
@@ -76,16 +81,16 @@ begins_so first direction s floors is none_out none_asked at_zero =
 -- ---- a step that ends no reset
 
 -- What no such step changes.
-record Keeps (old direction : Direction) : Type 0 where
-  start : direction.beginning.from_zero ≡ old.beginning.from_zero
-  kind : direction.queues.queue.is_interleaved ≡ old.queues.queue.is_interleaved
-  unended : Unended old.asking → Unended direction.asking
+pub record Keeps (old direction : Direction) : Type 0 where
+  pub start : direction.beginning.from_zero ≡ old.beginning.from_zero
+  pub kind : direction.queues.queue.is_interleaved ≡ old.queues.queue.is_interleaved
+  pub unended : Unended old.asking → Unended direction.asking
 
 begun_unended : (begun : Option BegunReset) (asking : Asking) → Unended asking → Unended (asking_with begun asking)
 begun_unended None asking unended = unended
 begun_unended (Some begun) asking unended = λ unknown. inr (omega arith)
 
-step_keeps : (old direction : Direction) (step : DirectionStep old direction) → EndsNone old direction step → Keeps old direction
+pub step_keeps : (old direction : Direction) (step : DirectionStep old direction) → EndsNone old direction step → Keeps old direction
 step_keeps old _ (queues now sending fits some) ends = record { start = refl; kind = refl; unended = λ u. u }
 step_keeps old _ (sets setting fits) ends = record { start = refl; kind = setting_kind setting old.queues.queue; unended = λ u. u }
 step_keeps old _ (prepares ids fit kept) ends = record { start = refl; kind = preparing_kind ids old.queues.queue; unended = λ u. u }
@@ -130,14 +135,14 @@ goes_on_in_order first old small g direction few step ends =
           let sizes : length s.history.log ≡ length (c.more ++ g.stands.history.log) = ap (λ (l : List Slot). length l) c.log in
           let before : length g.stands.history.log < 2 ^ 31 = omega (arith, little, sizes, length-append c.more g.stands.history.log) in
           let was : old.queues.queue.is_interleaved ≡ true = sym k.kind ∙ interleaved in
-          arrives_later first g.stands.history s.history old.queues.queue.streams direction.queues.queue.streams old.asking.out direction.asking.out c direction.queued [] direction.read direction.tracker direction.reassembly
-          (arrives_on first old small g.stands before was direction step ends g.named (g.unended was) (g.arrives before was (sym k.start ∙ from)))
+          arrives_later none_gapless first g.stands.history s.history old.queues.queue.streams direction.queues.queue.streams old.asking.out direction.asking.out c direction.queued [] direction.read direction.tracker direction.reassembly
+          (arrives_on none_gapless first old small g.stands (none_free g.stands.history.log) before was direction step ends g.named (g.unended was) (g.arrives before was (sym k.start ∙ from)))
           );
     }
 
 -- ---- a step that ends a reset
 
-raised_zero : (b : Bool) (floor size : ℕ) → floor % 2 ^ 32 ≡ 0 → (if b then 2 ^ 32 * (floor + size + 1) else floor) % 2 ^ 32 ≡ 0
+pub raised_zero : (b : Bool) (floor size : ℕ) → floor % 2 ^ 32 ≡ 0 → (if b then 2 ^ 32 * (floor + size + 1) else floor) % 2 ^ 32 ≡ 0
 raised_zero true floor size is = omega arith
 raised_zero false floor size is = is
 
@@ -154,8 +159,8 @@ steps_in_order first old small g _ few (commits go_on) =
       arrives = λ little interleaved from. (
           let raises = ended_raises first old small g.stands few go_on interleaved in
           let before : length g.stands.history.log < 2 ^ 31 = subst (λ (h : History). length h.log < 2 ^ 31) raises little in
-          subst (λ (h : History). Arrives first h old.queued old.read old.tracker old.reassembly (queue_committed old.queues.queue).streams) (sym raises)
-          (committing_arrives first old small g.stands before interleaved (go_on interleaved).0 (go_on interleaved).1 (g.zero interleaved from) (g.arrives before interleaved from))
+          subst (λ (h : History). Arrives none_gapless first h old.queued old.read old.tracker old.reassembly (queue_committed old.queues.queue).streams) (sym raises)
+          (committing_arrives none_gapless first old small g.stands (none_free g.stands.history.log) before interleaved (go_on interleaved).0 (go_on interleaved).1 (g.zero interleaved from) (g.arrives before interleaved from))
           );
     }
 steps_in_order first old small g _ few (rolls_back unmixed) =
@@ -226,6 +231,6 @@ directions_deliver_in_order options first size direction run small little few in
     go s a.quiet a.received.got a.places a.were a.once counts a.received.holds
   where
     go : (s : Stands first direction) (quiet : ℕ → Bool) (got places : List ℕ) → WereQueued direction.queued places direction.read → AreDistinct places → ((id : ℕ) → CountsFromZero s.history id)
-        → ReassemblesInOrder false direction.queued s.history quiet first got places direction.reassembly.incoming → DeliveredInOrder direction.queued direction.read
-    go s quiet got places were once counts (none_handled none' last empty') = read_is_in_order direction.queued s.history quiet [] 0 places direction.reassembly.incoming direction.read were once counts (empty' 0)
-    go s quiet got places were once counts (some_handled base is holds) = read_is_in_order direction.queued s.history quiet got base places direction.reassembly.incoming direction.read were once counts holds
+        → ReassemblesInOrder none_gapless direction.queued s.history quiet first got places direction.reassembly.incoming → DeliveredInOrder direction.queued direction.read
+    go s quiet got places were once counts (none_handled none' last empty') = read_is_in_order none_gapless direction.queued s.history quiet [] 0 places direction.reassembly.incoming direction.read were once counts (empty' 0)
+    go s quiet got places were once counts (some_handled base is holds) = read_is_in_order none_gapless direction.queued s.history quiet got base places direction.reassembly.incoming direction.read were once counts holds

@@ -27,7 +27,7 @@ use Rattle.dcsctp_delivery_directions.proofs.Steps.{stepped, more_queued}
 use Rattle.dcsctp_delivery_order.specs.Delivered.{DeliveredWithoutGaps}
 use Rattle.dcsctp_delivery_order.specs.Gaps.{SendsInTurn}
 use Rattle.dcsctp_delivery_order.specs.Reading.{CountsFromZero}
-use Rattle.dcsctp_delivery_order.specs.Received.{none_quiet, ReassemblesInOrder, none_handled, some_handled}
+use Rattle.dcsctp_delivery_order.specs.Received.{none_quiet, all_gapless, ReassemblesInOrder, none_handled, some_handled}
 use Rattle.dcsctp_delivery_order.proofs.Beginning.{waits_from}
 use Rattle.dcsctp_delivery_order.proofs.Delivered.{read_is_front}
 use Rattle.dcsctp_delivery_order.proofs.Follows.{counts_from_zero}
@@ -167,7 +167,7 @@ directions_deliver_without_gaps options first size direction run small little fe
   where
     go : (history : History) (got places : List ℕ) → WereQueued direction.queued places direction.read → AreDistinct places
         → ((id : ℕ) → CountsFromZero history id) → ((id : ℕ) → SendsInTurn direction.queued history id)
-        → ReassemblesInOrder true direction.queued history none_quiet first got places direction.reassembly.incoming
+        → ReassemblesInOrder all_gapless direction.queued history none_quiet first got places direction.reassembly.incoming
         → DeliveredWithoutGaps direction.queued direction.read
     go history got places were once counts turns (none_handled none' last empty) =
         read_is_front direction.queued history [] 0 places direction.reassembly.incoming direction.read were once counts turns (empty 0)

@@ -19,7 +19,7 @@ use Rattle.dcsctp_delivery_receiving.proofs.Continuing.{GoesOn}
 use Rattle.dcsctp_delivery_receiving.proofs.Distinct.{has_left, has_right}
 use Rattle.dcsctp_delivery_receiving.proofs.Tracked.{new_is_new, delayed_tracks, more_given_out}
 use Rattle.dcsctp_delivery_order.specs.Incoming.{IsWithin}
-use Rattle.dcsctp_delivery_order.specs.Received.{none_quiet, ReassemblesInOrder, none_handled, some_handled}
+use Rattle.dcsctp_delivery_order.specs.Received.{none_quiet, all_gapless, ReassemblesInOrder, none_handled, some_handled}
 use Rattle.dcsctp_delivery_order.proofs.Incoming.{taking_in_order}
 use Rattle.dcsctp_delivery_order.proofs.Received.{data_in_order, tracks_fewer, tracks_alike}
 use Rattle.dcsctp_delivery_order.proofs.Taken.{reassembles_more}
@@ -30,7 +30,7 @@ use Rattle.dcsctp_delivery_order.proofs.Unsent.{reassembles_none}
 pub record HasReceivedFront (queued : List Message) (history : History) (first : ℕ) (read : List ℕ) (tracker : TrackerState) (incoming : IncomingModel) : Type 0 where
   pub got : List ℕ
   pub tracks : Tracks first (length history.log) got tracker
-  pub holds : ReassemblesInOrder true queued history none_quiet first got read incoming
+  pub holds : ReassemblesInOrder all_gapless queued history none_quiet first got read incoming
 
 -- nothing was sent yet
 pub received_front_none : (queued : List Message) (history : History) → history.log ≡ []
@@ -40,7 +40,7 @@ received_front_none queued history empty first read tracker reassembly r =
     record {
       got = r.got;
       tracks = tracks_fewer first (length history.log) r.taken r.got tracker r.got_taken r.tracks;
-      holds = reassembles_none queued history empty true first r.got read reassembly.incoming r.holds;
+      holds = reassembles_none queued history empty all_gapless first r.got read reassembly.incoming r.holds;
     }
 
 -- when an acknowledgement is due is another matter
@@ -78,7 +78,7 @@ module _ (queued : List Message) (history : History) (first : ℕ) (cut : Cut qu
       record {
         got = r.got;
         tracks = tracks_fewer first (length history.log) (offset ∷ r.got) r.got now (λ k h. inr h) its_tracks;
-        holds = subst (λ (s : ReassemblyState). ReassemblesInOrder true queued history none_quiet first r.got read s.incoming) (sym same) r.holds;
+        holds = subst (λ (s : ReassemblyState). ReassemblesInOrder all_gapless queued history none_quiet first r.got read s.incoming) (sym same) r.holds;
       }
 
   added : (HasEntry offset r.got → ⊥) → AddsData arrival.tsn arrival.chunk old.reassembly new.reassembly → (b : Bool)
@@ -89,7 +89,7 @@ module _ (queued : List Message) (history : History) (first : ℕ) (cut : Cut qu
       record {
         got = offset ∷ r.got;
         tracks = its_tracks;
-        holds = data_in_order queued history first cut told f none_quiet read true r.got offset arrival.tsn arrival.chunk old.reassembly.incoming new.reassembly.incoming
+        holds = data_in_order queued history first cut told f none_quiet read all_gapless r.got offset arrival.tsn arrival.chunk old.reassembly.incoming new.reassembly.incoming
             (record { carries = c; current = current offset c.piece c.at }) is_new refl r.holds (adds.taken counts (not_deferred arrival.tsn arrival.chunk.stream old.reassembly.deferral idle)).incoming;
       }
 
@@ -133,13 +133,13 @@ pub takes_front : (queued : List Message) (history : History) (first : ℕ) (rea
     → HasReceivedFront queued history first read tracker incoming → TakesFront queued history first read tracker incoming message messages
 takes_front queued history first read tracker incoming message messages is r = go r.holds
   where
-    go : ReassemblesInOrder true queued history none_quiet first r.got read incoming
+    go : ReassemblesInOrder all_gapless queued history none_quiet first r.got read incoming
         → TakesFront queued history first read tracker incoming message messages
     go (some_handled base at holds) =
-        let t = taking_in_order true queued history none_quiet r.got base read incoming message messages is holds in
+        let t = taking_in_order all_gapless queued history none_quiet r.got base read incoming message messages is holds in
         record { place = t.place; was = t.was; fresh = t.fresh; received = record { got = r.got; tracks = r.tracks; holds = some_handled base at t.ordered } }
     go (none_handled none last empty) =
-        let t = taking_in_order true queued history none_quiet [] 0 read incoming message messages is (empty 0) in
+        let t = taking_in_order all_gapless queued history none_quiet [] 0 read incoming message messages is (empty 0) in
         let spent = t.ordered.holds.spent t.place (has_left t.place (read ++ t.place ∷ []) t.ordered.holds.places (has_right t.place read (t.place ∷ []) (inl refl))) in
         absurd (spent.covered spent.offset (omega arith) spent.order)
 
@@ -153,5 +153,5 @@ received_front_later queued more history later goes within read contents were fi
     record {
       got = r.got;
       tracks = more_given_out first (length history.log) (length later.log) r.got tracker goes.longer r.tracks;
-      holds = reassembles_more queued more history later goes within none_quiet read contents were true first r.got incoming r.holds;
+      holds = reassembles_more queued more history later goes within none_quiet read contents were all_gapless first r.got incoming r.holds;
     }

@@ -23,7 +23,7 @@ use Rattle.dcsctp_delivery_order.proofs.Gaps.{new_filled}
 
 -- ---- an association that was just begun
 
-pub beginning_in_order : (gapless : Bool) (queued : List Message) (history : History) (quiet : ℕ → Bool) (base : ℕ) → IncomingOrdered gapless queued history quiet [] base [] nothing
+pub beginning_in_order : (gapless : ℕ → Bool) (queued : List Message) (history : History) (quiet : ℕ → Bool) (base : ℕ) → IncomingOrdered gapless queued history quiet [] base [] nothing
 beginning_in_order gapless queued history quiet base =
     record {
       holds = record {
@@ -38,7 +38,7 @@ beginning_in_order gapless queued history quiet base =
       order = λ id counts. first id (quiet id);
     }
   where
-    first : (id : ℕ) (b : Bool) → OrderWhere gapless b queued history id [] [] (new_stream id)
+    first : (id : ℕ) (b : Bool) → OrderWhere (gapless id) b queued history id [] [] (new_stream id)
     first id false = record { order = new_in_order queued history id; reach = record { from = omega arith; up_to = omega arith }; filled = λ is. new_filled history id }
     first id true = record { in_order = tt; sent = λ place has on. absurd has }
 
@@ -48,7 +48,7 @@ pub quiet_where : (gapless : Bool) (queued : List Message) (history : History) (
 quiet_where gapless queued history false id all waits stream o = come_between queued history id all waits stream o.order
 quiet_where gapless queued history true id all waits stream between = between
 
-module _ (gapless : Bool) (queued : List Message) (history : History) (quiet : ℕ → Bool) (got : List ℕ) (base : ℕ) (read : List ℕ) where
+module _ (gapless : ℕ → Bool) (queued : List Message) (history : History) (quiet : ℕ → Bool) (got : List ℕ) (base : ℕ) (read : List ℕ) where
   rows_left : (test : RunModel → Bool) (runs : List RunModel) → AreRows history.log got (unordered_base base) IsOfStream runs → AreRows history.log got (unordered_base base) IsOfStream (filter test runs)
   rows_left test [] are = tt
   rows_left test (r ∷ runs) are = go (test r) (rows_left test runs are.1)
@@ -71,7 +71,7 @@ module _ (gapless : Bool) (queued : List Message) (history : History) (quiet : �
           spent = o.holds.spent;
           once = λ id. left_once id (named id);
         };
-        order = λ id counts. subst (λ (s : StreamModel). OrderWhere gapless (quiet id || named id) queued history id (read ++ o.holds.places) (if named id then [] else o.holds.waits id) s) (sym (are id))
+        order = λ id counts. subst (λ (s : StreamModel). OrderWhere (gapless id) (quiet id || named id) queued history id (read ++ o.holds.places) (if named id then [] else o.holds.waits id) s) (sym (are id))
             (left_order id (quiet id) (named id) (o.order id counts));
       }
     where
@@ -83,11 +83,11 @@ module _ (gapless : Bool) (queued : List Message) (history : History) (quiet : �
       left_once id true = distinct_front (read ++ o.holds.places) (o.holds.waits id) (o.holds.once id)
       left_once id false = o.holds.once id
 
-      left_order : (id : ℕ) (was b : Bool) → OrderWhere gapless was queued history id (read ++ o.holds.places) (o.holds.waits id) (streams id)
-          → OrderWhere gapless (was || b) queued history id (read ++ o.holds.places) (if b then [] else o.holds.waits id) (if b then new_stream id else streams id)
+      left_order : (id : ℕ) (was b : Bool) → OrderWhere (gapless id) was queued history id (read ++ o.holds.places) (o.holds.waits id) (streams id)
+          → OrderWhere (gapless id) (was || b) queued history id (read ++ o.holds.places) (if b then [] else o.holds.waits id) (if b then new_stream id else streams id)
       left_order id true true between = between
       left_order id true false between = between
-      left_order id false true ordered = quiet_where gapless queued history false id (read ++ o.holds.places) (o.holds.waits id) (streams id) ordered
+      left_order id false true ordered = quiet_where (gapless id) queued history false id (read ++ o.holds.places) (o.holds.waits id) (streams id) ordered
       left_order id false false ordered = ordered
 
   pub resetting_in_order : (streams : List ℕ) (old new : IncomingModel) → IncomingOrdered gapless queued history quiet got base read old → ResetsStreams streams old new → IncomingOrdered gapless queued history (λ id. quiet id || names_stream streams id) got base read new
@@ -132,7 +132,7 @@ module _ (gapless : Bool) (queued : List Message) (history : History) (quiet : �
                 spent = λ q h. o.holds.spent q (subst (λ (l : List ℕ). HasEntry q l) (sym all) h);
                 once = λ id. subst (λ (l : List ℕ). AreDistinct (l ++ o.holds.waits id)) all (o.holds.once id);
               };
-              order = λ id counts. subst (λ (l : List ℕ). OrderWhere gapless (quiet id) queued history id l (o.holds.waits id) (stream_on id incoming.streams)) all (o.order id counts);
+              order = λ id counts. subst (λ (l : List ℕ). OrderWhere (gapless id) (quiet id) queued history id l (o.holds.waits id) (stream_on id incoming.streams)) all (o.order id counts);
             };
           }
 
@@ -145,7 +145,7 @@ module _ (gapless : Bool) (queued : List Message) (history : History) (quiet : �
       among p (z ∷ zs) h = elim h [ inl e ↦ inl e | inr t ↦ inr (among p zs t) ]
 
   pub ordered_was_read : (incoming : IncomingModel) (id : ℕ) → CountsFromZero history id → IncomingOrdered gapless queued history quiet got base read incoming → ComeInOrder queued id read
-  ordered_was_read incoming id counts o = in_order_front id read o.holds.places (quiet_where gapless queued history (quiet id) id (read ++ o.holds.places) (o.holds.waits id) (stream_on id incoming.streams) (o.order id counts)).in_order
+  ordered_was_read incoming id counts o = in_order_front id read o.holds.places (quiet_where (gapless id) queued history (quiet id) id (read ++ o.holds.places) (o.holds.waits id) (stream_on id incoming.streams) (o.order id counts)).in_order
 
 -- ---- more that the peer queues and sends
 

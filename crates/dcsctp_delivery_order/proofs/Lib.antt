@@ -44,5 +44,6 @@ pub mod FewReceived
 pub mod FewEntries
 pub mod PlainFront
 pub mod Directions
+pub mod StreamDirections
 pub mod FrontSteps
 pub mod Front

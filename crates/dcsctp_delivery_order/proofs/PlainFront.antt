@@ -34,7 +34,7 @@ module _ (queued : List Message) (history : History) (cut : Cut queued history.l
   plain_in_turn id queue holds lost earlier later mid on sent less =
       let s = sent_from queued history cut counts id later mid sent in
       let before : earlier < s.piece.place = (let is = s.place_is in omega (arith, is, less)) in
-      let was = sent_before queued history.log queue cut holds lost id earlier s.offset s.piece on s.is.at s.is.stream before in (
+      let was = sent_before queued history.log queue cut holds id earlier s.offset (λ place message at on. lost place message at) s.piece on s.is.at s.is.stream before in (
         turn_at id was.offset history.log - 1,
         subst (λ (k : ℕ). IsSentAs (with_turns history) id k (turn_at id was.offset history.log - 1)) was.is
             (sent_as queued history cut counts id was.offset was.piece (record { at = was.at; stream = was.stream; ordered = was.ordered })),

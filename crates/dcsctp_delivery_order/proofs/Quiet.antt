@@ -29,6 +29,7 @@ use Rattle.dcsctp_delivery_directions.proofs.Continuing.{IsOutFor, NamedAreOut, 
 use Rattle.dcsctp_delivery_directions.proofs.Performing.{IsNewest, newest_of, passed_before}
 use Rattle.dcsctp_delivery_directions.proofs.Receiving.{known_log, known_few, known_kinds}
 use Rattle.dcsctp_delivery_directions.proofs.Standing.{Stands}
+use Rattle.dcsctp_delivery_order.specs.Incoming.{NoneLimitedOn}
 use Rattle.dcsctp_delivery_order.specs.Received.{HasReceivedInOrder}
 use Rattle.dcsctp_delivery_order.proofs.Ending.{quiet_with, ends_in_order}
 use Rattle.dcsctp_delivery_order.proofs.Taken.{received_later}
@@ -44,17 +45,17 @@ abbrev pub AreSilent : (ℕ → Bool) → History → ℕ → ℕ → List Strea
 AreSilent quiet history first cumulative streams reassembly = (id : ℕ) → quiet id ≡ true → IsSilent history first cumulative streams reassembly id
 
 -- What was read was queued, and what was received is in order. `streams` are those of the sender's queue.
-pub record Arrives (first : ℕ) (history : History) (queued : List Message) (read : List MessageContent) (tracker : TrackerState) (reassembly : ReassemblyState) (streams : List Stream) : Type 0 where
+pub record Arrives (gapless : ℕ → Bool) (first : ℕ) (history : History) (queued : List Message) (read : List MessageContent) (tracker : TrackerState) (reassembly : ReassemblyState) (streams : List Stream) : Type 0 where
   pub places : List ℕ
   pub were : WereQueued queued places read
   pub once : AreDistinct places
   pub quiet : ℕ → Bool
-  pub received : HasReceivedInOrder queued history quiet first places tracker reassembly
+  pub received : HasReceivedInOrder gapless queued history quiet first places tracker reassembly
   pub silent : AreSilent quiet history first tracker.cumulative streams reassembly
 
 -- ---- the history continues
 
-module _ (first : ℕ) (history later : History) (before after : List Stream) (out left : ℕ) (c : Continues history later before after out left) where
+module _ (gapless : ℕ → Bool) (first : ℕ) (history later : History) (before after : List Stream) (out left : ℕ) (c : Continues history later before after out left) where
   silent_later : (quiet : ℕ → Bool) (cumulative : ℕ) (reassembly : ReassemblyState) → AreSilent quiet history first cumulative before reassembly → AreSilent quiet later first cumulative after reassembly
   silent_later quiet cumulative reassembly silent id is =
       let q = silent id is in
@@ -71,8 +72,8 @@ module _ (first : ℕ) (history later : History) (before after : List Stream) (o
         clear = q.clear;
       }
 
-  pub arrives_later : (queued more : List Message) (read : List MessageContent) (tracker : TrackerState) (reassembly : ReassemblyState) → Arrives first history queued read tracker reassembly before
-      → Arrives first later (more ++ queued) read tracker reassembly after
+  pub arrives_later : (queued more : List Message) (read : List MessageContent) (tracker : TrackerState) (reassembly : ReassemblyState) → Arrives gapless first history queued read tracker reassembly before
+      → Arrives gapless first later (more ++ queued) read tracker reassembly after
   arrives_later queued more read tracker reassembly a =
       record {
         places = a.places;
@@ -81,7 +82,7 @@ module _ (first : ℕ) (history later : History) (before after : List Stream) (o
         quiet = a.quiet;
         received = received_later queued more history later
             (record { stays = stays; current = λ n f at is. subst (λ (floors : ℕ → Bool → ℕ). floors f.message.stream f.message.is_unordered ≤ f.mid) (sym c.floors) is; longer = longer; marks = c.marks })
-            (record { stays = stays; floors = c.floors }) a.quiet a.places read a.were first tracker reassembly a.received;
+            (record { stays = stays; floors = c.floors }) a.quiet a.places read a.were gapless first tracker reassembly a.received;
         silent = silent_later a.quiet tracker.cumulative reassembly a.silent;
       }
     where
@@ -102,7 +103,7 @@ named_new : (id : ℕ) (streams : List ℕ) (old between : IncomingModel) → na
 named_new id [] old between named resets = resets.streams id
 named_new id (one ∷ others) old between named resets = resets.streams id ∙ rw named refl
 
-module _ (first : ℕ) (old : Direction) (small : first < 2 ^ 32) (s : Stands first old) (little : length s.history.log < 2 ^ 31) (interleaved : old.queues.queue.is_interleaved ≡ true)
+module _ (gapless : ℕ → Bool) (first : ℕ) (old : Direction) (small : first < 2 ^ 32) (s : Stands first old) (free : NoneLimitedOn gapless s.history.log) (little : length s.history.log < 2 ^ 31) (interleaved : old.queues.queue.is_interleaved ≡ true)
     (newest : BegunReset) (earlier : List BegunReset) (new : ReassemblyState) (asks : old.asking.requests ≡ newest ∷ earlier) (some : 0 < old.asking.out) (named : NamedAreOut s.history old.asking.out old.queues.queue.streams)
     (reached : is_reset_reached newest.reset old.tracker ≡ true) (own : IsOwn newest.reset old.reassembly.deferral) (leaves : EndsDeferral newest.reset.streams old.reassembly new) where
   abbrev m : IsNewest s.history.marks newest
@@ -142,14 +143,14 @@ module _ (first : ℕ) (old : Direction) (small : first < 2 ^ 32) (s : Stands fi
       none_kept s.history first id m.mark (known_kinds first old small s interleaved) few has within o.names o.below old.reassembly.deferral (s.queues.marks m.mark has).last
       (subst (λ (b : BegunReset). IsOwn b.reset old.reassembly.deferral) (sym m.begins) own) all.forwards
 
-  pub performing_arrives : Arrives first s.history old.queued old.read old.tracker old.reassembly old.queues.queue.streams → Arrives first s.history old.queued old.read old.tracker new old.queues.queue.streams
+  pub performing_arrives : Arrives gapless first s.history old.queued old.read old.tracker old.reassembly old.queues.queue.streams → Arrives gapless first s.history old.queued old.read old.tracker new old.queues.queue.streams
   performing_arrives a =
       record {
         places = a.places;
         were = a.were;
         once = a.once;
         quiet = quiet_with a.quiet newest.reset.streams;
-        received = ends_in_order old.queued s.history first s.queues.cut (known_log first old small s little) few a.places a.quiet newest.reset.streams old.tracker old.reassembly new
+        received = ends_in_order gapless old.queued s.history first s.queues.cut (known_log first old small s little) few free a.places a.quiet newest.reset.streams old.tracker old.reassembly new
             (λ id is. elim (either_quiet (a.quiet id) (names_stream newest.reset.streams id) is) [ inl was ↦ (a.silent id was).clear.none | inr names ↦ no_data id (out id names) ])
             (λ id is. elim (either_quiet (a.quiet id) (names_stream newest.reset.streams id) is) [ inl was ↦ (a.silent id was).clear.kept | inr names ↦ no_skips id (out id names) ])
             all.forwards a.received leaves;

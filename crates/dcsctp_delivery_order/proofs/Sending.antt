@@ -19,6 +19,7 @@ use Rattle.dcsctp_delivery_order.specs.Queue.{IsOrderedOn}
 use Rattle.dcsctp_delivery_order.specs.Reading.{CountsFromZero}
 use Rattle.dcsctp_delivery_order.specs.Gaps.{SendsInTurn}
 use Rattle.dcsctp_delivery_order.specs.Sending.{WasSentOf, StillWaits, NoneLost, NoneExpires}
+use Rattle.dcsctp_delivery_order.specs.Streams.{NoneLostOn, CurrentOn}
 
 pub handing_loses_none : (queued : List Message) (history : History) (now max : ℕ) (old new : SendQueueState) (told_before told_after : List (Event (List ℕ))) (part : Fragment)
     → NoneExpires old.streams → TakesFragment now max old told_before part new told_after → (hands : HandsOutPiece queued history part new)
@@ -76,8 +77,8 @@ pub record IsSentOn (log : List Slot) (id place : ℕ) : Type 0 where
 
 -- A message of the stream that was queued before one that was sent was sent as well, since the queue hands them out in turn.
 module _ (queued : List Message) (log : List Slot) (queue : SendQueueState) (cut : Cut queued log)
-    (holds : HoldsQueued queued log queue.streams queue.under_way) (lost : NoneLost queued log queue.streams)
-    (id earlier number : ℕ) (piece : Piece) (on : IsOrderedOn queued id earlier) (at : at_place number log ≡ Some (Some piece)) (stream : piece.message.stream ≡ id) (less : earlier < piece.place) where
+    (holds : HoldsQueued queued log queue.streams queue.under_way)
+    (id earlier number : ℕ) (lost : NoneLostOn id queued log queue.streams) (piece : Piece) (on : IsOrderedOn queued id earlier) (at : at_place number log ≡ Some (Some piece)) (stream : piece.message.stream ≡ id) (less : earlier < piece.place) where
   its_stream : (waits : StillWaits queue.streams earlier) → (stream_at queue.streams waits.q).id ≡ id
   its_stream waits =
       let w = queued_of queued (stream_at queue.streams waits.q).id (stream_at queue.streams waits.q).messages waits.waiting (holds.wait waits.q) waits.has in
@@ -128,18 +129,24 @@ module _ (queued : List Message) (log : List Slot) (queue : SendQueueState) (cut
 
   pub sent_before : IsSentOn log id earlier
   sent_before =
-      elim (lost earlier on.message on.at) [
+      elim (lost earlier on.message on.at on.stream) [
         | inl was ↦ was_sent was
         | inr waits ↦ was_sent (by_wait waits queue.under_way holds.going (holds.beyond waits.q number piece at (stream ∙ sym (its_stream waits))))
       ]
 
-pub sends_in_turn : (queued : List Message) (history : History) (id : ℕ) (queue : SendQueueState) → CountsFromZero history id → AreCurrent history history.log → Cut queued history.log
-    → HoldsQueued queued history.log queue.streams queue.under_way → NoneLost queued history.log queue.streams → SendsInTurn queued history id
-sends_in_turn queued history id queue counts current cut holds lost earlier later mid on sent less =
+-- It suffices that this holds of the stream.
+pub sends_in_turn_on : (queued : List Message) (history : History) (id : ℕ) (queue : SendQueueState) → CountsFromZero history id → CurrentOn id history → Cut queued history.log
+    → HoldsQueued queued history.log queue.streams queue.under_way → NoneLostOn id queued history.log queue.streams → SendsInTurn queued history id
+sends_in_turn_on queued history id queue counts current cut holds lost earlier later mid on sent less =
     let before : earlier < sent.piece.place = (let is = sent.is in omega (arith, is, less)) in
-    let was = sent_before queued history.log queue cut holds lost id earlier sent.offset sent.piece on sent.at sent.stream before in
-    let low = current was.offset was.piece was.at (counts.kinds was.offset was.piece was.at) in (
+    let was = sent_before queued history.log queue cut holds id earlier sent.offset lost sent.piece on sent.at sent.stream before in
+    let low = current was.offset was.piece was.at was.stream (counts.kinds was.offset was.piece was.at) in (
       was.piece.mid,
       record { offset = was.offset; piece = was.piece; at = was.at; is = was.is; stream = was.stream; ordered = was.ordered; under = refl },
       subst (λ (k : ℕ). history.floors k false ≤ was.piece.mid) was.stream (subst (λ (b : Bool). history.floors was.piece.message.stream b ≤ was.piece.mid) was.ordered low),
     )
+
+pub sends_in_turn : (queued : List Message) (history : History) (id : ℕ) (queue : SendQueueState) → CountsFromZero history id → AreCurrent history history.log → Cut queued history.log
+    → HoldsQueued queued history.log queue.streams queue.under_way → NoneLost queued history.log queue.streams → SendsInTurn queued history id
+sends_in_turn queued history id queue counts current cut holds lost =
+    sends_in_turn_on queued history id queue counts (λ n f at on. current n f at) cut holds (λ place message at on. lost place message at)

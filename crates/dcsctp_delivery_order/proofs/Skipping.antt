@@ -22,13 +22,13 @@ use Rattle.dcsctp_delivery_receiving.proofs.Waiting.{both_queued, wait_spent, sp
 use Rattle.dcsctp_delivery_order.specs.Rising.{DeliversRising}
 use Rattle.dcsctp_delivery_order.specs.Order.{IsReadAs, AreReadAs}
 use Rattle.dcsctp_delivery_order.specs.Reading.{CountsFromZero, IsInReach, OrderedStream}
-use Rattle.dcsctp_delivery_order.specs.Incoming.{OrderWhere, NoneIsQuiet, HoldsOrdered, IncomingOrdered}
+use Rattle.dcsctp_delivery_order.specs.Incoming.{OrderWhere, NoneIsQuiet, HoldsOrdered, IncomingOrdered, NoneLimitedOn}
 use Rattle.dcsctp_delivery_order.proofs.Rising.{skips_deliver_rising}
 use Rattle.dcsctp_delivery_order.proofs.Order.{order_then}
 use Rattle.dcsctp_delivery_order.proofs.Reading.{mids_are_read, skips_in_reach}
 use Rattle.dcsctp_delivery_order.proofs.Leaving.{others_where, one_stream, wait_on_it, split_ordered, LeavesOrder, none_left, alike_ordered}
 
-module _ (gapless : Bool) (skips_some : gapless ≡ false) (queued : List Message) (history : History) (quiet : ℕ → Bool) (got : List ℕ) (base : ℕ) (read : List ℕ) where
+module _ (gapless : ℕ → Bool) (queued : List Message) (history : History) (free : NoneLimitedOn gapless history.log) (quiet : ℕ → Bool) (got : List ℕ) (base : ℕ) (read : List ℕ) where
   rows_filter : (from : ℕ → ℕ) (Named : Piece → ℕ → Type 0) (test : RunModel → Bool) (runs : List RunModel) → AreRows history.log got from Named runs → AreRows history.log got from Named (filter test runs)
   rows_filter from Named test [] are = tt
   rows_filter from Named test (r ∷ runs) are = go (test r) (rows_filter from Named test runs are.1)
@@ -59,13 +59,13 @@ module _ (gapless : Bool) (skips_some : gapless ≡ false) (queued : List Messag
           spent = o.holds.spent;
           once = o.holds.once;
         };
-        order = λ id counts. subst (λ (s : StreamModel). OrderWhere gapless (quiet id) queued history id (read ++ o.holds.places) (o.holds.waits id) s) (sym (same id)) (o.order id counts);
+        order = λ id counts. subst (λ (s : StreamModel). OrderWhere (gapless id) (quiet id) queued history id (read ++ o.holds.places) (o.holds.waits id) s) (sym (same id)) (o.order id counts);
       }
 
   -- one stream is left so
   holds_left : (id : ℕ) → quiet id ≡ false → (streams later : ℕ → StreamModel) (unordered : List RunModel) (ready after : List MessageContent) (o : HoldsOrdered gapless queued history quiet got base read streams unordered ready)
       → StreamRows history got base id (later id) → ((other : ℕ) → other ≢ id → later other ≡ streams other)
-      → LeavesOrder gapless queued history got (read ++ o.holds.places) o.holds.places id (later id) after → HoldsOrdered gapless queued history quiet got base read later unordered after
+      → LeavesOrder (gapless id) queued history got (read ++ o.holds.places) o.holds.places id (later id) after → HoldsOrdered gapless queued history quiet got base read later unordered after
   holds_left id loud streams later unordered ready after o rows others leaves =
       record {
         holds = record {
@@ -97,25 +97,33 @@ module _ (gapless : Bool) (skips_some : gapless ≡ false) (queued : List Messag
         };
         order = λ other counts. elim (decide other id) [
           | inl e ↦
-              subst (λ (k : ℕ). OrderWhere gapless (quiet k) queued history k (read ++ (o.holds.places ++ leaves.more)) (set_at id leaves.waits o.holds.waits k) (later k)) (sym e)
-              (subst (λ (l : List ℕ). OrderWhere gapless (quiet id) queued history id (read ++ (o.holds.places ++ leaves.more)) l (later id)) (sym (set_same id leaves.waits o.holds.waits))
-              (subst (λ (b : Bool). OrderWhere gapless b queued history id (read ++ (o.holds.places ++ leaves.more)) leaves.waits (later id)) (sym loud)
-              (subst (λ (l : List ℕ). OrderedStream gapless queued history id l leaves.waits (later id)) (appended read o.holds.places leaves.more) (leaves.order (subst (λ (k : ℕ). CountsFromZero history k) e counts)))))
+              subst (λ (k : ℕ). OrderWhere (gapless k) (quiet k) queued history k (read ++ (o.holds.places ++ leaves.more)) (set_at id leaves.waits o.holds.waits k) (later k)) (sym e)
+              (subst (λ (l : List ℕ). OrderWhere (gapless id) (quiet id) queued history id (read ++ (o.holds.places ++ leaves.more)) l (later id)) (sym (set_same id leaves.waits o.holds.waits))
+              (subst (λ (b : Bool). OrderWhere (gapless id) b queued history id (read ++ (o.holds.places ++ leaves.more)) leaves.waits (later id)) (sym loud)
+              (subst (λ (l : List ℕ). OrderedStream (gapless id) queued history id l leaves.waits (later id)) (appended read o.holds.places leaves.more) (leaves.order (subst (λ (k : ℕ). CountsFromZero history k) e counts)))))
           | inr ne ↦
-              subst (λ (l : List ℕ). OrderWhere gapless (quiet other) queued history other (read ++ (o.holds.places ++ leaves.more)) l (later other)) (sym (set_other id other leaves.waits o.holds.waits ne))
-              (subst (λ (s : StreamModel). OrderWhere gapless (quiet other) queued history other (read ++ (o.holds.places ++ leaves.more)) (o.holds.waits other) s) (sym (others other ne))
-              (subst (λ (l : List ℕ). OrderWhere gapless (quiet other) queued history other l (o.holds.waits other) (streams other)) (appended read o.holds.places leaves.more)
-              (others_where gapless queued history (quiet other) other (read ++ o.holds.places) (o.holds.waits other) leaves.more (streams other)
+              subst (λ (l : List ℕ). OrderWhere (gapless other) (quiet other) queued history other (read ++ (o.holds.places ++ leaves.more)) l (later other)) (sym (set_other id other leaves.waits o.holds.waits ne))
+              (subst (λ (s : StreamModel). OrderWhere (gapless other) (quiet other) queued history other (read ++ (o.holds.places ++ leaves.more)) (o.holds.waits other) s) (sym (others other ne))
+              (subst (λ (l : List ℕ). OrderWhere (gapless other) (quiet other) queued history other l (o.holds.waits other) (streams other)) (appended read o.holds.places leaves.more)
+              (others_where (gapless other) queued history (quiet other) other (read ++ o.holds.places) (o.holds.waits other) leaves.more (streams other)
               (λ place h is. ne (sym (one_stream queued id other place (leaves.on place h) (is.message, is.at, is.stream)))) (o.order other counts))))
         ];
       }
 
+  -- a stream on which that leads to something false isn't gapless
+  with_gaps : (id : ℕ) → (gapless id ≡ true → ⊥) → gapless id ≡ false
+  with_gaps id never = go (gapless id) refl
+    where
+      go : (b : Bool) → gapless id ≡ b → gapless id ≡ false
+      go true is = absurd (never is)
+      go false is = is
+
   -- what is due becomes ready
-  leaves_due : (all places waits : List ℕ) (id next : ℕ) (stream new : StreamModel) (before : List MessageContent) → StreamHolds queued history got base id waits stream → WereQueued queued places before → AreDistinct (all ++ waits)
-      → new.waiting ≡ not_due next stream.waiting → (CountsFromZero history id → OrderedStream gapless queued history id all waits stream)
+  leaves_due : (all places waits : List ℕ) (id next : ℕ) (stream new : StreamModel) (before : List MessageContent) → (CountsFromZero history id → gapless id ≡ false) → StreamHolds queued history got base id waits stream → WereQueued queued places before → AreDistinct (all ++ waits)
+      → new.waiting ≡ not_due next stream.waiting → (CountsFromZero history id → OrderedStream (gapless id) queued history id all waits stream)
       → (CountsFromZero history id → DeliversRising stream before new (before ++ map (delivered_as stream.id) (due next stream.waiting)) (due next stream.waiting)) → (CountsFromZero history id → IsInReach new)
-      → LeavesOrder gapless queued history got all places id new (before ++ map (delivered_as stream.id) (due next stream.waiting))
-  leaves_due all places waits id next stream new before holds were once left ordered rises reach =
+      → LeavesOrder (gapless id) queued history got all places id new (before ++ map (delivered_as stream.id) (due next stream.waiting))
+  leaves_due all places waits id next stream new before skips holds were once left ordered rises reach =
       let split = split_due queued history got id next waits stream.waiting holds.wait in
       record {
         more = split.front;
@@ -132,29 +140,31 @@ module _ (gapless : Bool) (skips_some : gapless ≡ false) (queued : List Messag
               order = order_then queued history id all waits split.front split.back stream new before (before ++ map (delivered_as stream.id) (due next stream.waiting)) (due next stream.waiting) counts.follows (ordered counts).order (rises counts)
                   halves.0 (subst (λ (l : List WholeModel). AreReadAs history id split.back l) (sym left) halves.1);
               reach = reach counts;
-              filled = λ none. absurd (let clash : true ≡ false = sym none ∙ skips_some in cc);
+              filled = λ none. absurd (let clash : true ≡ false = sym none ∙ skips counts in cc);
             }
             );
       }
 
   skipped_leaves : (passed : ℕ) (all places waits : List ℕ) (entry : SkippedTo) (stream : StreamModel) (before : List MessageContent) → NamesCurrent history passed entry → StreamHolds queued history got base (skipped_stream entry) waits stream
-      → WereQueued queued places before → AreDistinct (all ++ waits) → (CountsFromZero history (skipped_stream entry) → OrderedStream gapless queued history (skipped_stream entry) all waits stream)
-      → LeavesOrder gapless queued history got all places (skipped_stream entry) (skipped entry stream) (before ++ skip_deliveries entry stream)
+      → WereQueued queued places before → AreDistinct (all ++ waits) → (CountsFromZero history (skipped_stream entry) → OrderedStream (gapless (skipped_stream entry)) queued history (skipped_stream entry) all waits stream)
+      → LeavesOrder (gapless (skipped_stream entry)) queued history got all places (skipped_stream entry) (skipped entry stream) (before ++ skip_deliveries entry stream)
   skipped_leaves passed all places waits (Ssn on ssn) stream before (skips, current) holds were once ordered =
-      leaves_due all places waits on.0 (next_past (short_number_near stream.next ssn) stream.next) stream (skipped (Ssn on ssn) stream) before holds were once refl ordered
+      leaves_due all places waits on.0 (next_past (short_number_near stream.next ssn) stream.next) stream (skipped (Ssn on ssn) stream) before
+      (λ counts. absurd (let clash : true ≡ false = sym (counts.kinds skips.number skips.piece skips.at) ∙ skips.kind in cc)) holds were once refl ordered
       (λ counts. skips_deliver_rising (Ssn on ssn) stream before (ordered counts).order.ahead)
       (λ counts. absurd (let clash : true ≡ false = sym (counts.kinds skips.number skips.piece skips.at) ∙ skips.kind in cc))
   skipped_leaves passed all places waits (Mid on false mid) stream before (skips, current) holds were once ordered =
-      leaves_due all places waits on.0 (next_past (number_near stream.next mid) stream.next) stream (skipped (Mid on false mid) stream) before holds were once refl ordered
+      leaves_due all places waits on.0 (next_past (number_near stream.next mid) stream.next) stream (skipped (Mid on false mid) stream) before
+      (λ counts. with_gaps on.0 (λ is. (let no : false ≡ true = sym (free skips.number skips.piece skips.at (ap gapless (sym skips.stream) ∙ is)) ∙ skips.limited in cc))) holds were once refl ordered
       (λ counts. skips_deliver_rising (Mid on false mid) stream before (ordered counts).order.ahead)
       (λ counts. skips_in_reach queued history on.0 skips.piece.place mid all waits on stream counts (ordered counts).order
       (subst (λ (k : ℕ). IsReadAs history on.0 skips.piece.place (number_near stream.next k)) (sym skips.is)
       (mids_are_read history on.0 skips.number skips.piece stream counts (ordered counts).reach (record { at = skips.at; stream = sym skips.stream; ordered = sym skips.unordered; current = current })))
       (ordered counts).reach)
   skipped_leaves passed all places waits (Mid on true mid) stream before (skips, current) holds were once ordered =
-      none_left gapless queued history got all places waits on.0 (skipped (Mid on true mid) stream) before (before ++ []) were holds.wait once (append-nil before)
-      (λ counts. subst (λ (l : List ℕ). OrderedStream gapless queued history on.0 l waits (skipped (Mid on true mid) stream)) (sym (append-nil all))
-      (alike_ordered gapless queued history on.0 all waits stream (skipped (Mid on true mid) stream) refl refl (ordered counts)))
+      none_left (gapless on.0) queued history got all places waits on.0 (skipped (Mid on true mid) stream) before (before ++ []) were holds.wait once (append-nil before)
+      (λ counts. subst (λ (l : List ℕ). OrderedStream (gapless on.0) queued history on.0 l waits (skipped (Mid on true mid) stream)) (sym (append-nil all))
+      (alike_ordered (gapless on.0) queued history on.0 all waits stream (skipped (Mid on true mid) stream) refl refl (ordered counts)))
 
   skipped_rows : (passed : ℕ) (entry : SkippedTo) (waits : List ℕ) (stream : StreamModel) → NamesCurrent history passed entry → StreamHolds queued history got base (skipped_stream entry) waits stream → StreamRows history got base (skipped_stream entry) (skipped entry stream)
   skipped_rows passed (Ssn id ssn) waits stream (skips, current) holds =
@@ -206,9 +216,9 @@ module _ (gapless : Bool) (skips_some : gapless ≡ false) (queued : List Messag
       holds_left id loud streams (λ other. skipped_on entry other (streams other)) unordered ready (ready ++ skip_deliveries entry (streams id)) o
       (subst (λ (s : StreamModel). StreamRows history got base id s) (sym is) (skipped_rows passed entry (o.holds.waits id) (streams id) names here))
       (λ other ne. on_others entry other (streams other) ne)
-      (subst (λ (s : StreamModel). LeavesOrder gapless queued history got (read ++ o.holds.places) o.holds.places id s (ready ++ skip_deliveries entry (streams id))) (sym is)
+      (subst (λ (s : StreamModel). LeavesOrder (gapless id) queued history got (read ++ o.holds.places) o.holds.places id s (ready ++ skip_deliveries entry (streams id))) (sym is)
       (skipped_leaves passed (read ++ o.holds.places) o.holds.places (o.holds.waits id) entry (streams id) ready names here o.holds.were_queued (o.holds.once id)
-      (λ counts. subst (λ (b : Bool). OrderWhere gapless b queued history id (read ++ o.holds.places) (o.holds.waits id) (streams id)) loud (o.order id counts))))
+      (λ counts. subst (λ (b : Bool). OrderWhere (gapless id) b queued history id (read ++ o.holds.places) (o.holds.waits id) (streams id)) loud (o.order id counts))))
 
   all_skipped : (entries : List SkippedTo) (streams : ℕ → StreamModel) (unordered : List RunModel) (ready : List MessageContent) → HoldsOrdered gapless queued history quiet got base read streams unordered ready
       → AreNamed history entries → NoneIsQuiet quiet entries → HoldsOrdered gapless queued history quiet got base read (λ id. skipped_by entries id (streams id)) unordered (ready ++ deliveries_by entries streams)

@@ -1,5 +1,5 @@
 -- A stream of which nothing was sent is in order.
-use Rattle.std.proofs.Common.{◌≡◌, ℕ, Bool, true, false, ◌+◌, ◌^◌, List, [], ◌∷◌, ◌++◌, sym, ◌∙◌, ap, arith, subst}
+use Rattle.std.proofs.Common.{◌≡◌, ℕ, Bool, true, ◌+◌, ◌^◌, List, [], ◌∷◌, ◌++◌, sym, ◌∙◌, ap, arith, subst}
 use Rattle.std.specs.Prelude.{Some}
 use Rattle.dcsctp_spec_lemmas.specs.spec.queues.Runs.{WholeModel}
 use Rattle.dcsctp_spec_lemmas.specs.spec.queues.IncomingStreams.{StreamModel}
@@ -67,20 +67,20 @@ module _ (queued : List Message) (history : History) (empty : history.log ≡ []
         climbs = λ m n f g less at at'. absurd (nowhere m (Some f) at);
       }
 
-  holds_none : (gapless : Bool) (got : List ℕ) (base : ℕ) (read : List ℕ) (incoming : IncomingModel) → HoldsIncoming queued history got base read incoming → IncomingOrdered gapless queued history none_quiet got base read incoming
+  holds_none : (gapless : ℕ → Bool) (got : List ℕ) (base : ℕ) (read : List ℕ) (incoming : IncomingModel) → HoldsIncoming queued history got base read incoming → IncomingOrdered gapless queued history none_quiet got base read incoming
   holds_none gapless got base read incoming holds =
       record {
         holds = holds;
-        order = λ id counts. unsent_ordered queued history id no_cut (λ n f at. absurd (nowhere n (Some f) at)) (λ n f at on. absurd (nowhere n (Some f) at)) gapless got base read incoming holds;
+        order = λ id counts. unsent_ordered queued history id no_cut (λ n f at. absurd (nowhere n (Some f) at)) (λ n f at on. absurd (nowhere n (Some f) at)) (gapless id) got base read incoming holds;
       }
 
-  pub reassembles_none : (gapless : Bool) (first : ℕ) (got read : List ℕ) (incoming : IncomingModel) → Reassembles queued history first got read incoming → ReassemblesInOrder gapless queued history none_quiet first got read incoming
+  pub reassembles_none : (gapless : ℕ → Bool) (first : ℕ) (got read : List ℕ) (incoming : IncomingModel) → Reassembles queued history first got read incoming → ReassemblesInOrder gapless queued history none_quiet first got read incoming
   reassembles_none gapless first got read incoming (untouched none' last empty') = none_handled none' last (λ base. holds_none gapless [] base read incoming (empty' base))
   reassembles_none gapless first got read incoming (placed base is holds) = some_handled base is (holds_none gapless got base read incoming holds)
 
-  pub received_none : (first : ℕ) (read : List ℕ) (tracker : TrackerState) (reassembly : ReassemblyState) → HasReceived queued history first read tracker reassembly
-      → HasReceivedInOrder queued history none_quiet first read tracker reassembly
-  received_none first read tracker reassembly r =
+  pub received_none : (gapless : ℕ → Bool) (first : ℕ) (read : List ℕ) (tracker : TrackerState) (reassembly : ReassemblyState) → HasReceived queued history first read tracker reassembly
+      → HasReceivedInOrder gapless queued history none_quiet first read tracker reassembly
+  received_none gapless first read tracker reassembly r =
       record {
         taken = r.taken;
         got = r.got;
@@ -90,6 +90,6 @@ module _ (queued : List Message) (history : History) (empty : history.log ≡ []
         later_taken = r.later_taken;
         apart = r.apart;
         distinct = r.distinct;
-        holds = reassembles_none false first r.got read reassembly.incoming r.holds;
+        holds = reassembles_none gapless first r.got read reassembly.incoming r.holds;
         defers = r.defers;
       }

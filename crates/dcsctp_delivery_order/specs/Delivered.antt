@@ -25,8 +25,8 @@ pub record DeliveredWithoutGaps (queued : List Message) (read : List MessageCont
 -- Messages are read in order where the numbers of each stream begin at 0.
 abbrev pub ReadIsInOrder : Type 0
 ReadIsInOrder =
-    (queued : List Message) (history : History) (quiet : ℕ → Bool) (got : List ℕ) (base : ℕ) (places : List ℕ) (incoming : IncomingModel) (read : List MessageContent)
-    → WereQueued queued places read → AreDistinct places → ((id : ℕ) → CountsFromZero history id) → IncomingOrdered false queued history quiet got base places incoming
+    (gapless : ℕ → Bool) (queued : List Message) (history : History) (quiet : ℕ → Bool) (got : List ℕ) (base : ℕ) (places : List ℕ) (incoming : IncomingModel) (read : List MessageContent)
+    → WereQueued queued places read → AreDistinct places → ((id : ℕ) → CountsFromZero history id) → IncomingOrdered gapless queued history quiet got base places incoming
     → DeliveredInOrder queued read
 
 -- They are read without gaps where besides nothing is skipped or reset, and messages are sent in turn.
@@ -34,4 +34,4 @@ abbrev pub ReadIsWithoutGaps : Type 0
 ReadIsWithoutGaps =
     (queued : List Message) (history : History) (got : List ℕ) (base : ℕ) (places : List ℕ) (incoming : IncomingModel) (read : List MessageContent)
     → WereQueued queued places read → AreDistinct places → ((id : ℕ) → CountsFromZero history id) → ((id : ℕ) → SendsInTurn queued history id)
-    → IncomingOrdered true queued history (λ id. false) got base places incoming → DeliveredWithoutGaps queued read
+    → IncomingOrdered (λ id. true) queued history (λ id. false) got base places incoming → DeliveredWithoutGaps queued read

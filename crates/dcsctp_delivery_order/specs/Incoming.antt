@@ -10,7 +10,7 @@ use Rattle.dcsctp_spec_lemmas.specs.spec.queues.IncomingStreams.{StreamModel, Ch
 use Rattle.dcsctp_spec_lemmas.specs.spec.queues.Incoming.{IncomingModel, nothing, stream_on, TakesIncomingChunk, MovesOn, ResetsStreams}
 use Rattle.dcsctp_spec_lemmas.specs.spec.queues.Reassembly.{names_stream}
 use Rattle.dcsctp_delivery_sending.specs.Places.{HasEntry, at_place}
-use Rattle.dcsctp_delivery_sending.specs.Log.{Message, Slot, History, Cut}
+use Rattle.dcsctp_delivery_sending.specs.Log.{Message, Piece, Slot, History, Cut}
 use Rattle.dcsctp_delivery_sending.specs.Numbers.{IsUnambiguous}
 use Rattle.dcsctp_delivery_receiving.specs.Ready.{HoldsAll, WasQueued, WereQueued, BearsPiece, AreNamed}
 use Rattle.dcsctp_delivery_order.specs.Queue.{ComeInOrder}
@@ -22,25 +22,26 @@ abbrev pub OrderWhere : Bool → Bool → List Message → History → ℕ → L
 OrderWhere gapless false queued history id all waits stream = OrderedStream gapless queued history id all waits stream
 OrderWhere gapless true queued history id all waits stream = IsBetweenResets queued history id all
 
--- All that is held was queued, and the streams whose numbers begin at 0 are in order. `gapless` is whether nothing was skipped.
+-- All that is held was queued, and the streams whose numbers begin at 0 are in order. `gapless` are the
+-- streams of which nothing was skipped.
 -- `quiet` are the streams that were reset, and on which nothing comes before their messages are numbered from 0 again.
-pub record HoldsOrdered (gapless : Bool) (queued : List Message) (history : History) (quiet : ℕ → Bool) (got : List ℕ) (base : ℕ) (read : List ℕ) (streams : ℕ → StreamModel) (unordered : List RunModel) (ready : List MessageContent) : Type 0 where
+pub record HoldsOrdered (gapless : ℕ → Bool) (queued : List Message) (history : History) (quiet : ℕ → Bool) (got : List ℕ) (base : ℕ) (read : List ℕ) (streams : ℕ → StreamModel) (unordered : List RunModel) (ready : List MessageContent) : Type 0 where
   pub holds : HoldsAll queued history got base read streams unordered ready
-  pub order : (id : ℕ) → CountsFromZero history id → OrderWhere gapless (quiet id) queued history id (read ++ holds.places) (holds.waits id) (streams id)
+  pub order : (id : ℕ) → CountsFromZero history id → OrderWhere (gapless id) (quiet id) queued history id (read ++ holds.places) (holds.waits id) (streams id)
 
 -- This holds for the received messages of an association.
-abbrev pub IncomingOrdered : Bool → List Message → History → (ℕ → Bool) → List ℕ → ℕ → List ℕ → IncomingModel → Type 0
+abbrev pub IncomingOrdered : (ℕ → Bool) → List Message → History → (ℕ → Bool) → List ℕ → ℕ → List ℕ → IncomingModel → Type 0
 IncomingOrdered gapless queued history quiet got base read incoming =
     HoldsOrdered gapless queued history quiet got base read (λ id. stream_on id incoming.streams) incoming.unordered incoming.ready
 
 -- It holds of an association that was just begun.
 abbrev pub BeginningInOrder : Type 0
-BeginningInOrder = (gapless : Bool) (queued : List Message) (history : History) (quiet : ℕ → Bool) (base : ℕ) → IncomingOrdered gapless queued history quiet [] base [] nothing
+BeginningInOrder = (gapless : ℕ → Bool) (queued : List Message) (history : History) (quiet : ℕ → Bool) (base : ℕ) → IncomingOrdered gapless queued history quiet [] base [] nothing
 
 -- A chunk whose TSN is new, and that carries the piece of its TSN, leaves it so.
 abbrev pub ReadyInOrder : Type 0
 ReadyInOrder =
-    (gapless : Bool) (queued : List Message) (history : History) (quiet : ℕ → Bool) → Cut queued history.log → IsUnambiguous history
+    (gapless : ℕ → Bool) (queued : List Message) (history : History) (quiet : ℕ → Bool) → Cut queued history.log → IsUnambiguous history
     → (got : List ℕ) (base tsn : ℕ) (read : List ℕ) (chunk : ChunkModel) (old new : IncomingModel)
     → (bears : BearsPiece history base (number_near old.last_tsn_number tsn) chunk) → (HasEntry bears.offset got → ⊥) → quiet chunk.stream ≡ false
     → IncomingOrdered gapless queued history quiet got base read old → TakesIncomingChunk tsn chunk old new
@@ -50,20 +51,24 @@ ReadyInOrder =
 abbrev pub NoneIsQuiet : (ℕ → Bool) → List SkippedTo → Type 0
 NoneIsQuiet quiet entries = AllByRecursion (λ entry. quiet (skipped_stream entry) ≡ false) entries
 
--- So does an I-FORWARD-TSN, whatever it skips of what was sent,
+-- No message that was sent on these streams may be abandoned (RFC 3758).
+abbrev pub NoneLimitedOn : (ℕ → Bool) → List Slot → Type 0
+NoneLimitedOn gapless log = (n : ℕ) (f : Piece) → at_place n log ≡ Some (Some f) → gapless f.message.stream ≡ true → f.message.is_limited ≡ false
+
+-- So does an I-FORWARD-TSN, whatever it skips of what was sent on other streams than those,
 abbrev pub SkippingInOrder : Type 0
 SkippingInOrder =
-    (gapless : Bool) (queued : List Message) (history : History) (quiet : ℕ → Bool) (got : List ℕ) (base tsn : ℕ) (read : List ℕ) (entries : List SkippedTo) (old new : IncomingModel)
-    → gapless ≡ false → AreNamed history entries → NoneIsQuiet quiet entries → IncomingOrdered gapless queued history quiet got base read old → MovesOn tsn entries old new → IncomingOrdered gapless queued history quiet got base read new
+    (gapless : ℕ → Bool) (queued : List Message) (history : History) (quiet : ℕ → Bool) (got : List ℕ) (base tsn : ℕ) (read : List ℕ) (entries : List SkippedTo) (old new : IncomingModel)
+    → NoneLimitedOn gapless history.log → AreNamed history entries → NoneIsQuiet quiet entries → IncomingOrdered gapless queued history quiet got base read old → MovesOn tsn entries old new → IncomingOrdered gapless queued history quiet got base read new
 
 -- and a reset of streams. They are quiet from then on.
 abbrev pub ResettingInOrder : Type 0
 ResettingInOrder =
-    (gapless : Bool) (queued : List Message) (history : History) (quiet : ℕ → Bool) (got : List ℕ) (base : ℕ) (read streams : List ℕ) (old new : IncomingModel)
+    (gapless : ℕ → Bool) (queued : List Message) (history : History) (quiet : ℕ → Bool) (got : List ℕ) (base : ℕ) (read streams : List ℕ) (old new : IncomingModel)
     → IncomingOrdered gapless queued history quiet got base read old → ResetsStreams streams old new → IncomingOrdered gapless queued history (λ id. quiet id || names_stream streams id) got base read new
 
 -- The message that the user reads was queued, and wasn't read before.
-pub record ReadsInOrder (gapless : Bool) (queued : List Message) (history : History) (quiet : ℕ → Bool) (got : List ℕ) (base : ℕ) (read : List ℕ) (incoming : IncomingModel) (message : MessageContent) (messages : List MessageContent) : Type 0 where
+pub record ReadsInOrder (gapless : ℕ → Bool) (queued : List Message) (history : History) (quiet : ℕ → Bool) (got : List ℕ) (base : ℕ) (read : List ℕ) (incoming : IncomingModel) (message : MessageContent) (messages : List MessageContent) : Type 0 where
   pub place : ℕ
   pub was : WasQueued queued place message
   pub fresh : HasEntry place read → ⊥
@@ -72,13 +77,13 @@ pub record ReadsInOrder (gapless : Bool) (queued : List Message) (history : Hist
 -- This holds for the first that is ready.
 abbrev pub TakingInOrder : Type 0
 TakingInOrder =
-    (gapless : Bool) (queued : List Message) (history : History) (quiet : ℕ → Bool) (got : List ℕ) (base : ℕ) (read : List ℕ) (incoming : IncomingModel) (message : MessageContent) (messages : List MessageContent)
+    (gapless : ℕ → Bool) (queued : List Message) (history : History) (quiet : ℕ → Bool) (got : List ℕ) (base : ℕ) (read : List ℕ) (incoming : IncomingModel) (message : MessageContent) (messages : List MessageContent)
     → incoming.ready ≡ message ∷ messages → IncomingOrdered gapless queued history quiet got base read incoming → ReadsInOrder gapless queued history quiet got base read incoming message messages
 
 -- What was read of a stream's ordered messages was queued in the order of reading.
 abbrev pub OrderedWasRead : Type 0
 OrderedWasRead =
-    (gapless : Bool) (queued : List Message) (history : History) (quiet : ℕ → Bool) (got : List ℕ) (base : ℕ) (read : List ℕ) (incoming : IncomingModel) (id : ℕ) → CountsFromZero history id
+    (gapless : ℕ → Bool) (queued : List Message) (history : History) (quiet : ℕ → Bool) (got : List ℕ) (base : ℕ) (read : List ℕ) (incoming : IncomingModel) (id : ℕ) → CountsFromZero history id
     → IncomingOrdered gapless queued history quiet got base read incoming → ComeInOrder queued id read
 
 -- The later history has all TSNs of the earlier one, and no floor was raised.

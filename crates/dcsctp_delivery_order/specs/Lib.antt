@@ -11,4 +11,5 @@ pub mod Runs
 pub mod Plain
 pub mod Received
 pub mod Directions
+pub mod Streams
 pub mod PlainDirections

@@ -11,6 +11,7 @@ ghost use Rattle.dcsctp_delivery_order.specs.Reach.{SkippedSsnsAreReadRight, Ssn
 ghost use Rattle.dcsctp_delivery_order.specs.Reading.{MidsAreReadRight, NumbersAreFresh, PartsStayInReach, SkipsStayInReach};
 ghost use Rattle.dcsctp_delivery_order.specs.Runs.{OneIsMissing, PartsLeaveHeld, PartsLieApart};
 ghost use Rattle.dcsctp_delivery_order.specs.Sending.{HandingLosesNone, LosingNoneSendsInTurn};
+ghost use Rattle.dcsctp_delivery_order.specs.Streams.{StreamsDeliverWithoutGaps};
 ghost use Rattle.dcsctp_delivery_order.specs.Rising.{PartsDeliverRows, SkipsDeliverRising, StreamsDeliverRising, StreamsDeliverRows};
 
 /// What the receiver makes ready on a stream are messages with rising numbers. A skip goes forward only, and without
@@ -125,4 +126,10 @@ pub fn plain_few_deliver_in_order()
 /// each stream's ordered messages is a prefix of what was queued.
 pub fn plain_directions_deliver_without_gaps()
     ensures { PlainDirectionsDeliverWithoutGaps }
+{}
+
+/// With interleaving, what is read of the ordered messages of a stream that is never reset is a prefix of what was
+/// queued on it, whatever happens on other streams.
+pub fn streams_deliver_without_gaps()
+    ensures { StreamsDeliverWithoutGaps }
 {}

@@ -128,6 +128,7 @@ module _ (history wider : History) (goes : GoesOn history wider) where
             omega (arith, passes, same))
         | inr up ↦ omega (arith, assigned, up)
       ];
+      limited = s.limited;
     },
     goes.current s.number s.piece s.at is,
   )

@@ -65,6 +65,7 @@ entry_read history passed queued cut fit (entry ∷ entries) names zero below =
       unordered = bit_read entry.0.1 ∙ e.unordered;
       is = four_read entry.1 ∙ e.mid refl;
       within = e.within;
+      limited = e.limited;
     }
 entry_read history passed queued cut fit (entry ∷ entries) names (suc k) below =
     let rest : List ℕ = flat_map (entry_bytes true) entries in

@@ -134,7 +134,7 @@ pub record SkipsPlain (history : History) : Type 0 where
   pub at : at_place number history.log ≡ Some (Some piece)
   pub kind : piece.is_interleaved ≡ false
 
--- The message of the entry of an I-FORWARD-TSN is one of the log. So many TSNs are passed, none together with one before a
+-- The message of the entry of an I-FORWARD-TSN is one of the log, which may be abandoned. So many TSNs are passed, none together with one before a
 -- reset that names the stream.
 pub record SkipsMessage (history : History) (passed id : ℕ) (is_unordered : Bool) (mid : ℕ) : Type 0 where
   pub number : ℕ
@@ -145,6 +145,7 @@ pub record SkipsMessage (history : History) (passed id : ℕ) (is_unordered : Bo
   pub unordered : is_unordered ≡ piece.message.is_unordered
   pub is : mid ≡ piece.mid % 2 ^ 32
   pub within : (mark : Mark) → HasEntry mark history.marks → Resets mark piece.message.stream → number < mark.bound → passed ≤ mark.bound
+  pub limited : piece.message.is_limited ≡ true
 
 -- This holds for an entry,
 abbrev pub SkipsEntry : History → ℕ → SkippedTo → Type 0

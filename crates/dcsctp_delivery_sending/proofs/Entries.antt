@@ -163,9 +163,9 @@ module _ (history : History) (first : ℕ) where
             | inr last ↦ inr (omega (arith, last, some))
           ]
 
-  of_item : (acknowledged count : ℕ) (outstanding : OutstandingState) (entry : (ℕ × Bool) × ℕ) → AreOfKind outstanding.is_interleaved history.log → Bears history first acknowledged outstanding → count ≤ length outstanding.items
+  of_item : (queued : List Message) → Cut queued history.log → (acknowledged count : ℕ) (outstanding : OutstandingState) (entry : (ℕ × Bool) × ℕ) → AreOfKind outstanding.is_interleaved history.log → Bears history first acknowledged outstanding → count ≤ length outstanding.items
       → ((place : ℕ) (item : Item) → place < count → slice_get outstanding.items place ≡ Some item → is_row_continued place item ≡ true) → ClosesRow acknowledged count outstanding → OfItem count outstanding entry → IsEntry outstanding.is_interleaved history (acknowledged + count) entry
-  of_item acknowledged count outstanding entry kinds b within each closes of =
+  of_item queued cut acknowledged count outstanding entry kinds b within each closes of =
       let named : IsNamedFragment history (acknowledged + of.place) of.item.fragment = b.named of.place of.item of.at in
       record {
         number = named.number;
@@ -184,7 +184,18 @@ module _ (history : History) (first : ℕ) where
             let up = named.up_to in
             record { offset = acknowledged + count - 1; slot = slot; from = omega (arith, inside, up); to = omega (arith, inside); at = at_slot; ends = elim ends [ inl e ↦ inl e | inr e ↦ inr (omega (arith, e)) ] }
             );
+        limited = is_limited named;
       }
+    where
+      -- an item of a row was abandoned
+      is_limited : (named : IsNamedFragment history (acknowledged + of.place) of.item.fragment) → named.piece.message.is_limited ≡ true
+      is_limited named =
+          let on = each of.place of.item of.within of.at in
+          let is = b.abandoned of.place of.item of.at (both (is_abandoned of.item.progress.state) ((of.place == 0) || not of.item.begins_after_reset) on).0 in
+          let both_at : Some named.piece.message ≡ Some is.piece.message =
+          sym (cut.pieces named.number named.piece named.at).at ∙ ap (λ (k : ℕ). at_place k queued) (sym named.of ∙ is.of) ∙ (cut.pieces is.number is.piece is.at).at in
+          let one : named.piece.message ≡ is.piece.message = cc in
+          ap (λ (m : Message). m.is_limited) one ∙ is.limited
 
   -- the last item of a stream is one of the row
   found_last : (stream : ℕ) (unordered : Bool) (items : List Item) (item : Item) → last_on stream unordered items ≡ Some item → (place : ℕ) × (slice_get items place ≡ Some item) × (stream ≡ item.fragment.stream) × (unordered ≡ item.fragment.is_unordered)
@@ -240,14 +251,14 @@ module _ (history : History) (first : ℕ) where
       go true is_listed same = found (ordered outstanding.is_interleaved entry.0.1 is_listed) (last_on entry.0.0 entry.0.1 (take count outstanding.items)) refl same
 
   -- so each entry does
-  pub listed_entries : (acknowledged count : ℕ) (outstanding : OutstandingState) → AreOfKind outstanding.is_interleaved history.log → Bears history first acknowledged outstanding → count ≤ length outstanding.items
+  pub listed_entries : (queued : List Message) → Cut queued history.log → (acknowledged count : ℕ) (outstanding : OutstandingState) → AreOfKind outstanding.is_interleaved history.log → Bears history first acknowledged outstanding → count ≤ length outstanding.items
       → ((place : ℕ) (item : Item) → place < count → slice_get outstanding.items place ≡ Some item → is_row_continued place item ≡ true) → ClosesRow acknowledged count outstanding → (all entries : List ((ℕ × Bool) × ℕ))
       → ((stream : ℕ) (unordered : Bool) → entry_for stream unordered all ≡ option_map (skipped_number outstanding.is_interleaved) (last_listed outstanding.is_interleaved stream unordered (take count outstanding.items)))
       → ((entry : (ℕ × Bool) × ℕ) → HasEntry entry entries → entry_for entry.0.0 entry.0.1 all ≡ Some entry.1) → AreForwardEntries outstanding.is_interleaved history (acknowledged + count) entries
-  listed_entries acknowledged count outstanding kinds b within each closes all [] lists found = tt
-  listed_entries acknowledged count outstanding kinds b within each closes all (entry ∷ entries) lists found = (
-    of_item acknowledged count outstanding entry kinds b within each closes (listed_item outstanding count entry (sym (found entry (inl refl)) ∙ lists entry.0.0 entry.0.1)),
-    listed_entries acknowledged count outstanding kinds b within each closes all entries lists (λ other has. found other (inr has)),
+  listed_entries queued cut acknowledged count outstanding kinds b within each closes all [] lists found = tt
+  listed_entries queued cut acknowledged count outstanding kinds b within each closes all (entry ∷ entries) lists found = (
+    of_item queued cut acknowledged count outstanding entry kinds b within each closes (listed_item outstanding count entry (sym (found entry (inl refl)) ∙ lists entry.0.0 entry.0.1)),
+    listed_entries queued cut acknowledged count outstanding kinds b within each closes all entries lists (λ other has. found other (inr has)),
   )
 
 -- an entry of a list in which no stream has two is the one that is found

@@ -135,6 +135,7 @@ module _ (old new : History) (extends : Extends old new) (first : ℕ) where
           let o = names.0.over kind (none_before old.marks extends.marks none) in
           record { offset = o.offset; slot = o.slot; from = o.from; to = o.to; at = extends.at o.offset o.slot o.at; ends = o.ends }
           );
+      limited = names.0.limited;
     },
     entries_later is_interleaved passed entries below names.1,
   )

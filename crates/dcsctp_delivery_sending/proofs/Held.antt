@@ -59,12 +59,12 @@ keeps_alike old new items same free =
 -- ---- items that change, or are more
 
 -- the item of this place, which says the same
-record SaysOn (items : List Item) (k : ℕ) (old : Item) : Type 0 where
-  item : Item
-  at : slice_get items k ≡ Some item
-  fragment : item.fragment ≡ old.fragment
+pub record SaysOn (items : List Item) (k : ℕ) (old : Item) : Type 0 where
+  pub item : Item
+  pub at : slice_get items k ≡ Some item
+  pub fragment : item.fragment ≡ old.fragment
 
-changed_on : (change : Change) (start end k : ℕ) (items : List Item) (item : Item) → slice_get items k ≡ Some item → SaysOn (changed_between change start end items) k item
+pub changed_on : (change : Change) (start end k : ℕ) (items : List Item) (item : Item) → slice_get items k ≡ Some item → SaysOn (changed_between change start end items) k item
 changed_on change zero zero k items item at = record { item = item; at = at; fragment = refl }
 changed_on change zero (suc end) k [] item at = record { item = item; at = at; fragment = refl }
 changed_on change zero (suc end) zero (i ∷ items) item at = let same : i ≡ item = cc in record { item = changed_item change i; at = refl; fragment = ap (λ (x : Item). x.fragment) same }
@@ -92,13 +92,13 @@ keeps_changed change start end streams items free =
       ];
     }
 
-old_at : (items : List Item) (last : Item) (k : ℕ) (item : Item) → slice_get items k ≡ Some item → slice_get (items ++ last ∷ []) k ≡ Some item
+pub old_at : (items : List Item) (last : Item) (k : ℕ) (item : Item) → slice_get items k ≡ Some item → slice_get (items ++ last ∷ []) k ≡ Some item
 old_at [] last zero item at = absurd (cc)
 old_at [] last (suc k) item at = absurd (cc)
 old_at (i ∷ items) last zero item at = at
 old_at (i ∷ items) last (suc k) item at = old_at items last k item at
 
-last_at : (items : List Item) (last : Item) → slice_get (items ++ last ∷ []) (length items) ≡ Some last
+pub last_at : (items : List Item) (last : Item) → slice_get (items ++ last ∷ []) (length items) ≡ Some last
 last_at [] last = refl
 last_at (i ∷ items) last = last_at items last
 

@@ -33,6 +33,8 @@ pub mod PausedFlushes
 pub mod OpenStreams
 pub mod Handing
 pub mod Losing
+pub mod HeldOn
+pub mod OpenOn
 pub mod BegunMarks
 pub mod Raised
 pub mod Renewed

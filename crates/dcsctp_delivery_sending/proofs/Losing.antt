@@ -37,15 +37,15 @@ fills_where_keeps now true old new free fills = fills_keep now old new free fill
 fills_where_keeps now false old new free fills = elim fills [ inl e ↦ same_keeps old new e free | inr e ↦ fills_keep now old new free e ]
 
 -- a request hands out streams, with what waits on them
-handing_messages : (ids : List ℕ) (streams : List Stream) (q : ℕ) → (stream_at (handing_out ids streams) q).messages ≡ (stream_at streams q).messages
+pub handing_messages : (ids : List ℕ) (streams : List Stream) (q : ℕ) → (stream_at (handing_out ids streams) q).messages ≡ (stream_at streams q).messages
 handing_messages [] streams q = refl
 handing_messages (id ∷ ids) streams q = handing_messages ids (stream_changed id handed_out streams) q ∙ (changed_alike id streams).messages q
 
-requesting_messages : (count : ℕ) (begun : Option BegunReset) (queue : SendQueueState) (q : ℕ) → (stream_at (queue_requesting count begun queue).streams q).messages ≡ (stream_at queue.streams q).messages
+pub requesting_messages : (count : ℕ) (begun : Option BegunReset) (queue : SendQueueState) (q : ℕ) → (stream_at (queue_requesting count begun queue).streams q).messages ≡ (stream_at queue.streams q).messages
 requesting_messages count None queue q = refl
 requesting_messages count (Some begun) queue q = handing_messages (take count (ready_streams queue)) queue.streams q
 
-begun_items : (begun : Option BegunReset) (state : RetransmissionState) → (retransmission_begun begun state).outstanding ≡ state.outstanding
+pub begun_items : (begun : Option BegunReset) (state : RetransmissionState) → (retransmission_begun begun state).outstanding ≡ state.outstanding
 begun_items None state = refl
 begun_items (Some begun) state = refl
 
@@ -164,7 +164,7 @@ flies_sent history first acknowledged place (Some transfer) bears flies =
     let n = bears.named flies.k flies.item flies.at in
     record { number = n.number; piece = n.piece; at = n.at; is = sym n.of ∙ flies.is }
 
-sent_more : (more log : List Slot) (place : ℕ) → WasSentOf log place → WasSentOf (more ++ log) place
+pub sent_more : (more log : List Slot) (place : ℕ) → WasSentOf log place → WasSentOf (more ++ log) place
 sent_more more log place was = record { number = was.number; piece = was.piece; at = at_more more log was.number (Some was.piece) was.at; is = was.is }
 
 pub kept_more : (old new : History) (more : List Slot) (streams : List Stream) (place : ℕ) → new.log ≡ more ++ old.log → IsKept old.log streams place → IsKept new.log streams place

@@ -101,7 +101,7 @@ module _ (history : History) (first : ℕ) where
       let (chunk, says, is) = forwards.1 in
       subst (λ (l : List Plain). SayAll history first (plain_contents l)) (sym is)
       (said_fitting room (unworked chunk) (subst (λ (c : ChunkContent). SaysPlain history first (unworked c)) (sym says.is) (said_forward state.outstanding.is_interleaved _ says.entries (passed_by acknowledged says.count state.outstanding b says.row.within)
-      (listed_entries history first acknowledged says.count state.outstanding kinds b says.row.within says.row.each (row_closes history first queued cut acknowledged _ _ says.count state.outstanding b says.row) says.entries says.entries says.lists.numbers (entry_found says.entries says.lists.none_twice))
+      (listed_entries history first queued cut acknowledged says.count state.outstanding kinds b says.row.within says.row.each (row_closes history first queued cut acknowledged _ _ says.count state.outstanding b says.row) says.entries says.entries says.lists.numbers (entry_found says.entries says.lists.none_twice))
       (first_limited acknowledged state.outstanding b (abandoned refl)))))
 
   pub said_request : (begun : Option BegunReset) (ids : List ℕ) (bound : ℕ) → SayAll (with_mark begun ids bound history) first (request_contents begun)

@@ -18,7 +18,7 @@ front_has [] w e = absurd (cc)
 front_has (v ∷ messages) w e = inl (let same : v ≡ w = cc in sym same)
 
 -- nothing is dropped
-stays_fresh : (now : ℕ) (w : Waiting) → w.expires_at ≡ None → is_expired now w ≡ false
+pub stays_fresh : (now : ℕ) (w : Waiting) → w.expires_at ≡ None → is_expired now w ≡ false
 stays_fresh now w is = rw is refl
 
 pub no_drops : {P : Type 0} (now : ℕ) (old : SendQueueState) (events : List (Event P)) (new : SendQueueState) → NoneExpires old.streams → Drops now old events new → new ≡ old

@@ -57,7 +57,7 @@ pub record EndsWithin (log : List Slot) (number passed : ℕ) : Type 0 where
   pub at : at_place offset log ≡ Some slot
   pub ends : IsEndSlot slot ⊎ (2 ^ 31 ≤ offset + 2)
 
--- The entry names a message of a piece of the log, which was sent as the chunk's kind is. Without interleaving it is an ordered
+-- The entry names a message of a piece of the log, which may be abandoned, and was sent as the chunk's kind is. Without interleaving it is an ordered
 -- one, of which all TSNs are passed, if no reset was begun.
 pub record IsEntry (is_interleaved : Bool) (history : History) (passed : ℕ) (entry : (ℕ × Bool) × ℕ) : Type 0 where
   pub number : ℕ
@@ -72,6 +72,7 @@ pub record IsEntry (is_interleaved : Bool) (history : History) (passed : ℕ) (e
   pub ordered : is_interleaved ≡ false → entry.0.1 ≡ false
   pub ssn : is_interleaved ≡ false → entry.1 ≡ piece.ssn
   pub over : is_interleaved ≡ false → history.marks ≡ [] → EndsWithin history.log number passed
+  pub limited : piece.message.is_limited ≡ true
 
 -- Each does.
 abbrev pub AreForwardEntries : Bool → History → ℕ → List ((ℕ × Bool) × ℕ) → Type 0

@@ -15,6 +15,10 @@ use Rattle.dcsctp_delivery_sending.specs.Flushes.{QueuesFollowLog, SendsLogged, 
 abbrev pub AreUnlimited : List Message → Type 0
 AreUnlimited queued = AllByRecursion (λ (message : Message). message.is_limited ≡ false) queued
 
+-- None of them that is on this stream may be.
+abbrev pub AreUnlimitedOn : ℕ → List Message → Type 0
+AreUnlimitedOn id queued = AllByRecursion (λ (message : Message). message.stream ≡ id → message.is_limited ≡ false) queued
+
 -- A piece of the message was sent.
 pub record WasSentOf (log : List Slot) (place : ℕ) : Type 0 where
   pub number : ℕ
@@ -32,6 +36,15 @@ pub record StillWaits (streams : List Stream) (place : ℕ) : Type 0 where
 -- No stream is to be reset (RFC 6525, section 5.1.2).
 abbrev pub AreOpen : List Stream → Type 0
 AreOpen streams = AllByRecursion (λ (stream : Stream). stream.pause ≡ Open) streams
+
+-- This one isn't.
+abbrev pub IsOpenOn : ℕ → List Stream → Type 0
+IsOpenOn id streams = AllByRecursion (λ (stream : Stream). stream.id ≡ id → stream.pause ≡ Open) streams
+
+-- All that was ever queued on the stream waits, and it isn't to be reset.
+pub record AllWaitOn (id : ℕ) (queued : List Message) (streams : List Stream) : Type 0 where
+  pub waits : (place : ℕ) (message : Message) → at_place place queued ≡ Some message → message.stream ≡ id → StillWaits streams place
+  pub unpaused : IsOpenOn id streams
 
 -- It was sent, or waits.
 abbrev pub IsKept : List Slot → List Stream → ℕ → Type 0

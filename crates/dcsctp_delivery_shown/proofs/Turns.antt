@@ -164,11 +164,11 @@ module _ (kinds : Capabilities) where
   stays_is came e o h linked made =
       record { moves = link_stays linked; after = record { linked = subst (LinkIs kinds) (sym linked) h.linked; left = made.inside_is.left; asks = made.inside_is.asks }; says = made.says }
 
-  becomes_is : {resets : Bool} (came : Option Content) (to : ℕ) (adds : List Message → List Message) (taken : List MessageContent → List MessageContent) (e : Endpoint) (o : Outcome) → EndpointIs kinds e → BeginsSo e came o
+  becomes_is : {resets : Option (List ℕ)} (came : Option Content) (to : ℕ) (adds : List Message → List Message) (taken : List MessageContent → List MessageContent) (e : Endpoint) (o : Outcome) → EndpointIs kinds e → BeginsSo e came o
       → Becomes resets came to adds taken e o → TurnIs e came o
   becomes_is came to adds taken e o h so (goes_on calm linked makes) =
       stays_is came e o h linked (makes_is came to adds taken (inside e) (inside o.after) (packets_in o.events) (record { left = h.left; asks = h.asks }) makes)
-  becomes_is came to adds taken e o h so (pauses resets calm linked ids small makes) =
+  becomes_is came to adds taken e o h so (pauses ids resets calm linked small makes) =
       stays_is came e o h linked (makes_is came to adds taken (prepared_inside ids (inside e)) (inside o.after) (packets_in o.events) (record { left = h.left; asks = h.asks }) makes)
   becomes_is came to adds taken e o h so (works_resets linked between worked ended peer makes) =
       let worked_is : InsideIs worked = peer_resets came o.effects between worked (own_ends o.effects (inside e) between (record { left = h.left; asks = h.asks }) ended) peer in

@@ -1,6 +1,6 @@
 -- Actions, one after another.
 use Rattle.dcsctp_spec_lemmas.specs.types.declared.ends.AbortReason.TheVariants as reasons
-use Rattle.std.proofs.Common.{◌≡◌, ℕ, Bool, true, false, cond, Option, List, [], ◌∷◌, ◌++◌, refl, sym, ◌∙◌, ap, subst, append_assoc}
+use Rattle.std.proofs.Common.{◌≡◌, None, ℕ, Bool, true, false, cond, Option, List, [], ◌∷◌, ◌++◌, refl, sym, ◌∙◌, ap, subst, append_assoc}
 use Rattle.std.proofs.lemmas.List.{append-nil}
 use Rattle.dcsctp_spec_lemmas.specs.types.declared.ends.AbortReason.{AbortReason}
 use Rattle.dcsctp_spec_lemmas.specs.types.declared.word.Word.{Word}
@@ -24,7 +24,7 @@ use Rattle.dcsctp_delivery_turns.proofs.Begun.{grows_then, grows_not, grows_by, 
 
 -- where nothing is queued or read
 abbrev pub Goes : Option Content → ℕ → Endpoint → Outcome → Type 0
-Goes came to e o = Becomes false came to (λ queued. queued) (λ read. read) e o
+Goes came to e o = Becomes None came to (λ queued. queued) (λ read. read) e o
 
 -- the outcome that follows from what is inside, by actions
 abbrev pub MakesTo : Option Content → ℕ → Inside → Outcome → Type 0

@@ -31,4 +31,6 @@ pub mod UnaskedTurns
 pub mod PeerRequests
 pub mod AskedResets
 pub mod PeersTurns
+pub mod ResetInputs
 pub mod Unbegun
+pub mod UnbegunOn

@@ -31,15 +31,15 @@ module _ (came : Option Content) (calm : IsCalm came) (to : ℕ) where
   -- ---- our streams that the user resets
 
   resets_where_goes : (refusal : Option ResetRefusal) (e : Endpoint) (ids : List ℕ) (o : Outcome) → AllByRecursion (λ id. id < 2 ^ 16) ids → IsPeerTag e.core to → OwnResetsWhere refusal e ids o
-      → Becomes true came to (λ queued. queued) (λ read. read) e o
+      → Becomes (Some ids) came to (λ queued. queued) (λ read. read) e o
   resets_where_goes None e ids o small at turn =
       let base : Endpoint = endpoint_with_queue e (prepared_all ids e.queues.queue) in
-      subst (Becomes true came to (λ queued. queued) (λ read. read) e) (sym turn.is)
-      (pauses refl calm (turn_link base turn.flushed turn.flushes) ids small
+      subst (Becomes (Some ids) came to (λ queued. queued) (λ read. read) e) (sym turn.is)
+      (pauses ids refl calm (turn_link base turn.flushed turn.flushes) small
       (makes_behind came to (inside base) [] (prepare_all_events ids e.queues.queue) turn.flushed (prepared_none ids e.queues.queue) (flush_makes came calm to base turn.flushed at turn.flushes)))
-  resets_where_goes (Some refusal) e ids o small at turn = subst (Becomes true came to (λ queued. queued) (λ read. read) e) (sym turn) (goes_on calm refl (rests came to (inside e)))
+  resets_where_goes (Some refusal) e ids o small at turn = subst (Becomes (Some ids) came to (λ queued. queued) (λ read. read) e) (sym turn) (goes_on calm refl (rests came to (inside e)))
 
-  pub own_resets_go : (e : Endpoint) (ids : List ℕ) (o : Outcome) → AllByRecursion (λ id. id < 2 ^ 16) ids → IsPeerTag e.core to → OwnResetsTurn e ids o → Becomes true came to (λ queued. queued) (λ read. read) e o
+  pub own_resets_go : (e : Endpoint) (ids : List ℕ) (o : Outcome) → AllByRecursion (λ id. id < 2 ^ 16) ids → IsPeerTag e.core to → OwnResetsTurn e ids o → Becomes (Some ids) came to (λ queued. queued) (λ read. read) e o
   own_resets_go e ids o small at turn = resets_where_goes (reset_refusal e) e ids o small at turn
 
   -- ---- what the user takes and sends
@@ -54,20 +54,20 @@ module _ (came : Option Content) (calm : IsCalm came) (to : ℕ) where
   taken_told false moment old transfer message messages known ready = further old _ nothing (actions.takes transfer message messages known ready)
 
   take_where_goes : (e : Endpoint) (transfer : Transfer) (messages : List MessageContent) (o : Outcome) → e.queues.transfer ≡ Some transfer → transfer.reassembly.incoming.ready ≡ messages
-      → TakeWhere e transfer messages o → Becomes false came to (λ queued. queued) (with_first messages) e o
-  take_where_goes e transfer [] o known ready turn = subst (Becomes false came to (λ queued. queued) (with_first []) e) (sym turn) (goes_on calm refl (rests came to (inside e)))
+      → TakeWhere e transfer messages o → Becomes None came to (λ queued. queued) (with_first messages) e o
+  take_where_goes e transfer [] o known ready turn = subst (Becomes None came to (λ queued. queued) (with_first []) e) (sym turn) (goes_on calm refl (rests came to (inside e)))
   take_where_goes e transfer (message ∷ messages) o known ready turn =
-      subst (Becomes false came to (λ queued. queued) (with_first (message ∷ messages)) e) (sym turn)
+      subst (Becomes None came to (λ queued. queued) (with_first (message ∷ messages)) e) (sym turn)
       (goes_on calm refl (λ queued sent read tsn asking fit.
       made_of came to (inside e) _ queued queued sent read (read ++ message ∷ []) tsn asking fit
       (taken_told (opens_window e.options transfer (with_messages messages transfer)) e.moment (ledger_of queued e.queues sent read asking) transfer message messages known ready)))
 
   -- What was left is none of an association's.
-  take_left_goes : (e : Endpoint) (left : List MessageContent) (o : Outcome) → TakeLeft e left o → Becomes false came to (λ queued. queued) (read_where None) e o
-  take_left_goes e [] o turn = subst (Becomes false came to (λ queued. queued) (read_where None) e) (sym turn) (goes_on calm refl (rests came to (inside e)))
-  take_left_goes e (message ∷ messages) o turn = subst (Becomes false came to (λ queued. queued) (read_where None) e) (sym turn) (goes_on calm refl (rests came to (inside e)))
+  take_left_goes : (e : Endpoint) (left : List MessageContent) (o : Outcome) → TakeLeft e left o → Becomes None came to (λ queued. queued) (read_where None) e o
+  take_left_goes e [] o turn = subst (Becomes None came to (λ queued. queued) (read_where None) e) (sym turn) (goes_on calm refl (rests came to (inside e)))
+  take_left_goes e (message ∷ messages) o turn = subst (Becomes None came to (λ queued. queued) (read_where None) e) (sym turn) (goes_on calm refl (rests came to (inside e)))
 
-  pub take_goes : (e : Endpoint) (transfer : Option Transfer) (o : Outcome) → e.queues.transfer ≡ transfer → TakeTurn e transfer o → Becomes false came to (λ queued. queued) (read_where transfer) e o
+  pub take_goes : (e : Endpoint) (transfer : Option Transfer) (o : Outcome) → e.queues.transfer ≡ transfer → TakeTurn e transfer o → Becomes None came to (λ queued. queued) (read_where transfer) e o
   take_goes e None o known turn = take_left_goes e e.left o turn
   take_goes e (Some transfer) o known turn = take_where_goes e transfer transfer.reassembly.incoming.ready o known refl turn
 
@@ -113,13 +113,13 @@ module _ (came : Option Content) (calm : IsCalm came) (to : ℕ) where
   send_where_link true e answers allowed = to_link e (held_in e.core) answers allowed
 
   pub send_goes : (e : Endpoint) (sendings : List Sending) (o : Outcome) → IsPeerTag e.core to → AllByRecursion (λ sending. Fits (message_of sending)) sendings → SendTurn e sendings o
-      → Becomes false came to (queued_together e sendings) (λ read. read) e o
+      → Becomes None came to (queued_together e sendings) (λ read. read) e o
   send_goes e sendings o at fit turn =
       let all : Outcome = queue_all e sendings in
       let last : Outcome = send_by (takes_any e sendings) all.after turn.0 in
       let is : packets_in (all.events ++ last.events) ≡ packets_in last.events =
       packets_in-append all.events last.events ∙ ap (λ (l : List Emission). l ++ packets_in last.events) (queue_all_none e sendings) in
-      subst (Becomes false came to (queued_together e sendings) (λ read. read) e) (sym turn.2)
+      subst (Becomes None came to (queued_together e sendings) (λ read. read) e) (sym turn.2)
       (goes_on calm (send_where_link (takes_any e sendings) all.after turn.0 turn.1 ∙ ap identity_in (queue_all_core e sendings)) (subst (λ (l : List Emission). MakesAlso came to (queued_together e sendings) (λ read. read) (inside e) l (inside last.after)) (sym is)
       (λ queued sent read tsn asking asks.
       let later : List Message = queued_together e sendings queued in

@@ -7,7 +7,7 @@ use Rattle.dcsctp_spec_lemmas.specs.spec.endpoint.Outcome.{Outcome}
 use Rattle.dcsctp_spec_lemmas.specs.spec.endpoint.Turn.{Input}
 use Rattle.dcsctp_spec_lemmas.specs.spec.queues.SendQueue.{empty_queue}
 use Rattle.dcsctp_spec_lemmas.specs.spec.queues.Transfer.{Transfer, EndpointQueues}
-use Rattle.dcsctp_delivery_turns.specs.Actions.{ledger_of, Inside, inside, Made, MakesPackets, MakesAlso, IsOpening, begun_transfer, came_by, queued_after, read_after, peer_tag, Begun, opening_queues, Becomes, resets_streams, goes_on, pauses, prepared_inside, works_resets, renews, ends, begins, collides, IsCalm}
+use Rattle.dcsctp_delivery_turns.specs.Actions.{ledger_of, Inside, inside, Made, MakesPackets, MakesAlso, IsOpening, begun_transfer, came_by, queued_after, read_after, peer_tag, Begun, opening_queues, Becomes, streams_reset_by, goes_on, pauses, prepared_inside, works_resets, renews, ends, begins, collides, IsCalm}
 use Rattle.dcsctp_delivery_turns.specs.Sides.{WasAsked, WasSent, receiving, ReceivingSteps}
 use Rattle.dcsctp_spec_lemmas.specs.spec.association.Effect.{identity_of, identity_in}
 use Rattle.dcsctp_spec_lemmas.specs.types.queues.Messages.{MessageContent}
@@ -73,9 +73,9 @@ module _ (e : Endpoint) (input : Input) (o : Outcome) (small : OpensSmall e inpu
       let made = makes [] [] [] fits.first fits.asking fits.fits in
       idle_stays (inr linked) (actions_none (came_by input) (peer_tag e.core) _ _ made.actions none) (record { first = fits.first; asking = made.asking; fits = made.fits }) unread
 
-  pub idle_becomes : e.queues.transfer ≡ None → SomeFit (own_of e) → Becomes (resets_streams input) (came_by input) (peer_tag e.core) (queued_after e input) (read_after e input) e o → IdleTurns e input o
+  pub idle_becomes : e.queues.transfer ≡ None → SomeFit (own_of e) → Becomes (streams_reset_by input) (came_by input) (peer_tag e.core) (queued_after e input) (read_after e input) e o → IdleTurns e input o
   idle_becomes none fits (goes_on calm linked makes) = idle_goes linked (inside e) fits none makes (λ read. read_none e input read none)
-  idle_becomes none fits (pauses resets calm linked ids small' makes) = idle_goes linked (prepared_inside ids (inside e)) fits none makes (λ read. read_none e input read none)
+  idle_becomes none fits (pauses ids resets calm linked small' makes) = idle_goes linked (prepared_inside ids (inside e)) fits none makes (λ read. read_none e input read none)
   idle_becomes none fits (works_resets linked between worked own peer makes) =
       idle_goes linked worked (worked_fits (came_by input) o (inside e) between worked own peer fits) (front_none (came_by input) o.effects (inside e) between worked own peer none) makes
       (λ read. read_none e input read none)
@@ -116,11 +116,11 @@ module _ (is_known : Bool) (options : Options) (first size : ℕ) (direction : D
       receiver_goes_on linked got.left got.is (record { first = asked.first; asking = made.asking; fits = made.fits }) (performed_where is_known is_reset direction.asking) (is_reset, none, some, refl)
       (steps_go_on options first size (receiving (worked_direction is_reset) between direction.read) (receiving (worked_direction is_reset) got.left (read_after e input direction.read)) start got.steps)
 
-  pub receiver_becomes : Becomes (resets_streams input) (came_by input) (peer_tag e.core) (queued_after e input) (read_after e input) e o → ReceiverTurns is_known options first size direction transfer e input o
+  pub receiver_becomes : Becomes (streams_reset_by input) (came_by input) (peer_tag e.core) (queued_after e input) (read_after e input) e o → ReceiverTurns is_known options first size direction transfer e input o
   receiver_becomes (goes_on calm linked makes) =
       goes_further linked false (λ no. inr calm) (λ is. absurd (cc)) (inside e) transfer known fits
       (subst (λ (a : Asking). DirectionRun options first size (record (receiving direction transfer direction.read) { asking = a })) (sym (unperformed is_known direction.asking)) run) makes
-  receiver_becomes (pauses resets calm linked ids small' makes) =
+  receiver_becomes (pauses ids resets calm linked small' makes) =
       goes_further linked false (λ no. inr calm) (λ is. absurd (cc)) (prepared_inside ids (inside e)) transfer known fits
       (subst (λ (a : Asking). DirectionRun options first size (record (receiving direction transfer direction.read) { asking = a })) (sym (unperformed is_known direction.asking)) run) makes
   receiver_becomes (works_resets linked between worked own peer makes) =

@@ -10,7 +10,8 @@ use Rattle.dcsctp_spec_lemmas.specs.spec.Packet.{Emission}
 use Rattle.dcsctp_spec_lemmas.specs.spec.endpoint.Turn.{Input}
 use Rattle.dcsctp_spec_lemmas.specs.spec.queues.Transfer.{EndpointQueues}
 use Rattle.dcsctp_delivery_sending.specs.Log.{Fits, Message}
-use Rattle.dcsctp_delivery_turns.specs.Actions.{ledger_of, Inside, inside, Made, MakesAlso, came_by, queued_after, read_after, peer_tag, opening_queues, Becomes, resets_streams, goes_on, pauses, prepared_inside, works_resets, renews, ends, begins, collides, NoEnd}
+use Rattle.dcsctp_delivery_turns.proofs.ResetInputs.{resets_some}
+use Rattle.dcsctp_delivery_turns.specs.Actions.{ledger_of, Inside, inside, Made, MakesAlso, came_by, queued_after, read_after, peer_tag, opening_queues, Becomes, streams_reset_by, goes_on, pauses, prepared_inside, works_resets, renews, ends, begins, collides, NoEnd}
 use Rattle.dcsctp_delivery_sending.specs.Queueing.{QueueWaits}
 use Rattle.dcsctp_delivery_turns.specs.Addressed.{AreAddressed}
 use Rattle.dcsctp_spec_lemmas.specs.spec.association.Effect.{identity_in}
@@ -64,12 +65,12 @@ module _ (options : Options) (first size : ℕ) (direction : Direction) (e : End
       run_goes_on linked (addressed (peer_tag e.core) worked asking first (inside o.after) _ _ (makes direction.queued [] [] first asking fit))
       (actions_kind (came_by input) (peer_tag e.core) _ _ made.actions ∙ kind) after.0 asking made.asking between made.grows made.fits after.1
 
-  pub sender_becomes : Becomes (resets_streams input) (came_by input) (peer_tag e.core) (queued_after e input) (read_after e input) e o → SenderTurns options first size direction e input o
+  pub sender_becomes : Becomes (streams_reset_by input) (came_by input) (peer_tag e.core) (queued_after e input) (read_after e input) e o → SenderTurns options first size direction e input o
   sender_becomes (goes_on calm linked makes) = goes_further linked (inside e) direction.asking as_it_was refl fits starts makes
-  sender_becomes (pauses resets calm linked ids small' makes) =
+  sender_becomes (pauses ids resets calm linked small' makes) =
       goes_further linked (prepared_inside ids (inside e)) direction.asking as_it_was (preparing_kind ids e.queues.queue) fits
       (steps_go_on options first size (sending_by direction (inside e) direction.asking) (sending_by direction (prepared_inside ids (inside e)) direction.asking) starts
-      (one_step (sending_by direction (inside e) direction.asking) _ (directions.prepares ids small' (drops resets)))) makes
+      (one_step (sending_by direction (inside e) direction.asking) _ (directions.prepares ids small' (drops (resets_some input ids resets))))) makes
   sender_becomes (works_resets linked between worked own peer makes) =
       let front = front_sends (came_by input) first direction o.effects (inside e) between worked own peer fits performed refuses in
       goes_further linked worked front.asking front.between front.kind front.fits

@@ -8,7 +8,7 @@ use Rattle.dcsctp_spec_lemmas.specs.spec.endpoint.Outcome.{Outcome}
 use Rattle.dcsctp_spec_lemmas.specs.spec.endpoint.Turn.{Input, arrival, refusal, packet_begins, chunk_input, packet_ends, act_input, user_sets, user_sends, user_resets, user_takes, timer_expires, time_passes, restores, has_data_chunk, ContentTurn, ActTurn, Turn}
 use Rattle.dcsctp_spec_lemmas.specs.spec.association.Acts.{Act, connect, t1_expires, shut_down, step_of_shutdown, shutdown_repeats, abort_with, hands_over, flushes, request_again, request_renewed}
 use Rattle.dcsctp_spec_lemmas.specs.spec.endpoint.TimerOutcomes.{t1_goes_on}
-use Rattle.dcsctp_delivery_turns.specs.Actions.{IsCalm, inside, Becomes, resets_streams, goes_on, pauses, prepared_inside, came_by, queued_after, read_after, IsCall, peer_tag}
+use Rattle.dcsctp_delivery_turns.specs.Actions.{IsCalm, inside, Becomes, streams_reset_by, goes_on, pauses, prepared_inside, came_by, queued_after, read_after, IsCall, peer_tag}
 use Rattle.dcsctp_delivery_turns.specs.Tags.{IsPeerTag}
 use Rattle.dcsctp_delivery_turns.proofs.Actions.{Goes, rests, action_of}
 use Rattle.dcsctp_delivery_turns.proofs.Handshake.{again_link, init_goes, connect_goes, init_ack_goes, cookie_ack_goes, echo_goes, hand_over_goes, abort_goes, aborting_goes, again_goes, gives_up_goes}
@@ -54,7 +54,7 @@ act_goes e flushes o may turn = goes_on none_calm (turn_link e o turn) (flush_ma
 act_goes e (request_again reset) o may turn = absurd may
 act_goes e (request_renewed reset) o may turn = absurd may
 
-pub turns_are_actions : (e : Endpoint) (input : Input) (o : Outcome) → IsCall input → Turn e input o → Becomes (resets_streams input) (came_by input) (peer_tag e.core) (queued_after e input) (read_after e input) e o
+pub turns_are_actions : (e : Endpoint) (input : Input) (o : Outcome) → IsCall input → Turn e input o → Becomes (streams_reset_by input) (came_by input) (peer_tag e.core) (queued_after e input) (read_after e input) e o
 turns_are_actions e arrival o may turn = subst (Goes None (peer_tag e.core) e) (sym turn) (goes_on none_calm refl (rests None (peer_tag e.core) (inside e)))
 turns_are_actions e (refusal text) o may turn = subst (Goes None (peer_tag e.core) e) (sym turn) (goes_on none_calm refl (rests None (peer_tag e.core) (inside e)))
 turns_are_actions e (packet_begins contents) o may turn = begin_goes None none_calm (peer_tag e.core) e e.core (has_data_chunk e.options.follow_rfc contents) o turn

@@ -24,10 +24,11 @@ use Rattle.dcsctp_delivery_sending.specs.Losing.{StillWaits}
 use Rattle.dcsctp_delivery_sending.proofs.OpenStreams.{open_mapped, queueing_open, setting_open}
 use Rattle.dcsctp_delivery_sending.proofs.StillWaiting.{waits_mapped, queued_waits, queueing_waits, setting_waits}
 use Rattle.dcsctp_delivery_turns.specs.Asking.{Own, own_in, own_of, AsksFit}
-use Rattle.dcsctp_delivery_turns.specs.Actions.{Ledger, Action, queues, sets, flushes, resends, resends_nothing, speaks, asks_again, acknowledges, loses, receives, receives_interleaved, forwards, forwards_interleaved, tracks, times, takes, Actions, nothing, further, came_by, peer_tag, queued_after, read_after, Inside, inside, MakesAlso, OwnEnds, unended, committed, rolled_back, PeerResets, unreset, absent, deferred, reset_now, Begun, Becomes, resets_streams, goes_on, pauses, prepared_inside, works_resets, renews, ends, begins, collides}
+use Rattle.dcsctp_delivery_turns.specs.Actions.{Ledger, Action, queues, sets, flushes, resends, resends_nothing, speaks, asks_again, acknowledges, loses, receives, receives_interleaved, forwards, forwards_interleaved, tracks, times, takes, Actions, nothing, further, came_by, peer_tag, queued_after, read_after, Inside, inside, MakesAlso, OwnEnds, unended, committed, rolled_back, PeerResets, unreset, absent, deferred, reset_now, Begun, Becomes, resets_streams, streams_reset_by, goes_on, pauses, prepared_inside, works_resets, renews, ends, begins, collides}
 use Rattle.dcsctp_delivery_turns.specs.Unbegun.{IsAtZero, UnbegunTurns, stays_unbegun, begins_first, StaysAtZero, UnbegunBeginsAtZero, UnbegunBeginsWaiting, FreshIsAtZero}
 use Rattle.dcsctp_spec_lemmas.proofs.MarkedItemLemmas.{le_or_lt}
 use Rattle.dcsctp_delivery_turns.proofs.Beginnings.{unlinked_fits}
+use Rattle.dcsctp_delivery_turns.proofs.ResetInputs.{resets_some}
 use Rattle.dcsctp_delivery_turns.proofs.Turns.{turns_are_actions}
 
 -- ---- streams whose next numbers stay
@@ -117,7 +118,7 @@ asked_still : (ask : Ask) (e : Endpoint) (draft : Emission) (answer : Answer) �
 asked_still ask e draft answer none does =
     out_below answer.after _ draft.with_checksum draft.packet.tag (filled draft (answer_contents answer)).packet.contents ∙ answered_still ask e draft e.queues.transfer answer none does.by_transfer
 
-flush_still : (ask : Ask) (n : ℕ) (e : Endpoint) (draft : Emission) (answers : List Answer) → e.queues.transfer ≡ None → AreFlushAnswers ask n e draft answers → (flush_of e draft answers).after.queues ≡ e.queues
+pub flush_still : (ask : Ask) (n : ℕ) (e : Endpoint) (draft : Emission) (answers : List Answer) → e.queues.transfer ≡ None → AreFlushAnswers ask n e draft answers → (flush_of e draft answers).after.queues ≡ e.queues
 flush_still _ _ _ _ _ none (at_limit ask e draft) = refl
 flush_still _ _ _ _ _ none (at_empty ask more e draft answer does empty) = asked_still ask e draft answer none does
 flush_still _ _ _ _ _ none (after_packet ask more e draft answer answers does some rest) =
@@ -225,12 +226,12 @@ module _ (e : Endpoint) (input : Input) (o : Outcome) (unlinked : identity_in e.
   peer_stays between _ u (deferred has_not parameters reset came_is wants transfer last_tsn streams known) = clash between.queues transfer known u
   peer_stays between _ u (reset_now has parameters reset came requested transfer reassembly known reached does) = clash between.queues transfer known u
 
-  unbegun_becomes : Becomes (resets_streams input) (came_by input) (peer_tag e.core) (queued_after e input) (read_after e input) e o → UnbegunTurns e input o
+  unbegun_becomes : Becomes (streams_reset_by input) (came_by input) (peer_tag e.core) (queued_after e input) (read_after e input) e o → UnbegunTurns e input o
   unbegun_becomes (goes_on calm same makes) =
       let left = makes_unbegun (inside e) (inside o.after) refl makes in
       stays_unbegun (same ∙ unlinked) left.none left.zero left.all
-  unbegun_becomes (pauses resets calm same ids small makes) =
-      let left = makes_from (prepared_inside ids (inside e)) (inside o.after) (record { none = none; zero = zero_prepared ids e.queues.queue zero; all = λ kept. absurd (let clash : true ≡ false = sym resets ∙ kept.0 in cc) }) refl makes in
+  unbegun_becomes (pauses ids resets calm same small makes) =
+      let left = makes_from (prepared_inside ids (inside e)) (inside o.after) (record { none = none; zero = zero_prepared ids e.queues.queue zero; all = λ kept. absurd (let clash : true ≡ false = sym (resets_some input ids resets) ∙ kept.0 in cc) }) refl makes in
       stays_unbegun (same ∙ unlinked) left.none left.zero left.all
   unbegun_becomes (works_resets same between worked own peer makes) =
       let first : between ≡ inside e = own_stays (inside e) between own_is own in

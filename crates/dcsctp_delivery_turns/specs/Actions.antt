@@ -252,6 +252,11 @@ abbrev pub resets_streams : Input → Bool
 resets_streams (user_resets ids) = true
 resets_streams input = false
 
+-- which streams does the user reset by it, if any?
+abbrev pub streams_reset_by : Input → Option (List ℕ)
+streams_reset_by (user_resets ids) = Some ids
+streams_reset_by input = None
+
 -- once these streams are prepared to be reset
 abbrev pub prepared_inside : List ℕ → Inside → Inside
 prepared_inside ids inside = record inside { queues = record inside.queues { queue = prepared_all ids inside.queues.queue } }
@@ -287,9 +292,9 @@ kept_inside {e = e} collision again =
 -- user resets streams: these are prepared first. Or our request continues under the next number, in a packet of its own, and
 -- nothing else happens. Or the association ends after its last packets, and no request of ours begins or ends before. Or another
 -- one begins, and takes its place; or both ends began at the same time.
-pub data Becomes (resets : Bool) (came : Option Content) (to : ℕ) (adds : List Message → List Message) (taken : List MessageContent → List MessageContent) (e : Endpoint) (o : Outcome) : Type 0 where
+pub data Becomes (resets : Option (List ℕ)) (came : Option Content) (to : ℕ) (adds : List Message → List Message) (taken : List MessageContent → List MessageContent) (e : Endpoint) (o : Outcome) : Type 0 where
   goes_on : IsCalm came → identity_in o.after.core ≡ identity_in e.core → MakesAlso came to adds taken (inside e) (packets_in o.events) (inside o.after) → Becomes resets came to adds taken e o
-  pauses : resets ≡ true → IsCalm came → identity_in o.after.core ≡ identity_in e.core → (ids : List ℕ) → AllByRecursion (λ id. id < 2 ^ 16) ids
+  pauses : (ids : List ℕ) → resets ≡ Some ids → IsCalm came → identity_in o.after.core ≡ identity_in e.core → AllByRecursion (λ id. id < 2 ^ 16) ids
       → MakesAlso came to adds taken (prepared_inside ids (inside e)) (packets_in o.events) (inside o.after) → Becomes resets came to adds taken e o
   works_resets : identity_in o.after.core ≡ identity_in e.core → (between worked : Inside) → OwnEnds o.effects (inside e) between → PeerResets came o.effects between worked
       → MakesAlso came to adds taken worked (packets_in o.events) (inside o.after) → Becomes resets came to adds taken e o
@@ -318,4 +323,4 @@ IsCall input = Unit {0}
 
 -- This holds for each turn.
 abbrev pub TurnsAreActions : Type 0
-TurnsAreActions = (e : Endpoint) (input : Input) (o : Outcome) → IsCall input → Turn e input o → Becomes (resets_streams input) (came_by input) (peer_tag e.core) (queued_after e input) (read_after e input) e o
+TurnsAreActions = (e : Endpoint) (input : Input) (o : Outcome) → IsCall input → Turn e input o → Becomes (streams_reset_by input) (came_by input) (peer_tag e.core) (queued_after e input) (read_after e input) e o

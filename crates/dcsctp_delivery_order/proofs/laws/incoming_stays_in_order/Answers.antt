@@ -7,7 +7,7 @@ pub returns-clause-data : goal.returns-clause-data
 returns-clause-data c = ready_in_order
 
 pub returns-clause-skips : goal.returns-clause-skips
-returns-clause-skips c = λ gapless queued history quiet got base tsn read entries old new skips. skipping_in_order gapless skips queued history quiet got base read tsn entries old new
+returns-clause-skips c = λ gapless queued history quiet got base tsn read entries old new free. skipping_in_order gapless queued history free quiet got base read tsn entries old new
 
 pub returns-clause-resets : goal.returns-clause-resets
 returns-clause-resets c = resetting_in_order
